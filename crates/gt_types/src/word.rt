@@ -1,0 +1,102 @@
+// A text: a name of a header or a script, a word of the command line, a file's name.
+ghost use Rattle.std.specs.Prelude.{◌≡◌, ◌==◌, ℕ, List, length, IfOk, Some, encode_utf8_all, refl};
+ghost use Rattle.std.specs.Str.{chars, bytes_eq};
+ghost use Rattle.std.specs.String.{string_bytes};
+ghost use Rattle.std.specs.Ordering.{nat_cmp};
+ghost use Rattle.std.specs.Cmp.Lexicographic.{slice_cmp, nat_list_cmp_total, nat_list_eq_equiv, texts_ties, texts_po};
+ghost use Rattle.std.specs.Cmp.{partial_equiv_from_equiv};
+
+use crate::Copied;
+use std::alloc::{AllocError, Global};
+use std::cmp::Ordering;
+use std::marker::Model;
+
+/// A text that contracts see as the list of its characters.
+#[derive(Debug, Drop)]
+pub struct Word {
+    text: String,
+}
+
+impl Model for Word {
+    ghost Value = { List ℕ };
+
+    ghost view = { λ w. chars (string_bytes w.text) };
+}
+
+impl Word {
+    /// The word of a text. It answers want of memory alone.
+    pub fn of(alloc: Global, text: &str) -> Result<Word, AllocError>
+        ensures text { IfOk result (λ w. w ≡ chars text.now) }
+    {
+        Ok(Word {
+            text: String::from_str(alloc, text)?,
+        })
+    }
+
+    /// The word as a text.
+    pub fn as_str(&self) -> &str
+        ensures text { result.now ≡ encode_utf8_all self.now }
+    {
+        self.text.as_str()
+    }
+
+    /// Whether the word has no character.
+    pub fn is_empty(&self) -> bool
+        ensures empty { result ≡ (length self.now == 0) }
+    {
+        self.text.as_str().is_empty()
+    }
+
+    /// How many characters the word has.
+    pub fn len(&self) -> usize
+        ensures characters { result ≡ length self.now }
+    {
+        self.text.chars().count()
+    }
+}
+
+impl Copied for Word {
+    fn copy(&self, alloc: Global) -> Result<Word, AllocError> {
+        Ok(Word {
+            text: String::from_str(alloc, self.text.as_str())?,
+        })
+    }
+}
+
+impl PartialEq for Word {
+    ghost eq = { bytes_eq };
+
+    ghost laws = { partial_equiv_from_equiv nat_list_eq_equiv };
+
+    fn eq(&self, other: &Word) -> bool {
+        self.text.as_str() == other.text.as_str()
+    }
+}
+
+impl Eq for Word {
+    ghost laws = { nat_list_eq_equiv };
+}
+
+impl PartialOrd for Word {
+    ghost partial_cmp = { λ x y. Some (slice_cmp nat_cmp x y) };
+
+    ghost laws = { texts_po };
+
+    fn partial_cmp(&self, other: &Word) -> Option<Ordering> {
+        Some(self.cmp(other))
+    }
+}
+
+impl Ord for Word {
+    ghost cmp = { slice_cmp nat_cmp };
+
+    ghost total = { nat_list_cmp_total };
+
+    ghost matches_partial_cmp = { λ x y. refl };
+
+    ghost matches_eq = { texts_ties };
+
+    fn cmp(&self, other: &Word) -> Ordering {
+        self.text.chars().cmp(other.text.chars())
+    }
+}
