@@ -1,0 +1,9 @@
+pub mod Held
+pub mod Reads
+pub mod Writes
+pub mod Appends
+pub mod Counts
+pub mod MemFiles
+pub mod MemSink
+pub mod SureFiles
+pub mod SureSink

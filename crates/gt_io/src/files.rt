@@ -1,0 +1,32 @@
+// A store of files, as the program sees it.
+ghost use Rattle.std.specs.Prelude.{◌≡◌, ℕ, Option};
+ghost use Rattle.gt_io.specs.declared.fail.ReadFail.TheVariants.{Failed};
+ghost use Rattle.gt_io.specs.declared.fail.WriteFail.TheVariants.{Failed as WriteFailed};
+ghost use Rattle.gt_io.specs.Held.{Held};
+ghost use Rattle.gt_io.specs.Reads.{Reads};
+ghost use Rattle.gt_io.specs.Writes.{Writes};
+ghost use Rattle.gt_io.specs.Counts.{HasCause};
+
+use crate::{ReadFail, WriteFail};
+use gt_types::{Bytes, Word};
+use std::alloc::Global;
+
+/// Files that are read and written whole, by their names.
+pub trait Files {
+    /// What is held under each name, where the store tells it.
+    ghost told: { Self → Option Held };
+
+    /// How often the outside has failed. It never falls, and stands still at its type's end.
+    ghost faults: { Self → ℕ };
+
+    /// The bytes of a file, at most `limit` of them, or None where there is no such file. It changes nothing that is held.
+    fn read(&mut self, alloc: Global, name: &Word, limit: u64) -> Result<Option<Bytes>, ReadFail>
+        ensures answer { Reads (told self.old) name.now limit result }
+        ensures held { told self.new ≡ told self.old }
+        ensures cause { HasCause Failed (faults self.old) (faults self.new) result };
+
+    /// Makes these bytes the contents of a file, and leaves all others.
+    fn write(&mut self, name: &Word, bytes: &[u8]) -> Result<(), WriteFail>
+        ensures answer { Writes (told self.old) name.now bytes.now result (told self.new) }
+        ensures cause { HasCause WriteFailed (faults self.old) (faults self.new) result };
+}

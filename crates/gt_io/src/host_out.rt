@@ -1,0 +1,38 @@
+// The standard output: the trusted edge. Nothing is said of what a terminal got.
+ghost use Rattle.std.specs.Prelude.{None};
+
+use crate::{Sink, WriteFail};
+use std::io::{ErrorKind, Stdout, Write};
+
+/// The standard output of the program. It tells nothing of what it took.
+#[derive(Drop)]
+pub struct HostOut {
+    out: Stdout,
+    faults: u64,
+}
+
+impl HostOut {
+    /// The sink over a runtime's standard output.
+    pub fn new(out: Stdout) -> HostOut {
+        HostOut { out, faults: 0 }
+    }
+}
+
+impl Sink for HostOut {
+    ghost written = { λ _. None };
+
+    ghost faults = { λ s. s.faults };
+
+    fn write_all(&mut self, bytes: &[u8]) -> Result<(), WriteFail> {
+        match self.out.write_all(bytes) {
+            Ok(()) => Ok(()),
+            Err(error) => match error.kind() {
+                ErrorKind::OutOfMemory => Err(WriteFail::Memory),
+                _ => {
+                    self.faults = self.faults.saturating_add(1);
+                    Err(WriteFail::Failed)
+                }
+            },
+        }
+    }
+}

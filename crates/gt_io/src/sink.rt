@@ -1,0 +1,21 @@
+// Where the program's output goes.
+ghost use Rattle.std.specs.Prelude.{ℕ, Option, List};
+ghost use Rattle.gt_io.specs.declared.fail.WriteFail.TheVariants.{Failed};
+ghost use Rattle.gt_io.specs.Appends.{Appends};
+ghost use Rattle.gt_io.specs.Counts.{HasCause};
+
+use crate::WriteFail;
+
+/// A place that takes bytes, one text after another.
+pub trait Sink {
+    /// The bytes that it took so far, where it tells them.
+    ghost written: { Self → Option (List ℕ) };
+
+    /// How often the outside has failed. It never falls, and stands still at its type's end.
+    ghost faults: { Self → ℕ };
+
+    /// Takes these bytes behind those that it took before.
+    fn write_all(&mut self, bytes: &[u8]) -> Result<(), WriteFail>
+        ensures answer { Appends (written self.old) bytes.now result (written self.new) }
+        ensures cause { HasCause Failed (faults self.old) (faults self.new) result };
+}
