@@ -1,2 +1,3 @@
 pub mod Range
 pub mod Numbers
+pub mod Laws

@@ -6,7 +6,7 @@
 mod laws;
 mod space;
 
-pub use laws::written_numbers_read_back;
+pub use laws::{static_pages_hold_the_record, writes_read_back};
 pub use space::Space;
 
 /// The bytes of a page.

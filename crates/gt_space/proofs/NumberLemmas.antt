@@ -1,0 +1,31 @@
+-- Laws of the numbers in a range, for this crate and the layers above.
+use Rattle.std.proofs.Common.{◌≡◌, ℕ, ◌+◌, ◌-◌, ◌<◌, ◌≤◌, List, ◌∷◌, [], length, take, drop, get_or, refl, ap, sym, ◌∙◌, arith}
+use Rattle.std.proofs.lemmas.List.{get_or-take, get_or-drop, places}
+use Rattle.std.specs.Int.{w16, w32, w64, from_le_bytes}
+use Rattle.gt_space.specs.Range.{Range, IsInside, bytes_at, with_bytes}
+use Rattle.gt_space.specs.Numbers.{u8_at, u16_at, u32_at, u64_at, with_u8, with_u16, with_u32, with_u64}
+use Rattle.gt_space.specs.Laws.{IsApart, OtherNumbersStay}
+use Rattle.gt_space.proofs.RangeLemmas.{bytes_at-with_bytes_apart}
+
+-- a byte is the first of the one byte at its address
+pub u8_at-bytes_at : (r : Range) (addr : ℕ) → u8_at r addr ≡ get_or (bytes_at r addr 1) 0 0
+u8_at-bytes_at r addr =
+    let k = addr - r.start in
+    let here : k ≡ k + 0 = omega arith in
+    ap (λ j. get_or r.bytes j 0) here
+    ∙ sym (get_or-drop k r.bytes 0 0)
+    ∙ sym (get_or-take 1 (drop k r.bytes) 0 0 (omega arith))
+
+-- what is read apart from a write is as before
+pub numbers-with_bytes_apart :
+    (r : Range) (addr : ℕ) (new : List ℕ) (other : ℕ) → IsInside r addr (length new) → OtherNumbersStay r addr new other
+numbers-with_bytes_apart r addr new other inside =
+    record {
+      in_u8 = λ there apart.
+          u8_at-bytes_at (with_bytes r addr new) other
+          ∙ ap (λ (xs : List ℕ). get_or xs 0 0) (bytes_at-with_bytes_apart r addr new other 1 inside there apart)
+          ∙ sym (u8_at-bytes_at r other);
+      in_u16 = λ there apart. ap (from_le_bytes w16) (bytes_at-with_bytes_apart r addr new other 2 inside there apart);
+      in_u32 = λ there apart. ap (from_le_bytes w32) (bytes_at-with_bytes_apart r addr new other 4 inside there apart);
+      in_u64 = λ there apart. ap (from_le_bytes w64) (bytes_at-with_bytes_apart r addr new other 8 inside there apart)
+    }
