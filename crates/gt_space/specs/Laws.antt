@@ -1,7 +1,7 @@
 -- What follows from the words of the contracts: writes and reads together, and the pages of a static record.
 use Rattle.std.specs.Prelude.{◌≡◌, ℕ, ◌+◌, ◌*◌, ◌^◌, ◌<◌, ◌≤◌, ◌⊎◌, List, length}
 use Rattle.gt_space.specs.declared.TheConstants.{PAGE_BYTES}
-use Rattle.gt_space.specs.Range.{Range, IsInside, bytes_at, with_bytes, pages_for}
+use Rattle.gt_space.specs.Range.{Range, IsInside, KeepsAddresses, bytes_at, with_bytes, pages_for}
 use Rattle.gt_space.specs.Numbers.{u8_at, u16_at, u32_at, u64_at, with_u8, with_u16, with_u32, with_u64}
 
 -- the `m` bytes at `a` and the `n` bytes at `b` have none in common
@@ -12,7 +12,7 @@ IsApart a m b n = (a + m ≤ b) ⊎ (b + n ≤ a)
 abbrev pub AddressesStay : Type 0
 AddressesStay =
     (r : Range) (addr : ℕ) (new : List ℕ) → IsInside r addr (length new)
-    → ((with_bytes r addr new).start ≡ r.start) × (length (with_bytes r addr new).bytes ≡ length r.bytes)
+    → KeepsAddresses r (with_bytes r addr new)
 
 -- the bytes read where bytes were written are those
 abbrev pub BytesReadBack : Type 0

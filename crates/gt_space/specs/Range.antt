@@ -28,6 +28,11 @@ with_bytes r addr new =
     let at = addr - r.start in
     record { start = r.start; bytes = take at r.bytes ++ new ++ drop (at + length new) r.bytes }
 
+-- the same addresses are inside as before
+pub record KeepsAddresses (old new : Range) : Type 0 where
+  pub start : new.start ≡ old.start
+  pub len : length new.bytes ≡ length old.bytes
+
 -- no bytes, at the start of the heap
 abbrev pub empty_range : Range
 empty_range = record { start = HEAP_START; bytes = [] }
@@ -36,13 +41,23 @@ empty_range = record { start = HEAP_START; bytes = [] }
 abbrev pub pages_for : ℕ → ℕ
 pages_for len = (len + (PAGE_BYTES - 1)) / PAGE_BYTES
 
--- zeros: so many pages from the start of the heap, and below it the pages of a static record of so many bytes
+-- the lowest address, where the pages of a static record of so many bytes end at the start of the heap
+abbrev pub statics_start : ℕ → ℕ
+statics_start statics = HEAP_START - PAGE_BYTES * pages_for statics
+
+-- how many bytes so many pages have, with those of a static record of so many bytes
+abbrev pub space_len : ℕ → ℕ → ℕ
+space_len pages statics = PAGE_BYTES * (pages_for statics + pages)
+
+-- so many pages from the start of the heap, and below it the pages of a static record of so many bytes
+pub record IsSized (r : Range) (pages statics : ℕ) : Type 0 where
+  pub start : r.start ≡ statics_start statics
+  pub len : length r.bytes ≡ space_len pages statics
+
+-- the range of these pages in which each byte is zero
 abbrev pub fresh_range : ℕ → ℕ → Range
 fresh_range pages statics =
-    record {
-      start = HEAP_START - PAGE_BYTES * pages_for statics;
-      bytes = replicate (PAGE_BYTES * (pages_for statics + pages)) 0
-    }
+    record { start = statics_start statics; bytes = replicate (space_len pages statics) 0 }
 
 -- the range lies around the start of the heap, and ends where the largest heap ends
 pub record IsPlaced (r : Range) : Type 0 where

@@ -1,7 +1,7 @@
 //! A space, and the calls that read and write it.
 
 ghost use Rattle.std.specs.Prelude.{◌≡◌, ◌≤◌, ◌∷◌, [], length, replicate, OnOk, OnErr};
-ghost use Rattle.gt_space.specs.Range.{IsInside, IsPlaced, bytes_at, with_bytes, empty_range, fresh_range};
+ghost use Rattle.gt_space.specs.Range.{IsInside, IsPlaced, IsSized, KeepsAddresses, bytes_at, with_bytes, empty_range, fresh_range};
 ghost use Rattle.gt_space.specs.Numbers.{u8_at, u16_at, u32_at, u64_at, with_u8, with_u16, with_u32, with_u64};
 
 use crate::{HEAP_START, MAX_PAGES, MAX_STATICS, MIN_PAGES, PAGE_BYTES};
@@ -63,6 +63,7 @@ impl Space {
         requires not_too_many_pages { pages ≤ MAX_PAGES }
         requires statics_fit { statics ≤ MAX_STATICS }
         ensures ok { OnOk result (self.new ≡ fresh_range pages statics) }
+        ensures sized { OnOk result (IsSized self.new pages statics) }
         ensures err { OnErr result (self.new ≡ self.old) }
     {
         let below = (statics as u64).div_ceil(PAGE_BYTES) * PAGE_BYTES;
@@ -114,7 +115,8 @@ impl Space {
     /// Writes the byte at the address.
     pub fn write_u8(&mut self, addr: u64, v: u8)
         requires { IsInside self.old addr 1 }
-        ensures { self.new ≡ with_u8 self.old addr v }
+        ensures bytes { self.new ≡ with_u8 self.old addr v }
+        ensures addresses { KeepsAddresses self.old self.new }
     {
         self.copy_in(addr, &[v]);
     }
@@ -122,7 +124,8 @@ impl Space {
     /// Writes the number into the two bytes at the address, the low byte first.
     pub fn write_u16(&mut self, addr: u64, v: u16)
         requires { IsInside self.old addr 2 }
-        ensures { self.new ≡ with_u16 self.old addr v }
+        ensures bytes { self.new ≡ with_u16 self.old addr v }
+        ensures addresses { KeepsAddresses self.old self.new }
     {
         self.copy_in(addr, &v.to_le_bytes());
     }
@@ -130,7 +133,8 @@ impl Space {
     /// Writes the number into the four bytes at the address, the low byte first.
     pub fn write_u32(&mut self, addr: u64, v: u32)
         requires { IsInside self.old addr 4 }
-        ensures { self.new ≡ with_u32 self.old addr v }
+        ensures bytes { self.new ≡ with_u32 self.old addr v }
+        ensures addresses { KeepsAddresses self.old self.new }
     {
         self.copy_in(addr, &v.to_le_bytes());
     }
@@ -138,7 +142,8 @@ impl Space {
     /// Writes the number into the eight bytes at the address, the low byte first.
     pub fn write_u64(&mut self, addr: u64, v: u64)
         requires { IsInside self.old addr 8 }
-        ensures { self.new ≡ with_u64 self.old addr v }
+        ensures bytes { self.new ≡ with_u64 self.old addr v }
+        ensures addresses { KeepsAddresses self.old self.new }
     {
         self.copy_in(addr, &v.to_le_bytes());
     }
@@ -146,7 +151,8 @@ impl Space {
     /// Writes `v` into each of the `len` bytes at the address.
     pub fn fill(&mut self, addr: u64, len: u64, v: u8)
         requires { IsInside self.old addr len }
-        ensures { self.new ≡ with_bytes self.old addr (replicate len v) }
+        ensures bytes { self.new ≡ with_bytes self.old addr (replicate len v) }
+        ensures addresses { KeepsAddresses self.old self.new }
     {
         let at = (addr - self.start) as usize;
         self.bytes[at..at + len as usize].fill(v);
@@ -155,7 +161,8 @@ impl Space {
     /// Writes the bytes at the address.
     pub fn copy_in(&mut self, addr: u64, bytes: &[u8])
         requires { IsInside self.old addr (length bytes.now) }
-        ensures { self.new ≡ with_bytes self.old addr bytes.now }
+        ensures bytes { self.new ≡ with_bytes self.old addr bytes.now }
+        ensures addresses { KeepsAddresses self.old self.new }
     {
         let at = (addr - self.start) as usize;
         self.bytes[at..at + bytes.len()].copy_from_slice(bytes);
@@ -175,7 +182,8 @@ impl Space {
     pub fn move_within(&mut self, from: u64, to: u64, len: u64)
         requires source { IsInside self.old from len }
         requires target { IsInside self.old to len }
-        ensures { self.new ≡ with_bytes self.old to (bytes_at self.old from len) }
+        ensures bytes { self.new ≡ with_bytes self.old to (bytes_at self.old from len) }
+        ensures addresses { KeepsAddresses self.old self.new }
     {
         let at = (from - self.start) as usize;
         let dest = (to - self.start) as usize;
