@@ -1,11 +1,12 @@
 -- Laws of the numbers in a range, for this crate and the layers above.
-use Rattle.std.proofs.Common.{◌≡◌, ℕ, ◌+◌, ◌-◌, ◌<◌, ◌≤◌, List, ◌∷◌, [], length, take, drop, get_or, refl, ap, sym, ◌∙◌, arith}
-use Rattle.std.proofs.lemmas.List.{get_or-take, get_or-drop, places}
-use Rattle.std.specs.Int.{w16, w32, w64, from_le_bytes}
+use Rattle.std.proofs.Common.{◌≡◌, ℕ, ◌+◌, ◌-◌, ◌^◌, ◌<◌, List, ◌∷◌, [], length, drop, get_or, ap, sym, ◌∙◌, arith}
+use Rattle.std.proofs.lemmas.List.{get_or-take, get_or-drop}
+use Rattle.std.proofs.lemmas.Nat.{from_le_bytes-to_le_bytes_2, from_le_bytes-to_le_bytes_4, from_le_bytes-to_le_bytes_8}
+use Rattle.std.specs.Int.{w16, w32, w64, from_le_bytes, to_le_bytes}
 use Rattle.gt_space.specs.Range.{Range, IsInside, bytes_at, with_bytes}
 use Rattle.gt_space.specs.Numbers.{u8_at, u16_at, u32_at, u64_at, with_u8, with_u16, with_u32, with_u64}
-use Rattle.gt_space.specs.Laws.{IsApart, OtherNumbersStay}
-use Rattle.gt_space.proofs.RangeLemmas.{bytes_at-with_bytes_apart}
+use Rattle.gt_space.specs.Laws.{OtherNumbersStay}
+use Rattle.gt_space.proofs.RangeLemmas.{bytes_at-with_bytes, bytes_at-with_bytes_apart}
 
 -- a byte is the first of the one byte at its address
 pub u8_at-bytes_at : (r : Range) (addr : ℕ) → u8_at r addr ≡ get_or (bytes_at r addr 1) 0 0
@@ -27,5 +28,22 @@ numbers-with_bytes_apart r addr new other inside =
           ∙ sym (u8_at-bytes_at r other);
       in_u16 = λ there apart. ap (from_le_bytes w16) (bytes_at-with_bytes_apart r addr new other 2 inside there apart);
       in_u32 = λ there apart. ap (from_le_bytes w32) (bytes_at-with_bytes_apart r addr new other 4 inside there apart);
-      in_u64 = λ there apart. ap (from_le_bytes w64) (bytes_at-with_bytes_apart r addr new other 8 inside there apart)
+      in_u64 = λ there apart. ap (from_le_bytes w64) (bytes_at-with_bytes_apart r addr new other 8 inside there apart);
     }
+
+-- a number that fits its width, read where it was written, is that number
+pub u8_at-with_u8 : (r : Range) (addr n : ℕ) → IsInside r addr 1 → u8_at (with_u8 r addr n) addr ≡ n
+u8_at-with_u8 r addr n inside =
+    u8_at-bytes_at (with_u8 r addr n) addr ∙ ap (λ (xs : List ℕ). get_or xs 0 0) (bytes_at-with_bytes r addr (n ∷ []) inside)
+
+pub u16_at-with_u16 : (r : Range) (addr n : ℕ) → IsInside r addr 2 → n < 2 ^ 16 → u16_at (with_u16 r addr n) addr ≡ n
+u16_at-with_u16 r addr n inside fits =
+    ap (from_le_bytes w16) (bytes_at-with_bytes r addr (to_le_bytes w16 n) inside) ∙ from_le_bytes-to_le_bytes_2 n fits
+
+pub u32_at-with_u32 : (r : Range) (addr n : ℕ) → IsInside r addr 4 → n < 2 ^ 32 → u32_at (with_u32 r addr n) addr ≡ n
+u32_at-with_u32 r addr n inside fits =
+    ap (from_le_bytes w32) (bytes_at-with_bytes r addr (to_le_bytes w32 n) inside) ∙ from_le_bytes-to_le_bytes_4 n fits
+
+pub u64_at-with_u64 : (r : Range) (addr n : ℕ) → IsInside r addr 8 → n < 2 ^ 64 → u64_at (with_u64 r addr n) addr ≡ n
+u64_at-with_u64 r addr n inside fits =
+    ap (from_le_bytes w64) (bytes_at-with_bytes r addr (to_le_bytes w64 n) inside) ∙ from_le_bytes-to_le_bytes_8 n fits

@@ -1,5 +1,5 @@
 -- Laws of `bytes_at` and `with_bytes`, for this crate and the layers above.
-use Rattle.std.proofs.Common.{◌≡◌, ℕ, ◌+◌, ◌-◌, ◌<◌, ◌≤◌, ◌⊎◌, List, ◌++◌, length, take, drop, get_or, refl, ap, sym, ◌∙◌, inl, inr, arith}
+use Rattle.std.proofs.Common.{◌≡◌, ℕ, ◌+◌, ◌-◌, ◌≤◌, List, ◌++◌, length, take, drop, ap, ◌∙◌, inl, inr, arith}
 use Rattle.std.proofs.lemmas.List.{places, same_lists}
 use Rattle.gt_space.specs.Range.{Range, IsInside, bytes_at, with_bytes}
 use Rattle.gt_space.specs.Laws.{IsApart}
@@ -88,7 +88,7 @@ pub with_bytes-bytes_at :
     (r : Range) (addr len : ℕ) → IsInside r addr len → with_bytes r addr (bytes_at r addr len) ≡ r
 with_bytes-bytes_at r addr len inside =
     let same : (with_bytes r addr (bytes_at r addr len)).bytes ≡ r.bytes =
-      same_lists _ _ (grind (arith, places)) (λ i d h. grind (arith, places)) in
+    same_lists _ _ (grind (arith, places)) (λ i d h. grind (arith, places)) in
     ap (λ (xs : List ℕ). let s : Range = record { start = r.start; bytes = xs } in s) same
 
 -- of two writes at one place the second stands
@@ -97,7 +97,7 @@ pub with_bytes-with_bytes :
     → with_bytes (with_bytes r addr old) addr new ≡ with_bytes r addr new
 with_bytes-with_bytes r addr old new inside alike =
     let same : (with_bytes (with_bytes r addr old) addr new).bytes ≡ (with_bytes r addr new).bytes =
-      same_lists _ _ (grind (arith, places)) (λ i d h. grind (arith, places)) in
+    same_lists _ _ (grind (arith, places)) (λ i d h. grind (arith, places)) in
     ap (λ (xs : List ℕ). let s : Range = record { start = r.start; bytes = xs } in s) same
 
 -- one write after another, side by side, is one write of both
@@ -106,5 +106,5 @@ pub with_bytes-append :
     → with_bytes (with_bytes r addr xs) (addr + length xs) ys ≡ with_bytes r addr (xs ++ ys)
 with_bytes-append r addr xs ys inside =
     let same : (with_bytes (with_bytes r addr xs) (addr + length xs) ys).bytes ≡ (with_bytes r addr (xs ++ ys)).bytes =
-      same_lists _ _ (grind (arith, places)) (λ i d h. grind (arith, places)) in
+    same_lists _ _ (grind (arith, places)) (λ i d h. grind (arith, places)) in
     ap (λ (zs : List ℕ). let s : Range = record { start = r.start; bytes = zs } in s) same

@@ -37,13 +37,13 @@ pub record NumbersReadBack (r : Range) (addr n : ℕ) : Type 0 where
 -- the number read apart from where bytes were written is as before
 pub record OtherNumbersStay (r : Range) (addr : ℕ) (new : List ℕ) (other : ℕ) : Type 0 where
   pub in_u8 :
-    IsInside r other 1 → IsApart addr (length new) other 1 → u8_at (with_bytes r addr new) other ≡ u8_at r other
+      IsInside r other 1 → IsApart addr (length new) other 1 → u8_at (with_bytes r addr new) other ≡ u8_at r other
   pub in_u16 :
-    IsInside r other 2 → IsApart addr (length new) other 2 → u16_at (with_bytes r addr new) other ≡ u16_at r other
+      IsInside r other 2 → IsApart addr (length new) other 2 → u16_at (with_bytes r addr new) other ≡ u16_at r other
   pub in_u32 :
-    IsInside r other 4 → IsApart addr (length new) other 4 → u32_at (with_bytes r addr new) other ≡ u32_at r other
+      IsInside r other 4 → IsApart addr (length new) other 4 → u32_at (with_bytes r addr new) other ≡ u32_at r other
   pub in_u64 :
-    IsInside r other 8 → IsApart addr (length new) other 8 → u64_at (with_bytes r addr new) other ≡ u64_at r other
+      IsInside r other 8 → IsApart addr (length new) other 8 → u64_at (with_bytes r addr new) other ≡ u64_at r other
 
 -- the pages for so many bytes hold them, and one page fewer does not
 abbrev pub PagesHold : ℕ → Type 0

@@ -1,5 +1,5 @@
 -- A space as its callers see it: bytes from an address on.
-use Rattle.std.specs.Prelude.{◌≡◌, ℕ, ◌+◌, ◌-◌, ◌*◌, ◌/◌, ◌≤◌, List, [], ◌++◌, length, take, drop, replicate, refl}
+use Rattle.std.specs.Prelude.{◌≡◌, ℕ, ◌+◌, ◌-◌, ◌*◌, ◌/◌, ◌<◌, ◌≤◌, List, [], ◌++◌, length, take, drop, replicate, slice_index, refl}
 use Rattle.std.specs.Coded.{Coded, code_by, coded×, coded_list, coded_ℕ}
 use Rattle.gt_space.specs.declared.TheConstants.{PAGE_BYTES, HEAP_START, MAX_PAGES}
 
@@ -59,8 +59,9 @@ abbrev pub fresh_range : ℕ → ℕ → Range
 fresh_range pages statics =
     record { start = statics_start statics; bytes = replicate (space_len pages statics) 0 }
 
--- the range lies around the start of the heap, and ends where the largest heap ends
-pub record IsPlaced (r : Range) : Type 0 where
+-- what holds of each space: it lies around the start of the heap, ends where the largest heap does at most, and holds bytes
+pub record IsSpace (r : Range) : Type 0 where
   pub starts : r.start ≤ HEAP_START
   pub reaches : HEAP_START ≤ r.start + length r.bytes
   pub ends : r.start + length r.bytes ≤ HEAP_START + PAGE_BYTES * MAX_PAGES
+  pub bytes : (k : ℕ) → slice_index r.bytes k < 256

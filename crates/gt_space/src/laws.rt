@@ -11,11 +11,9 @@ pub fn writes_read_back()
     ensures numbers { (r : Range) (addr n : ℕ) → NumbersReadBack r addr n }
     ensures other_bytes { OtherBytesStay }
     ensures other_numbers { (r : Range) (addr : ℕ) (new : List ℕ) (other : ℕ) → IsInside r addr (length new) → OtherNumbersStay r addr new other }
-{
-}
+{}
 
 /// The pages below `HEAP_START` hold the static record, and are the fewest that do.
 pub fn static_pages_hold_the_record()
     ensures { (statics : ℕ) → PagesHold statics }
-{
-}
+{}

@@ -1,7 +1,7 @@
 //! A space, and the calls that read and write it.
 
 ghost use Rattle.std.specs.Prelude.{◌≡◌, ◌≤◌, ◌∷◌, [], length, replicate, OnOk, OnErr};
-ghost use Rattle.gt_space.specs.Range.{IsInside, IsPlaced, IsSized, KeepsAddresses, bytes_at, with_bytes, empty_range, fresh_range};
+ghost use Rattle.gt_space.specs.Range.{IsInside, IsSpace, IsSized, KeepsAddresses, bytes_at, with_bytes, empty_range, fresh_range};
 ghost use Rattle.gt_space.specs.Numbers.{u8_at, u16_at, u32_at, u64_at, with_u8, with_u16, with_u32, with_u64};
 
 use crate::{HEAP_START, MAX_PAGES, MAX_STATICS, MIN_PAGES, PAGE_BYTES};
@@ -17,7 +17,7 @@ pub struct Space {
 }
 
 impl Model for Space {
-    ghost use Rattle.gt_space.specs.Range.{Range, range_code, IsPlaced};
+    ghost use Rattle.gt_space.specs.Range.{Range, range_code, IsSpace};
 
     ghost Value = { Range };
 
@@ -25,7 +25,7 @@ impl Model for Space {
 
     ghost view = { λ s. record { start = s.start; bytes = s.bytes.items } };
 
-    ghost invariant = { λ s. IsPlaced (record { start = s.start; bytes = s.bytes.items }) };
+    ghost invariant = { λ s. IsSpace (record { start = s.start; bytes = s.bytes.items }) };
 }
 
 impl Space {
@@ -43,15 +43,16 @@ impl Space {
     /// The lowest address.
     pub fn start(&self) -> u64
         ensures start { result ≡ self.now.start }
-        ensures placed { IsPlaced self.now }
+
+        // What holds of each space.
+        ensures every_space { IsSpace self.now }
     {
         self.start
     }
 
     /// The number of bytes.
     pub fn len(&self) -> u64
-        ensures len { result ≡ length self.now.bytes }
-        ensures placed { IsPlaced self.now }
+        ensures { result ≡ length self.now.bytes }
     {
         self.bytes.len() as u64
     }

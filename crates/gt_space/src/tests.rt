@@ -51,15 +51,27 @@ fn a_move_over_itself_in_both_directions(rt: HostRuntime) -> Result<(), Fail> {
     assert_eq!(rt; space.len(), 16 * 4096);
     space.copy_in(HEAP_START, b"abcdefgh");
     space.move_within(HEAP_START, HEAP_START + 1, 7);
-    assert_eq!(rt; space.read_u64(HEAP_START), u64::from_le_bytes(*b"aabcdefg"));
+    assert_eq!(rt;
+        space.read_u64(HEAP_START),
+        u64::from_le_bytes(*b"aabcdefg")
+    );
     space.copy_in(HEAP_START, b"abcdefgh");
     space.move_within(HEAP_START + 1, HEAP_START, 7);
-    assert_eq!(rt; space.read_u64(HEAP_START), u64::from_le_bytes(*b"bcdefghh"));
+    assert_eq!(rt;
+        space.read_u64(HEAP_START),
+        u64::from_le_bytes(*b"bcdefghh")
+    );
     Ok(())
 }
 
 // Fills the whole space, makes it fresh with this static record, and looks at both of its ends.
-fn freshen(rt: &impl Abort, space: &mut Space, statics: u32, start: u64, len: u64) -> Result<(), AllocError>
+fn freshen(
+    rt: &impl Abort,
+    space: &mut Space,
+    statics: u32,
+    start: u64,
+    len: u64,
+) -> Result<(), AllocError>
     requires { statics ≤ MAX_STATICS }
 {
     space.fill(space.start(), space.len(), 0xff);
