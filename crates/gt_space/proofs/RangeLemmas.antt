@@ -108,3 +108,6 @@ with_bytes-append r addr xs ys inside =
     let same : (with_bytes (with_bytes r addr xs) (addr + length xs) ys).bytes ≡ (with_bytes r addr (xs ++ ys)).bytes =
     same_lists _ _ (grind (arith, places)) (λ i d h. grind (arith, places)) in
     ap (λ (zs : List ℕ). let s : Range = record { start = r.start; bytes = zs } in s) same
+
+-- what the bytes are after a write, for a caller's `using`
+pub ruleset ranges = (length-bytes_at, length-with_bytes, IsInside-with_bytes, bytes_at-with_bytes, bytes_at-with_bytes_within, bytes_at-with_bytes_apart, with_bytes-bytes_at, with_bytes-with_bytes, with_bytes-append)

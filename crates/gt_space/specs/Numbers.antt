@@ -8,15 +8,15 @@ abbrev pub u8_at : Range → ℕ → ℕ
 u8_at r addr = slice_index r.bytes (addr - r.start)
 
 -- the number in the two bytes at the address
-abbrev pub u16_at : Range → ℕ → ℕ
+unfoldable pub u16_at : Range → ℕ → ℕ
 u16_at r addr = from_le_bytes w16 (bytes_at r addr 2)
 
 -- the number in the four bytes at the address
-abbrev pub u32_at : Range → ℕ → ℕ
+unfoldable pub u32_at : Range → ℕ → ℕ
 u32_at r addr = from_le_bytes w32 (bytes_at r addr 4)
 
 -- the number in the eight bytes at the address
-abbrev pub u64_at : Range → ℕ → ℕ
+unfoldable pub u64_at : Range → ℕ → ℕ
 u64_at r addr = from_le_bytes w64 (bytes_at r addr 8)
 
 -- the range with this byte at the address

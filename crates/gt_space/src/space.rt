@@ -84,6 +84,7 @@ impl Space {
     }
 
     /// The number in the two bytes at the address, the low byte first.
+    #[tactic(auto, unfolding(crate::specs::Numbers::u16_at))]
     pub fn read_u16(&self, addr: u64) -> u16
         requires { IsInside self.now addr 2 }
         ensures { result ≡ u16_at self.now addr }
@@ -94,6 +95,7 @@ impl Space {
     }
 
     /// The number in the four bytes at the address, the low byte first.
+    #[tactic(auto, unfolding(crate::specs::Numbers::u32_at))]
     pub fn read_u32(&self, addr: u64) -> u32
         requires { IsInside self.now addr 4 }
         ensures { result ≡ u32_at self.now addr }
@@ -104,6 +106,7 @@ impl Space {
     }
 
     /// The number in the eight bytes at the address, the low byte first.
+    #[tactic(auto, unfolding(crate::specs::Numbers::u64_at))]
     pub fn read_u64(&self, addr: u64) -> u64
         requires { IsInside self.now addr 8 }
         ensures { result ≡ u64_at self.now addr }
