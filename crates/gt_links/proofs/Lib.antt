@@ -1,0 +1,4 @@
+pub mod RingLemmas
+pub mod Among
+pub mod Chains
+pub mod Made
