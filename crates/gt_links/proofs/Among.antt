@@ -1,8 +1,9 @@
 -- Which nodes are among which, and the nodes of each list after one list has changed.
 use Rattle.std.proofs.Common.{◌≡◌, ◌≢◌, ℕ, zero, suc, ◌+◌, ◌<◌, ◌≤◌, ◌==◌, eqb, not, cond, List, [], ◌∷◌, ◌++◌, length, get_or, Contains, ◌⊎◌, inl, inr, ⊎_elim, refl, sym, ap, subst, ◌∙◌, arith}
 use Rattle.std.proofs.lemmas.Bool.{cases_eq, cases_lt, eq-eqb, ne_eqb, not_from_true, not_from_false, cond-true, cond-false}
-use Rattle.std.proofs.lemmas.List.{get_or-set_same, get_or-set_other, get_or_past}
-use Rattle.gt_links.specs.Lists.{Lists, nodes_of, with_nodes, without}
+use Rattle.std.proofs.lemmas.List.{get_or-set_same, get_or-set_other, get_or_past, set-set}
+use Rattle.std.proofs.lemmas.Option.{slice_get_within, get_or_from_slice_get}
+use Rattle.gt_links.specs.Lists.{Lists, nodes_of, with_nodes, without, StandsAt}
 use Rattle.gt_links.specs.Links.{IsAmong}
 
 IsAmong-from_place : (x : ℕ) (xs : List ℕ) (k : ℕ) → k < length xs → get_or xs k x ≡ x → IsAmong x xs
@@ -84,3 +85,23 @@ within_from_among s i x h =
     (λ lt. lt)
     (λ past. absurd (subst (IsAmong x) (get_or_past s.lists i [] past) h))
     (cases_lt i (length s.lists))
+
+-- of two changes of one list the second counts
+pub with_nodes-twice : (s : Lists) (i : ℕ) (xs ys : List ℕ) → with_nodes (with_nodes s i xs) i ys ≡ with_nodes s i ys
+with_nodes-twice s i xs ys =
+    let changed : List (List ℕ) → Lists = λ lists. record s { lists = lists } in ap changed (set-set s.lists i xs ys)
+
+-- a list that changes, and then has x at its back
+pub with_nodes-then_push : (s t u : Lists) (i j x : ℕ) (xs : List ℕ) → i < length s.lists → j ≡ i → t ≡ with_nodes s i xs → u ≡ with_nodes t j (nodes_of t j ++ x ∷ []) → u ≡ with_nodes s i (xs ++ x ∷ [])
+with_nodes-then_push s t u i j x xs within same first second =
+    let changed = with_nodes s i xs in
+    second
+    ∙ (ap (λ k. with_nodes t k (nodes_of t k ++ x ∷ [])) same
+    ∙ (ap (λ v. with_nodes v i (nodes_of v i ++ x ∷ [])) first
+    ∙ (ap (λ ys. with_nodes changed i (ys ++ x ∷ [])) (nodes_of-with_same s i xs within)
+    ∙ with_nodes-twice s i xs (xs ++ x ∷ []))))
+
+pub IsAmong-from_stands : (s : Lists) (i k x : ℕ) → StandsAt s i k x → IsAmong x (nodes_of s i)
+IsAmong-from_stands s i k x at =
+    let xs = nodes_of s i in
+    IsAmong-from_place x xs k (slice_get_within xs k x at) (get_or_from_slice_get xs k x x at)

@@ -18,6 +18,9 @@ Head≢Node i x e = cc
 pub Node-other : (x y : ℕ) → x ≢ y → Node x ≢ Node y
 Node-other x y ne e = ne cc
 
+pub Head-same : {i j : ℕ} → Head i ≡ Head j → i ≡ j
+Head-same e = cc
+
 pub Node-same : {x y : ℕ} → Node x ≡ Node y → x ≡ y
 Node-same e = cc
 

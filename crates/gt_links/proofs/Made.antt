@@ -10,18 +10,15 @@ use Rattle.std.proofs.lemmas.Map.Views.{Contains-from_any}
 use Rattle.gt_links.specs.declared.rings.Place.{Place}
 use Rattle.gt_links.specs.declared.rings.Place.TheVariants.{Head, Node}
 use Rattle.gt_links.specs.declared.rings.Rings.{Rings}
-use Rattle.gt_links.specs.Lists.{Lists, nodes_of, with_nodes, without}
+use Rattle.gt_links.specs.Lists.{Lists, nodes_of, IsFree}
 use Rattle.gt_links.specs.Links.{IsAmong, IsChain, IsMadeOf, lists_of, nodes_after}
 use Rattle.gt_links.specs.Rings.{IsPlace, next_of, previous_of, list_of, LinksAgree, Inserts, Removes}
-use Rattle.gt_links.proofs.Among.{IsAmong-from_Contains, IsAmong-without, IsAmong-from_without, IsAmong-push, IsAmong-from_push, nodes_of-with_same, nodes_of-with_other, within_from_among}
+use Rattle.gt_links.proofs.Among.{IsAmong-from_Contains, Contains-from_among, within_from_among}
 use Rattle.gt_links.proofs.Chains.{Head≢Node, Node-same, Node-other, IsPlace-from_chain, IsChain-same, IsChain-elsewhere, IsChain-push, IsChain-remove, IsDistinct-chain, nodes_after-chain, leads_along}
 
 pub cases_Option : (o : Option ℕ) → (o ≡ None) ⊎ ((v : ℕ) × (o ≡ Some v))
 cases_Option None = inl refl
 cases_Option (Some v) = inr (v, refl)
-
-Head-same : {i j : ℕ} → Head i ≡ Head j → i ≡ j
-Head-same e = cc
 
 module _ (r : Rings) (s : Lists) (m : IsMadeOf r s) where
   pub head_is_place : (i : ℕ) → i < length s.lists → IsPlace r (Head i)
@@ -76,3 +73,15 @@ module _ (r : Rings) (s : Lists) (m : IsMadeOf r s) where
       let made : List (List ℕ) → ℕ → Lists = λ lists nodes. record { lists = lists; nodes = nodes } in
       let count : entries - r.lists ≡ s.nodes = omega arith in
       ap (λ lists. made lists (entries - r.lists)) (sym walks) ∙ ap (made s.lists) count
+
+-- what the invariant says of the value that callers see
+pub made_of : (r : Rings) (s : Lists) → lists_of r ≡ s → IsMadeOf r (lists_of r) → IsMadeOf r s
+made_of r s is m = subst (IsMadeOf r) is m
+
+-- and what it says of new rings
+pub made_of_itself : (r : Rings) (s : Lists) → IsMadeOf r s → IsMadeOf r (lists_of r)
+made_of_itself r s m = subst (IsMadeOf r) (sym (lists_of-made r s m)) m
+
+-- a node in no list is among the nodes of none
+pub not_among : (s : Lists) (x : ℕ) → IsFree s x → (i : ℕ) → ¬ (IsAmong x (nodes_of s i))
+not_among s x free i h = free i (Contains-from_among x (nodes_of s i) h)

@@ -1,0 +1,28 @@
+use Rattle.std.proofs.Common.{◌≡◌, ℕ, ◌<◌, length, Some, ap, sym, ◌∙◌, arith, length-set}
+use Rattle.std.specs.Option.{is_some}
+use Rattle.std.proofs.lemmas.Option.{same_Some}
+use Rattle.gt_links.specs.Lists.{Lists, nodes_of, without, Holds}
+use Rattle.gt_links.proofs.Among.{IsAmong-from_Contains, within_from_among, with_nodes-then_push}
+use Rattle.gt_links.proofs.links.Links.move_back.Goals as goal
+
+within : (s : Lists) (i x : ℕ) → Holds s i x → i < length s.lists
+within s i x holds = within_from_among s i x (IsAmong-from_Contains x (nodes_of s i) holds)
+
+pub unwrap-list-requires : goal.unwrap-list-requires
+unwrap-list-requires c = ap is_some (c.list_of.ensures.linked c.requires.linked.0 c.requires.linked.1)
+
+pub push_back-requires-clause-list : goal.push_back-requires-clause-list
+push_back-requires-clause-list c =
+    let s = c.args.self.now in
+    let i = c.requires.linked.0 in
+    let holds = c.requires.linked.1 in
+    let same : c.unwrap-list.result ≡ i = same_Some _ _ (sym c.unwrap-list.ensures ∙ c.list_of.ensures.linked i holds) in
+    let count : length c.unlink.new.self.lists ≡ length s.lists =
+    ap (λ (t : Lists). length t.lists) (c.unlink.ensures.taken i holds) ∙ length-set s.lists i (without c.args.node (nodes_of s i)) in
+    omega (arith, within s i c.args.node holds)
+
+pub returns : goal.returns
+returns c i holds =
+    let s = c.args.self.now in
+    let same : c.unwrap-list.result ≡ i = same_Some _ _ (sym c.unwrap-list.ensures ∙ c.list_of.ensures.linked i holds) in
+    with_nodes-then_push s c.unlink.new.self c.push_back.new.self i c.unwrap-list.result c.args.node _ (within s i c.args.node holds) same (c.unlink.ensures.taken i holds) c.push_back.ensures
