@@ -4,7 +4,11 @@ use Rattle.std.proofs.lemmas.Bool.{cases_eq, cases_lt, eq-eqb, ne_eqb, not_from_
 use Rattle.std.proofs.lemmas.List.{get_or-set_same, get_or-set_other, get_or_past, set-set}
 use Rattle.std.proofs.lemmas.Option.{slice_get_within, get_or_from_slice_get}
 use Rattle.gt_links.specs.Lists.{Lists, nodes_of, with_nodes, without, StandsAt}
-use Rattle.gt_links.specs.Links.{IsAmong}
+
+-- x is one of the nodes
+abbrev pub IsAmong : ℕ → List ℕ → Type 0
+IsAmong x [] = ⊥
+IsAmong x (y ∷ ys) = (y ≡ x) ⊎ IsAmong x ys
 
 IsAmong-from_place : (x : ℕ) (xs : List ℕ) (k : ℕ) → k < length xs → get_or xs k x ≡ x → IsAmong x xs
 IsAmong-from_place x [] k within at = absurd (omega arith)

@@ -8,9 +8,9 @@ use Rattle.gt_links.specs.declared.rings.Place.{Place}
 use Rattle.gt_links.specs.declared.rings.Place.TheVariants.{Head, Node}
 use Rattle.gt_links.specs.declared.rings.Rings.{Rings}
 use Rattle.gt_links.specs.Lists.{without}
-use Rattle.gt_links.specs.Links.{IsAmong, IsChain, nodes_after, node_then}
+use Rattle.gt_links.specs.Links.{IsChain, nodes_after, node_then}
 use Rattle.gt_links.specs.Rings.{node_of, IsPlace, next_of, previous_of, LinksAgree, Inserts, Removes}
-use Rattle.gt_links.proofs.Among.{without-same, without-other}
+use Rattle.gt_links.proofs.Among.{IsAmong, without-same, without-other}
 
 pub Head≢Node : (i x : ℕ) → Head i ≢ Node x
 Head≢Node i x e = cc

@@ -5,10 +5,10 @@ use Rattle.std.proofs.lemmas.Option.{none-some, same_Some}
 use Rattle.gt_links.specs.declared.rings.Place.{Place}
 use Rattle.gt_links.specs.declared.rings.Place.TheVariants.{Head, Node}
 use Rattle.gt_links.specs.declared.rings.Rings.{Rings}
-use Rattle.gt_links.specs.Lists.{Lists, nodes_of, with_nodes, without, IsFree}
-use Rattle.gt_links.specs.Links.{IsAmong, IsChain, IsMadeOf}
+use Rattle.gt_links.specs.Lists.{Lists, nodes_of, with_nodes, without, Holds, IsFree}
+use Rattle.gt_links.specs.Links.{IsChain, IsMadeOf}
 use Rattle.gt_links.specs.Rings.{IsPlace, next_of, previous_of, list_of, Inserts, Removes}
-use Rattle.gt_links.proofs.Among.{IsAmong-from_Contains, IsAmong-without, IsAmong-from_without, IsAmong-push, IsAmong-from_push, nodes_of-with_same, nodes_of-with_other, within_from_among}
+use Rattle.gt_links.proofs.Among.{IsAmong, IsAmong-from_Contains, Contains-from_among, IsAmong-without, IsAmong-from_without, IsAmong-push, IsAmong-from_push, nodes_of-with_same, nodes_of-with_other, within_from_among}
 use Rattle.gt_links.proofs.Chains.{Head≢Node, Head-same, Node-same, Node-other, IsChain-same, IsChain-elsewhere, IsChain-push, IsChain-remove, leads_along}
 use Rattle.gt_links.proofs.Made.{head_is_place, node_is_place, owner_from_among, bounded, disjoint, free_is_alone}
 
@@ -25,11 +25,18 @@ at_each_list s i xs P within here others j =
     (λ ne. subst (P j) (sym (nodes_of-with_other s i j xs ne)) (others j ne))
     (cases_eq j i)
 
+module _ (new : Rings) where
+  -- an owner by the places in a list, from one by its nodes
+  owners_by_among : (s : Lists) (j y : ℕ) → IsAmong y (nodes_of s j) ↔ (list_of new (Node y) ≡ Some j) → Holds s j y ↔ (list_of new (Node y) ≡ Some j)
+  owners_by_among s j y among =
+      (λ h. among.0 (IsAmong-from_Contains y (nodes_of s j) h), λ e. Contains-from_among y (nodes_of s j) (among.1 e))
+
 module _ (old new : Rings) (s : Lists) (m : IsMadeOf old s) (x : ℕ) (node : x < s.nodes) where
   -- which list a node is in, where only x has changed its list
   owners_kept : (j y : ℕ) → y < s.nodes → list_of new (Node y) ≡ list_of old (Node y) → IsAmong y (nodes_of s j) ↔ (list_of new (Node y) ≡ Some j)
   owners_kept j y within kept =
-      let was = m.owners j y within in (λ h. kept ∙ was.0 h, λ e. was.1 (sym kept ∙ e))
+      let was = m.owners j y within in
+      (λ h. kept ∙ was.0 (Contains-from_among y (nodes_of s j) h), λ e. IsAmong-from_Contains y (nodes_of s j) (was.1 (sym kept ∙ e)))
 
   module _ (i : ℕ) (within : i < length s.lists) where
     pub IsMadeOf-inserted : (p : Place) (xs : List ℕ) → ((j : ℕ) → ¬ (IsAmong x (nodes_of s j))) → Inserts old new p x i → LeadsOnRing old s i p → IsChain new (Head i) xs (Head i) → ((y : ℕ) → IsAmong y xs ↔ ((x ≡ y) ⊎ IsAmong y (nodes_of s i))) → IsMadeOf new (with_nodes s i xs)
@@ -54,7 +61,8 @@ module _ (old new : Rings) (s : Lists) (m : IsMadeOf old s) (x : ℕ) (node : x 
           chains = λ j below.
               at_each_list s i xs (λ j ys. j < length s.lists → IsChain new (Head j) ys (Head j)) within (λ _. chain) (λ j ne below. IsChain-elsewhere old new p (Node x) (Head j) (Head j) (nodes_of s j) m.agree h.others (leads_to_head j ne) (λ y k. ((λ is. ne (disjoint old s m j i y k (leads_to_node y is))), Node-other y x (λ is. free j (subst (λ v. IsAmong v (nodes_of s j)) is k)))) (head_is_place old s m j below) (Head≢Node j x) (m.chains j below)) j (omega arith);
           owners = λ j y below.
-              ⊎_elim
+              owners_by_among new (with_nodes s i xs) j y
+              (⊎_elim
               (λ is.
                 let owner : list_of new (Node y) ≡ Some i = ap (λ v. list_of new (Node v)) (sym is) ∙ h.list in
                 at_each_list s i xs (λ j ys. IsAmong y ys ↔ (list_of new (Node y) ≡ Some j)) within (λ _. owner, λ _. (among y).1 (inl is)) (λ j ne. (λ k. absurd (free j (subst (λ v. IsAmong v (nodes_of s j)) (sym is) k)), λ e. absurd (ne (same_Some j i (sym e ∙ owner))))) j)
@@ -62,7 +70,7 @@ module _ (old new : Rings) (s : Lists) (m : IsMadeOf old s) (x : ℕ) (node : x 
                 let kept = h.lists (Node y) (node_is_place old s m y below) (Node-other y x (λ e. other (sym e))) in
                 let was = owners_kept i y below kept in
                 at_each_list s i xs (λ j ys. IsAmong y ys ↔ (list_of new (Node y) ≡ Some j)) within (λ k. was.0 (⊎_elim (λ e. absurd (other e)) (λ n. n) ((among y).0 k)), λ e. (among y).1 (inr (was.1 e))) (λ j ne. owners_kept j y below kept) j)
-              (cases_eq x y);
+              (cases_eq x y));
           alone = λ y below none.
               ⊎_elim
               (λ is. absurd (none-some i (sym none ∙ (ap (λ v. list_of new (Node v)) (sym is) ∙ h.list))))
@@ -106,7 +114,8 @@ module _ (old new : Rings) (s : Lists) (m : IsMadeOf old s) (x : ℕ) (node : x 
           chains = λ j below.
               at_each_list s i xs (λ j ys. j < length s.lists → IsChain new (Head j) ys (Head j)) within (λ below. IsChain-remove old new (Head i) x i (nodes_of s i) m.agree place h (head_is_place old s m i below) (Head≢Node i x) (m.chains i below)) (λ j ne below. IsChain-elsewhere old new (previous_of old (Node x)) (Node x) (Head j) (Head j) (nodes_of s j) m.agree h.others (λ is. Head≢Node j x (sym is ∙ back)) (λ y k. ((λ is. elsewhere j y ne k (Node-same (sym back ∙ is))), Node-other y x (λ e. elsewhere j y ne k (sym e)))) (head_is_place old s m j below) (Head≢Node j x) (m.chains j below)) j (omega arith);
           owners = λ j y below.
-              ⊎_elim
+              owners_by_among new (with_nodes s i xs) j y
+              (⊎_elim
               (λ is.
                 let none : list_of new (Node y) ≡ None = ap (λ v. list_of new (Node v)) (sym is) ∙ h.list in
                 at_each_list s i xs (λ j ys. IsAmong y ys ↔ (list_of new (Node y) ≡ Some j)) within ((λ k. absurd ((IsAmong-without x y (nodes_of s i) k).0 (sym is))), λ e. absurd (none-some i (sym none ∙ e))) (λ j ne. ((λ k. absurd (elsewhere j y ne k is)), λ e. absurd (none-some j (sym none ∙ e)))) j)
@@ -114,7 +123,7 @@ module _ (old new : Rings) (s : Lists) (m : IsMadeOf old s) (x : ℕ) (node : x 
                 let kept = h.lists (Node y) (node_is_place old s m y below) (Node-other y x (λ e. other (sym e))) in
                 let was = owners_kept i y below kept in
                 at_each_list s i xs (λ j ys. IsAmong y ys ↔ (list_of new (Node y) ≡ Some j)) within ((λ k. was.0 ((IsAmong-without x y (nodes_of s i) k).1)), λ e. IsAmong-from_without x y (nodes_of s i) (λ is. other (sym is)) (was.1 e)) (λ j ne. owners_kept j y below kept) j)
-              (cases_eq x y);
+              (cases_eq x y));
           alone = λ y below none.
               ⊎_elim
               (λ is. subst (λ v. next_of new (Node v) ≡ Node v) is h.node)

@@ -10,7 +10,8 @@ use Rattle.gt_links.specs.declared.rings.Place.{Place}
 use Rattle.gt_links.specs.declared.rings.Place.TheVariants.{Head, Node}
 use Rattle.gt_links.specs.declared.rings.Rings.{Rings}
 use Rattle.gt_links.specs.Lists.{Lists, empty_lists, nodes_of}
-use Rattle.gt_links.specs.Links.{IsAmong, IsChain, IsMadeOf}
+use Rattle.gt_links.specs.Links.{IsChain, IsMadeOf}
+use Rattle.gt_links.proofs.Among.{IsAmong, IsAmong-from_Contains}
 use Rattle.gt_links.specs.Rings.{IsPlace, no_entry, lone_entry, lone_entries, entry_of, next_of, previous_of, list_of, LinksAgree}
 
 pub nodes_of-empty : (lists nodes i : ℕ) → nodes_of (empty_lists lists nodes) i ≡ []
@@ -70,6 +71,6 @@ module _ (r : Rings) (lists nodes : ℕ) (count : r.lists ≡ lists) (alone : r.
             subst (λ xs. IsChain r (Head i) xs (Head i)) (sym (nodes_of-empty lists nodes i)) (next (Head i) (head i within));
         owners = λ i x within.
             let none : list_of r (Node x) ≡ None = ap (λ (e : Entry). e.list) (entry_of-lone (Node x) (node x within)) in
-            ((λ h. absurd (subst (IsAmong x) (nodes_of-empty lists nodes i) h)), λ e. absurd (none-some i (sym none ∙ e)));
+            ((λ h. absurd (subst (IsAmong x) (nodes_of-empty lists nodes i) (IsAmong-from_Contains x (nodes_of s i) h))), λ e. absurd (none-some i (sym none ∙ e)));
         alone = λ x within _. next (Node x) (node x within);
       }

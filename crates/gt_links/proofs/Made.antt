@@ -1,5 +1,5 @@
 -- What holds of the lists that the rings make, and the lists that they make after a change.
-use Rattle.std.proofs.Common.{◌≡◌, ◌≢◌, ℕ, eqb, zero, suc, ◌+◌, ◌-◌, ◌<◌, ◌≤◌, ◌↔◌, true, List, [], ◌∷◌, ◌++◌, length, map, get_or, set, Option, Some, None, ◌⊎◌, inl, inr, ⊎_elim, refl, sym, ap, subst, ◌∙◌, arith, length-set}
+use Rattle.std.proofs.Common.{◌≡◌, ◌≢◌, ℕ, eqb, zero, suc, ◌+◌, ◌-◌, ◌<◌, ◌≤◌, ◌↔◌, true, List, [], ◌∷◌, ◌++◌, length, map, get_or, set, Option, Some, None, IfSome, IfNone, ◌⊎◌, inl, inr, ⊎_elim, refl, sym, ap, subst, ◌∙◌, arith, length-set}
 use Rattle.std.specs.List.{IsDistinct, list_any, range_with_len}
 use Rattle.std.proofs.lemmas.Bool.{cases_eq, cases_lt, eqb-true}
 use Rattle.std.proofs.lemmas.Option.{none-some, same_Some}
@@ -10,10 +10,10 @@ use Rattle.std.proofs.lemmas.Map.Views.{Contains-from_any}
 use Rattle.gt_links.specs.declared.rings.Place.{Place}
 use Rattle.gt_links.specs.declared.rings.Place.TheVariants.{Head, Node}
 use Rattle.gt_links.specs.declared.rings.Rings.{Rings}
-use Rattle.gt_links.specs.Lists.{Lists, nodes_of, IsFree}
-use Rattle.gt_links.specs.Links.{IsAmong, IsChain, IsMadeOf, lists_of, nodes_after}
+use Rattle.gt_links.specs.Lists.{Lists, nodes_of, Holds, IsFree}
+use Rattle.gt_links.specs.Links.{IsChain, IsMadeOf, lists_of, nodes_after}
 use Rattle.gt_links.specs.Rings.{IsPlace, next_of, previous_of, list_of, LinksAgree, Inserts, Removes}
-use Rattle.gt_links.proofs.Among.{IsAmong-from_Contains, Contains-from_among, within_from_among}
+use Rattle.gt_links.proofs.Among.{IsAmong, IsAmong-from_Contains, Contains-from_among, within_from_among}
 use Rattle.gt_links.proofs.Chains.{Head≢Node, Node-same, Node-other, IsPlace-from_chain, IsChain-same, IsChain-elsewhere, IsChain-push, IsChain-remove, IsDistinct-chain, nodes_after-chain, leads_along}
 
 pub cases_Option : (o : Option ℕ) → (o ≡ None) ⊎ ((v : ℕ) × (o ≡ Some v))
@@ -28,7 +28,7 @@ module _ (r : Rings) (s : Lists) (m : IsMadeOf r s) where
   node_is_place x within = let l = m.lists in let n = m.entries in omega arith
 
   pub owner_from_among : (i x : ℕ) → x < s.nodes → IsAmong x (nodes_of s i) → list_of r (Node x) ≡ Some i
-  owner_from_among i x within h = (m.owners i x within).0 h
+  owner_from_among i x within h = (m.owners i x within).0 (Contains-from_among x (nodes_of s i) h)
 
   -- each node of a list is below the number of nodes
   pub bounded : (i x : ℕ) → IsAmong x (nodes_of s i) → x < s.nodes
@@ -58,8 +58,17 @@ module _ (r : Rings) (s : Lists) (m : IsMadeOf r s) where
   free_is_alone x within free =
       elim (cases_Option (list_of r (Node x))) [
         inl none ↦ (none, m.alone x within none)
-      | inr some ↦ absurd (free some.0 ((m.owners some.0 x within).1 some.1))
+      | inr some ↦ absurd (free some.0 (IsAmong-from_Contains x (nodes_of s some.0) ((m.owners some.0 x within).1 some.1)))
       ]
+
+  -- what the list that a node has says of it
+  pub IfSome-owner : (x : ℕ) (o : Option ℕ) → x < s.nodes → o ≡ list_of r (Node x) → IfSome o (λ i. Holds s i x)
+  IfSome-owner x None within is = tt
+  IfSome-owner x (Some i) within is = (m.owners i x within).1 (sym is)
+
+  pub IfNone-owner : (x : ℕ) (o : Option ℕ) → x < s.nodes → o ≡ list_of r (Node x) → IfNone o (IsFree s x)
+  IfNone-owner x None within is = λ i holds. none-some i (is ∙ (m.owners i x within).0 holds)
+  IfNone-owner x (Some i) within is = tt
 
   -- the lists are what a walk from each head gives
   pub lists_of-made : lists_of r ≡ s

@@ -1,15 +1,10 @@
-use Rattle.std.specs.Prelude.{◌≡◌, ℕ, zero, suc, ◌+◌, ◌-◌, ◌<◌, ◌↔◌, ◌⊎◌, List, [], ◌∷◌, length, map, Some, None}
+use Rattle.std.specs.Prelude.{◌≡◌, ℕ, zero, suc, ◌+◌, ◌-◌, ◌<◌, ◌↔◌, List, [], ◌∷◌, length, map, Some, None}
 use Rattle.std.specs.List.{range_with_len}
 use Rattle.gt_links.specs.declared.rings.Place.{Place}
 use Rattle.gt_links.specs.declared.rings.Place.TheVariants.{Head, Node}
 use Rattle.gt_links.specs.declared.rings.Rings.{Rings}
-use Rattle.gt_links.specs.Lists.{Lists, nodes_of}
+use Rattle.gt_links.specs.Lists.{Lists, nodes_of, Holds}
 use Rattle.gt_links.specs.Rings.{next_of, list_of, LinksAgree}
-
--- x is one of the nodes
-abbrev pub IsAmong : ℕ → List ℕ → Type 0
-IsAmong x [] = ⊥
-IsAmong x (y ∷ ys) = (y ≡ x) ⊎ IsAmong x ys
 
 -- a node with those after it; none at a head, where a list ends
 abbrev pub node_then : (ℕ → List ℕ) → Place → List ℕ
@@ -39,5 +34,5 @@ pub record IsMadeOf (r : Rings) (s : Lists) : Type 0 where
   pub entries : length r.entries.items ≡ length s.lists + s.nodes
   pub agree : LinksAgree r
   pub chains : (i : ℕ) → i < length s.lists → IsChain r (Head i) (nodes_of s i) (Head i)
-  pub owners : (i x : ℕ) → x < s.nodes → IsAmong x (nodes_of s i) ↔ (list_of r (Node x) ≡ Some i)
+  pub owners : (i x : ℕ) → x < s.nodes → Holds s i x ↔ (list_of r (Node x) ≡ Some i)
   pub alone : (x : ℕ) → x < s.nodes → list_of r (Node x) ≡ None → next_of r (Node x) ≡ Node x

@@ -4,8 +4,12 @@
 //! lists, each call in constant time and without memory.
 #![tactic(auto)]
 
+mod links;
 mod rings;
 
-mod links;
+#[cfg(test)]
+mod plain;
+#[cfg(test)]
+mod tests;
 
 pub use links::Links;

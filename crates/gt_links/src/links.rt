@@ -1,4 +1,4 @@
-ghost use Rattle.std.specs.Prelude.{◌≡◌, ℕ, ◌+◌, ◌<◌, [], ◌∷◌, ◌++◌, length, nat_eq, slice_get, IfOk, Some, None};
+ghost use Rattle.std.specs.Prelude.{◌≡◌, ℕ, ◌+◌, ◌<◌, [], ◌∷◌, ◌++◌, length, nat_eq, slice_get, IfOk, IfSome, IfNone, Some, None};
 ghost use Rattle.std.specs.List.{IsDistinct};
 ghost use Rattle.gt_links.specs.Lists.{empty_lists, nodes_of, with_nodes, without, Holds, IsInList, IsFree, StandsAt, AreDisjoint};
 
@@ -103,14 +103,18 @@ impl Links {
     /// The list that a node is in, or `None` where it is in no list.
     pub fn list_of(&self, node: u32) -> Option<u32>
         requires { node < self.now.nodes }
-        ensures linked { (i : ℕ) → Holds self.now i node → result ≡ Some i }
-        ensures free { IsFree self.now node → result ≡ None }
+        ensures linked { IfSome result (λ i. Holds self.now i node) }
+        ensures free { IfNone result (IsFree self.now node) }
+
+        // There is no other list that it could be.
+        ensures one { (i : ℕ) → Holds self.now i node → result ≡ Some i }
     {
         self.rings.entry(Place::Node(node)).list
     }
 
-    /// A law of all values: no node stands twice, in one list or in two, and each is one of the nodes.
-    pub fn are_disjoint(&self)
+    /// Does nothing, and tells a proof what holds of the lists at all times: no node stands twice, in one list or in
+    /// two, and each is below the number of nodes.
+    pub fn lists_are_disjoint(&self)
         ensures distinct { (i : ℕ) → IsDistinct nat_eq (nodes_of self.now i) }
         ensures disjoint { AreDisjoint self.now }
         ensures bounded { (i x : ℕ) → Holds self.now i x → x < self.now.nodes }

@@ -1,6 +1,5 @@
-ghost use Rattle.std.specs.Prelude.{◌≡◌, ◌≢◌, ℕ, ◌+◌, ◌<◌, IfOk, None};
-ghost use Rattle.std.specs.List.{range_with_len};
-ghost use Rattle.gt_links.specs.Rings.{node_of, Inserts, Removes, index_of, IsPlace, entry_of, next_of, Writes, Joins, Splices, LinksAgree, lone_entries};
+ghost use Rattle.std.specs.Prelude.{◌≡◌, IfOk, None};
+ghost use Rattle.gt_links.specs.Rings.{node_of, index_of, IsPlace, lone_entries, entry_of, next_of, Writes, Joins, LinksAgree, Splices, Inserts, Removes};
 
 use std::alloc::{AllocError, Global};
 
@@ -40,7 +39,7 @@ impl Place {
 }
 
 impl Entry {
-    /// A place that is alone on its ring.
+    /// The entry of a place that is alone on its ring.
     fn alone(place: Place) -> Self
         ensures { result ≡ record { previous = place; next = place; list = None } }
     {
@@ -53,7 +52,7 @@ impl Entry {
 }
 
 impl Rings {
-    /// Each head and each node alone.
+    /// So many heads and nodes, each alone.
     pub(crate) fn new(alloc: Global, lists: u32, nodes: u32) -> Result<Self, AllocError>
         ensures lists { IfOk result (λ rings. rings.lists ≡ lists) }
         ensures alone { IfOk result (λ rings. rings.entries.items ≡ lone_entries lists nodes) }
@@ -66,47 +65,11 @@ impl Rings {
         })
     }
 
-    fn index(&self, place: Place) -> usize
-        ensures { result ≡ index_of self.now place }
-    {
-        match place {
-            Place::Head(list) => list as usize,
-            Place::Node(node) => self.lists as usize + node as usize,
-        }
-    }
-
     pub(crate) fn entry(&self, place: Place) -> Entry
         requires { IsPlace self.now place }
         ensures { result ≡ entry_of self.now place }
     {
         self.entries[self.index(place)]
-    }
-
-    /// Links a place to the one after it, and leaves the link back to `splice`'s other calls.
-    pub(crate) fn set_next(&mut self, place: Place, next: Place)
-        requires { IsPlace self.old place }
-        ensures { Writes self.old self.new place (record (entry_of self.old place) { next = next }) }
-    {
-        let index = self.index(place);
-        self.entries[index].next = next;
-    }
-
-    pub(crate) fn set_previous(&mut self, place: Place, previous: Place)
-        requires { IsPlace self.old place }
-        ensures { Writes self.old self.new place (record (entry_of self.old place) { previous = previous }) }
-    {
-        let index = self.index(place);
-        self.entries[index].previous = previous;
-    }
-
-    /// Makes `after` come right after `before`.
-    fn join(&mut self, before: Place, after: Place)
-        requires before { IsPlace self.old before }
-        requires after { IsPlace self.old after }
-        ensures { Joins self.old self.new before after }
-    {
-        self.set_next(before, after);
-        self.set_previous(after, before);
     }
 
     /// Puts a node that is alone right after `before`, and says that it is in this list.
@@ -118,7 +81,7 @@ impl Rings {
         ensures { Inserts self.old self.new before node list }
     {
         self.splice(before, Place::Node(node));
-        self.set_list(Place::Node(node), Some(list));
+        self.set_list(node, Some(list));
     }
 
     /// Takes a node off its ring, so that it is alone and in no list.
@@ -129,12 +92,12 @@ impl Rings {
     {
         let before = self.entry(Place::Node(node)).previous;
         self.splice(before, Place::Node(node));
-        self.set_list(Place::Node(node), None);
+        self.set_list(node, None);
     }
 
-    /// Exchanges what comes after `first` and what comes after `second`. Where the second is alone it joins the
-    /// ring of the first right after it, and where it comes right after the first it is alone from then on.
-    pub(crate) fn splice(&mut self, first: Place, second: Place)
+    /// Exchanges what comes after `first` with what comes after `second`. So a `second` that is alone comes right
+    /// after `first`, and one that is right after `first` is alone.
+    fn splice(&mut self, first: Place, second: Place)
         requires agree { LinksAgree self.old }
         requires first { IsPlace self.old first }
         requires second { IsPlace self.old second }
@@ -147,11 +110,47 @@ impl Rings {
         self.join(second, after_first);
     }
 
-    pub(crate) fn set_list(&mut self, place: Place, list: Option<u32>)
+    /// Makes `after` come right after `before`, in both directions.
+    fn join(&mut self, before: Place, after: Place)
+        requires before { IsPlace self.old before }
+        requires after { IsPlace self.old after }
+        ensures { Joins self.old self.new before after }
+    {
+        self.set_next(before, after);
+        self.set_previous(after, before);
+    }
+
+    fn set_next(&mut self, place: Place, next: Place)
         requires { IsPlace self.old place }
-        ensures { Writes self.old self.new place (record (entry_of self.old place) { list = list }) }
+        ensures { Writes self.old self.new place (record (entry_of self.old place) { next = next }) }
     {
         let index = self.index(place);
+        self.entries[index].next = next;
+    }
+
+    fn set_previous(&mut self, place: Place, previous: Place)
+        requires { IsPlace self.old place }
+        ensures { Writes self.old self.new place (record (entry_of self.old place) { previous = previous }) }
+    {
+        let index = self.index(place);
+        self.entries[index].previous = previous;
+    }
+
+    fn set_list(&mut self, node: u32, list: Option<u32>)
+        requires { IsPlace self.old (Place.Node node) }
+        ensures { Writes self.old self.new (Place.Node node) (record (entry_of self.old (Place.Node node)) { list = list }) }
+    {
+        let index = self.index(Place::Node(node));
         self.entries[index].list = list;
+    }
+
+    /// Where a place stands in the vector.
+    fn index(&self, place: Place) -> usize
+        ensures { result ≡ index_of self.now place }
+    {
+        match place {
+            Place::Head(list) => list as usize,
+            Place::Node(node) => self.lists as usize + node as usize,
+        }
     }
 }

@@ -9,14 +9,14 @@ within : (s : Lists) (i x : ℕ) → Holds s i x → i < length s.lists
 within s i x holds = within_from_among s i x (IsAmong-from_Contains x (nodes_of s i) holds)
 
 pub unwrap-list-requires : goal.unwrap-list-requires
-unwrap-list-requires c = ap is_some (c.list_of.ensures.linked c.requires.linked.0 c.requires.linked.1)
+unwrap-list-requires c = ap is_some (c.list_of.ensures.one c.requires.linked.0 c.requires.linked.1)
 
 pub push_back-requires-clause-list : goal.push_back-requires-clause-list
 push_back-requires-clause-list c =
     let s = c.args.self.now in
     let i = c.requires.linked.0 in
     let holds = c.requires.linked.1 in
-    let same : c.unwrap-list.result ≡ i = same_Some _ _ (sym c.unwrap-list.ensures ∙ c.list_of.ensures.linked i holds) in
+    let same : c.unwrap-list.result ≡ i = same_Some _ _ (sym c.unwrap-list.ensures ∙ c.list_of.ensures.one i holds) in
     let count : length c.unlink.new.self.lists ≡ length s.lists =
     ap (λ (t : Lists). length t.lists) (c.unlink.ensures.taken i holds) ∙ length-set s.lists i (without c.args.node (nodes_of s i)) in
     omega (arith, within s i c.args.node holds)
@@ -24,5 +24,5 @@ push_back-requires-clause-list c =
 pub returns : goal.returns
 returns c i holds =
     let s = c.args.self.now in
-    let same : c.unwrap-list.result ≡ i = same_Some _ _ (sym c.unwrap-list.ensures ∙ c.list_of.ensures.linked i holds) in
+    let same : c.unwrap-list.result ≡ i = same_Some _ _ (sym c.unwrap-list.ensures ∙ c.list_of.ensures.one i holds) in
     with_nodes-then_push s c.unlink.new.self c.push_back.new.self i c.unwrap-list.result c.args.node _ (within s i c.args.node holds) same (c.unlink.ensures.taken i holds) c.push_back.ensures

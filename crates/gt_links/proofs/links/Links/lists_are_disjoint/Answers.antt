@@ -1,7 +1,7 @@
 use Rattle.gt_links.specs.Lists.{nodes_of}
 use Rattle.gt_links.proofs.Among.{IsAmong-from_Contains}
 use Rattle.gt_links.proofs.Made.{made_of, bounded, disjoint, distinct}
-use Rattle.gt_links.proofs.links.Links.are_disjoint.Goals as goal
+use Rattle.gt_links.proofs.links.Links.lists_are_disjoint.Goals as goal
 
 pub returns-clause-distinct : goal.returns-clause-distinct
 returns-clause-distinct c i =
