@@ -1,5 +1,5 @@
 -- Which nodes are among which, and the nodes of each list after one list has changed.
-use Rattle.std.proofs.Common.{◌≡◌, ◌≢◌, ℕ, zero, suc, ◌+◌, ◌<◌, ◌≤◌, ◌==◌, eqb, not, cond, List, [], ◌∷◌, ◌++◌, length, get_or, Contains, ◌⊎◌, inl, inr, ⊎_elim, refl, sym, ap, subst, ◌∙◌, arith}
+use Rattle.std.proofs.Common.{◌≡◌, ◌≢◌, ℕ, zero, suc, ◌<◌, eqb, not, List, [], ◌∷◌, ◌++◌, length, get_or, Contains, ◌⊎◌, inl, inr, ⊎_elim, refl, sym, ap, subst, ◌∙◌, arith}
 use Rattle.std.proofs.lemmas.Bool.{cases_eq, cases_lt, eq-eqb, ne_eqb, not_from_true, not_from_false, cond-true, cond-false}
 use Rattle.std.proofs.lemmas.List.{get_or-set_same, get_or-set_other, get_or_past, set-set}
 use Rattle.std.proofs.lemmas.Option.{slice_get_within, get_or_from_slice_get}
@@ -22,8 +22,8 @@ pub Contains-from_among : (x : ℕ) (xs : List ℕ) → IsAmong x xs → Contain
 Contains-from_among x [] h = absurd h
 Contains-from_among x (y ∷ ys) h =
     elim h [
-      inl is ↦ (zero, omega arith, is)
-    | inr m ↦ let c = Contains-from_among x ys m in (suc c.0, omega (arith, c.1), c.2)
+      | inl is ↦ (zero, omega arith, is)
+      | inr m ↦ let c = Contains-from_among x ys m in (suc c.0, omega (arith, c.1), c.2)
     ]
 
 pub without-same : (x : ℕ) (ys : List ℕ) → without x (x ∷ ys) ≡ without x ys
@@ -37,14 +37,14 @@ IsAmong-without x y [] h = absurd h
 IsAmong-without x y (z ∷ zs) h =
     ⊎_elim
     (λ is.
-      let rest = IsAmong-without x y zs (subst (IsAmong y) (ap (λ v. without x (v ∷ zs)) is ∙ without-same x zs) h) in
-      (rest.0, inr rest.1))
+    let rest = IsAmong-without x y zs (subst (IsAmong y) (ap (λ v. without x (v ∷ zs)) is ∙ without-same x zs) h) in
+    (rest.0, inr rest.1))
     (λ ne.
-      let cases : (z ≡ y) ⊎ IsAmong y (without x zs) = subst (IsAmong y) (without-other x z zs ne) h in
-      elim cases [
-        inl is ↦ ((λ e. ne (is ∙ e)), inl is)
+    let cases : (z ≡ y) ⊎ IsAmong y (without x zs) = subst (IsAmong y) (without-other x z zs ne) h in
+    elim cases [
+      | inl is ↦ ((λ e. ne (is ∙ e)), inl is)
       | inr m ↦ let rest = IsAmong-without x y zs m in (rest.0, inr rest.1)
-      ])
+    ])
     (cases_eq z x)
 
 pub IsAmong-from_without : (x y : ℕ) (xs : List ℕ) → y ≢ x → IsAmong y xs → IsAmong y (without x xs)
@@ -52,28 +52,28 @@ IsAmong-from_without x y [] ne h = absurd h
 IsAmong-from_without x y (z ∷ zs) ne h =
     ⊎_elim
     (λ is.
-      let rest : IsAmong y zs = elim h [ inl e ↦ absurd (ne (sym e ∙ is)) | inr m ↦ m ] in
-      subst (IsAmong y) (sym (ap (λ v. without x (v ∷ zs)) is ∙ without-same x zs)) (IsAmong-from_without x y zs ne rest))
+    let rest : IsAmong y zs = elim h [ inl e ↦ absurd (ne (sym e ∙ is)) | inr m ↦ m ] in
+    subst (IsAmong y) (sym (ap (λ v. without x (v ∷ zs)) is ∙ without-same x zs)) (IsAmong-from_without x y zs ne rest))
     (λ other.
-      let here : IsAmong y (z ∷ without x zs) =
-      elim h [ inl e ↦ inl e | inr m ↦ inr (IsAmong-from_without x y zs ne m) ] in
-      subst (IsAmong y) (sym (without-other x z zs other)) here)
+    let here : IsAmong y (z ∷ without x zs) =
+    elim h [ inl e ↦ inl e | inr m ↦ inr (IsAmong-from_without x y zs ne m) ] in
+    subst (IsAmong y) (sym (without-other x z zs other)) here)
     (cases_eq z x)
 
 pub IsAmong-push : (x y : ℕ) (xs : List ℕ) → IsAmong y (xs ++ x ∷ []) → (x ≡ y) ⊎ IsAmong y xs
 IsAmong-push x y [] h = elim h [ inl is ↦ inl is | inr m ↦ absurd m ]
 IsAmong-push x y (z ∷ zs) h =
     elim h [
-      inl is ↦ inr (inl is)
-    | inr m ↦ elim (IsAmong-push x y zs m) [ inl is ↦ inl is | inr n ↦ inr (inr n) ]
+      | inl is ↦ inr (inl is)
+      | inr m ↦ elim (IsAmong-push x y zs m) [ inl is ↦ inl is | inr n ↦ inr (inr n) ]
     ]
 
 pub IsAmong-from_push : (x y : ℕ) (xs : List ℕ) → (x ≡ y) ⊎ IsAmong y xs → IsAmong y (xs ++ x ∷ [])
 IsAmong-from_push x y [] h = elim h [ inl is ↦ inl is | inr m ↦ absurd m ]
 IsAmong-from_push x y (z ∷ zs) h =
     elim h [
-      inl is ↦ inr (IsAmong-from_push x y zs (inl is))
-    | inr m ↦ elim m [ inl is ↦ inl is | inr n ↦ inr (IsAmong-from_push x y zs (inr n)) ]
+      | inl is ↦ inr (IsAmong-from_push x y zs (inl is))
+      | inr m ↦ elim m [ inl is ↦ inl is | inr n ↦ inr (IsAmong-from_push x y zs (inr n)) ]
     ]
 
 pub nodes_of-with_same : (s : Lists) (i : ℕ) (xs : List ℕ) → i < length s.lists → nodes_of (with_nodes s i xs) i ≡ xs

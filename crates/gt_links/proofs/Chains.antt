@@ -1,5 +1,5 @@
 -- The nodes that follow a place, before and after a node is inserted or removed.
-use Rattle.std.proofs.Common.{◌≡◌, ◌≢◌, ℕ, false, eqb, zero, suc, ◌+◌, ◌<◌, ◌≤◌, List, [], ◌∷◌, ◌++◌, length, slice_get, Option, Some, None, ◌⊎◌, inl, inr, ⊎_elim, refl, sym, ap, subst, ◌∙◌, arith}
+use Rattle.std.proofs.Common.{◌≡◌, ◌≢◌, ℕ, false, eqb, zero, suc, ◌≤◌, List, [], ◌∷◌, ◌++◌, length, slice_get, Some, ◌⊎◌, inl, inr, ⊎_elim, refl, sym, ap, subst, ◌∙◌, arith}
 use Rattle.std.specs.List.{AllByRecursion, IsDistinct}
 use Rattle.std.proofs.lemmas.Bool.{cases_eq, ne_eqb}
 use Rattle.std.proofs.lemmas.Option.{none-some, same_Some}
@@ -34,8 +34,8 @@ IsPlace-from_chain r s end [] a at c y m = absurd m
 IsPlace-from_chain r s end (x ∷ xs) a at c y m =
     let here = leads r s (Node x) a at c.0 in
     elim m [
-      inl is ↦ subst (λ v. IsPlace r (Node v)) is here
-    | inr n ↦ IsPlace-from_chain r (Node x) end xs a here c.1 y n
+      | inl is ↦ subst (λ v. IsPlace r (Node v)) is here
+      | inr n ↦ IsPlace-from_chain r (Node x) end xs a here c.1 y n
     ]
 
 module _ (old new : Rings) where
@@ -50,9 +50,10 @@ module _ (old new : Rings) where
   IsChain-elsewhere p q s end [] a others ends apart at not_q c =
       others s at (λ is. ends (sym (ap (next_of old) is) ∙ c)) not_q ∙ c
   IsChain-elsewhere p q s end (x ∷ xs) a others ends apart at not_q c =
-      let first = apart x (inl refl) in
-      (others s at (λ is. first.0 (sym (ap (next_of old) is) ∙ c.0)) not_q ∙ c.0,
-      IsChain-elsewhere p q (Node x) end xs a others ends (λ y m. apart y (inr m)) (leads old s (Node x) a at c.0) first.1 c.1)
+      let first = apart x (inl refl) in (
+        others s at (λ is. first.0 (sym (ap (next_of old) is) ∙ c.0)) not_q ∙ c.0,
+        IsChain-elsewhere p q (Node x) end xs a others ends (λ y m. apart y (inr m)) (leads old s (Node x) a at c.0) first.1 c.1,
+      )
 
   -- the place before the end has x after it now
   pub IsChain-push : (s : Place) (x i : ℕ) (xs : List ℕ) → LinksAgree old → IsPlace old (Head i) → Inserts old new (previous_of old (Head i)) x i → ¬ (IsAmong x xs) → IsPlace old s → s ≢ Node x → IsChain old s xs (Head i) → IsChain new s (xs ++ x ∷ []) (Head i)
@@ -61,9 +62,10 @@ module _ (old new : Rings) where
       (ap (next_of new) last ∙ h.before, h.node ∙ a.forth (Head i) head)
   IsChain-push s x i (y ∷ ys) a head h free at not_x c =
       let inner : s ≢ previous_of old (Head i) =
-      λ is. Head≢Node i y (sym (a.forth (Head i) head) ∙ (sym (ap (next_of old) is) ∙ c.0)) in
-      (h.others s at inner not_x ∙ c.0,
-      IsChain-push (Node y) x i ys a head h (λ m. free (inr m)) (leads old s (Node y) a at c.0) (Node-other y x (λ is. free (inl is))) c.1)
+      λ is. Head≢Node i y (sym (a.forth (Head i) head) ∙ (sym (ap (next_of old) is) ∙ c.0)) in (
+        h.others s at inner not_x ∙ c.0,
+        IsChain-push (Node y) x i ys a head h (λ m. free (inr m)) (leads old s (Node y) a at c.0) (Node-other y x (λ is. free (inl is))) c.1,
+      )
 
   -- what led to x leads past it now
   leads_past : (s : Place) (x : ℕ) → LinksAgree old → Removes old new x → IsPlace old s → next_of old s ≡ Node x → next_of new s ≡ next_of old (Node x)
@@ -86,19 +88,19 @@ module _ (old new : Rings) where
   IsChain-remove s x i (y ∷ []) a node h at not_x c =
       ⊎_elim
       (λ is.
-        subst (λ ys. IsChain new s ys (Head i)) (sym (ap (λ v. without x (v ∷ [])) is ∙ without-same x [])) (leads_past s x a h at (c.0 ∙ ap Node is) ∙ (ap (λ v. next_of old (Node v)) (sym is) ∙ c.1)))
+      subst (λ ys. IsChain new s ys (Head i)) (sym (ap (λ v. without x (v ∷ [])) is ∙ without-same x [])) (leads_past s x a h at (c.0 ∙ ap Node is) ∙ (ap (λ v. next_of old (Node v)) (sym is) ∙ c.1)))
       (λ ne.
-        subst (λ ys. IsChain new s ys (Head i)) (sym (without-other x y [] ne)) (leads_on s x a node h at not_x (λ is. ne (Node-same (sym c.0 ∙ is))) ∙ c.0, IsChain-remove (Node y) x i [] a node h (leads old s (Node y) a at c.0) (Node-other y x ne) c.1))
+      subst (λ ys. IsChain new s ys (Head i)) (sym (without-other x y [] ne)) (leads_on s x a node h at not_x (λ is. ne (Node-same (sym c.0 ∙ is))) ∙ c.0, IsChain-remove (Node y) x i [] a node h (leads old s (Node y) a at c.0) (Node-other y x ne) c.1))
       (cases_eq y x)
   IsChain-remove s x i (y ∷ (z ∷ zs)) a node h at not_x c =
       ⊎_elim
       (λ is.
-        let to : next_of old s ≡ Node x = c.0 ∙ ap Node is in
-        let from : next_of old (Node x) ≡ Node z = ap (λ v. next_of old (Node v)) (sym is) ∙ c.1.0 in
-        let ne : z ≢ x = λ e. not_alone s x a node at not_x to (from ∙ ap Node e) in
-        subst (λ ys. IsChain new s ys (Head i)) (sym (ap (λ v. without x (v ∷ (z ∷ zs))) is ∙ (without-same x (z ∷ zs) ∙ without-other x z zs ne))) (leads_past s x a h at to ∙ from, IsChain-remove (Node z) x i zs a node h (leads old (Node x) (Node z) a node from) (Node-other z x ne) c.1.1))
+      let to : next_of old s ≡ Node x = c.0 ∙ ap Node is in
+      let from : next_of old (Node x) ≡ Node z = ap (λ v. next_of old (Node v)) (sym is) ∙ c.1.0 in
+      let ne : z ≢ x = λ e. not_alone s x a node at not_x to (from ∙ ap Node e) in
+      subst (λ ys. IsChain new s ys (Head i)) (sym (ap (λ v. without x (v ∷ (z ∷ zs))) is ∙ (without-same x (z ∷ zs) ∙ without-other x z zs ne))) (leads_past s x a h at to ∙ from, IsChain-remove (Node z) x i zs a node h (leads old (Node x) (Node z) a node from) (Node-other z x ne) c.1.1))
       (λ ne.
-        subst (λ ys. IsChain new s ys (Head i)) (sym (without-other x y (z ∷ zs) ne)) (leads_on s x a node h at not_x (λ is. ne (Node-same (sym c.0 ∙ is))) ∙ c.0, IsChain-remove (Node y) x i (z ∷ zs) a node h (leads old s (Node y) a at c.0) (Node-other y x ne) c.1))
+      subst (λ ys. IsChain new s ys (Head i)) (sym (without-other x y (z ∷ zs) ne)) (leads_on s x a node h at not_x (λ is. ne (Node-same (sym c.0 ∙ is))) ∙ c.0, IsChain-remove (Node y) x i (z ∷ zs) a node h (leads old s (Node y) a at c.0) (Node-other y x ne) c.1))
       (cases_eq y x)
 
 -- different from each of the nodes
@@ -113,12 +115,12 @@ module _ (r : Rings) where
   led_to s end [] a at c y m = absurd m
   led_to s end (x ∷ xs) a at c y m =
       elim m [
-        inl is ↦ inl (ap (λ v. previous_of r (Node v)) (sym is) ∙ (ap (previous_of r) (sym c.0) ∙ a.back s at))
-      | inr n ↦
-          elim (led_to (Node x) end xs a (leads r s (Node x) a at c.0) c.1 y n) [
-            inl e ↦ inr (x, inl refl, e)
-          | inr w ↦ inr (w.0, inr w.1, w.2)
-          ]
+        | inl is ↦ inl (ap (λ v. previous_of r (Node v)) (sym is) ∙ (ap (previous_of r) (sym c.0) ∙ a.back s at))
+        | inr n ↦
+            elim (led_to (Node x) end xs a (leads r s (Node x) a at c.0) c.1 y n) [
+              | inl e ↦ inr (x, inl refl, e)
+              | inr w ↦ inr (w.0, inr w.1, w.2)
+            ]
       ]
 
   -- no node stands twice on a chain that does not come back to its start
@@ -130,10 +132,10 @@ module _ (r : Rings) where
       let back : s ≡ previous_of r (Node x) = sym (a.back s at) ∙ ap (previous_of r) c.0 in
       let once : ¬ (IsAmong x xs) =
       λ m.
-        elim (led_to (Node x) end xs a here c.1 x m) [
-          inl e ↦ apart x (inl refl) (back ∙ e)
+      elim (led_to (Node x) end xs a here c.1 x m) [
+        | inl e ↦ apart x (inl refl) (back ∙ e)
         | inr w ↦ apart w.0 (inr w.1) (back ∙ w.2)
-        ] in
+      ] in
       IsDistinct-cons eqb x xs (apart_from x xs once) (IsDistinct-chain (Node x) end xs a here (λ y m e. once (subst (λ v. IsAmong v xs) (sym (Node-same e)) m)) c.1)
 
   -- a walk along a chain gives its nodes

@@ -1,5 +1,5 @@
 -- The lists that the rings make after a node is inserted or removed.
-use Rattle.std.proofs.Common.{◌≡◌, ◌≢◌, ℕ, ◌+◌, ◌<◌, ◌↔◌, List, [], ◌∷◌, ◌++◌, length, Some, None, ◌⊎◌, inl, inr, ⊎_elim, refl, sym, ap, subst, ◌∙◌, arith, length-set}
+use Rattle.std.proofs.Common.{◌≡◌, ◌≢◌, ℕ, ◌+◌, ◌<◌, ◌↔◌, List, [], ◌∷◌, ◌++◌, length, Some, None, ◌⊎◌, inl, inr, ⊎_elim, sym, ap, subst, ◌∙◌, arith, length-set}
 use Rattle.std.proofs.lemmas.Bool.{cases_eq}
 use Rattle.std.proofs.lemmas.Option.{none-some, same_Some}
 use Rattle.gt_links.specs.declared.rings.Place.{Place}
@@ -7,10 +7,10 @@ use Rattle.gt_links.specs.declared.rings.Place.TheVariants.{Head, Node}
 use Rattle.gt_links.specs.declared.rings.Rings.{Rings}
 use Rattle.gt_links.specs.Lists.{Lists, nodes_of, with_nodes, without, Holds, IsFree}
 use Rattle.gt_links.specs.Links.{IsChain, IsMadeOf}
-use Rattle.gt_links.specs.Rings.{IsPlace, next_of, previous_of, list_of, Inserts, Removes}
-use Rattle.gt_links.proofs.Among.{IsAmong, IsAmong-from_Contains, Contains-from_among, IsAmong-without, IsAmong-from_without, IsAmong-push, IsAmong-from_push, nodes_of-with_same, nodes_of-with_other, within_from_among}
+use Rattle.gt_links.specs.Rings.{next_of, previous_of, list_of, Inserts, Removes}
+use Rattle.gt_links.proofs.Among.{IsAmong, IsAmong-from_Contains, Contains-from_among, IsAmong-without, IsAmong-from_without, IsAmong-push, IsAmong-from_push, nodes_of-with_same, nodes_of-with_other}
 use Rattle.gt_links.proofs.Chains.{Head≢Node, Head-same, Node-same, Node-other, IsChain-same, IsChain-elsewhere, IsChain-push, IsChain-remove, leads_along}
-use Rattle.gt_links.proofs.Made.{head_is_place, node_is_place, owner_from_among, bounded, disjoint, free_is_alone}
+use Rattle.gt_links.proofs.Made.{head_is_place, node_is_place, owner_from_among, bounded, disjoint}
 
 -- p leads to a place on the ring of list i
 abbrev pub LeadsOnRing : Rings → Lists → ℕ → Place → Type 0
@@ -44,16 +44,16 @@ module _ (old new : Rings) (s : Lists) (m : IsMadeOf old s) (x : ℕ) (node : x 
         let size = length-set s.lists i xs in
         let leads_to_head : (j : ℕ) → j ≢ i → next_of old p ≢ Head j =
         λ j ne is.
-          elim ring [
-            inl e ↦ ne (sym (Head-same (sym e ∙ is)))
+        elim ring [
+          | inl e ↦ ne (sym (Head-same (sym e ∙ is)))
           | inr w ↦ Head≢Node j w.0 (sym is ∙ w.2)
-          ] in
+        ] in
         let leads_to_node : (y : ℕ) → next_of old p ≡ Node y → IsAmong y (nodes_of s i) =
         λ y is.
-          elim ring [
-            inl e ↦ absurd (Head≢Node i y (sym e ∙ is))
+        elim ring [
+          | inl e ↦ absurd (Head≢Node i y (sym e ∙ is))
           | inr w ↦ subst (λ v. IsAmong v (nodes_of s i)) (Node-same (sym w.2 ∙ is)) w.1
-          ] in
+        ] in
         record {
           lists = h.size.lists ∙ (m.lists ∙ sym size);
           entries = h.size.length ∙ (m.entries ∙ ap (λ n. n + s.nodes) (sym size));
@@ -64,24 +64,24 @@ module _ (old new : Rings) (s : Lists) (m : IsMadeOf old s) (x : ℕ) (node : x 
               owners_by_among new (with_nodes s i xs) j y
               (⊎_elim
               (λ is.
-                let owner : list_of new (Node y) ≡ Some i = ap (λ v. list_of new (Node v)) (sym is) ∙ h.list in
-                at_each_list s i xs (λ j ys. IsAmong y ys ↔ (list_of new (Node y) ≡ Some j)) within (λ _. owner, λ _. (among y).1 (inl is)) (λ j ne. (λ k. absurd (free j (subst (λ v. IsAmong v (nodes_of s j)) (sym is) k)), λ e. absurd (ne (same_Some j i (sym e ∙ owner))))) j)
+              let owner : list_of new (Node y) ≡ Some i = ap (λ v. list_of new (Node v)) (sym is) ∙ h.list in
+              at_each_list s i xs (λ j ys. IsAmong y ys ↔ (list_of new (Node y) ≡ Some j)) within (λ _. owner, λ _. (among y).1 (inl is)) (λ j ne. (λ k. absurd (free j (subst (λ v. IsAmong v (nodes_of s j)) (sym is) k)), λ e. absurd (ne (same_Some j i (sym e ∙ owner))))) j)
               (λ other.
-                let kept = h.lists (Node y) (node_is_place old s m y below) (Node-other y x (λ e. other (sym e))) in
-                let was = owners_kept i y below kept in
-                at_each_list s i xs (λ j ys. IsAmong y ys ↔ (list_of new (Node y) ≡ Some j)) within (λ k. was.0 (⊎_elim (λ e. absurd (other e)) (λ n. n) ((among y).0 k)), λ e. (among y).1 (inr (was.1 e))) (λ j ne. owners_kept j y below kept) j)
+              let kept = h.lists (Node y) (node_is_place old s m y below) (Node-other y x (λ e. other (sym e))) in
+              let was = owners_kept i y below kept in
+              at_each_list s i xs (λ j ys. IsAmong y ys ↔ (list_of new (Node y) ≡ Some j)) within (λ k. was.0 (⊎_elim (λ e. absurd (other e)) (λ n. n) ((among y).0 k)), λ e. (among y).1 (inr (was.1 e))) (λ j ne. owners_kept j y below kept) j)
               (cases_eq x y));
           alone = λ y below none.
               ⊎_elim
               (λ is. absurd (none-some i (sym none ∙ (ap (λ v. list_of new (Node v)) (sym is) ∙ h.list))))
               (λ other.
-                let place = node_is_place old s m y below in
-                let apart = Node-other y x (λ e. other (sym e)) in
-                let was : list_of old (Node y) ≡ None = sym (h.lists (Node y) place apart) ∙ none in
-                let itself = m.alone y below was in
-                let not_p : Node y ≢ p =
-                λ is. none-some i (sym was ∙ owner_from_among old s m i y below (leads_to_node y (sym (ap (next_of old) is) ∙ itself))) in
-                h.others (Node y) place not_p apart ∙ itself)
+              let place = node_is_place old s m y below in
+              let apart = Node-other y x (λ e. other (sym e)) in
+              let was : list_of old (Node y) ≡ None = sym (h.lists (Node y) place apart) ∙ none in
+              let itself = m.alone y below was in
+              let not_p : Node y ≢ p =
+              λ is. none-some i (sym was ∙ owner_from_among old s m i y below (leads_to_node y (sym (ap (next_of old) is) ∙ itself))) in
+              h.others (Node y) place not_p apart ∙ itself)
               (cases_eq x y);
         }
 
@@ -117,21 +117,21 @@ module _ (old new : Rings) (s : Lists) (m : IsMadeOf old s) (x : ℕ) (node : x 
               owners_by_among new (with_nodes s i xs) j y
               (⊎_elim
               (λ is.
-                let none : list_of new (Node y) ≡ None = ap (λ v. list_of new (Node v)) (sym is) ∙ h.list in
-                at_each_list s i xs (λ j ys. IsAmong y ys ↔ (list_of new (Node y) ≡ Some j)) within ((λ k. absurd ((IsAmong-without x y (nodes_of s i) k).0 (sym is))), λ e. absurd (none-some i (sym none ∙ e))) (λ j ne. ((λ k. absurd (elsewhere j y ne k is)), λ e. absurd (none-some j (sym none ∙ e)))) j)
+              let none : list_of new (Node y) ≡ None = ap (λ v. list_of new (Node v)) (sym is) ∙ h.list in
+              at_each_list s i xs (λ j ys. IsAmong y ys ↔ (list_of new (Node y) ≡ Some j)) within ((λ k. absurd ((IsAmong-without x y (nodes_of s i) k).0 (sym is))), λ e. absurd (none-some i (sym none ∙ e))) (λ j ne. ((λ k. absurd (elsewhere j y ne k is)), λ e. absurd (none-some j (sym none ∙ e)))) j)
               (λ other.
-                let kept = h.lists (Node y) (node_is_place old s m y below) (Node-other y x (λ e. other (sym e))) in
-                let was = owners_kept i y below kept in
-                at_each_list s i xs (λ j ys. IsAmong y ys ↔ (list_of new (Node y) ≡ Some j)) within ((λ k. was.0 ((IsAmong-without x y (nodes_of s i) k).1)), λ e. IsAmong-from_without x y (nodes_of s i) (λ is. other (sym is)) (was.1 e)) (λ j ne. owners_kept j y below kept) j)
+              let kept = h.lists (Node y) (node_is_place old s m y below) (Node-other y x (λ e. other (sym e))) in
+              let was = owners_kept i y below kept in
+              at_each_list s i xs (λ j ys. IsAmong y ys ↔ (list_of new (Node y) ≡ Some j)) within ((λ k. was.0 ((IsAmong-without x y (nodes_of s i) k).1)), λ e. IsAmong-from_without x y (nodes_of s i) (λ is. other (sym is)) (was.1 e)) (λ j ne. owners_kept j y below kept) j)
               (cases_eq x y));
           alone = λ y below none.
               ⊎_elim
               (λ is. subst (λ v. next_of new (Node v) ≡ Node v) is h.node)
               (λ other.
-                let at = node_is_place old s m y below in
-                let apart = Node-other y x (λ e. other (sym e)) in
-                let itself = m.alone y below (sym (h.lists (Node y) at apart) ∙ none) in
-                h.others (Node y) at (λ is. other (Node-same (sym back ∙ (sym (ap (next_of old) is) ∙ itself)))) apart ∙ itself)
+              let at = node_is_place old s m y below in
+              let apart = Node-other y x (λ e. other (sym e)) in
+              let itself = m.alone y below (sym (h.lists (Node y) at apart) ∙ none) in
+              h.others (Node y) at (λ is. other (Node-same (sym back ∙ (sym (ap (next_of old) is) ∙ itself)))) apart ∙ itself)
               (cases_eq x y);
         }
 

@@ -1,5 +1,5 @@
 -- Rings on which each place is alone make empty lists.
-use Rattle.std.proofs.Common.{◌≡◌, ℕ, ◌+◌, ◌-◌, ◌<◌, ◌≤◌, List, [], ◌∷◌, ◌++◌, length, map, get_or, replicate, Some, None, ⊎_elim, refl, sym, ap, subst, ◌∙◌, arith, length-append}
+use Rattle.std.proofs.Common.{◌≡◌, ℕ, ◌+◌, ◌-◌, ◌<◌, List, [], length, map, get_or, replicate, None, ⊎_elim, sym, ap, subst, ◌∙◌, arith, length-append}
 use Rattle.std.specs.List.{range_with_len}
 use Rattle.std.proofs.lemmas.Bool.{cases_lt}
 use Rattle.std.proofs.lemmas.Option.{none-some}
@@ -9,10 +9,10 @@ use Rattle.gt_links.specs.declared.rings.Entry.{Entry}
 use Rattle.gt_links.specs.declared.rings.Place.{Place}
 use Rattle.gt_links.specs.declared.rings.Place.TheVariants.{Head, Node}
 use Rattle.gt_links.specs.declared.rings.Rings.{Rings}
-use Rattle.gt_links.specs.Lists.{Lists, empty_lists, nodes_of}
+use Rattle.gt_links.specs.Lists.{empty_lists, nodes_of}
 use Rattle.gt_links.specs.Links.{IsChain, IsMadeOf}
 use Rattle.gt_links.proofs.Among.{IsAmong, IsAmong-from_Contains}
-use Rattle.gt_links.specs.Rings.{IsPlace, no_entry, lone_entry, lone_entries, entry_of, next_of, previous_of, list_of, LinksAgree}
+use Rattle.gt_links.specs.Rings.{IsPlace, no_entry, lone_entry, lone_entries, entry_of, next_of, previous_of, list_of}
 
 pub nodes_of-empty : (lists nodes i : ℕ) → nodes_of (empty_lists lists nodes) i ≡ []
 nodes_of-empty lists nodes i =

@@ -1,20 +1,19 @@
 -- What holds of the lists that the rings make, and the lists that they make after a change.
-use Rattle.std.proofs.Common.{◌≡◌, ◌≢◌, ℕ, eqb, zero, suc, ◌+◌, ◌-◌, ◌<◌, ◌≤◌, ◌↔◌, true, List, [], ◌∷◌, ◌++◌, length, map, get_or, set, Option, Some, None, IfSome, IfNone, ◌⊎◌, inl, inr, ⊎_elim, refl, sym, ap, subst, ◌∙◌, arith, length-set}
-use Rattle.std.specs.List.{IsDistinct, list_any, range_with_len}
-use Rattle.std.proofs.lemmas.Bool.{cases_eq, cases_lt, eqb-true}
+use Rattle.std.proofs.Common.{◌≡◌, ℕ, eqb, ◌-◌, ◌<◌, ◌≤◌, List, [], length, map, Option, Some, None, IfSome, IfNone, ◌⊎◌, inl, inr, ⊎_elim, refl, sym, ap, subst, ◌∙◌, arith}
+use Rattle.std.specs.List.{IsDistinct, range_with_len}
+use Rattle.std.proofs.lemmas.Bool.{cases_lt, eqb-true}
 use Rattle.std.proofs.lemmas.Option.{none-some, same_Some}
 use Rattle.std.proofs.lemmas.List.{get_or_past}
 use Rattle.std.proofs.lemmas.List.FromFn.{fill_by_all}
 use Rattle.std.proofs.lemmas.Map.Steps.{length-le_from_distinct_below}
 use Rattle.std.proofs.lemmas.Map.Views.{Contains-from_any}
-use Rattle.gt_links.specs.declared.rings.Place.{Place}
 use Rattle.gt_links.specs.declared.rings.Place.TheVariants.{Head, Node}
 use Rattle.gt_links.specs.declared.rings.Rings.{Rings}
 use Rattle.gt_links.specs.Lists.{Lists, nodes_of, Holds, IsFree}
-use Rattle.gt_links.specs.Links.{IsChain, IsMadeOf, lists_of, nodes_after}
-use Rattle.gt_links.specs.Rings.{IsPlace, next_of, previous_of, list_of, LinksAgree, Inserts, Removes}
+use Rattle.gt_links.specs.Links.{IsMadeOf, lists_of, nodes_after}
+use Rattle.gt_links.specs.Rings.{IsPlace, next_of, list_of}
 use Rattle.gt_links.proofs.Among.{IsAmong, IsAmong-from_Contains, Contains-from_among, within_from_among}
-use Rattle.gt_links.proofs.Chains.{Head≢Node, Node-same, Node-other, IsPlace-from_chain, IsChain-same, IsChain-elsewhere, IsChain-push, IsChain-remove, IsDistinct-chain, nodes_after-chain, leads_along}
+use Rattle.gt_links.proofs.Chains.{Head≢Node, IsPlace-from_chain, IsDistinct-chain, nodes_after-chain}
 
 pub cases_Option : (o : Option ℕ) → (o ≡ None) ⊎ ((v : ℕ) × (o ≡ Some v))
 cases_Option None = inl refl
@@ -57,8 +56,8 @@ module _ (r : Rings) (s : Lists) (m : IsMadeOf r s) where
   pub free_is_alone : (x : ℕ) → x < s.nodes → ((i : ℕ) → ¬ (IsAmong x (nodes_of s i))) → (list_of r (Node x) ≡ None) × (next_of r (Node x) ≡ Node x)
   free_is_alone x within free =
       elim (cases_Option (list_of r (Node x))) [
-        inl none ↦ (none, m.alone x within none)
-      | inr some ↦ absurd (free some.0 (IsAmong-from_Contains x (nodes_of s some.0) ((m.owners some.0 x within).1 some.1)))
+        | inl none ↦ (none, m.alone x within none)
+        | inr some ↦ absurd (free some.0 (IsAmong-from_Contains x (nodes_of s some.0) ((m.owners some.0 x within).1 some.1)))
       ]
 
   -- what the list that a node has says of it

@@ -1,5 +1,5 @@
 -- What a write, a join and a splice leave of the rings.
-use Rattle.std.proofs.Common.{◌≡◌, ◌≢◌, ℕ, ◌+◌, ◌<◌, length, ◌⊎◌, inl, inr, ⊎_elim, refl, sym, ap, subst, ◌∙◌, arith, Option, Some, None}
+use Rattle.std.proofs.Common.{◌≡◌, ◌≢◌, ℕ, ◌⊎◌, inl, inr, ⊎_elim, refl, sym, ap, subst, ◌∙◌, arith, Option, Some, None}
 use Rattle.std.proofs.lemmas.Bool.{cases_eq}
 use Rattle.gt_links.specs.declared.rings.Place.{Place}
 use Rattle.gt_links.specs.declared.rings.Place.TheVariants.{Head, Node}
@@ -82,45 +82,45 @@ LinksAgree-from_joins {old} {mid} {new} {p} {q} a at_p at_q j k =
           ⊎_elim
           (λ is. subst (IsPlace new) (sym (ap (next_of new) is ∙ s.first)) (there _ (a.next_leads q at_q)))
           (λ not_p.
-            ⊎_elim
-            (λ is. subst (IsPlace new) (sym (ap (next_of new) is ∙ s.second)) (there _ (a.next_leads p at_p)))
-            (λ not_q. subst (IsPlace new) (sym (s.others r (here r at) not_p not_q)) (there _ (a.next_leads r (here r at))))
-            (cases_Place r q))
+          ⊎_elim
+          (λ is. subst (IsPlace new) (sym (ap (next_of new) is ∙ s.second)) (there _ (a.next_leads p at_p)))
+          (λ not_q. subst (IsPlace new) (sym (s.others r (here r at) not_p not_q)) (there _ (a.next_leads r (here r at))))
+          (cases_Place r q))
           (cases_Place r p);
       previous_leads = λ r at.
           ⊎_elim
           (λ is. subst (IsPlace new) (sym (ap (previous_of new) is ∙ b.first)) (there p at_p))
           (λ not_second.
-            ⊎_elim
-            (λ is. subst (IsPlace new) (sym (ap (previous_of new) is ∙ b.second)) (there q at_q))
-            (λ not_first. subst (IsPlace new) (sym (b.others r (here r at) not_first not_second)) (there _ (a.previous_leads r (here r at))))
-            (cases_Place r (next_of old p)))
+          ⊎_elim
+          (λ is. subst (IsPlace new) (sym (ap (previous_of new) is ∙ b.second)) (there q at_q))
+          (λ not_first. subst (IsPlace new) (sym (b.others r (here r at) not_first not_second)) (there _ (a.previous_leads r (here r at))))
+          (cases_Place r (next_of old p)))
           (cases_Place r (next_of old q));
       back = λ r at.
           ⊎_elim
           (λ is. ap (λ w. previous_of new (next_of new w)) is ∙ (ap (previous_of new) s.first ∙ (b.first ∙ sym is)))
           (λ not_p.
-            ⊎_elim
-            (λ is. ap (λ w. previous_of new (next_of new w)) is ∙ (ap (previous_of new) s.second ∙ (b.second ∙ sym is)))
-            (λ not_q.
-              let w = here r at in
-              ap (previous_of new) (s.others r w not_p not_q)
-              ∙ (b.others _ (a.next_leads r w) (λ is. not_p (sym (a.back r w) ∙ (ap (previous_of old) is ∙ a.back p at_p))) (λ is. not_q (sym (a.back r w) ∙ (ap (previous_of old) is ∙ a.back q at_q)))
-              ∙ a.back r w))
-            (cases_Place r q))
+          ⊎_elim
+          (λ is. ap (λ w. previous_of new (next_of new w)) is ∙ (ap (previous_of new) s.second ∙ (b.second ∙ sym is)))
+          (λ not_q.
+          let w = here r at in
+          ap (previous_of new) (s.others r w not_p not_q)
+          ∙ (b.others _ (a.next_leads r w) (λ is. not_p (sym (a.back r w) ∙ (ap (previous_of old) is ∙ a.back p at_p))) (λ is. not_q (sym (a.back r w) ∙ (ap (previous_of old) is ∙ a.back q at_q)))
+          ∙ a.back r w))
+          (cases_Place r q))
           (cases_Place r p);
       forth = λ r at.
           ⊎_elim
           (λ is. ap (λ w. next_of new (previous_of new w)) is ∙ (ap (next_of new) b.first ∙ (s.first ∙ sym is)))
           (λ not_second.
-            ⊎_elim
-            (λ is. ap (λ w. next_of new (previous_of new w)) is ∙ (ap (next_of new) b.second ∙ (s.second ∙ sym is)))
-            (λ not_first.
-              let w = here r at in
-              ap (next_of new) (b.others r w not_first not_second)
-              ∙ (s.others _ (a.previous_leads r w) (λ is. not_first (sym (a.forth r w) ∙ ap (next_of old) is)) (λ is. not_second (sym (a.forth r w) ∙ ap (next_of old) is))
-              ∙ a.forth r w))
-            (cases_Place r (next_of old p)))
+          ⊎_elim
+          (λ is. ap (λ w. next_of new (previous_of new w)) is ∙ (ap (next_of new) b.second ∙ (s.second ∙ sym is)))
+          (λ not_first.
+          let w = here r at in
+          ap (next_of new) (b.others r w not_first not_second)
+          ∙ (s.others _ (a.previous_leads r w) (λ is. not_first (sym (a.forth r w) ∙ ap (next_of old) is)) (λ is. not_second (sym (a.forth r w) ∙ ap (next_of old) is))
+          ∙ a.forth r w))
+          (cases_Place r (next_of old p)))
           (cases_Place r (next_of old q));
     }
 

@@ -1,4 +1,4 @@
-use Rattle.std.specs.Prelude.{◌≡◌, ℕ, ◌<◌, ◌==◌, List, [], slice_set, slice_get, slice_index_or, Some, Contains, filter, not, replicate}
+use Rattle.std.specs.Prelude.{◌≡◌, ℕ, ◌==◌, List, [], slice_set, slice_get, slice_index_or, Some, Contains, filter, not, replicate}
 
 -- numbered lists of numbered nodes: at place i the nodes of list i, first to last, and how many node numbers there are
 pub record Lists : Type 0 where

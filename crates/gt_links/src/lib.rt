@@ -5,10 +5,9 @@
 #![tactic(auto)]
 
 mod links;
-mod rings;
-
 #[cfg(test)]
 mod plain;
+mod rings;
 #[cfg(test)]
 mod tests;
 

@@ -62,7 +62,8 @@ impl Links {
     pub fn unlink(&mut self, node: u32)
         requires node { node < self.old.nodes }
         requires linked { IsInList self.old node }
-        ensures taken { (i : ℕ) → Holds self.old i node → self.new ≡ with_nodes self.old i (without node (nodes_of self.old i)) }
+        ensures taken { (i : ℕ) → Holds self.old i node
+            → self.new ≡ with_nodes self.old i (without node (nodes_of self.old i)) }
         ensures free { IsFree self.new node }
     {
         self.rings.remove(node);
@@ -72,7 +73,8 @@ impl Links {
     pub fn move_back(&mut self, node: u32)
         requires node { node < self.old.nodes }
         requires linked { IsInList self.old node }
-        ensures { (i : ℕ) → Holds self.old i node → self.new ≡ with_nodes self.old i (without node (nodes_of self.old i) ++ node ∷ []) }
+        ensures { (i : ℕ) → Holds self.old i node
+            → self.new ≡ with_nodes self.old i (without node (nodes_of self.old i) ++ node ∷ []) }
     {
         let list = self.list_of(node).unwrap();
         self.unlink(node);
@@ -90,7 +92,8 @@ impl Links {
     /// The node after a node in its list, or `None` where the node is the last or is in no list.
     pub fn next(&self, node: u32) -> Option<u32>
         requires { node < self.now.nodes }
-        ensures after { (i k : ℕ) → StandsAt self.now i k node → result ≡ slice_get (nodes_of self.now i) (k + 1) }
+        ensures after { (i k : ℕ) → StandsAt self.now i k node
+            → result ≡ slice_get (nodes_of self.now i) (k + 1) }
         ensures free { IsFree self.now node → result ≡ None }
     {
         let entry = self.rings.entry(Place::Node(node));

@@ -36,7 +36,9 @@ impl Plain {
     }
 
     pub(crate) fn move_back(&mut self, node: u32) -> Result<(), AllocError> {
-        let Some(list) = self.list_of(node) else { return Ok(()) };
+        let Some(list) = self.list_of(node) else {
+            return Ok(())
+        };
         self.unlink(node);
         self.push_back(list, node)
     }

@@ -122,7 +122,8 @@ impl Rings {
 
     fn set_next(&mut self, place: Place, next: Place)
         requires { IsPlace self.old place }
-        ensures { Writes self.old self.new place (record (entry_of self.old place) { next = next }) }
+        ensures { Writes self.old self.new place
+            (record (entry_of self.old place) { next = next }) }
     {
         let index = self.index(place);
         self.entries[index].next = next;
@@ -130,7 +131,8 @@ impl Rings {
 
     fn set_previous(&mut self, place: Place, previous: Place)
         requires { IsPlace self.old place }
-        ensures { Writes self.old self.new place (record (entry_of self.old place) { previous = previous }) }
+        ensures { Writes self.old self.new place
+            (record (entry_of self.old place) { previous = previous }) }
     {
         let index = self.index(place);
         self.entries[index].previous = previous;
@@ -138,7 +140,8 @@ impl Rings {
 
     fn set_list(&mut self, node: u32, list: Option<u32>)
         requires { IsPlace self.old (Place.Node node) }
-        ensures { Writes self.old self.new (Place.Node node) (record (entry_of self.old (Place.Node node)) { list = list }) }
+        ensures { Writes self.old self.new (Place.Node node)
+            (record (entry_of self.old (Place.Node node)) { list = list }) }
     {
         let index = self.index(Place::Node(node));
         self.entries[index].list = list;

@@ -7,6 +7,7 @@ use std::process::Abort;
 use std::test::Fail;
 
 const LISTS: u32 = 4;
+
 const NODES: u32 = 12;
 
 #[derive(Clone, Copy)]
@@ -60,6 +61,33 @@ impl Both {
         }
         Ok(true)
     }
+
+    /// Wants the same nodes in each list, and each node in the same list.
+    fn compare(&self, rt: &impl Abort) {
+        for list in 0..LISTS {
+            match self.plain.nodes(list) {
+                Some(nodes) => follow(rt, &self.links, list, nodes),
+                None => panic!(rt; "no list {list}"),
+            }
+        }
+        for node in 0..NODES {
+            assert_eq!(rt;
+                self.links.list_of(node),
+                self.plain.list_of(node),
+                "node {node}"
+            );
+        }
+    }
+}
+
+/// The call that a number draws.
+fn drawn_call(number: u32) -> Call {
+    match number % 4 {
+        0 => Call::PushFront,
+        1 => Call::PushBack,
+        2 => Call::Unlink,
+        _ => Call::MoveBack,
+    }
 }
 
 /// Follows the nodes of a list and wants exactly these.
@@ -105,27 +133,16 @@ fn lists_after_each_call(rt: HostRuntime) -> Result<(), Fail> {
 fn mixed_calls_leave_the_lists_of_the_plain_program(rt: HostRuntime) -> Result<(), Fail> {
     let mut both = Both::new(rt.alloc())?;
     let mut drawn = 1u32;
-    let mut calls = 0;
+    let mut calls = 0u32;
     for _ in 0..800 {
         // The multiplier and the increment are those of Numerical Recipes; the low bits repeat soon.
         drawn = drawn.wrapping_mul(1664525).wrapping_add(1013904223);
         let number = drawn >> 8;
-        let call = match number % 4 {
-            0 => Call::PushFront,
-            1 => Call::PushBack,
-            2 => Call::Unlink,
-            _ => Call::MoveBack,
-        };
-        if both.call(call, number / 4 % LISTS, number / 16 % NODES)? {
-            calls += 1;
+        if both.call(drawn_call(number), number / 4 % LISTS, number / 16 % NODES)? {
+            calls = calls.saturating_add(1);
         }
-        for list in 0..LISTS {
-            follow(&rt, &both.links, list, both.plain.nodes(list).ok_or("no such list")?);
-        }
-        for node in 0..NODES {
-            assert_eq!(rt; both.links.list_of(node), both.plain.list_of(node), "node {node}");
-        }
+        both.compare(&rt);
     }
-    assert!(rt; calls >= 300, "{calls} of the calls were made");
+    assert!(rt; calls >= 300, "only {calls} of the calls were made");
     Ok(())
 }

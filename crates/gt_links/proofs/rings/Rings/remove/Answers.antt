@@ -1,4 +1,4 @@
-use Rattle.std.proofs.Common.{sym, ap, subst}
+use Rattle.std.proofs.Common.{sym, subst}
 use Rattle.gt_links.specs.declared.rings.Entry.{Entry}
 use Rattle.gt_links.specs.declared.rings.Place.TheVariants.{Node}
 use Rattle.gt_links.specs.Rings.{IsPlace}
