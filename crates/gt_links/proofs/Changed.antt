@@ -5,7 +5,7 @@ use Rattle.std.proofs.lemmas.Option.{none-some, same_Some}
 use Rattle.gt_links.specs.declared.rings.Place.{Place}
 use Rattle.gt_links.specs.declared.rings.Place.TheVariants.{Head, Node}
 use Rattle.gt_links.specs.declared.rings.Rings.{Rings}
-use Rattle.gt_links.specs.Lists.{Lists, nodes_of, with_nodes, without, Holds, IsFree}
+use Rattle.gt_links.specs.Lists.{Lists, nodes_of, with_nodes, without, Holds}
 use Rattle.gt_links.specs.Links.{IsChain, IsMadeOf}
 use Rattle.gt_links.specs.Rings.{next_of, previous_of, list_of, Inserts, Removes}
 use Rattle.gt_links.proofs.Among.{IsAmong, IsAmong-from_Contains, Contains-from_among, IsAmong-without, IsAmong-from_without, IsAmong-push, IsAmong-from_push, nodes_of-with_same, nodes_of-with_other}
@@ -134,8 +134,3 @@ module _ (old new : Rings) (s : Lists) (m : IsMadeOf old s) (x : ℕ) (node : x 
               h.others (Node y) at (λ is. other (Node-same (sym back ∙ (sym (ap (next_of old) is) ∙ itself)))) apart ∙ itself)
               (cases_eq x y);
         }
-
--- once x is in no list, no list has it
-pub IsFree-removed : (new : Rings) (s : Lists) (x : ℕ) → IsMadeOf new s → x < s.nodes → list_of new (Node x) ≡ None → IsFree s x
-IsFree-removed new s x m within none i holds =
-    none-some i (sym none ∙ owner_from_among new s m i x within (IsAmong-from_Contains x (nodes_of s i) holds))

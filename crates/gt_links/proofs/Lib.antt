@@ -4,3 +4,4 @@ pub mod Chains
 pub mod Made
 pub mod Changed
 pub mod Empty
+pub mod Calls

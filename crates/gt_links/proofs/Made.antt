@@ -1,15 +1,15 @@
 -- What holds of the lists that the rings make, and the lists that they make after a change.
-use Rattle.std.proofs.Common.{◌≡◌, ℕ, eqb, ◌-◌, ◌<◌, ◌≤◌, List, [], length, map, Option, Some, None, IfSome, IfNone, ◌⊎◌, inl, inr, ⊎_elim, refl, sym, ap, subst, ◌∙◌, arith}
+use Rattle.std.proofs.Common.{◌≡◌, ℕ, eqb, ◌-◌, ◌<◌, ◌≤◌, List, [], length, map, Option, Some, None, ◌⊎◌, inl, inr, ⊎_elim, refl, sym, ap, subst, ◌∙◌, arith}
 use Rattle.std.specs.List.{IsDistinct, range_with_len}
 use Rattle.std.proofs.lemmas.Bool.{cases_lt, eqb-true}
-use Rattle.std.proofs.lemmas.Option.{none-some, same_Some}
+use Rattle.std.proofs.lemmas.Option.{same_Some}
 use Rattle.std.proofs.lemmas.List.{get_or_past}
 use Rattle.std.proofs.lemmas.List.FromFn.{fill_by_all}
 use Rattle.std.proofs.lemmas.Map.Steps.{length-le_from_distinct_below}
 use Rattle.std.proofs.lemmas.Map.Views.{Contains-from_any}
 use Rattle.gt_links.specs.declared.rings.Place.TheVariants.{Head, Node}
 use Rattle.gt_links.specs.declared.rings.Rings.{Rings}
-use Rattle.gt_links.specs.Lists.{Lists, nodes_of, Holds, IsFree}
+use Rattle.gt_links.specs.Lists.{Lists, nodes_of}
 use Rattle.gt_links.specs.Links.{IsMadeOf, lists_of, nodes_after}
 use Rattle.gt_links.specs.Rings.{IsPlace, next_of, list_of}
 use Rattle.gt_links.proofs.Among.{IsAmong, IsAmong-from_Contains, Contains-from_among, within_from_among}
@@ -60,15 +60,6 @@ module _ (r : Rings) (s : Lists) (m : IsMadeOf r s) where
         | inr some ↦ absurd (free some.0 (IsAmong-from_Contains x (nodes_of s some.0) ((m.owners some.0 x within).1 some.1)))
       ]
 
-  -- what the list that a node has says of it
-  pub IfSome-owner : (x : ℕ) (o : Option ℕ) → x < s.nodes → o ≡ list_of r (Node x) → IfSome o (λ i. Holds s i x)
-  IfSome-owner x None within is = tt
-  IfSome-owner x (Some i) within is = (m.owners i x within).1 (sym is)
-
-  pub IfNone-owner : (x : ℕ) (o : Option ℕ) → x < s.nodes → o ≡ list_of r (Node x) → IfNone o (IsFree s x)
-  IfNone-owner x None within is = λ i holds. none-some i (is ∙ (m.owners i x within).0 holds)
-  IfNone-owner x (Some i) within is = tt
-
   -- the lists are what a walk from each head gives
   pub lists_of-made : lists_of r ≡ s
   lists_of-made =
@@ -81,15 +72,3 @@ module _ (r : Rings) (s : Lists) (m : IsMadeOf r s) where
       let made : List (List ℕ) → ℕ → Lists = λ lists nodes. record { lists = lists; nodes = nodes } in
       let count : entries - r.lists ≡ s.nodes = omega arith in
       ap (λ lists. made lists (entries - r.lists)) (sym walks) ∙ ap (made s.lists) count
-
--- what the invariant says of the value that callers see
-pub made_of : (r : Rings) (s : Lists) → lists_of r ≡ s → IsMadeOf r (lists_of r) → IsMadeOf r s
-made_of r s is m = subst (IsMadeOf r) is m
-
--- and what it says of new rings
-pub made_of_itself : (r : Rings) (s : Lists) → IsMadeOf r s → IsMadeOf r (lists_of r)
-made_of_itself r s m = subst (IsMadeOf r) (sym (lists_of-made r s m)) m
-
--- a node in no list is among the nodes of none
-pub not_among : (s : Lists) (x : ℕ) → IsFree s x → (i : ℕ) → ¬ (IsAmong x (nodes_of s i))
-not_among s x free i h = free i (Contains-from_among x (nodes_of s i) h)

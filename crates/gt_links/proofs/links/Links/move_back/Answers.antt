@@ -1,12 +1,10 @@
-use Rattle.std.proofs.Common.{◌≡◌, ℕ, ◌<◌, length, ap, sym, ◌∙◌, arith, length-set}
+use Rattle.std.proofs.Common.{◌≡◌, length, ap, sym, ◌∙◌, arith, length-set}
 use Rattle.std.specs.Option.{is_some}
 use Rattle.std.proofs.lemmas.Option.{same_Some}
-use Rattle.gt_links.specs.Lists.{Lists, nodes_of, without, Holds}
-use Rattle.gt_links.proofs.Among.{IsAmong-from_Contains, within_from_among, with_nodes-then_push}
+use Rattle.gt_links.specs.Lists.{Lists, nodes_of, without}
+use Rattle.gt_links.proofs.Among.{with_nodes-then_push}
+use Rattle.gt_links.proofs.Calls.{within_from_holds}
 use Rattle.gt_links.proofs.links.Links.move_back.Goals as goal
-
-within : (s : Lists) (i x : ℕ) → Holds s i x → i < length s.lists
-within s i x holds = within_from_among s i x (IsAmong-from_Contains x (nodes_of s i) holds)
 
 pub unwrap-list-requires : goal.unwrap-list-requires
 unwrap-list-requires c = ap is_some (c.list_of.ensures.one c.requires.linked.0 c.requires.linked.1)
@@ -19,10 +17,10 @@ push_back-requires-clause-list c =
     let same : c.unwrap-list.result ≡ i = same_Some _ _ (sym c.unwrap-list.ensures ∙ c.list_of.ensures.one i holds) in
     let count : length c.unlink.new.self.lists ≡ length s.lists =
     ap (λ (t : Lists). length t.lists) (c.unlink.ensures.taken i holds) ∙ length-set s.lists i (without c.args.node (nodes_of s i)) in
-    omega (arith, within s i c.args.node holds)
+    omega (arith, within_from_holds s i c.args.node holds)
 
 pub returns : goal.returns
 returns c i holds =
     let s = c.args.self.now in
     let same : c.unwrap-list.result ≡ i = same_Some _ _ (sym c.unwrap-list.ensures ∙ c.list_of.ensures.one i holds) in
-    with_nodes-then_push s c.unlink.new.self c.push_back.new.self i c.unwrap-list.result c.args.node _ (within s i c.args.node holds) same (c.unlink.ensures.taken i holds) c.push_back.ensures
+    with_nodes-then_push s c.unlink.new.self c.push_back.new.self i c.unwrap-list.result c.args.node _ (within_from_holds s i c.args.node holds) same (c.unlink.ensures.taken i holds) c.push_back.ensures
