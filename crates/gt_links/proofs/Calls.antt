@@ -2,6 +2,7 @@
 use Rattle.std.proofs.Common.{◌≡◌, ℕ, eqb, suc, ◌+◌, ◌<◌, [], ◌∷◌, ◌++◌, length, slice_get, Option, Some, None, IfSome, IfNone, sym, ap, subst, ◌∙◌, arith}
 use Rattle.std.specs.List.{IsDistinct}
 use Rattle.std.proofs.lemmas.Option.{none-some}
+use Rattle.gt_links.specs.declared.rings.Place.{Place}
 use Rattle.gt_links.specs.declared.rings.Place.TheVariants.{Head, Node}
 use Rattle.gt_links.specs.declared.rings.Rings.{Rings}
 use Rattle.gt_links.specs.Lists.{Lists, nodes_of, with_nodes, without, Holds, IsFree, StandsAt, AreDisjoint}
@@ -9,7 +10,7 @@ use Rattle.gt_links.specs.Rings.{IsPlace, node_of, next_of, previous_of, list_of
 use Rattle.gt_links.specs.Links.{lists_of, IsMadeOf}
 use Rattle.gt_links.proofs.Among.{IsAmong, IsAmong-from_Contains, Contains-from_among, IsAmong-from_stands, within_from_among}
 use Rattle.gt_links.proofs.Chains.{node_of-first, node_of-next}
-use Rattle.gt_links.proofs.Made.{head_is_place, owner_from_among, bounded, disjoint, distinct, free_is_alone, lists_of-made}
+use Rattle.gt_links.proofs.Made.{head_is_place, node_is_place, owner_from_among, bounded, disjoint, distinct, free_is_alone, lists_of-made}
 use Rattle.gt_links.proofs.Changed.{IsMadeOf-pushed_front, IsMadeOf-pushed_back, IsMadeOf-removed}
 
 -- a list that holds a node is one of the lists
@@ -32,8 +33,17 @@ module _ (r : Rings) (s : Lists) (is : lists_of r ≡ s) (sound : IsMadeOf r (li
   made : IsMadeOf r s
   made = subst (IsMadeOf r) is sound
 
+  -- a place that is a node is below the number of nodes
+  is_bounded : (p : Place) → IsPlace r p → IfSome (node_of p) (λ x. x < s.nodes)
+  is_bounded (Head i) at = tt
+  is_bounded (Node x) at = let l = made.lists in let n = made.entries in omega (arith, at)
+
   pub last_is_place : (i : ℕ) → i < length s.lists → IsPlace r (previous_of r (Head i))
   last_is_place i within = made.agree.previous_leads (Head i) (head_is_place r s made i within)
+
+  pub first_is_bounded : (i : ℕ) (o : Option ℕ) → i < length s.lists → o ≡ node_of (next_of r (Head i)) → IfSome o (λ x. x < s.nodes)
+  first_is_bounded i o within e =
+      subst (λ v. IfSome v (λ x. x < s.nodes)) (sym e) (is_bounded (next_of r (Head i)) (made.agree.next_leads (Head i) (head_is_place r s made i within)))
 
   pub free_links : (x : ℕ) → x < s.nodes → IsFree s x → (list_of r (Node x) ≡ None) × (next_of r (Node x) ≡ Node x)
   free_links x node free = free_is_alone r s made x node (not_among s x free)
@@ -60,6 +70,10 @@ module _ (r : Rings) (s : Lists) (is : lists_of r ≡ s) (sound : IsMadeOf r (li
       let chain = made.chains i (within_from_among s i x (IsAmong-from_stands s i k x stands)) in
       let next : suc k ≡ k + 1 = omega arith in
       node_of-next r (Head i) i k x (nodes_of s i) chain stands ∙ ap (slice_get (nodes_of s i)) next
+
+  pub next_is_bounded : (x : ℕ) (o : Option ℕ) → x < s.nodes → o ≡ node_of (next_of r (Node x)) → IfSome o (λ y. y < s.nodes)
+  next_is_bounded x o node e =
+      subst (λ v. IfSome v (λ y. y < s.nodes)) (sym e) (is_bounded (next_of r (Node x)) (made.agree.next_leads (Node x) (node_is_place r s made x node)))
 
   pub are_distinct : (i : ℕ) → IsDistinct eqb (nodes_of s i)
   are_distinct i = distinct r s made i

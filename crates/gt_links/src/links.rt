@@ -84,7 +84,8 @@ impl Links {
     /// The first node of a list, or `None` where the list is empty.
     pub fn first(&self, list: u32) -> Option<u32>
         requires { list < length self.now.lists }
-        ensures { result ≡ slice_get (nodes_of self.now list) 0 }
+        ensures first { result ≡ slice_get (nodes_of self.now list) 0 }
+        ensures bounded { IfSome result (λ node. node < self.now.nodes) }
     {
         self.rings.entry(Place::Head(list)).next.node()
     }
@@ -95,6 +96,7 @@ impl Links {
         ensures after { (i k : ℕ) → StandsAt self.now i k node
             → result ≡ slice_get (nodes_of self.now i) (k + 1) }
         ensures free { IsFree self.now node → result ≡ None }
+        ensures bounded { IfSome result (λ after. after < self.now.nodes) }
     {
         let entry = self.rings.entry(Place::Node(node));
         if entry.list.is_none() {

@@ -1,4 +1,6 @@
-ghost use Rattle.std.specs.Prelude.{◌≡◌, ◌<◌, length};
+ghost use Rattle.std.specs.Prelude.{◌≡◌, ◌<◌, length, slice_get};
+ghost use Rattle.gt_links.specs.Lists.{nodes_of};
+ghost use Rattle.gt_links.specs.declared.tests.TheConstants.{LISTS, NODES};
 
 use crate::Links;
 use crate::plain::Plain;
@@ -23,8 +25,8 @@ enum Call {
 struct Both {
     links: Links,
     plain: Plain,
-    ghost lists: { length links.lists ≡ 4 },
-    ghost nodes: { links.nodes ≡ 12 },
+    ghost lists: { length links.lists ≡ LISTS },
+    ghost nodes: { links.nodes ≡ NODES },
 }
 
 impl Both {
@@ -37,8 +39,8 @@ impl Both {
 
     /// Makes the call of both, and says whether the node was where the call wants it.
     fn call(&mut self, call: Call, list: u32, node: u32) -> Result<bool, AllocError>
-        requires list { list < 4 }
-        requires node { node < 12 }
+        requires list { list < LISTS }
+        requires node { node < NODES }
     {
         match (call, self.links.list_of(node)) {
             (Call::PushFront, None) => {
@@ -90,11 +92,25 @@ fn drawn_call(number: u32) -> Call {
     }
 }
 
+/// The second node of a list: what a caller learns from the clauses alone.
+fn second_of(links: &Links, list: u32) -> Option<u32>
+    requires { list < length links.now.lists }
+    ensures { result ≡ slice_get (nodes_of links.now list) 1 }
+{
+    let first = links.first(list)?;
+    links.next(first)
+}
+
 /// Follows the nodes of a list and wants exactly these.
 fn follow(rt: &impl Abort, links: &Links, list: u32, nodes: &[u32])
     requires lists { list < length links.now.lists }
-    requires nodes { links.now.nodes ≡ 12 }
+    requires nodes { links.now.nodes ≡ NODES }
 {
+    assert_eq!(rt;
+        second_of(links, list),
+        nodes.get(1).copied(),
+        "second in list {list}"
+    );
     let mut found = links.first(list);
     for node in nodes {
         assert_eq!(rt; found, Some(*node), "in list {list}");
@@ -125,6 +141,7 @@ fn lists_after_each_call(rt: HostRuntime) -> Result<(), Fail> {
         follow(&rt, &both.links, 0, first);
         follow(&rt, &both.links, 1, second);
     }
+    both.links.lists_are_disjoint();
     assert_eq!(rt; both.links.next(3), None, "in no list");
     Ok(())
 }

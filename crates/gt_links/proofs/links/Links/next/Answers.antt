@@ -3,7 +3,7 @@ use Rattle.std.specs.Option.{is_some}
 use Rattle.std.proofs.lemmas.Bool.{false≢true}
 use Rattle.gt_links.specs.declared.rings.Entry.{Entry}
 use Rattle.gt_links.specs.Rings.{node_of}
-use Rattle.gt_links.proofs.Calls.{owner_from_stands, next_node, free_links}
+use Rattle.gt_links.proofs.Calls.{owner_from_stands, next_node, next_is_bounded, free_links}
 use Rattle.gt_links.proofs.links.Links.next.Goals as goal
 
 pub returns-then-is_none-clause-after : goal.returns-then-is_none-clause-after
@@ -25,3 +25,7 @@ returns-clause-free c free =
     ap (λ (e : Entry). e.list) c.entry-entry.ensures
     ∙ (free_links c.self.inside.rings c.args.self.now c.self.view_is c.self.invariant c.args.node c.requires free).0 in
     absurd (false≢true (sym (ap is_some none) ∙ (c.is_none.ensures ∙ ap not c.if-is_none.false)))
+
+pub returns-clause-bounded : goal.returns-clause-bounded
+returns-clause-bounded c =
+    next_is_bounded c.self.inside.rings c.args.self.now c.self.view_is c.self.invariant c.args.node _ c.requires (c.node.ensures ∙ ap (λ (e : Entry). node_of e.next) c.entry-entry.ensures)
