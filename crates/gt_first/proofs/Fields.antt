@@ -6,7 +6,7 @@ use Rattle.gt_first.specs.Reading.{pointer_at, fields_at}
 pub fields_at-none : (count : ℕ) (structure : List ℕ) (tokens : List (List ℕ)) → pointer_at structure tokens ≡ None → fields_at count structure tokens ≡ ([], tokens)
 unfolding fields_at
 fields_at-none zero structure tokens e = refl
-fields_at-none (suc count) structure tokens e = rw (fields_at, e) refl
+fields_at-none (suc count) structure tokens e = rw e refl
 
 -- a field in front of others
 abbrev pub with_first : List ℕ → List (List ℕ) × List (List ℕ) → List (List ℕ) × List (List ℕ)
@@ -15,7 +15,7 @@ with_first name read = (name ∷ read.0, read.1)
 pub fields_at-some : (count : ℕ) (structure : List ℕ) (tokens : List (List ℕ)) (field : List ℕ × List (List ℕ)) → pointer_at structure tokens ≡ Some field
     → fields_at (suc count) structure tokens ≡ with_first field.0 (fields_at count structure field.1)
 unfolding fields_at
-fields_at-some count structure tokens field e = rw (fields_at, e) refl
+fields_at-some count structure tokens field e = rw e refl
 
 -- what was read before, and what is still read
 abbrev pub with_front : List (List ℕ) → List (List ℕ) × List (List ℕ) → List (List ℕ) × List (List ℕ)

@@ -163,13 +163,37 @@ regrouped form =
     let fields = flat_map (pointer form.structure) form.fields in
     ap (λ (ts : List (List ℕ)). (codes "struct" ∷ marker) ++ form.structure ∷ codes "{" ∷ ts) (sym (append_assoc fields (codes "}" ∷ codes ";" ∷ codes "static" ∷ marker) (pointer form.structure form.root)))
 
+-- a form from its three parts
+abbrev of_parts : List ℕ → List (List ℕ) → List ℕ → Form
+of_parts structure fields root = record { structure = structure; fields = fields; root = root }
+
+-- what was taken, part by part, is the spelling
+all_taken : (structure : List ℕ) (fields : List (List ℕ)) (root : List ℕ) (tokens behind rest : List (List ℕ)) → tokens ≡ (codes "struct" ∷ marker) ++ structure ∷ codes "{" ∷ behind
+    → behind ≡ flat_map (pointer structure) fields ++ rest → rest ≡ closing structure root → tokens ≡ spelling (of_parts structure fields root)
+all_taken structure fields root tokens behind rest first middle last =
+    let inner : behind ≡ flat_map (pointer structure) fields ++ closing structure root = middle ∙ ap (λ (ts : List (List ℕ)). flat_map (pointer structure) fields ++ ts) last in
+    first ∙ ap (λ (ts : List (List ℕ)). (codes "struct" ∷ marker) ++ structure ∷ codes "{" ∷ ts) inner ∙ regrouped (of_parts structure fields root)
+
 -- the test of the fields
 abbrev are_fields : List (List ℕ) → Bool
 are_fields names = not (length names == 0) && are_distinct_of names
 
--- a form from its three parts
-abbrev of_parts : List ℕ → List (List ℕ) → List ℕ → Form
-of_parts structure fields root = record { structure = structure; fields = fields; root = root }
+-- names that were taken and pass the test make a form
+is_form : (structure : List ℕ) (tokens : List (List ℕ)) (found : List (List ℕ) × List (List ℕ)) (root : List ℕ) → IsName structure → Fields 32 structure tokens found → IsName root → are_fields found.0 ≡ true
+    → IsForm (of_parts structure found.0 root)
+is_form structure tokens found root first middle last test =
+    let tests = and_parts (not (length found.0 == 0)) (are_distinct_of found.0) test in
+    record {
+      structure = first;
+      fields = middle.named;
+      root = last;
+      least = some_of found.0 tests.0;
+      most = middle.most;
+      distinct = IsDistinct-from_test found.0 tests.1;
+    }
+
+same_form : (tokens : List (List ℕ)) (made form : Form) → made ≡ form → IsForm made → tokens ≡ spelling made → IsForm form × (tokens ≡ spelling form)
+same_form tokens made form e is spelled = subst (λ (x : Form). IsForm x × (tokens ≡ spelling x)) e (is, spelled)
 
 pub form_takes : (tokens : List (List ℕ)) (form : Form) → form_at tokens ≡ Some form → IsForm form × (tokens ≡ spelling form)
 unfolding form_at
@@ -179,20 +203,10 @@ form_takes tokens form e =
     let f = fields_at 32 s a.0.1 in
     let b = bind_some (closing_at s f.1) (λ root. cond (are_fields f.0) (Some (of_parts s f.0 root)) None) form a.2 in
     let g = cond_some (are_fields f.0) (of_parts s f.0 b.0) form b.2 in
-    let tests = and_parts (not (length f.0 == 0)) (are_distinct_of f.0) g.0 in
     let first = opening_takes tokens a.0 a.1 in
     let middle = fields_take 32 s a.0.1 in
     let last = closing_takes s f.1 b.0 b.1 in
-    let inner : a.0.1 ≡ flat_map (pointer s) f.0 ++ closing s b.0 = middle.parts ∙ ap (λ (ts : List (List ℕ)). flat_map (pointer s) f.0 ++ ts) last.0 in
-    let is_form : IsForm (of_parts s f.0 b.0) = record {
-      structure = first.named;
-      fields = middle.named;
-      root = last.1;
-      least = some_of f.0 tests.0;
-      most = middle.most;
-      distinct = IsDistinct-from_test f.0 tests.1;
-    } in
-    subst (λ (x : Form). IsForm x × (tokens ≡ spelling x)) g.1 (is_form, first.parts ∙ ap (λ (ts : List (List ℕ)). (codes "struct" ∷ marker) ++ s ∷ codes "{" ∷ ts) inner ∙ regrouped (of_parts s f.0 b.0))
+    same_form tokens (of_parts s f.0 b.0) form g.1 (is_form s a.0.1 f b.0 first.named middle last.1 g.0) (all_taken s f.0 b.0 tokens a.0.1 f.1 first.parts middle.parts last.0)
 
 pub form_again : (form : Form) → IsForm form → form_at (spelling form) ≡ Some form
 unfolding form_at

@@ -1,6 +1,7 @@
 -- How a form is read from the front of its tokens: what is found and the tokens behind it.
 use Rattle.std.specs.Prelude.{ℕ, zero, suc, Bool, true, not, ◌&&◌, ◌==◌, if◌then◌else◌, codes, List, [], ◌∷◌, length, map, Option, Some, None}
 use Rattle.std.specs.List.{list_any}
+use Rattle.std.specs.Option.{option_map_or}
 use Rattle.std.specs.Str.{bytes_eq}
 use Rattle.gt_first.specs.declared.reading.HeaderNames.{HeaderNames}
 use Rattle.gt_first.specs.Names.{is_name_of}
@@ -57,10 +58,7 @@ closing_at structure tokens = do
 unfoldable pub fields_at : ℕ → List ℕ → List (List ℕ) → List (List ℕ) × List (List ℕ)
 fields_at zero structure tokens = ([], tokens)
 fields_at (suc count) structure tokens =
-    elim (pointer_at structure tokens) [
-      | None ↦ ([], tokens)
-      | Some field ↦ let others = fields_at count structure field.1 in (field.0 ∷ others.0, others.1)
-    ]
+    option_map_or (λ field. let others = fields_at count structure field.1 in (field.0 ∷ others.0, others.1)) (pointer_at structure tokens) ([], tokens)
 
 -- no name stands twice
 abbrev pub are_distinct_of : List (List ℕ) → Bool
