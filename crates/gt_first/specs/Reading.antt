@@ -1,4 +1,4 @@
--- How a form is read from the front of its tokens: what is found and the tokens behind it.
+-- How a form is read from the front of its tokens: what is found, and the tokens behind it. Header has what this reading is to find.
 use Rattle.std.specs.Prelude.{ℕ, zero, suc, Bool, true, not, ◌&&◌, ◌==◌, if◌then◌else◌, codes, List, [], ◌∷◌, length, map, Option, Some, None}
 use Rattle.std.specs.List.{list_any}
 use Rattle.std.specs.Option.{option_map_or}
@@ -7,6 +7,7 @@ use Rattle.gt_first.specs.declared.reading.HeaderNames.{HeaderNames}
 use Rattle.gt_first.specs.Names.{is_name_of}
 use Rattle.gt_first.specs.Header.{Form, marker}
 
+-- the next step, where this one found something
 infixl 10 ◌>>=◌
 abbrev pub ◌>>=◌ : {A B : Type 0} → Option A → (A → Option B) → Option B
 (Some x) >>= f = f x
@@ -65,6 +66,7 @@ abbrev pub are_distinct_of : List (List ℕ) → Bool
 are_distinct_of [] = true
 are_distinct_of (name ∷ names) = not (list_any (bytes_eq name) names) && are_distinct_of names
 
+-- the form that the tokens spell, all of them
 unfoldable pub form_at : List (List ℕ) → Option Form
 form_at tokens = do
   opening ← opening_at tokens

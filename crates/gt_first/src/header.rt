@@ -92,8 +92,9 @@ fn program(alloc: Global, names: &HeaderNames) -> Result<Program, AllocError>
 }
 
 /// The program that a header declares, or None where its text has no form. The form is
-/// `struct GTY(()) S { struct S *F; .. }; static GTY(()) struct S *R;` with 1 to 32 fields whose names differ, and with
-/// spaces and newlines between its tokens. It answers want of memory alone.
+/// `struct GTY(()) S { struct S *F; .. }; static GTY(()) struct S *R;` with 1 to 32 fields F whose names differ, and with
+/// spaces and newlines between its tokens; the markers are those of GCC Internals, "Type Information". The only error is
+/// want of memory.
 pub fn read_header(alloc: Global, text: &[u8]) -> Result<Option<Program>, AllocError>
     ensures declares { IfOk result (λ found. MatchOption found ((p : Program) → Declares text.now p → ⊥) (λ p. Declares text.now p)) }
 {
