@@ -1,5 +1,5 @@
 -- Which nodes are among which, and the nodes of each list after one list has changed.
-use Rattle.std.proofs.Common.{◌≡◌, ◌≢◌, ℕ, zero, suc, ◌<◌, eqb, not, List, [], ◌∷◌, ◌++◌, length, get_or, Contains, ◌⊎◌, inl, inr, ⊎_elim, refl, sym, ap, subst, ◌∙◌, arith}
+use Rattle.std.proofs.Common.{◌≡◌, ◌≢◌, ℕ, zero, suc, ◌<◌, eqb, not, List, [], ◌∷◌, ◌++◌, length, get_or, slice_get, Option, Some, None, IfSome, Contains, ◌⊎◌, inl, inr, ⊎_elim, refl, sym, ap, subst, ◌∙◌, arith}
 use Rattle.std.proofs.lemmas.Bool.{cases_eq, cases_lt, eq-eqb, ne_eqb, not_from_true, not_from_false, cond-true, cond-false}
 use Rattle.std.proofs.lemmas.List.{get_or-set_same, get_or-set_other, get_or_past, set-set}
 use Rattle.std.proofs.lemmas.Option.{slice_get_within, get_or_from_slice_get}
@@ -25,6 +25,12 @@ Contains-from_among x (y ∷ ys) h =
       | inl is ↦ (zero, omega arith, is)
       | inr m ↦ let c = Contains-from_among x ys m in (suc c.0, omega (arith, c.1), c.2)
     ]
+
+-- what stands at a place of the nodes is one of them
+pub Contains-from_place : (xs : List ℕ) (k : ℕ) (o : Option ℕ) → o ≡ slice_get xs k → IfSome o (λ x. Contains xs x)
+Contains-from_place xs k None e = tt
+Contains-from_place xs k (Some x) e =
+    (k, slice_get_within xs k x (sym e), get_or_from_slice_get xs k x x (sym e))
 
 pub without-same : (x : ℕ) (ys : List ℕ) → without x (x ∷ ys) ≡ without x ys
 without-same x ys = cond-false (not (eqb x x)) _ _ (not_from_true (eqb x x) (eq-eqb x x refl))

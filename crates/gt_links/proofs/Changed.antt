@@ -1,5 +1,5 @@
 -- The lists that the rings make after a node is inserted or removed.
-use Rattle.std.proofs.Common.{◌≡◌, ◌≢◌, ℕ, ◌+◌, ◌<◌, ◌↔◌, List, [], ◌∷◌, ◌++◌, length, Some, None, ◌⊎◌, inl, inr, ⊎_elim, sym, ap, subst, ◌∙◌, arith, length-set}
+use Rattle.std.proofs.Common.{◌≡◌, ◌≢◌, ℕ, ◌+◌, ◌^◌, ◌<◌, ◌↔◌, List, [], ◌∷◌, ◌++◌, length, Some, None, ◌⊎◌, inl, inr, ⊎_elim, sym, ap, subst, ◌∙◌, arith, length-set}
 use Rattle.std.proofs.lemmas.Bool.{cases_eq}
 use Rattle.std.proofs.lemmas.Option.{none-some, same_Some}
 use Rattle.gt_links.specs.declared.rings.Place.{Place}
@@ -57,6 +57,8 @@ module _ (old new : Rings) (s : Lists) (m : IsMadeOf old s) (x : ℕ) (node : x 
         record {
           lists = h.size.lists ∙ (m.lists ∙ sym size);
           entries = h.size.length ∙ (m.entries ∙ ap (λ n. n + s.nodes) (sym size));
+          few_lists = subst (λ n. n < 2 ^ 32) (sym size) m.few_lists;
+          few_nodes = m.few_nodes;
           agree = h.agree;
           chains = λ j below.
               at_each_list s i xs (λ j ys. j < length s.lists → IsChain new (Head j) ys (Head j)) within (λ _. chain) (λ j ne below. IsChain-elsewhere old new p (Node x) (Head j) (Head j) (nodes_of s j) m.agree h.others (leads_to_head j ne) (λ y k. ((λ is. ne (disjoint old s m j i y k (leads_to_node y is))), Node-other y x (λ is. free j (subst (λ v. IsAmong v (nodes_of s j)) is k)))) (head_is_place old s m j below) (Head≢Node j x) (m.chains j below)) j (omega arith);
@@ -110,6 +112,8 @@ module _ (old new : Rings) (s : Lists) (m : IsMadeOf old s) (x : ℕ) (node : x 
         record {
           lists = h.size.lists ∙ (m.lists ∙ sym size);
           entries = h.size.length ∙ (m.entries ∙ ap (λ n. n + s.nodes) (sym size));
+          few_lists = subst (λ n. n < 2 ^ 32) (sym size) m.few_lists;
+          few_nodes = m.few_nodes;
           agree = h.agree;
           chains = λ j below.
               at_each_list s i xs (λ j ys. j < length s.lists → IsChain new (Head j) ys (Head j)) within (λ below. IsChain-remove old new (Head i) x i (nodes_of s i) m.agree place h (head_is_place old s m i below) (Head≢Node i x) (m.chains i below)) (λ j ne below. IsChain-elsewhere old new (previous_of old (Node x)) (Node x) (Head j) (Head j) (nodes_of s j) m.agree h.others (λ is. Head≢Node j x (sym is ∙ back)) (λ y k. ((λ is. elsewhere j y ne k (Node-same (sym back ∙ is))), Node-other y x (λ e. elsewhere j y ne k (sym e)))) (head_is_place old s m j below) (Head≢Node j x) (m.chains j below)) j (omega arith);

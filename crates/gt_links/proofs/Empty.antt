@@ -1,5 +1,5 @@
 -- Rings on which each place is alone make empty lists.
-use Rattle.std.proofs.Common.{◌≡◌, ℕ, ◌+◌, ◌-◌, ◌<◌, List, [], length, map, get_or, replicate, None, ⊎_elim, sym, ap, subst, ◌∙◌, arith, length-append}
+use Rattle.std.proofs.Common.{◌≡◌, ℕ, ◌+◌, ◌-◌, ◌^◌, ◌<◌, List, [], length, map, get_or, replicate, None, ⊎_elim, sym, ap, subst, ◌∙◌, arith, length-append}
 use Rattle.std.specs.List.{range_with_len}
 use Rattle.std.proofs.lemmas.Bool.{cases_lt}
 use Rattle.std.proofs.lemmas.Option.{none-some}
@@ -48,8 +48,8 @@ module _ (r : Rings) (lists nodes : ℕ) (count : r.lists ≡ lists) (alone : r.
       ∙ (get_or-append_right fronts backs lists (r.lists + x) no_entry head_count (omega arith)
       ∙ get_or-map-range_with_len (λ x. lone_entry (Node x)) 0 nodes ((r.lists + x) - lists) x no_entry (omega arith) (omega arith))
 
-  pub IsMadeOf-empty : IsMadeOf r (empty_lists lists nodes)
-  IsMadeOf-empty =
+  pub IsMadeOf-empty : lists < 2 ^ 32 → nodes < 2 ^ 32 → IsMadeOf r (empty_lists lists nodes)
+  IsMadeOf-empty few_lists few_nodes =
       let s = empty_lists lists nodes in
       let long : length s.lists ≡ lists = length-replicate {A = List ℕ} lists [] in
       let next : (p : Place) → IsPlace r p → next_of r p ≡ p = λ p at. ap (λ (e : Entry). e.next) (entry_of-lone p at) in
@@ -73,4 +73,6 @@ module _ (r : Rings) (lists nodes : ℕ) (count : r.lists ≡ lists) (alone : r.
             let none : list_of r (Node x) ≡ None = ap (λ (e : Entry). e.list) (entry_of-lone (Node x) (node x within)) in
             ((λ h. absurd (subst (IsAmong x) (nodes_of-empty lists nodes i) (IsAmong-from_Contains x (nodes_of s i) h))), λ e. absurd (none-some i (sym none ∙ e)));
         alone = λ x within _. next (Node x) (node x within);
+        few_lists = subst (λ n. n < 2 ^ 32) (sym long) few_lists;
+        few_nodes = few_nodes;
       }

@@ -60,15 +60,18 @@ module _ (r : Rings) (s : Lists) (m : IsMadeOf r s) where
         | inr some ↦ absurd (free some.0 (IsAmong-from_Contains x (nodes_of s some.0) ((m.owners some.0 x within).1 some.1)))
       ]
 
+  -- no list has more nodes than there are
+  pub short : (i : ℕ) → length (nodes_of s i) ≤ s.nodes
+  short i =
+      length-le_from_distinct_below (nodes_of s i) s.nodes (distinct i) (λ q h. bounded i q (IsAmong-from_Contains q (nodes_of s i) (Contains-from_any eqb-true q (nodes_of s i) h)))
+
   -- the lists are what a walk from each head gives
   pub lists_of-made : lists_of r ≡ s
   lists_of-made =
       let entries = length r.entries.items in
       let l = m.lists in let n = m.entries in
-      let long : (i : ℕ) → length (nodes_of s i) ≤ s.nodes =
-      λ i. length-le_from_distinct_below (nodes_of s i) s.nodes (distinct i) (λ q h. bounded i q (IsAmong-from_Contains q (nodes_of s i) (Contains-from_any eqb-true q (nodes_of s i) h))) in
       let walks : s.lists ≡ map (λ i. nodes_after r entries (Head i)) (range_with_len 0 r.lists) =
-      fill_by_all (λ i. nodes_after r entries (Head i)) s.lists r.lists [] (sym l) (λ i within. sym (nodes_after-chain r entries (Head i) i (nodes_of s i) (omega (arith, long i)) (m.chains i (omega arith)))) in
+      fill_by_all (λ i. nodes_after r entries (Head i)) s.lists r.lists [] (sym l) (λ i within. sym (nodes_after-chain r entries (Head i) i (nodes_of s i) (omega (arith, short i)) (m.chains i (omega arith)))) in
       let made : List (List ℕ) → ℕ → Lists = λ lists nodes. record { lists = lists; nodes = nodes } in
       let count : entries - r.lists ≡ s.nodes = omega arith in
       ap (λ lists. made lists (entries - r.lists)) (sym walks) ∙ ap (made s.lists) count

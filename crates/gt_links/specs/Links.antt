@@ -1,4 +1,4 @@
-use Rattle.std.specs.Prelude.{◌≡◌, ℕ, zero, suc, ◌+◌, ◌-◌, ◌<◌, ◌↔◌, List, [], ◌∷◌, length, map, Some, None}
+use Rattle.std.specs.Prelude.{◌≡◌, ℕ, zero, suc, ◌+◌, ◌-◌, ◌^◌, ◌<◌, ◌↔◌, List, [], ◌∷◌, length, map, Some, None}
 use Rattle.std.specs.List.{range_with_len}
 use Rattle.gt_links.specs.declared.rings.Place.{Place}
 use Rattle.gt_links.specs.declared.rings.Place.TheVariants.{Head, Node}
@@ -28,7 +28,7 @@ abbrev pub IsChain : Rings → Place → List ℕ → Place → Type 0
 IsChain r p [] end = next_of r p ≡ end
 IsChain r p (x ∷ xs) end = (next_of r p ≡ Node x) × IsChain r (Node x) xs end
 
--- the rings are these lists: the ring of head i has the nodes of list i, each knows its list, and every other node is alone
+-- the rings are these lists: the ring of head i has the nodes of list i, each knows its list, and every other node is alone; of lists and of nodes there are fewer than 2 ^ 32 each
 pub record IsMadeOf (r : Rings) (s : Lists) : Type 0 where
   pub lists : r.lists ≡ length s.lists
   pub entries : length r.entries.items ≡ length s.lists + s.nodes
@@ -36,3 +36,5 @@ pub record IsMadeOf (r : Rings) (s : Lists) : Type 0 where
   pub chains : (i : ℕ) → i < length s.lists → IsChain r (Head i) (nodes_of s i) (Head i)
   pub owners : (i x : ℕ) → x < s.nodes → Holds s i x ↔ (list_of r (Node x) ≡ Some i)
   pub alone : (x : ℕ) → x < s.nodes → list_of r (Node x) ≡ None → next_of r (Node x) ≡ Node x
+  pub few_lists : length s.lists < 2 ^ 32
+  pub few_nodes : s.nodes < 2 ^ 32

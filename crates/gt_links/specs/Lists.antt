@@ -9,11 +9,11 @@ pub record Lists : Type 0 where
 abbrev pub empty_lists : ℕ → ℕ → Lists
 empty_lists lists nodes = record { lists = replicate lists []; nodes = nodes }
 
--- the nodes of list i, first to last
+-- the nodes of list i, first to last; none where there is no list i
 abbrev pub nodes_of : Lists → ℕ → List ℕ
 nodes_of s i = slice_index_or s.lists i []
 
--- list i has these nodes, and each other list is as it was
+-- list i, where there is one, has these nodes now, and all else is as it was
 abbrev pub with_nodes : Lists → ℕ → List ℕ → Lists
 with_nodes s i xs = record s { lists = slice_set s.lists i xs }
 

@@ -76,7 +76,7 @@ pub record LinksAgree (r : Rings) : Type 0 where
   pub back : (p : Place) → IsPlace r p → previous_of r (next_of r p) ≡ p
   pub forth : (p : Place) → IsPlace r p → next_of r (previous_of r p) ≡ p
 
--- q comes right after p: what was after q comes after p and what was after p comes after q, all else stays
+-- what was after q comes after p, and what was after p comes after q; after each other place comes what did, and no place changes its list
 pub record Splices (old new : Rings) (p q : Place) : Type 0 where
   pub size : SameSize old new
   pub first : next_of new p ≡ next_of old q
@@ -84,7 +84,7 @@ pub record Splices (old new : Rings) (p q : Place) : Type 0 where
   pub others : (r : Place) → IsPlace old r → r ≢ p → r ≢ q → next_of new r ≡ next_of old r
   pub lists : (r : Place) → IsPlace old r → list_of new r ≡ list_of old r
 
--- node x comes right after p, in list i; the ring of p goes on as before, and no other place changes
+-- node x comes right after p, in list i, and then what was after p; after each other place comes what did, and no other changes its list
 pub record Inserts (old new : Rings) (p : Place) (x i : ℕ) : Type 0 where
   pub size : SameSize old new
   pub agree : LinksAgree new
@@ -94,7 +94,7 @@ pub record Inserts (old new : Rings) (p : Place) (x i : ℕ) : Type 0 where
   pub list : list_of new (Node x) ≡ Some i
   pub lists : (r : Place) → IsPlace old r → r ≢ Node x → list_of new r ≡ list_of old r
 
--- node x is alone, in no list; what was before it is before what was after it, and no other place changes
+-- node x is alone, in no list; what was before it is before what was after it; after each other place comes what did, and no other changes its list
 pub record Removes (old new : Rings) (x : ℕ) : Type 0 where
   pub size : SameSize old new
   pub agree : LinksAgree new

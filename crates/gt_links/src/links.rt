@@ -1,4 +1,4 @@
-ghost use Rattle.std.specs.Prelude.{◌≡◌, ℕ, ◌+◌, ◌<◌, [], ◌∷◌, ◌++◌, length, nat_eq, slice_get, IfOk, IfSome, IfNone, Some, None};
+ghost use Rattle.std.specs.Prelude.{◌≡◌, ℕ, ◌+◌, ◌^◌, ◌<◌, ◌≤◌, [], ◌∷◌, ◌++◌, length, nat_eq, slice_get, IfOk, IfSome, IfNone, Some, None};
 ghost use Rattle.std.specs.List.{IsDistinct};
 ghost use Rattle.gt_links.specs.Lists.{empty_lists, nodes_of, with_nodes, without, Holds, IsInList, IsFree, StandsAt, AreDisjoint};
 
@@ -85,6 +85,7 @@ impl Links {
     pub fn first(&self, list: u32) -> Option<u32>
         requires { list < length self.now.lists }
         ensures first { result ≡ slice_get (nodes_of self.now list) 0 }
+        ensures held { IfSome result (λ node. Holds self.now list node) }
         ensures bounded { IfSome result (λ node. node < self.now.nodes) }
     {
         self.rings.entry(Place::Head(list)).next.node()
@@ -95,6 +96,8 @@ impl Links {
         requires { node < self.now.nodes }
         ensures after { (i k : ℕ) → StandsAt self.now i k node
             → result ≡ slice_get (nodes_of self.now i) (k + 1) }
+        ensures held { (i : ℕ) → Holds self.now i node
+            → IfSome result (λ after. Holds self.now i after) }
         ensures free { IsFree self.now node → result ≡ None }
         ensures bounded { IfSome result (λ after. after < self.now.nodes) }
     {
@@ -109,6 +112,7 @@ impl Links {
     pub fn list_of(&self, node: u32) -> Option<u32>
         requires { node < self.now.nodes }
         ensures linked { IfSome result (λ i. Holds self.now i node) }
+        ensures within { IfSome result (λ i. i < length self.now.lists) }
         ensures free { IfNone result (IsFree self.now node) }
 
         // There is no other list that it could be.
@@ -118,11 +122,15 @@ impl Links {
     }
 
     /// Does nothing, and tells a proof what holds of the lists at all times: no node stands twice, in one list or in
-    /// two, and each is below the number of nodes.
+    /// two, each is below the number of nodes, no list has more nodes than there are, and of lists and of nodes there
+    /// are fewer than 2 ^ 32 each.
     pub fn lists_are_disjoint(&self)
         ensures distinct { (i : ℕ) → IsDistinct nat_eq (nodes_of self.now i) }
         ensures disjoint { AreDisjoint self.now }
         ensures bounded { (i x : ℕ) → Holds self.now i x → x < self.now.nodes }
+        ensures short { (i : ℕ) → length (nodes_of self.now i) ≤ self.now.nodes }
+        ensures nodes { self.now.nodes < 2 ^ 32 }
+        ensures lists { length self.now.lists < 2 ^ 32 }
     {
         let _rings = &self.rings;
     }

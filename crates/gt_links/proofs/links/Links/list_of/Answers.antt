@@ -1,11 +1,15 @@
 use Rattle.std.proofs.Common.{ap, ◌∙◌}
 use Rattle.gt_links.specs.declared.rings.Entry.{Entry}
-use Rattle.gt_links.proofs.Calls.{owner, owner_holds, no_owner}
+use Rattle.gt_links.proofs.Calls.{owner, owner_holds, owner_is_within, no_owner}
 use Rattle.gt_links.proofs.links.Links.list_of.Goals as goal
 
 pub returns-clause-linked : goal.returns-clause-linked
 returns-clause-linked c =
     owner_holds c.self.inside.rings c.args.self.now c.self.view_is c.self.invariant c.args.node _ c.requires (ap (λ (e : Entry). e.list) c.entry.ensures)
+
+pub returns-clause-within : goal.returns-clause-within
+returns-clause-within c =
+    owner_is_within c.self.inside.rings c.args.self.now c.self.view_is c.self.invariant c.args.node _ c.requires (ap (λ (e : Entry). e.list) c.entry.ensures)
 
 pub returns-clause-free : goal.returns-clause-free
 returns-clause-free c =

@@ -1,4 +1,4 @@
-use Rattle.gt_links.proofs.Calls.{are_distinct, are_disjoint, are_bounded}
+use Rattle.gt_links.proofs.Calls.{are_distinct, are_disjoint, are_bounded, are_short, nodes_are_few, lists_are_few}
 use Rattle.gt_links.proofs.links.Links.lists_are_disjoint.Goals as goal
 
 pub returns-clause-distinct : goal.returns-clause-distinct
@@ -12,3 +12,15 @@ returns-clause-disjoint c =
 pub returns-clause-bounded : goal.returns-clause-bounded
 returns-clause-bounded c =
     are_bounded c.self.inside.rings c.args.self.now c.self.view_is c.self.invariant
+
+pub returns-clause-short : goal.returns-clause-short
+returns-clause-short c =
+    are_short c.self.inside.rings c.args.self.now c.self.view_is c.self.invariant
+
+pub returns-clause-nodes : goal.returns-clause-nodes
+returns-clause-nodes c =
+    nodes_are_few c.self.inside.rings c.args.self.now c.self.view_is c.self.invariant
+
+pub returns-clause-lists : goal.returns-clause-lists
+returns-clause-lists c =
+    lists_are_few c.self.inside.rings c.args.self.now c.self.view_is c.self.invariant

@@ -3,7 +3,7 @@ use Rattle.std.specs.Option.{is_some}
 use Rattle.std.proofs.lemmas.Bool.{false≢true}
 use Rattle.gt_links.specs.declared.rings.Entry.{Entry}
 use Rattle.gt_links.specs.Rings.{node_of}
-use Rattle.gt_links.proofs.Calls.{owner_from_stands, next_node, next_is_bounded, free_links}
+use Rattle.gt_links.proofs.Calls.{owner_from_stands, next_node, next_is_held, next_is_bounded, free_links}
 use Rattle.gt_links.proofs.links.Links.next.Goals as goal
 
 pub returns-then-is_none-clause-after : goal.returns-then-is_none-clause-after
@@ -18,6 +18,10 @@ returns-clause-after c i k stands =
     c.node.ensures
     ∙ (ap (λ (e : Entry). node_of e.next) c.entry-entry.ensures
     ∙ next_node c.self.inside.rings c.args.self.now c.self.view_is c.self.invariant i k c.args.node stands)
+
+pub returns-clause-held : goal.returns-clause-held
+returns-clause-held c i holds =
+    next_is_held c.self.inside.rings c.args.self.now c.self.view_is c.self.invariant i c.args.node _ holds (c.node.ensures ∙ ap (λ (e : Entry). node_of e.next) c.entry-entry.ensures)
 
 pub returns-clause-free : goal.returns-clause-free
 returns-clause-free c free =
