@@ -52,7 +52,7 @@ fn first_line(text: &[u8]) -> (&[u8], &[u8])
     ensures shorter { length result.1.now < length text.now }
 {
     match cut(text, b'\n') {
-        None => (text, &text[text.len()..]),
+        None => (text, &[]),
         Some(parts) => parts,
     }
 }
