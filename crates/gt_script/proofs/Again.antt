@@ -1,7 +1,6 @@
 -- What is spelled so is read.
-use Rattle.std.proofs.Common.{◌≡◌, ℕ, ◌≤◌, Bool, true, false, not, cond, eqb, leb, List, [], ◌∷◌, ◌++◌, length, Option, Some, None, refl, sym, ap, subst, ◌∙◌, append_assoc, arith, inl, inr}
+use Rattle.std.proofs.Common.{◌≡◌, ℕ, Bool, true, false, not, eqb, leb, List, [], ◌∷◌, ◌++◌, length, Some, None, refl, sym, ap, subst, ◌∙◌, append_assoc, arith, inl, inr}
 use Rattle.std.specs.Prelude.{◌⊎◌, ◌&&◌, codes}
-use Rattle.std.specs.List.{list_all}
 use Rattle.std.specs.Str.Lines.{strip_carriage_return}
 use Rattle.std.proofs.lemmas.Bool.Decides.{nat_tests}
 use Rattle.std.proofs.lemmas.List.{append-nil}
@@ -16,11 +15,11 @@ use Rattle.gt_script.specs.declared.command.Hop.TheVariants.{Name}
 use Rattle.gt_script.specs.declared.command.Given.{Given}
 use Rattle.gt_script.specs.declared.command.Given.TheVariants.{Integer, Null, Var}
 use Rattle.gt_script.specs.Name.{is_name_of, starts_name_of, IsName}
-use Rattle.gt_script.specs.Spelling.{path_text, value_text, spelling, IsRoot, IsVariable, IsField, IsValue, HasForm}
+use Rattle.gt_script.specs.Spelling.{path_text, value_text, spelling, IsRoot, IsField, IsValue, HasForm}
 use Rattle.gt_script.specs.Script.{IsLine, AreLines, Parsed, lines_of}
-use Rattle.gt_script.specs.Reading.{◌>>=◌, behind, parts_at, named_at, route_at, field_at, path_at, value_at, new_at, set_at, print_at, command_at, line_at, lines_at, script_at}
+use Rattle.gt_script.specs.Reading.{behind, route_at, field_at, path_at, value_at, new_at, set_at, print_at, command_at, line_at, lines_at, script_at}
 use Rattle.gt_script.proofs.Options.{both}
-use Rattle.gt_script.proofs.Cuts.{lacks, parts_again, parts_none}
+use Rattle.gt_script.proofs.Splits.{lacks, parts_again, parts_none}
 use Rattle.gt_script.proofs.Identifiers.{named_again, name_lacks}
 use Rattle.gt_script.proofs.Taken.{IsPath, same_length}
 

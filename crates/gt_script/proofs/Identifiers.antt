@@ -1,6 +1,5 @@
 -- Names are ASCII, and have no byte that parts a line.
-use Rattle.std.proofs.Common.{◌≡◌, ℕ, zero, suc, ◌<◌, Bool, true, false, not, cond, eqb, List, [], ◌∷◌, get_or, Option, Some, None, refl, sym, ap, ◌∙◌, arith}
-use Rattle.std.specs.Prelude.{◌&&◌, ◌||◌, IsTrue}
+use Rattle.std.proofs.Common.{◌≡◌, ℕ, zero, suc, ◌<◌, Bool, true, false, not, eqb, List, [], ◌∷◌, get_or, Some, refl, sym, ap, ◌∙◌, arith}
 use Rattle.std.specs.List.{list_all}
 use Rattle.std.specs.Str.{IsAscii, IsUtf8}
 use Rattle.std.proofs.lemmas.Bool.{eqb-true}
@@ -10,7 +9,7 @@ use Rattle.std.proofs.lemmas.Option.{cond_some}
 use Rattle.gt_script.specs.Name.{starts_name_of, continues_name_of, is_name_of, IsName}
 use Rattle.gt_script.specs.Reading.{named_at}
 use Rattle.gt_script.proofs.Options.{both}
-use Rattle.gt_script.proofs.Cuts.{lacks}
+use Rattle.gt_script.proofs.Splits.{lacks}
 
 continues_ascii : (c : ℕ) → continues_name_of c ≡ true → c < 128
 continues_ascii c h = grind (arith, nat_tests)

@@ -1,6 +1,6 @@
-pub mod Options
-pub mod Cuts
-pub mod Identifiers
-pub mod Taken
-pub mod Again
-pub mod Lines
+mod Options
+mod Splits
+mod Identifiers
+mod Taken
+mod Again
+mod Progress

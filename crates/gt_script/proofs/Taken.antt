@@ -1,5 +1,5 @@
 -- What is read is spelled so.
-use Rattle.std.proofs.Common.{◌≡◌, ℕ, ◌≤◌, Bool, true, false, cond, eqb, leb, List, [], ◌∷◌, ◌++◌, length, take, drop, Option, Some, None, refl, sym, ap, subst, ◌∙◌, append_assoc, arith, inl, inr, ⊎_elim}
+use Rattle.std.proofs.Common.{◌≡◌, ℕ, ◌≤◌, Bool, true, false, cond, eqb, leb, List, [], ◌∷◌, ◌++◌, length, take, drop, Some, None, refl, sym, ap, subst, ◌∙◌, append_assoc, arith, inl, inr}
 use Rattle.std.specs.Prelude.{◌⊎◌, ◌&&◌, codes}
 use Rattle.std.specs.Option.{option_map_or}
 use Rattle.std.specs.Str.{bytes_eq}
@@ -21,7 +21,7 @@ use Rattle.gt_script.specs.Spelling.{path_text, value_text, spelling, IsRoot, Is
 use Rattle.gt_script.specs.Script.{IsLine, AreLines, Parsed, lines_of}
 use Rattle.gt_script.specs.Reading.{◌>>=◌, behind, parts_at, named_at, route_at, field_at, path_at, value_at, new_at, set_at, print_at, command_at, line_at, lines_at, script_at}
 use Rattle.gt_script.proofs.Options.{bind_some, map_or_some, passed, chosen}
-use Rattle.gt_script.proofs.Cuts.{parts_taken}
+use Rattle.gt_script.proofs.Splits.{parts_taken}
 use Rattle.gt_script.proofs.Identifiers.{named_taken}
 
 pub behind_taken : (literal text rest : List ℕ) → behind literal text ≡ Some rest → text ≡ literal ++ rest

@@ -3,9 +3,11 @@
 #![tactic(auto)]
 
 mod command;
+mod forms;
+mod lines;
 mod names;
+mod parts;
 mod paths;
-mod reading;
 mod scripts;
 
 pub use command::{Command, Given, Hop, Line, Route, TypeName};

@@ -1,8 +1,7 @@
-ghost use Rattle.std.specs.Prelude.{◌≡◌, ◌==◌, IfOk, position};
+ghost use Rattle.std.specs.Prelude.{◌≡◌, IfOk};
 ghost use Rattle.std.specs.List.{list_all};
-ghost use Rattle.std.specs.Option.{option_map};
 ghost use Rattle.gt_script.specs.Name.{is_name_of, starts_name_of, continues_name_of};
-ghost use Rattle.gt_script.specs.Reading.{named_at, parts_at};
+ghost use Rattle.gt_script.specs.Reading.{named_at};
 
 use gt_types::Word;
 use std::alloc::{AllocError, Global};
@@ -47,20 +46,4 @@ pub fn named(alloc: Global, text: &[u8]) -> Result<Option<Word>, AllocError>
         Ok(name) => Ok(Some(Word::of(alloc, name)?)),
         Err(_) => unreachable!("a name is ASCII"),
     }
-}
-
-/// What stands before and behind the first of a byte.
-pub fn cut(text: &[u8], byte: u8) -> Option<(&[u8], &[u8])>
-    ensures { option_map (λ parts. (parts.0.now, parts.1.now)) result ≡ parts_at byte text.now }
-{
-    match place_of(text, byte) {
-        None => None,
-        Some(at) => Some((&text[..at], &text[at + 1..])),
-    }
-}
-
-fn place_of(text: &[u8], byte: u8) -> Option<usize>
-    ensures { result ≡ position (λ c. c == byte) text.now }
-{
-    text.iter().position(|c| *c == byte)
 }

@@ -1,7 +1,8 @@
 ghost use Rattle.std.specs.Prelude.{◌≡◌, IfOk};
 ghost use Rattle.gt_script.specs.Reading.{path_at, field_at, route_at};
 
-use crate::names::{cut, named};
+use crate::names::named;
+use crate::parts::split_once;
 use crate::{Hop, Route};
 use gt_types::List;
 use std::alloc::{AllocError, Global};
@@ -13,7 +14,7 @@ pub fn path_of(alloc: Global, text: &[u8]) -> Result<Option<Route>, AllocError>
 {
     match text.strip_prefix(b"$") {
         None => route_of(alloc, false, text, List::new(alloc)),
-        Some(rest) => match cut(rest, b'.') {
+        Some(rest) => match split_once(rest, b'.') {
             None => route_of(alloc, true, rest, List::new(alloc)),
             Some((name, field)) => field_of(alloc, name, field),
         },

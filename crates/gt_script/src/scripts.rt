@@ -5,8 +5,8 @@ ghost use Rattle.gt_script.specs.Script.{Parsed, lines_of};
 ghost use Rattle.gt_script.specs.Reading.{script_at};
 
 use crate::Line;
-use crate::names::cut;
-use crate::reading::read_line;
+use crate::lines::read_line;
+use crate::parts::split_once;
 use gt_types::List;
 use std::alloc::{AllocError, Global};
 
@@ -51,7 +51,7 @@ fn first_line(text: &[u8]) -> (&[u8], &[u8])
     ensures line { lines_of text.now ≡ result.0.now ∷ lines_of result.1.now }
     ensures shorter { length result.1.now < length text.now }
 {
-    match cut(text, b'\n') {
+    match split_once(text, b'\n') {
         None => (text, &[]),
         Some(parts) => parts,
     }

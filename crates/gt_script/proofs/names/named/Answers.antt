@@ -1,4 +1,4 @@
-use Rattle.std.proofs.Common.{◌≡◌, Some, ap, sym, ◌∙◌}
+use Rattle.std.proofs.Common.{Some, ap, sym, ◌∙◌}
 use Rattle.std.specs.Str.{chars}
 use Rattle.std.proofs.lemmas.Str.{chars-IsAscii}
 use Rattle.gt_script.proofs.Identifiers.{name_ascii, name_utf8, named_again}

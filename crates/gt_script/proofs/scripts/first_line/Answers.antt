@@ -1,5 +1,5 @@
 use Rattle.std.proofs.Common.{sym}
-use Rattle.gt_script.proofs.Cuts.{lines_first, lines_last, shorter}
+use Rattle.gt_script.proofs.Splits.{lines_first, lines_last, shorter}
 use Rattle.gt_script.proofs.scripts.first_line.Goals as goal
 
 pub returns-in-None-clause-line : goal.returns-in-None-clause-line

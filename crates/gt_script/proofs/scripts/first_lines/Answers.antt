@@ -1,6 +1,5 @@
-use Rattle.std.proofs.Common.{◌≡◌, Some, None, sym, ◌∙◌}
+use Rattle.std.proofs.Common.{sym, ◌∙◌}
 use Rattle.std.proofs.lemmas.Option.{none-some}
-use Rattle.gt_script.specs.Reading.{script_at}
 use Rattle.gt_script.proofs.Taken.{script_taken}
 use Rattle.gt_script.proofs.Again.{script_again}
 use Rattle.gt_script.proofs.scripts.first_lines.Goals as goal

@@ -1,8 +1,7 @@
-use Rattle.std.proofs.Common.{◌≡◌, ◌≢◌, [], length, sym, subst, arith, ◌∙◌}
+use Rattle.std.proofs.Common.{◌≡◌, ◌≢◌, [], length, sym, arith, ◌∙◌}
 use Rattle.std.proofs.lemmas.Bool.{eqb-true}
 use Rattle.std.proofs.lemmas.List.{nil_from_length}
-use Rattle.gt_script.specs.Reading.{line_at}
-use Rattle.gt_script.proofs.Lines.{SoFar, starts, goes_on, ends, too_many, is_done}
+use Rattle.gt_script.proofs.Progress.{starts, goes_on, ends, too_many, is_done}
 use Rattle.gt_script.proofs.scripts.read_lines.Goals as goal
 
 pub loop-rest-init : goal.loop-rest-init

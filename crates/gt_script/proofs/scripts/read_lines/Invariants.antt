@@ -1,5 +1,5 @@
 use Rattle.std.proofs.Common.{length}
-use Rattle.gt_script.proofs.Lines.{SoFar}
+use Rattle.gt_script.proofs.Progress.{SoFar}
 use Rattle.gt_script.proofs.scripts.read_lines.Given as goal
 
 abbrev pub invariant-loop-rest : goal.invariant-loop-rest

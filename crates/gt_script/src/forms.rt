@@ -1,38 +1,15 @@
 ghost use Rattle.std.specs.Prelude.{◌≡◌, IfOk};
-ghost use Rattle.std.specs.Str.Lines.{strip_carriage_return};
-ghost use Rattle.gt_script.specs.Reading.{line_at, command_at, new_at, set_at, print_at, value_at};
+ghost use Rattle.gt_script.specs.Reading.{command_at, new_at, set_at, print_at, value_at};
 
-use crate::names::{cut, named};
+use crate::names::named;
+use crate::parts::split_once;
 use crate::paths::path_of;
-use crate::{Command, Given, Line, TypeName};
+use crate::{Command, Given, TypeName};
 use std::alloc::{AllocError, Global};
 
-/// The line that the text is, where it is one.
-#[tactic(auto, unfolding(crate::specs::Reading::line_at))]
-pub fn read_line(alloc: Global, text: &[u8]) -> Result<Option<Line>, AllocError>
-    ensures { IfOk result (λ found. found ≡ line_at text.now) }
-{
-    let Some(command) = command_of(alloc, without_return(text))? else {
-        return Ok(None);
-    };
-    Ok(Some(Line {
-        quiet: false,
-        command,
-    }))
-}
-
-// The line without the one carriage return at its end, if it has one.
-fn without_return(text: &[u8]) -> &[u8]
-    ensures { result.now ≡ strip_carriage_return text.now }
-{
-    match text {
-        [line @ .., b'\r'] => line,
-        _ => text,
-    }
-}
-
+/// The command that the text is, where it has one of the forms.
 #[tactic(auto, unfolding(crate::specs::Reading::command_at, crate::specs::Reading::behind))]
-fn command_of(alloc: Global, text: &[u8]) -> Result<Option<Command>, AllocError>
+pub fn command_of(alloc: Global, text: &[u8]) -> Result<Option<Command>, AllocError>
     ensures { IfOk result (λ found. found ≡ command_at text.now) }
 {
     if let Some(rest) = text.strip_prefix(b"new $") {
@@ -51,7 +28,7 @@ fn command_of(alloc: Global, text: &[u8]) -> Result<Option<Command>, AllocError>
 fn new_of(alloc: Global, text: &[u8]) -> Result<Option<Command>, AllocError>
     ensures { IfOk result (λ found. found ≡ new_at text.now) }
 {
-    let Some((var, name)) = cut(text, b' ') else {
+    let Some((var, name)) = split_once(text, b' ') else {
         return Ok(None);
     };
     let Some(var) = named(alloc, var)? else {
@@ -71,7 +48,7 @@ fn new_of(alloc: Global, text: &[u8]) -> Result<Option<Command>, AllocError>
 fn set_of(alloc: Global, text: &[u8]) -> Result<Option<Command>, AllocError>
     ensures { IfOk result (λ found. found ≡ set_at text.now) }
 {
-    let Some((path, value)) = cut(text, b' ') else {
+    let Some((path, value)) = split_once(text, b' ') else {
         return Ok(None);
     };
     let Some(path) = path_of(alloc, path)? else {

@@ -1,6 +1,6 @@
 use Rattle.std.proofs.Common.{sym}
-use Rattle.gt_script.proofs.Cuts.{cut_here, cut_none}
-use Rattle.gt_script.proofs.names.cut.Goals as goal
+use Rattle.gt_script.proofs.Splits.{cut_here, cut_none}
+use Rattle.gt_script.proofs.parts.split_once.Goals as goal
 
 pub returns-in-None : goal.returns-in-None
 returns-in-None c = sym (cut_none c.args.byte c.args.text.now (sym c.in-None.ensures))
