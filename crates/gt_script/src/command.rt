@@ -1,6 +1,6 @@
 use gt_types::{List, Word};
 
-/// A line of a script. A quiet line prints nothing where it succeeds.
+/// A line of a script. The answer to a quiet line is printed only where it is a refusal.
 #[derive(Debug, Drop)]
 pub struct Line {
     pub quiet: bool,
@@ -10,18 +10,18 @@ pub struct Line {
 /// What a line asks for.
 #[derive(Debug, Drop)]
 pub enum Command {
-    /// Make a block of the type, of `n` elements where a number stands, and let the variable mean it.
+    /// `new $v T`: make a block of the type, of `n` elements where a number stands behind it, and let the variable mean it.
     New {
         var: Word,
         ty: TypeName,
         n: Option<i128>,
     },
-    /// Store the value at the path.
+    /// `set PATH VALUE`: store the value at the path.
     Set {
         path: Route,
         value: Given,
     },
-    /// Print what stands at the path.
+    /// `print PATH`: print what stands at the path.
     Print {
         path: Route,
     },
