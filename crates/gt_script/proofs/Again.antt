@@ -17,7 +17,7 @@ use Rattle.gt_script.specs.declared.command.Given.TheVariants.{Integer, Null, Va
 use Rattle.gt_script.specs.Name.{is_name_of, starts_name_of, IsName}
 use Rattle.gt_script.specs.Spelling.{path_text, value_text, spelling, IsRoot, IsField, IsValue, HasForm}
 use Rattle.gt_script.specs.Script.{IsLine, AreLines, Parsed, lines_of}
-use Rattle.gt_script.specs.Reading.{behind, route_at, field_at, path_at, value_at, new_at, set_at, print_at, command_at, line_at, lines_at, script_at}
+use Rattle.gt_script.specs.Reading.{behind, route_at, field_at, reference_at, path_at, value_at, new_at, set_at, print_at, command_at, line_at, lines_at, script_at}
 use Rattle.gt_script.proofs.Options.{both}
 use Rattle.gt_script.proofs.Splits.{lacks, parts_again, parts_none}
 use Rattle.gt_script.proofs.Identifiers.{named_again, name_lacks}
@@ -42,7 +42,7 @@ read_from : (path : Route) (text : List ℕ) → path_text path ≡ text → pat
 read_from path text e again solid = record { again = ap path_at e ∙ again; solid = ap (lacks 32) e ∙ solid }
 
 variable_again : (name : List ℕ) → IsName name → IsReadAgain (route true name [])
-unfolding path_at behind
+unfolding path_at reference_at behind
 variable_again name h =
     let none = parts_none 46 name (name_lacks 46 name refl h) in
     read_from (route true name []) (codes "$" ++ name) (append-nil (codes "$" ++ name)) (rw none (route_again true name [] h)) (name_lacks 32 name refl h)
@@ -63,7 +63,7 @@ root_again name h =
     read_from (route false name []) name (append-nil name) (rw none (route_again false name [] h)) (name_lacks 32 name refl h)
 
 field_again : (name field : List ℕ) → IsName name → IsName field → IsReadAgain (route true name (Name field ∷ []))
-unfolding path_at field_at behind
+unfolding path_at reference_at field_at behind
 field_again name field h k =
     let text : path_text (route true name (Name field ∷ [])) ≡ codes "$" ++ (name ++ 46 ∷ field) = simp (append_assoc, append-nil) in
     let parts = parts_again 46 name field (name_lacks 46 name refl h) in

@@ -19,7 +19,7 @@ use Rattle.gt_script.specs.declared.command.Given.TheVariants.{Null, Var}
 use Rattle.gt_script.specs.Name.{IsName}
 use Rattle.gt_script.specs.Spelling.{path_text, value_text, spelling, IsRoot, IsVariable, IsField, IsValue, HasForm}
 use Rattle.gt_script.specs.Script.{IsLine, AreLines, Parsed, lines_of}
-use Rattle.gt_script.specs.Reading.{◌>>=◌, behind, parts_at, named_at, route_at, field_at, path_at, value_at, new_at, set_at, print_at, command_at, line_at, lines_at, script_at}
+use Rattle.gt_script.specs.Reading.{◌>>=◌, behind, parts_at, named_at, route_at, field_at, reference_at, path_at, value_at, new_at, set_at, print_at, command_at, line_at, lines_at, script_at}
 use Rattle.gt_script.proofs.Options.{bind_some, map_or_some, passed, chosen}
 use Rattle.gt_script.proofs.Splits.{parts_taken}
 use Rattle.gt_script.proofs.Identifiers.{named_taken}
@@ -70,18 +70,19 @@ field_taken name field path e =
     let whole : Spells (codes "$" ++ (name ++ 46 ∷ field)) (route true name (Name field ∷ [])) = (inr (inr (refl, g.0, field, is_field.0, refl)), text) in
     subst (λ (p : Route). Spells (codes "$" ++ (name ++ 46 ∷ field)) p) (ap (λ f. route true name (Name f ∷ [])) is_field.1 ∙ g.1) whole
 
-place_taken : (rest : List ℕ) (path : Route) → option_map_or (λ parts. field_at parts.0 parts.1) (parts_at 46 rest) (route_at true rest []) ≡ Some path → Spells (codes "$" ++ rest) path
-place_taken rest path e =
-    elim (map_or_some (parts_at 46 rest) (λ parts. field_at parts.0 parts.1) (route_at true rest []) path e) [
-      | inl f ↦ subst (λ (t : List ℕ). Spells (codes "$" ++ t) path) (sym (parts_taken 46 rest f.0 f.1)) (field_taken f.0.0 f.0.1 path f.2)
-      | inr v ↦ variable_taken rest path v.1
+reference_taken : (text : List ℕ) (path : Route) → reference_at text ≡ Some path → Spells (codes "$" ++ text) path
+unfolding reference_at
+reference_taken text path e =
+    elim (map_or_some (parts_at 46 text) (λ parts. field_at parts.0 parts.1) (route_at true text []) path e) [
+      | inl f ↦ subst (λ (t : List ℕ). Spells (codes "$" ++ t) path) (sym (parts_taken 46 text f.0 f.1)) (field_taken f.0.0 f.0.1 path f.2)
+      | inr v ↦ variable_taken text path v.1
     ]
 
 pub path_taken : (text : List ℕ) (path : Route) → path_at text ≡ Some path → Spells text path
 unfolding path_at
 path_taken text path e =
-    elim (map_or_some (behind (codes "$") text) (λ rest. option_map_or (λ parts. field_at parts.0 parts.1) (parts_at 46 rest) (route_at true rest [])) (route_at false text []) path e) [
-      | inl p ↦ subst (λ (t : List ℕ). Spells t path) (sym (behind_taken (codes "$") text p.0 p.1)) (place_taken p.0 path p.2)
+    elim (map_or_some (behind (codes "$") text) reference_at (route_at false text []) path e) [
+      | inl p ↦ subst (λ (t : List ℕ). Spells t path) (sym (behind_taken (codes "$") text p.0 p.1)) (reference_taken p.0 path p.2)
       | inr r ↦ root_taken text path r.1
     ]
 

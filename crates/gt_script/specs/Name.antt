@@ -11,9 +11,11 @@ starts_name_of c = (c == 95) || is_ascii_alphabetic c
 abbrev pub continues_name_of : ℕ → Bool
 continues_name_of c = (c == 95) || is_ascii_alphanumeric c
 
+-- no name is empty
 unfoldable pub is_name_of : List ℕ → Bool
 is_name_of [] = false
 is_name_of (c ∷ cs) = starts_name_of c && list_all continues_name_of cs
 
+-- the text is a name, all of it
 abbrev pub IsName : List ℕ → Type 0
 IsName text = IsTrue (is_name_of text)

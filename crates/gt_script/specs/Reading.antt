@@ -46,17 +46,22 @@ field_at name field = do
   f ← named_at field
   route_at true name (Name f ∷ [])
 
--- behind $ a variable or a field, else a root
-unfoldable pub path_at : List ℕ → Option Route
-path_at text =
-    option_map_or (λ rest. option_map_or (λ parts. field_at parts.0 parts.1) (parts_at 46 rest) (route_at true rest [])) (behind (codes "$") text) (route_at false text [])
+-- behind $ a variable, or where there is a dot a field
+unfoldable pub reference_at : List ℕ → Option Route
+reference_at text = option_map_or (λ parts. field_at parts.0 parts.1) (parts_at 46 text) (route_at true text [])
 
+-- with $ in front what it refers to, else a root
+unfoldable pub path_at : List ℕ → Option Route
+path_at text = option_map_or reference_at (behind (codes "$") text) (route_at false text [])
+
+-- null, or $ and a variable
 unfoldable pub value_at : List ℕ → Option Given
 value_at text = if bytes_eq text (codes "null") then Some Null else (do
   name ← behind (codes "$") text
   n ← named_at name
   Some (Var n))
 
+-- a variable and a type, with a space between
 unfoldable pub new_at : List ℕ → Option Command
 new_at text = do
   parts ← parts_at 32 text
@@ -64,7 +69,7 @@ new_at text = do
   name ← named_at parts.1
   Some (New var (record { name = name; star = false }) None)
 
--- a variable alone is no place to store at
+-- a path and a value, with a space between; a variable alone is no place to store at
 unfoldable pub set_at : List ℕ → Option Command
 set_at text = do
   parts ← parts_at 32 text
@@ -73,20 +78,26 @@ set_at text = do
     value ← value_at parts.1
     Some (Set path value))
 
+-- a path
 unfoldable pub print_at : List ℕ → Option Command
 print_at text = do
   path ← path_at text
   Some (Print path)
 
+-- the word in front says which command it is
 unfoldable pub command_at : List ℕ → Option Command
 command_at text =
-    option_map_or new_at (behind (codes "new $") text) (option_map_or set_at (behind (codes "set ") text) (option_map_or print_at (behind (codes "print ") text) None))
+    option_map_or new_at (behind (codes "new $") text) (
+    option_map_or set_at (behind (codes "set ") text) (
+    option_map_or print_at (behind (codes "print ") text) None))
 
+-- one carriage return at the end is dropped
 unfoldable pub line_at : List ℕ → Option Line
 line_at text = do
   command ← command_at (strip_carriage_return text)
   Some (record { quiet = false; command = command })
 
+-- each text is a line
 unfoldable pub lines_at : List (List ℕ) → Option (List Line)
 lines_at [] = Some []
 lines_at (text ∷ texts) = do

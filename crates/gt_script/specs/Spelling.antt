@@ -31,11 +31,11 @@ spelling (New var ty n) = codes "new $" ++ var ++ codes " " ++ ty.name
 spelling (Set path value) = codes "set " ++ path_text path ++ codes " " ++ value_text value
 spelling (Print path) = codes "print " ++ path_text path
 
--- a root
+-- a root alone
 abbrev pub IsRoot : Route → Type 0
 IsRoot path = (path.variable ≡ false) × IsName path.name × (path.steps ≡ [])
 
--- a variable
+-- a variable alone
 abbrev pub IsVariable : Route → Type 0
 IsVariable path = (path.variable ≡ true) × IsName path.name × (path.steps ≡ [])
 
