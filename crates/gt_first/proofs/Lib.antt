@@ -1,0 +1,5 @@
+mod AsciiNames
+mod Distinct
+mod Fields
+mod Laws
+mod Runs

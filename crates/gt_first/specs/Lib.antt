@@ -1,0 +1,4 @@
+pub mod Header
+pub mod Names
+pub mod Reading
+pub mod Tokens
