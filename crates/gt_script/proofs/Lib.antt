@@ -1,0 +1,6 @@
+mod Options
+mod Splits
+mod Identifiers
+mod Taken
+mod Again
+mod Progress

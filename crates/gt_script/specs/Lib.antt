@@ -1,0 +1,4 @@
+pub mod Name
+pub mod Spelling
+pub mod Script
+pub mod Reading

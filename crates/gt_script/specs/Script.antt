@@ -1,0 +1,31 @@
+-- A script is the lines of its text.
+use Rattle.std.specs.Prelude.{◌≡◌, ℕ, ◌≤◌, ◌==◌, false, List, [], ◌∷◌, length, if◌then◌else◌}
+use Rattle.std.specs.List.{slice_split}
+use Rattle.std.specs.Str.Lines.{strip_carriage_return}
+use Rattle.gt_script.specs.declared.command.Line.{Line}
+use Rattle.gt_script.specs.Spelling.{spelling, HasForm}
+
+-- of the parts between newlines the last is a line only where it has a byte, since a newline ends a line
+abbrev pub without_empty_last : List (List ℕ) → List (List ℕ)
+without_empty_last [] = []
+without_empty_last (part ∷ []) = if length part == 0 then [] else part ∷ []
+without_empty_last (part ∷ next ∷ parts) = part ∷ without_empty_last (next ∷ parts)
+
+-- the lines of a text, without their newlines (10)
+abbrev pub lines_of : List ℕ → List (List ℕ)
+lines_of text = without_empty_last (slice_split (λ c. c == 10) text)
+
+-- a line is the spelling of a command that has a form, but for one carriage return at its end
+abbrev pub IsLine : List ℕ → Line → Type 0
+IsLine text line = (line.quiet ≡ false) × HasForm line.command × (strip_carriage_return text ≡ spelling line.command)
+
+-- each text is its line
+abbrev pub AreLines : List (List ℕ) → List Line → Type 0
+AreLines [] [] = Unit {0}
+AreLines (text ∷ texts) (line ∷ lines) = IsLine text line × AreLines texts lines
+AreLines [] (line ∷ lines) = ⊥
+AreLines (text ∷ texts) [] = ⊥
+
+-- a script has at most 65,536 lines, and each is a line of its text
+abbrev pub Parsed : List ℕ → List Line → Type 0
+Parsed text lines = (length lines ≤ 65536) × AreLines (lines_of text) lines
