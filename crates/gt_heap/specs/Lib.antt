@@ -1,0 +1,5 @@
+pub mod Tree
+pub mod Values
+pub mod Ledger
+pub mod Graph
+pub mod Stands
