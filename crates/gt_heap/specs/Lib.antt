@@ -3,3 +3,4 @@ pub mod Values
 pub mod Ledger
 pub mod Graph
 pub mod Stands
+pub mod Heap

@@ -1,0 +1,16 @@
+// The sizes of blocks, as GCC's page collector has them: few, so that each page holds blocks of one size.
+ghost use Rattle.std.specs.Prelude.{◌≡◌};
+ghost use Rattle.gt_heap.specs.Ledger.{rounded};
+
+/// The sizes of blocks in bytes.
+const SIZES: [u32; 29] = [
+    8, 16, 32, 48, 64, 80, 96, 112, 128, 144, 160, 176, 192, 208, 224, 240, 256, 512, 1024, 2048,
+    4096, 8192, 16384, 32768, 65536, 131072, 262144, 524288, 1048576,
+];
+
+/// The least size of a block with room for so many bytes, or None where there is none.
+pub fn rounded_size(need: u32) -> Option<u32>
+    ensures { result ≡ rounded need }
+{
+    SIZES.iter().copied().find(|size| need <= *size)
+}
