@@ -30,10 +30,11 @@ block_in_space places small k h =
 apart_each :
     (places : Places) → IsSmall places.size → (first count : ℕ) → AreApart (each_from (block_of places) first count)
 apart_each places small first zero = tt
-apart_each places small first (suc count) =
-    ( All-each_from (λ c. IsApart (address_of places first) places.size c.address c.size) (block_of places) (first + 1) count
+apart_each places small first (suc count) = (
+  All-each_from (λ c. IsApart (address_of places first) places.size c.address c.size) (block_of places) (first + 1) count
       (λ k from to. inl (ordered places.size first k small (omega (arith, from)))),
-      apart_each places small (first + 1) count )
+  apart_each places small (first + 1) count,
+)
 
 outside_always : (places : Places) (address size : ℕ) → LiesOutside (ledger_of places) address size
 outside_always places address size page image = absurd (omega (arith, image.0, image.1))
@@ -80,11 +81,12 @@ taken places small page r lower place =
 taken_block :
     (places : Places) → IsSmall places.size → (page r : ℕ) → page < next_page places → r < per_page places.size
     → (b : Block) × Contains (ledger_of places).blocks b × (b.address ≡ page_address page + places.size * r) × (b.size ≡ places.size)
-taken_block places small page r lower place =
-    ( block_of places (page * per_page places.size + r),
-      Contains-each (block_of places) places.made (page * per_page places.size + r) (taken places small page r lower place),
-      block_at-place places.size page r place,
-      refl )
+taken_block places small page r lower place = (
+  block_of places (page * per_page places.size + r),
+  Contains-each (block_of places) places.made (page * per_page places.size + r) (taken places small page r lower place),
+  block_at-place places.size page r place,
+  refl,
+)
 
 -- a lower page has no free place
 full_below :
@@ -94,7 +96,7 @@ full_below places small page lower free =
     let place : r < per_page places.size = place_fits places.size r small free.free.1 in
     let b = taken_block places small page r lower place in
     let apart : IsApart (page_address page + places.size * r) places.size b.0.address b.0.size =
-        All-contains (λ b. IsApart (page_address page + places.size * r) places.size b.address b.size) (ledger_of places).blocks b.0 free.free.2 b.1 in
+    All-contains (λ b. IsApart (page_address page + places.size * r) places.size b.address b.size) (ledger_of places).blocks b.0 free.free.2 b.1 in
     elim apart [ inl before ↦ omega (arith, before, b.2, b.3, small.some) | inr after ↦ omega (arith, after, b.2, b.3, small.some) ]
 
 -- a lower page is not free
@@ -103,7 +105,7 @@ taken_below :
 taken_below places small page lower free =
     let b = taken_block places small page 0 lower (per_page_pos places.size small) in
     let off : IsOffPage b.0.address b.0.size page =
-        All-contains (λ b. IsOffPage b.address b.size page) (ledger_of places).blocks b.0 (free.each page (omega arith) (omega arith)).1 b.1 in
+    All-contains (λ b. IsOffPage b.address b.size page) (ledger_of places).blocks b.0 (free.each page (omega arith) (omega arith)).1 b.1 in
     elim off [ inl before ↦ omega (arith, before, b.2, b.3, small.some) | inr after ↦ omega (arith, after, b.2, b.3, small.within) ]
 
 -- a page with a free place is that of the next block
@@ -113,9 +115,11 @@ page_with_place places small page free =
     let found = contained_each (block_of places) places.made free.holds.0 free.holds.1 in
     let at : page_of (address_of places found.0) ≡ page = ap (λ (b : Block). page_of b.address) found.2 ∙ free.holds.3 in
     let low : found.0 / per_page places.size ≤ next_page places =
-        page_le (per_page places.size) found.0 places.made (per_page_pos places.size small) (omega (arith, found.1)) in
-    elim (cases_lt page (next_page places)) [ inl lower ↦ absurd (full_below places small page lower free)
-    | inr no_lower ↦ omega (arith, no_lower, low, at, page_of-block_at places.size found.0 small) ]
+    page_le (per_page places.size) found.0 places.made (per_page_pos places.size small) (omega (arith, found.1)) in
+    elim (cases_lt page (next_page places)) [
+      | inl lower ↦ absurd (full_below places small page lower free)
+      | inr no_lower ↦ omega (arith, no_lower, low, at, page_of-block_at places.size found.0 small)
+    ]
 
 -- how many pages a block takes
 one_page : (size : ℕ) → IsSmall size → pages_of size ≡ 1
@@ -156,17 +160,19 @@ begun_page places small room begun =
       small = small.within;
       in_space = next_in_space places small room;
       outside = no_image_page places (next_page places);
-      holds =
-          ( block_of places (places.made - 1),
-            Contains-each (block_of places) places.made (places.made - 1) some,
-            refl,
-            page_of-block_at places.size (places.made - 1) small ∙ last_page places small begun );
-      free =
-          ( places.made % per_page places.size,
-            block_within places.size places.made small,
-            All-weaker (λ b. b.address + b.size ≤ address_of places places.made)
+      holds = (
+        block_of places (places.made - 1),
+        Contains-each (block_of places) places.made (places.made - 1) some,
+        refl,
+        page_of-block_at places.size (places.made - 1) small ∙ last_page places small begun,
+      );
+      free = (
+        places.made % per_page places.size,
+        block_within places.size places.made small,
+        All-weaker (λ b. b.address + b.size ≤ address_of places places.made)
             (λ b. IsApart (page_address (next_page places) + places.size * (places.made % per_page places.size)) places.size b.address b.size)
-            (λ b h. inr h) (ledger_of places).blocks (behind places small) );
+            (λ b h. inr h) (ledger_of places).blocks (behind places small),
+      );
     }
 
 -- a page that is not begun starts at the next block
@@ -186,19 +192,22 @@ new_page places small room whole =
       in_space = omega (arith, next_in_space places small room);
       each = λ page from to.
           let same : page ≡ next_page places = omega (arith, from, to) in
-          let start : address_of places places.made ≡ page_address page = start_of places page whole same in
-          ( no_image_page places page,
+          let start : address_of places places.made ≡ page_address page = start_of places page whole same in (
+            no_image_page places page,
             All-weaker (λ b. b.address + b.size ≤ address_of places places.made) (λ b. IsOffPage b.address b.size page)
-            (λ b h. inl (omega (arith, h, start))) (ledger_of places).blocks (behind places small) );
+                (λ b h. inl (omega (arith, h, start))) (ledger_of places).blocks (behind places small),
+          );
     }
 
 -- there is room where the pages hold one block more
 pub room_left : (places : Places) → IsSmall places.size → places.made < places.pages * per_page places.size → Room (ledger_of places) places.size
 room_left places small room =
-    elim (cases_lt 0 (places.made % per_page places.size)) [ inl begun ↦ inl (next_page places, begun_page places small room begun)
-    | inr whole ↦
-      let free : AreFree (ledger_of places) (next_page places) 1 = new_page places small room (omega (arith, whole)) in
-      inr (next_page places, subst (λ n. AreFree (ledger_of places) (next_page places) n) (sym (one_page places.size small)) free) ]
+    elim (cases_lt 0 (places.made % per_page places.size)) [
+      | inl begun ↦ inl (next_page places, begun_page places small room begun)
+      | inr whole ↦
+          let free : AreFree (ledger_of places) (next_page places) 1 = new_page places small room (omega (arith, whole)) in
+          inr (next_page places, subst (λ n. AreFree (ledger_of places) (next_page places) n) (sym (one_page places.size small)) free)
+    ]
 
 -- all pages are full, where they hold no more
 all_pages : (places : Places) → IsSmall places.size → places.made ≡ places.pages * per_page places.size → next_page places ≡ places.pages
@@ -210,10 +219,12 @@ all_pages places small full =
 pub no_room : (places : Places) → IsSmall places.size → places.made ≡ places.pages * per_page places.size → Room (ledger_of places) places.size → ⊥
 no_room places small full room =
     let last : next_page places ≡ places.pages = all_pages places small full in
-    elim room [ inl place ↦ omega (arith, place.1.in_space, page_with_place places small place.0 place.1, last)
-    | inr page ↦
-      let free : AreFree (ledger_of places) page.0 1 = subst (λ n. AreFree (ledger_of places) page.0 n) (one_page places.size small) page.1 in
-      taken_below places small page.0 (omega (arith, free.in_space, last)) free ]
+    elim room [
+      | inl place ↦ omega (arith, place.1.in_space, page_with_place places small place.0 place.1, last)
+      | inr page ↦
+          let free : AreFree (ledger_of places) page.0 1 = subst (λ n. AreFree (ledger_of places) page.0 n) (one_page places.size small) page.1 in
+          taken_below places small page.0 (omega (arith, free.in_space, last)) free
+    ]
 
 -- the ledger with the next block
 pub with_next : (places : Places) → ledger_of (one_more places) ≡ with_block (ledger_of places) (block_of places places.made)
@@ -241,11 +252,13 @@ next_place places small room =
       shares = λ some.
           subst (λ p. HasFreePlace (ledger_of places) places.size p) (page_with_place places small some.0 some.1 ∙ sym page) some.1;
       opens = λ none.
-          elim (cases_lt 0 (places.made % per_page places.size)) [ inl begun ↦ absurd (none (next_page places, begun_page places small room begun))
-          | inr whole ↦
-            let free : AreFree (ledger_of places) (next_page places) 1 = new_page places small room (omega (arith, whole)) in
-            let there : AreFree (ledger_of places) (page_of (address_of places places.made)) (pages_of places.size) =
+          elim (cases_lt 0 (places.made % per_page places.size)) [
+            | inl begun ↦ absurd (none (next_page places, begun_page places small room begun))
+            | inr whole ↦
+                let free : AreFree (ledger_of places) (next_page places) 1 = new_page places small room (omega (arith, whole)) in
+                let there : AreFree (ledger_of places) (page_of (address_of places places.made)) (pages_of places.size) =
                 subst (λ n. AreFree (ledger_of places) (page_of (address_of places places.made)) n) (sym (one_page places.size small))
                 (subst (λ p. AreFree (ledger_of places) p 1) (sym page) free) in
-            ( there, λ other is_free. lowest places small page other is_free ) ];
+                (there, λ other is_free. lowest places small page other is_free)
+          ];
     }

@@ -32,21 +32,23 @@ found_at need top [] ys room up =
       least = omega arith;
     }
 found_at need top (x ∷ xs) ys room up =
-    elim (cases_Bool (nat_le need x)) [ inl has ↦
-        record {
-          size = x;
-          is = ap (λ b. cond b (Some x) (find (λ size. nat_le need size) (xs ++ top ∷ ys))) has;
-          room = at_most_when need x has;
-          least = up.0;
-        }
-    | inr lacks ↦
-        let rest = found_at need top xs ys room up.1 in
-        record {
-          size = rest.size;
-          is = ap (λ b. cond b (Some x) (find (λ size. nat_le need size) (xs ++ top ∷ ys))) lacks ∙ rest.is;
-          room = rest.room;
-          least = rest.least;
-        } ]
+    elim (cases_Bool (nat_le need x)) [
+      | inl has ↦
+          record {
+            size = x;
+            is = ap (λ b. cond b (Some x) (find (λ size. nat_le need size) (xs ++ top ∷ ys))) has;
+            room = at_most_when need x has;
+            least = up.0;
+          }
+      | inr lacks ↦
+          let rest = found_at need top xs ys room up.1 in
+          record {
+            size = rest.size;
+            is = ap (λ b. cond b (Some x) (find (λ size. nat_le need size) (xs ++ top ∷ ys))) lacks ∙ rest.is;
+            room = rest.room;
+            least = rest.least;
+          }
+    ]
 
 abbrev small_sizes : List ℕ
 small_sizes = 8 ∷ 16 ∷ 32 ∷ 48 ∷ 64 ∷ 80 ∷ 96 ∷ 112 ∷ 128 ∷ 144 ∷ 160 ∷ 176 ∷ 192 ∷ 208 ∷ 224 ∷ 240 ∷ []

@@ -17,7 +17,7 @@ use Rattle.gt_heap.specs.Values.{Nodes, Object, IsSingle, Fits, AllFit, ObjectFi
 use Rattle.gt_heap.specs.Ledger.{Block, Ledger, rounded, page_address}
 use Rattle.gt_heap.specs.Graph.{Graph, IsGood, AreDistinct, AreBlocksOf, IsBlockOf, KindStands, leaf_of}
 use Rattle.gt_heap.specs.Stands.{Stands, LeafStands, LeavesStand, BlockStands, BlocksStand, AreZero, count_of}
-use Rattle.gt_heap.specs.Heap.{IsFirst, IsHeap, IsPlain, IsObject, IsTarget, IsPointer, HoldsPointers, Places, the_node, address_of, block_of, each_from, fields_of, graph_of, ledger_of, leaves_at, object_at, pointer_of, word_of}
+use Rattle.gt_heap.specs.Heap.{IsFirst, IsHeap, IsPlain, IsObject, IsTarget, KeepsObjects, block_at, IsPointer, HoldsPointers, Places, the_node, address_of, block_of, each_from, fields_of, graph_of, ledger_of, leaves_at, object_at, pointer_of, word_of}
 use Rattle.gt_heap.proofs.Quotients.{IsSmall, ordered}
 use Rattle.gt_heap.proofs.Each.{All-each, All-each_from, Contains-each, contained_each}
 use Rattle.gt_heap.proofs.FittingSize.{Fitting}
@@ -43,6 +43,15 @@ pub number_of_object :
 number_of_object program places range address (o, there, named, kind, one) =
     let found = contained_each (object_of program places range) places.made o there in
     (found.0, found.1, ap (λ (o : Object). o.id) found.2 ∙ named)
+
+-- where no fewer blocks are made, each object stays one
+pub objects_kept :
+    (program : Program) (old new : Places) (before after : Range) → old.size ≡ new.size → old.made ≤ new.made
+    → KeepsObjects program old before new after
+objects_kept program old new before after size more address is =
+    let k = number_of_object program old before address is in
+    subst (IsObject program new after) (ap (λ n. block_at n k.0) (sym size) ∙ k.2)
+    (single_of program new after k.0 (omega (arith, k.1, more)))
 
 -- ---- pointers
 
@@ -92,13 +101,14 @@ leaves_fit program places range [] address zero plain len pointers = tt
 leaves_fit program places range [] address (suc count) plain len pointers = absurd (omega (arith, len))
 leaves_fit program places range (type ∷ types) address zero plain len pointers = absurd (omega (arith, len))
 leaves_fit program places range (type ∷ types) address (suc count) plain len pointers =
-    let here : address ≡ address + 8 * 0 = omega arith in
-    ( leaf_fits program places range type (u64_at range address) (All-head IsPlain type types plain)
-      (subst (λ a. IsPointer places (u64_at range a)) (sym here) (pointers 0 (omega arith))),
+    let here : address ≡ address + 8 * 0 = omega arith in (
+      leaf_fits program places range type (u64_at range address) (All-head IsPlain type types plain)
+          (subst (λ a. IsPointer places (u64_at range a)) (sym here) (pointers 0 (omega arith))),
       leaves_fit program places range types (address + 8) count (All-tail IsPlain type types plain) (omega (arith, len))
-      (λ k h.
-        let there : address + 8 * suc k ≡ address + 8 + 8 * k = omega arith in
-        subst (λ a. IsPointer places (u64_at range a)) there (pointers (suc k) (omega (arith, h)))) )
+          (λ k h.
+          let there : address + 8 * suc k ≡ address + 8 + 8 * k = omega arith in
+          subst (λ a. IsPointer places (u64_at range a)) there (pointers (suc k) (omega (arith, h)))),
+    )
 
 -- the leaf of a pointer's word stands for it
 leaf_stands :
@@ -125,34 +135,41 @@ object_fits program places range heap k h =
     let leaves : Trees = leaves_at range (address_of places k) (fields_of program) in
     let node : Structure = heap.first.node in
     let len : length (types_of node.fields) ≡ fields_of program =
-        length-map node.fields (λ f. f.ty) ∙ sym (fields_of-first program heap.first) in
-    ( And (Rec leaves) End,
+    length-map node.fields (λ f. f.ty) ∙ sym (fields_of-first program heap.first) in (
+      And (Rec leaves) End,
       refl,
-      ( ( node,
+      (
+        (
+          node,
           node_is program heap.first,
           heap.first.no_union,
           leaves_fit program places range (types_of node.fields) (address_of places k) (fields_of program)
-          (All-map IsPlain (λ f. f.ty) node.fields heap.first.fields) len (λ field below. heap.pointers.fields k field h below) ),
-        tt ) )
+              (All-map IsPlain (λ f. f.ty) node.fields heap.first.fields) len (λ field below. heap.pointers.fields k field h below),
+        ),
+        tt,
+      ),
+    )
 
 statics_fit :
     (program : Program) (places : Places) (range : Range) → Kept program places range
     → StaticsFit program (graph_of program places range).objects (graph_of program places range).statics
-statics_fit program places range heap =
-    ( leaves_at range range.start (length program.roots),
-      refl,
-      leaves_fit program places range (map (λ r. r.ty) program.roots) range.start (length program.roots)
+statics_fit program places range heap = (
+  leaves_at range range.start (length program.roots),
+  refl,
+  leaves_fit program places range (map (λ r. r.ty) program.roots) range.start (length program.roots)
       (All-map IsPlain (λ r. r.ty) program.roots heap.first.roots) (length-map program.roots (λ r. r.ty))
-      (λ root below. heap.pointers.roots root below) )
+      (λ root below. heap.pointers.roots root below),
+)
 
 distinct_each :
     (program : Program) (places : Places) (range : Range) → IsSmall places.size → (first count : ℕ)
     → AreDistinct (each_from (object_of program places range) first count)
 distinct_each program places range small first zero = tt
-distinct_each program places range small first (suc count) =
-    ( All-each_from (λ p. address_of places first ≢ p.id) (object_of program places range) (first + 1) count
+distinct_each program places range small first (suc count) = (
+  All-each_from (λ p. address_of places first ≢ p.id) (object_of program places range) (first + 1) count
       (λ k from to same. omega (arith, same, small.some, ordered places.size first k small (omega (arith, from)))),
-      distinct_each program places range small (first + 1) count )
+  distinct_each program places range small (first + 1) count,
+)
 
 pub block_of_object :
     (program : Program) (places : Places) (range : Range) → Kept program places range → (k : ℕ)
@@ -161,10 +178,11 @@ block_of_object program places range heap k =
     let e : 1 * (8 * fields_of program) ≡ 8 * fields_of program = omega arith in
     record {
       named = refl;
-      sized =
-          ( 8 * fields_of program,
-            (heap.first.node, node_is program heap.first, ap (λ n. 8 * n) (fields_of-first program heap.first)),
-            ap rounded e ∙ heap.fits );
+      sized = (
+        8 * fields_of program,
+        (heap.first.node, node_is program heap.first, ap (λ n. 8 * n) (fields_of-first program heap.first)),
+        ap rounded e ∙ heap.fits,
+      );
     }
 
 blocks_each :
@@ -196,29 +214,32 @@ block_stands :
     → BlockStands range (ledger_of places) (object_of program places range k) (block_of places k)
 block_stands program places range heap k h =
     let leaves : Trees = leaves_at range (address_of places k) (fields_of program) in
-    let count : count_of leaves ≡ fields_of program = count_of-leaves_at range (address_of places k) (fields_of program) in
-    ( leaves,
+    let count : count_of leaves ≡ fields_of program = count_of-leaves_at range (address_of places k) (fields_of program) in (
+      leaves,
       refl,
       LeavesStand-leaves_at range (ledger_of places) (address_of places k) (fields_of program)
-      (λ field below. leaf_stands places range (address_of places k + 8 * field) (u64_at range (address_of places k + 8 * field)) refl (heap.pointers.fields k field h below)),
-      subst (λ n. AreZero range (address_of places k + 8 * n) (places.size - 8 * n)) (sym count) (heap.pointers.rest k h) )
+          (λ field below. leaf_stands places range (address_of places k + 8 * field) (u64_at range (address_of places k + 8 * field)) refl (heap.pointers.fields k field h below)),
+      subst (λ n. AreZero range (address_of places k + 8 * n) (places.size - 8 * n)) (sym count) (heap.pointers.rest k h),
+    )
 
 blocks_stand :
     (program : Program) (places : Places) (range : Range) → Kept program places range → (first count : ℕ) → first + count ≤ places.made
     → BlocksStand range (ledger_of places) (each_from (object_of program places range) first count) (each_from (block_of places) first count)
 blocks_stand program places range heap first zero h = tt
-blocks_stand program places range heap first (suc count) h =
-    ( block_stands program places range heap first (omega (arith, h)),
-      blocks_stand program places range heap (first + 1) count (omega (arith, h)) )
+blocks_stand program places range heap first (suc count) h = (
+  block_stands program places range heap first (omega (arith, h)),
+  blocks_stand program places range heap (first + 1) count (omega (arith, h)),
+)
 
 graph_stands : (program : Program) (places : Places) (range : Range) → Kept program places range → Stands range (graph_of program places range)
 graph_stands program places range heap =
     record {
-      statics =
-          ( leaves_at range range.start (length program.roots),
-            refl,
-            LeavesStand-leaves_at range (ledger_of places) range.start (length program.roots)
-            (λ root below. leaf_stands places range (range.start + 8 * root) (u64_at range (range.start + 8 * root)) refl (heap.pointers.roots root below)) );
+      statics = (
+        leaves_at range range.start (length program.roots),
+        refl,
+        LeavesStand-leaves_at range (ledger_of places) range.start (length program.roots)
+            (λ root below. leaf_stands places range (range.start + 8 * root) (u64_at range (range.start + 8 * root)) refl (heap.pointers.roots root below)),
+      );
       objects = blocks_stand program places range heap 0 places.made (omega arith);
     }
 

@@ -43,20 +43,21 @@ pub root_target :
 root_target program places range heap root address target below at read =
     subst (IsTarget program places range) (sym read)
     (target_of program places range (u64_at range address)
-      (subst (λ a. IsPointer places (u64_at range a)) (sym at) (heap.pointers.roots root below)))
+    (subst (λ a. IsPointer places (u64_at range a)) (sym at) (heap.pointers.roots root below)))
 
 pub field_part :
     (program : Program) (places : Places) (range : Range) (object field : ℕ) (target : Option ℕ) → IsObject program places range object
     → field < fields_of program → target ≡ pointer_of (u64_at range (object + 8 * field))
     → PartIs (graph_of program places range).objects object (0 ∷ field ∷ []) (leaf_of target)
 field_part program places range object field target is below read =
-    let k = number_of_object program places range object is in
-    ( object_of program places range k.0,
+    let k = number_of_object program places range object is in (
+      object_of program places range k.0,
       Contains-each (object_of program places range) places.made k.0 k.1,
       k.2,
       part_of-leaves_at range (address_of places k.0) (fields_of program) field below
-      ∙ ap (λ a. Some (leaf_at range (a + 8 * field))) k.2
-      ∙ ap (λ t. Some (leaf_of t)) (sym read) )
+          ∙ ap (λ a. Some (leaf_at range (a + 8 * field))) k.2
+          ∙ ap (λ t. Some (leaf_of t)) (sym read),
+    )
 
 pub field_target :
     (program : Program) (places : Places) (range : Range) → IsHeap program places range → (object field : ℕ) (target : Option ℕ)
@@ -66,7 +67,7 @@ field_target program places range heap object field target is below read =
     let k = number_of_object program places range object is in
     subst (IsTarget program places range) (sym read)
     (target_of program places range (u64_at range (object + 8 * field))
-      (subst (λ a. IsPointer places (u64_at range (a + 8 * field))) k.2 (heap.pointers.fields k.0 field k.1 below)))
+    (subst (λ a. IsPointer places (u64_at range (a + 8 * field))) k.2 (heap.pointers.fields k.0 field k.1 below)))
 
 -- the word of a field lies in the space
 pub inside_object :
@@ -105,16 +106,16 @@ root_written program places range heap root target below object =
     let new : Range = with_u64 range (range.start + 8 * root) (word_of target) in
     let inside = inside_root program places range old root below in
     let objects : (graph_of program places new).objects ≡ (graph_of program places range).objects =
-        each_from-same (object_of program places new) (object_of program places range) 0 places.made
-        (λ k from to.
-          same_object range new (fields_of program) (address_of places k)
-          (words_of_block program places range old root (word_of target) k below (omega (arith, to)))) in
+    each_from-same (object_of program places new) (object_of program places range) 0 places.made
+    (λ k from to.
+    same_object range new (fields_of program) (address_of places k)
+    (words_of_block program places range old root (word_of target) k below (omega (arith, to)))) in
     let leaves : leaves_at new range.start (length program.roots) ≡ with_part_of (leaves_at range range.start (length program.roots)) root [] (leaf_of target) =
-        leaves_at-with_part range new range.start (length program.roots) root target below
-        (ap pointer_of (word_written program places range old (range.start + 8 * root) (word_of target) inside pointer.0) ∙ pointer.1)
-        (λ k there differ.
-          word_apart range (range.start + 8 * root) (word_of target) (range.start + 8 * k) inside (inside_root program places range old k there)
-          (roots_apart range.start root k differ)) in
+    leaves_at-with_part range new range.start (length program.roots) root target below
+    (ap pointer_of (word_written program places range old (range.start + 8 * root) (word_of target) inside pointer.0) ∙ pointer.1)
+    (λ k there differ.
+    word_apart range (range.start + 8 * root) (word_of target) (range.start + 8 * k) inside (inside_root program places range old k there)
+    (roots_apart range.start root k differ)) in
     ap₂ (λ (os : List Object) (trees : Trees). let g : Graph = record { objects = os; statics = Rec trees; ledger = ledger_of places } in g) objects leaves
 
 pub root_heap :
@@ -125,7 +126,7 @@ root_heap program places range heap root target below object =
     let old = kept program places range heap in
     heap_from program places (with_u64 range (range.start + 8 * root) (word_of target))
     (written_kept program places range old (range.start + 8 * root) (word_of target) (root_spot program places range old root below)
-      (pointer_of_target program places range target object).0)
+    (pointer_of_target program places range target object).0)
 
 -- an object lies low enough for sums of its address
 pub object_low :
@@ -165,10 +166,10 @@ object_written program places range heap k field target h below pointer means =
     let inside = inside_field program places range heap k field h below in
     ap (λ (leaves : Trees). let o : Object = record { id = address_of places k; kind = (object_of program places range k).kind; count = 1; capacity = 0; value = Row (And (Rec leaves) End) } in o)
     (leaves_at-with_part range new (address_of places k) (fields_of program) field target below
-      (ap pointer_of (word_written program places range heap address (word_of target) inside pointer) ∙ means)
-      (λ other there differ.
-        word_apart range address (word_of target) (address_of places k + 8 * other) inside (inside_field program places range heap k other h there)
-        (words_apart (address_of places k) field other differ)))
+    (ap pointer_of (word_written program places range heap address (word_of target) inside pointer) ∙ means)
+    (λ other there differ.
+    word_apart range address (word_of target) (address_of places k + 8 * other) inside (inside_field program places range heap k other h there)
+    (words_apart (address_of places k) field other differ)))
 
 -- the objects after a field of one is written
 objects_written :
@@ -183,24 +184,25 @@ objects_written program places range heap k field target h below pointer means =
     let f : ℕ → Object = object_of program places range in
     let g : ℕ → Object = object_of program places new in
     let front : each_from g 0 k ≡ each_from f 0 k =
-        each_from-same g f 0 k
-        (λ j from to.
-          same_object range new (fields_of program) (address_of places j)
-          (words_of_others program places range heap k field (word_of target) j h below (omega (arith, to, h)) (λ e. omega (arith, e, to)))) in
+    each_from-same g f 0 k
+    (λ j from to.
+    same_object range new (fields_of program) (address_of places j)
+    (words_of_others program places range heap k field (word_of target) j h below (omega (arith, to, h)) (λ e. omega (arith, e, to)))) in
     let back : each_from g (k + 1) m ≡ each_from f (k + 1) m =
-        each_from-same g f (k + 1) m
-        (λ j from to.
-          same_object range new (fields_of program) (address_of places j)
-          (words_of_others program places range heap k field (word_of target) j h below (omega (arith, to, h)) (λ e. omega (arith, e, from)))) in
-    ( each_from f 0 k,
+    each_from-same g f (k + 1) m
+    (λ j from to.
+    same_object range new (fields_of program) (address_of places j)
+    (words_of_others program places range heap k field (word_of target) j h below (omega (arith, to, h)) (λ e. omega (arith, e, from)))) in (
+      each_from f 0 k,
       f k,
       each_from f (k + 1) m,
       each-split f places.made k m count,
       refl,
       each-split g places.made k m count
-      ∙ ap (λ os. os ++ g k ∷ each_from g (k + 1) m) front
-      ∙ ap (λ o. each_from f 0 k ++ o ∷ each_from g (k + 1) m) (object_written program places range heap k field target h below pointer means)
-      ∙ ap (λ os. each_from f 0 k ++ record (f k) { value = with_part (f k).value (0 ∷ field ∷ []) (leaf_of target) } ∷ os) back )
+          ∙ ap (λ os. os ++ g k ∷ each_from g (k + 1) m) front
+          ∙ ap (λ o. each_from f 0 k ++ o ∷ each_from g (k + 1) m) (object_written program places range heap k field target h below pointer means)
+          ∙ ap (λ os. each_from f 0 k ++ record (f k) { value = with_part (f k).value (0 ∷ field ∷ []) (leaf_of target) } ∷ os) back,
+    )
 
 written_at :
     (program : Program) (places : Places) (range : Range) → Kept program places range → (k field : ℕ) (target : Option ℕ) → k < places.made
@@ -212,7 +214,7 @@ written_at program places range heap k field target h below pointer means =
       objects = objects_written program places range heap k field target h below pointer means;
       statics = ap Rec
           (leaves_at-same range (with_u64 range (address_of places k + 8 * field) (word_of target)) range.start (length program.roots)
-            (roots_after_field program places range heap k field (word_of target) h below));
+          (roots_after_field program places range heap k field (word_of target) h below));
       ledger = refl;
     }
 
@@ -236,8 +238,8 @@ field_heap program places range heap object field target is below object_too =
     let old = kept program places range heap in
     subst (λ a. IsHeap program places (with_u64 range (a + 8 * field) (word_of target))) k.2
     (heap_from program places (with_u64 range (address_of places k.0 + 8 * field) (word_of target))
-      (written_kept program places range old (address_of places k.0 + 8 * field) (word_of target)
-        (field_spot program places range old k.0 field k.1 below) (pointer_of_target program places range target object_too).0))
+    (written_kept program places range old (address_of places k.0 + 8 * field) (word_of target)
+    (field_spot program places range old k.0 field k.1 below) (pointer_of_target program places range target object_too).0))
 
 -- ---- a new block
 
@@ -255,12 +257,13 @@ leaves_are_zero program range [] address zero plain len zeros = tt
 leaves_are_zero program range [] address (suc count) plain len zeros = absurd (omega (arith, len))
 leaves_are_zero program range (type ∷ types) address zero plain len zeros = absurd (omega (arith, len))
 leaves_are_zero program range (type ∷ types) address (suc count) plain len zeros =
-    let here : address ≡ address + 8 * 0 = omega arith in
-    ( leaf_is_zero program type (u64_at range address) (All-head IsPlain type types plain) (ap (u64_at range) here ∙ zeros 0 (omega arith)),
+    let here : address ≡ address + 8 * 0 = omega arith in (
+      leaf_is_zero program type (u64_at range address) (All-head IsPlain type types plain) (ap (u64_at range) here ∙ zeros 0 (omega arith)),
       leaves_are_zero program range types (address + 8) count (All-tail IsPlain type types plain) (omega (arith, len))
-      (λ k h.
-        let there : address + 8 + 8 * k ≡ address + 8 * suc k = omega arith in
-        ap (u64_at range) there ∙ zeros (suc k) (omega (arith, h))) )
+          (λ k h.
+          let there : address + 8 + 8 * k ≡ address + 8 * suc k = omega arith in
+          ap (u64_at range) there ∙ zeros (suc k) (omega (arith, h))),
+    )
 
 zero_object :
     (program : Program) (places : Places) (range : Range) → Kept program places range → places.made < places.pages * per_page places.size
@@ -269,15 +272,20 @@ zero_object program places range heap room =
     let node : Structure = heap.first.node in
     let leaves : Trees = leaves_at (with_zeros places range) (address_of places places.made) (fields_of program) in
     let len : length (types_of node.fields) ≡ fields_of program =
-        length-map node.fields (λ f. f.ty) ∙ sym (fields_of-first program heap.first) in
-    ( And (Rec leaves) End,
+    length-map node.fields (λ f. f.ty) ∙ sym (fields_of-first program heap.first) in (
+      And (Rec leaves) End,
       refl,
-      ( ( node,
+      (
+        (
+          node,
           node_is program heap.first,
           heap.first.no_union,
           leaves_are_zero program (with_zeros places range) (types_of node.fields) (address_of places places.made) (fields_of program)
-          (All-map IsPlain (λ f. f.ty) node.fields heap.first.fields) len (zero_fields_made program places range heap room) ),
-        tt ) )
+              (All-map IsPlain (λ f. f.ty) node.fields heap.first.fields) len (zero_fields_made program places range heap room),
+        ),
+        tt,
+      ),
+    )
 
 objects_made :
     (program : Program) (places : Places) (range : Range) → Kept program places range → places.made < places.pages * per_page places.size
@@ -288,9 +296,9 @@ objects_made program places range heap room =
     each-push (object_of program places new) places.made
     ∙ ap (λ os. os ++ object_of program places new places.made ∷ [])
     (each_from-same (object_of program places new) (object_of program places range) 0 places.made
-      (λ k from to.
-        same_object range new (fields_of program) (address_of places k)
-        (λ field below. fields_stay_made program places range heap room k field (omega (arith, to)) below)))
+    (λ k from to.
+    same_object range new (fields_of program) (address_of places k)
+    (λ field below. fields_stay_made program places range heap room k field (omega (arith, to)) below)))
 
 pub made_graph :
     (program : Program) (places : Places) (range : Range) → IsHeap program places range → places.made < places.pages * per_page places.size
@@ -348,11 +356,11 @@ pub made_one :
 made_one program old range places address new view heap not_full at written =
     let here : IsHeap program places range = subst (λ p. IsHeap program p range) (sym view) heap in
     let one : MadeOne program places range places (address_of places places.made) (with_zeros places range) =
-        made_here program places range here (omega (arith, here.room, not_full)) in
+    made_here program places range here (omega (arith, here.room, not_full)) in
     let zeroed : with_zeros places range ≡ new = ap (λ a. with_bytes range a (replicate places.size 0)) (sym at) ∙ sym written in
     subst (λ o. MadeOne program o range places address new) view
     (subst (λ r. MadeOne program places range places address r) zeroed
-      (subst (λ a. MadeOne program places range places a (with_zeros places range)) (sym at) one))
+    (subst (λ a. MadeOne program places range places a (with_zeros places range)) (sym at) one))
 
 -- no room where the code finds none
 pub none_left :

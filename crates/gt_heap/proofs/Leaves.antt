@@ -46,7 +46,7 @@ leaves_at-same range other address (suc count) same =
     let e : u64_at other address ≡ u64_at range address = ap (u64_at other) (first_word address) ∙ same 0 (omega arith) ∙ ap (u64_at range) (sym (first_word address)) in
     ap₂ And (ap (λ n. leaf_of (pointer_of n)) e)
     (leaves_at-same range other (address + 8) count
-      (λ k h. ap (u64_at other) (next_word address k) ∙ same (suc k) (omega (arith, h)) ∙ ap (u64_at range) (sym (next_word address k))))
+    (λ k h. ap (u64_at other) (next_word address k) ∙ same (suc k) (omega (arith, h)) ∙ ap (u64_at range) (sym (next_word address k))))
 
 -- where one word has changed, one leaf has
 pub leaves_at-with_part :
@@ -58,18 +58,18 @@ leaves_at-with_part range other address zero at target h is same = absurd (omega
 leaves_at-with_part range other address (suc count) zero target h is same =
     ap₂ And (ap (λ a. leaf_at other a) (first_word address) ∙ ap leaf_of is)
     (leaves_at-same range other (address + 8) count
-      (λ k below. ap (u64_at other) (next_word address k)
-      ∙ same (suc k) (omega (arith, below)) (λ e. omega (arith, e))
-      ∙ ap (u64_at range) (sym (next_word address k))))
+    (λ k below. ap (u64_at other) (next_word address k)
+    ∙ same (suc k) (omega (arith, below)) (λ e. omega (arith, e))
+    ∙ ap (u64_at range) (sym (next_word address k))))
 leaves_at-with_part range other address (suc count) (suc at) target h is same =
     let e : u64_at other address ≡ u64_at range address =
-        ap (u64_at other) (first_word address) ∙ same 0 (omega arith) (λ e. omega (arith, e)) ∙ ap (u64_at range) (sym (first_word address)) in
+    ap (u64_at other) (first_word address) ∙ same 0 (omega arith) (λ e. omega (arith, e)) ∙ ap (u64_at range) (sym (first_word address)) in
     ap₂ And (ap (λ n. leaf_of (pointer_of n)) e)
     (leaves_at-with_part range other (address + 8) count at target (omega (arith, h))
-      (ap (λ a. pointer_of (u64_at other a)) (next_word address at) ∙ is)
-      (λ k below other_place. ap (u64_at other) (next_word address k)
-      ∙ same (suc k) (omega (arith, below)) (λ e. other_place (omega (arith, e)))
-      ∙ ap (u64_at range) (sym (next_word address k))))
+    (ap (λ a. pointer_of (u64_at other a)) (next_word address at) ∙ is)
+    (λ k below other_place. ap (u64_at other) (next_word address k)
+    ∙ same (suc k) (omega (arith, below)) (λ e. other_place (omega (arith, e)))
+    ∙ ap (u64_at range) (sym (next_word address k))))
 
 -- leaves stand where each word stands for its own
 pub LeavesStand-leaves_at :
@@ -77,7 +77,8 @@ pub LeavesStand-leaves_at :
     → ((k : ℕ) → k < count → LeafStands range ledger (address + 8 * k) (leaf_at range (address + 8 * k)))
     → LeavesStand range ledger address (leaves_at range address count)
 LeavesStand-leaves_at range ledger address zero stands = tt
-LeavesStand-leaves_at range ledger address (suc count) stands =
-    ( subst (λ a. LeafStands range ledger a (leaf_at range a)) (sym (first_word address)) (stands 0 (omega arith)),
-      LeavesStand-leaves_at range ledger (address + 8) count
-      (λ k h. subst (λ a. LeafStands range ledger a (leaf_at range a)) (sym (next_word address k)) (stands (suc k) (omega (arith, h)))) )
+LeavesStand-leaves_at range ledger address (suc count) stands = (
+  subst (λ a. LeafStands range ledger a (leaf_at range a)) (sym (first_word address)) (stands 0 (omega arith)),
+  LeavesStand-leaves_at range ledger (address + 8) count
+      (λ k h. subst (λ a. LeafStands range ledger a (leaf_at range a)) (sym (next_word address k)) (stands (suc k) (omega (arith, h)))),
+)

@@ -84,14 +84,18 @@ block_at-place size q r h =
 ordered_places :
     (p a b c d : ℕ) → b < p → d < p → a * p + b < c * p + d → (a < c) ⊎ ((a ≡ c) × (b < d))
 ordered_places p a b c d hb hd h =
-    elim (cases_lt a c) [ inl less ↦ inl less
-    | inr no_less ↦ elim (cases_lt c a) [ inl more ↦
-        let rows : p * (c + 1) ≤ p * a = mul-le-mul_left p (omega (arith, more)) in
-        absurd (omega (arith, rows, mul_comm a p, mul_comm c p, hb, hd, h))
-      | inr no_more ↦
-        let e : a ≡ c = omega (arith, no_less, no_more) in
-        let row : a * p ≡ c * p = ap (λ n. n * p) e in
-        inr (e, omega (arith, row, h)) ] ]
+    elim (cases_lt a c) [
+      | inl less ↦ inl less
+      | inr no_less ↦ elim (cases_lt c a) [
+        | inl more ↦
+            let rows : p * (c + 1) ≤ p * a = mul-le-mul_left p (omega (arith, more)) in
+            absurd (omega (arith, rows, mul_comm a p, mul_comm c p, hb, hd, h))
+        | inr no_more ↦
+            let e : a ≡ c = omega (arith, no_less, no_more) in
+            let row : a * p ≡ c * p = ap (λ n. n * p) e in
+            inr (e, omega (arith, row, h))
+      ]
+    ]
 
 in_order : (p j k : ℕ) → 0 < p → j < k → (j / p < k / p) ⊎ ((j / p ≡ k / p) × (j % p < k % p))
 in_order p j k pos h =
@@ -101,10 +105,12 @@ in_order p j k pos h =
 -- a page of a lower number is no higher
 pub page_le : (p j k : ℕ) → 0 < p → j ≤ k → j / p ≤ k / p
 page_le p j k pos h =
-    elim (cases_lt j k) [ inl less ↦ elim (in_order p j k pos less) [ inl before ↦ omega (arith, before) | inr same ↦ omega (arith, same.0) ]
-    | inr no_less ↦
-      let e : j ≡ k = omega (arith, h, no_less) in
-      let same : j / p ≡ k / p = ap (λ n. n / p) e in omega (arith, same) ]
+    elim (cases_lt j k) [
+      | inl less ↦ elim (in_order p j k pos less) [ inl before ↦ omega (arith, before) | inr same ↦ omega (arith, same.0) ]
+      | inr no_less ↦
+          let e : j ≡ k = omega (arith, h, no_less) in
+          let same : j / p ≡ k / p = ap (λ n. n / p) e in omega (arith, same)
+    ]
 
 -- blocks lie in the order of their numbers, one behind the other
 ordered_at :

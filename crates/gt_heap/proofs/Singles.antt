@@ -22,10 +22,14 @@ middle_cases :
     (front : List Object) (x : Object) (back : List Object) (o : Object) → Contains (front ++ x ∷ back) o
     → Contains front o ⊎ ((x ≡ o) ⊎ Contains back o)
 middle_cases front x back o there =
-    elim (Contains-append_cases front (x ∷ back) o there) [ inl before ↦ inl before
-    | inr rest ↦ elim (Contains-append_cases (x ∷ []) back o rest) [ inl here ↦
-        elim (Contains-push_cases [] x o here) [ inl nowhere ↦ absurd (omega (arith, nowhere.1)) | inr is ↦ inr (inl is) ]
-      | inr behind ↦ inr (inr behind) ] ]
+    elim (Contains-append_cases front (x ∷ back) o there) [
+      | inl before ↦ inl before
+      | inr rest ↦ elim (Contains-append_cases (x ∷ []) back o rest) [
+        | inl here ↦
+            elim (Contains-push_cases [] x o here) [ inl nowhere ↦ absurd (omega (arith, nowhere.1)) | inr is ↦ inr (inl is) ]
+        | inr behind ↦ inr (inr behind)
+      ]
+    ]
 
 -- another part of one value
 single_set :
@@ -33,15 +37,18 @@ single_set :
     → IsSingle (front ++ x ∷ back) id node → IsSingle (front ++ record x { value = value } ∷ back) id node
 single_set front x back value id node (o, there, named, kind, one) =
     let y : Object = record x { value = value } in
-    elim (middle_cases front x back o there) [ inl before ↦ (o, Contains-append_left front (y ∷ back) o before, named, kind, one)
-    | inr (inl is) ↦
-      ( y,
+    elim (middle_cases front x back o there) [
+      | inl before ↦ (o, Contains-append_left front (y ∷ back) o before, named, kind, one)
+      | inr (inl is) ↦ (
+        y,
         contains_middle front y back,
         ap (λ (q : Object). q.id) is ∙ named,
         ap (λ (q : Object). q.kind) is ∙ kind,
-        ap (λ (q : Object). q.count) is ∙ one )
-    | inr (inr behind) ↦
-      (o, Contains-append_right front (y ∷ back) o (Contains-append_right (y ∷ []) back o behind), named, kind, one) ]
+        ap (λ (q : Object). q.count) is ∙ one,
+      )
+      | inr (inr behind) ↦
+          (o, Contains-append_right front (y ∷ back) o (Contains-append_right (y ∷ []) back o behind), named, kind, one)
+    ]
 
 pub IsSingle-Makes :
     (program : Program) (node : TypeId) (old : Graph) (address size : ℕ) (new : Graph) → Makes program node old address size new

@@ -104,14 +104,18 @@ root_apart_block program places range heap root k h = omega (arith, h, roots_bel
 -- two numbers are one or differ
 pub cases_ne : (m n : ℕ) → (m ≡ n) ⊎ (m ≢ n)
 cases_ne m n =
-    elim (cases_lt m n) [ inl less ↦ inr (λ e. omega (arith, less, e))
-    | inr no_less ↦ elim (cases_lt n m) [ inl more ↦ inr (λ e. omega (arith, more, e)) | inr no_more ↦ inl (omega (arith, no_less, no_more)) ] ]
+    elim (cases_lt m n) [
+      | inl less ↦ inr (λ e. omega (arith, less, e))
+      | inr no_less ↦ elim (cases_lt n m) [ inl more ↦ inr (λ e. omega (arith, more, e)) | inr no_more ↦ inl (omega (arith, no_less, no_more)) ]
+    ]
 
 -- two roots
 pub roots_apart : (start root other : ℕ) → other ≢ root → IsApart (start + 8 * root) 8 (start + 8 * other) 8
 roots_apart start root other differ =
-    elim (cases_lt other root) [ inl less ↦ inr (omega (arith, less))
-    | inr no_less ↦ inl (omega (arith, no_less, differ)) ]
+    elim (cases_lt other root) [
+      | inl less ↦ inr (omega (arith, less))
+      | inr no_less ↦ inl (omega (arith, no_less, differ))
+    ]
 
 -- two words of one block
 pub words_apart : (address field other : ℕ) → other ≢ field → IsApart (address + 8 * field) 8 (address + 8 * other) 8
@@ -122,8 +126,10 @@ pub blocks_apart :
     (places : Places) → IsSmall places.size → (k j skip len part n : ℕ) → j ≢ k → skip + len ≤ places.size → part + n ≤ places.size
     → IsApart (address_of places k + skip) len (address_of places j + part) n
 blocks_apart places small k j skip len part n differ within there =
-    elim (cases_lt j k) [ inl less ↦ inr (omega (arith, there, ordered places.size j k small less))
-    | inr no_less ↦ inl (omega (arith, within, ordered places.size k j small (omega (arith, no_less, differ)))) ]
+    elim (cases_lt j k) [
+      | inl less ↦ inr (omega (arith, there, ordered places.size j k small less))
+      | inr no_less ↦ inl (omega (arith, within, ordered places.size k j small (omega (arith, no_less, differ))))
+    ]
 
 -- ---- a new block
 
@@ -180,7 +186,7 @@ rest_stays_made program places range heap room k h =
     (places.size - 8 * fields_of program) (length-zeros places.size)
     (inside_block program places range heap places.made room)
     (inside_part range (address_of places k) places.size (8 * fields_of program) (places.size - 8 * fields_of program)
-      (inside_block program places range heap k (omega (arith, h, heap.room))) (omega (arith, fit.room)))
+    (inside_block program places range heap k (omega (arith, h, heap.room))) (omega (arith, fit.room)))
     (behind_part places fit.small k (8 * fields_of program) (places.size - 8 * fields_of program) h (omega (arith, fit.room)))
 
 pub zero_fields_made :
@@ -212,19 +218,23 @@ made_kept program places range heap room =
             subst (IsPointer (one_more places)) (sym (roots_stay_made program places range heap room root below))
             (pointer_more places (u64_at range (range.start + 8 * root)) (heap.pointers.roots root below));
         fields = λ k field h below.
-            elim (cases_lt k places.made) [ inl old ↦
-                subst (IsPointer (one_more places)) (sym (fields_stay_made program places range heap room k field old below))
-                (pointer_more places (u64_at range (address_of places k + 8 * field)) (heap.pointers.fields k field old below))
-            | inr no_old ↦
-              let e : places.made ≡ k = omega (arith, h, no_old) in
-              inl (subst (λ n. u64_at (with_zeros places range) (address_of places n + 8 * field) ≡ 0) e
-                (zero_fields_made program places range heap room field below)) ];
+            elim (cases_lt k places.made) [
+              | inl old ↦
+                  subst (IsPointer (one_more places)) (sym (fields_stay_made program places range heap room k field old below))
+                  (pointer_more places (u64_at range (address_of places k + 8 * field)) (heap.pointers.fields k field old below))
+              | inr no_old ↦
+                  let e : places.made ≡ k = omega (arith, h, no_old) in
+                  inl (subst (λ n. u64_at (with_zeros places range) (address_of places n + 8 * field) ≡ 0) e
+                  (zero_fields_made program places range heap room field below))
+            ];
         rest = λ k h.
-            elim (cases_lt k places.made) [ inl old ↦ rest_stays_made program places range heap room k old ∙ heap.pointers.rest k old
-            | inr no_old ↦
-              let e : places.made ≡ k = omega (arith, h, no_old) in
-              subst (λ n. AreZero (with_zeros places range) (address_of places n + 8 * fields_of program) (places.size - 8 * fields_of program)) e
-              (zeros_in_block places range (8 * fields_of program) (places.size - 8 * fields_of program) inside (omega (arith, fit.room))) ];
+            elim (cases_lt k places.made) [
+              | inl old ↦ rest_stays_made program places range heap room k old ∙ heap.pointers.rest k old
+              | inr no_old ↦
+                  let e : places.made ≡ k = omega (arith, h, no_old) in
+                  subst (λ n. AreZero (with_zeros places range) (address_of places n + 8 * fields_of program) (places.size - 8 * fields_of program)) e
+                  (zeros_in_block places range (8 * fields_of program) (places.size - 8 * fields_of program) inside (omega (arith, fit.room)))
+            ];
       };
     }
 
@@ -263,20 +273,26 @@ field_spot program places range heap k field h below =
       inside = inside_field program places range heap k field h below;
       roots = λ root there. inr (inr (omega (arith, root_apart_block program places range heap root k there)));
       fields = λ j other made there.
-          elim (cases_ne j k) [ inl same ↦
-              elim (cases_ne other field) [ inl one ↦
-                  inl (ap (λ n. address_of places n + 8 * field) (sym same) ∙ ap (λ n. address_of places j + 8 * n) (sym one))
-              | inr differ ↦
-                inr (subst (λ n. IsApart (address_of places k + 8 * field) 8 (address_of places n + 8 * other) 8) (sym same) (words_apart (address_of places k) field other differ)) ]
-          | inr differ ↦
-            inr (blocks_apart places fit.small k j (8 * field) 8 (8 * other) 8 differ (omega (arith, fit.room, below)) (omega (arith, fit.room, there))) ];
+          elim (cases_ne j k) [
+            | inl same ↦
+                elim (cases_ne other field) [
+                  | inl one ↦
+                      inl (ap (λ n. address_of places n + 8 * field) (sym same) ∙ ap (λ n. address_of places j + 8 * n) (sym one))
+                  | inr differ ↦
+                      inr (subst (λ n. IsApart (address_of places k + 8 * field) 8 (address_of places n + 8 * other) 8) (sym same) (words_apart (address_of places k) field other differ))
+                ]
+            | inr differ ↦
+                inr (blocks_apart places fit.small k j (8 * field) 8 (8 * other) 8 differ (omega (arith, fit.room, below)) (omega (arith, fit.room, there)))
+          ];
       rest = λ j made.
-          elim (cases_ne j k) [ inl same ↦
-              subst (λ n. IsApart (address_of places k + 8 * field) 8 (address_of places n + 8 * fields_of program) (places.size - 8 * fields_of program)) (sym same)
-              (inl (omega (arith, below)))
-          | inr differ ↦
-            blocks_apart places fit.small k j (8 * field) 8 (8 * fields_of program) (places.size - 8 * fields_of program) differ
-            (omega (arith, fit.room, below)) (omega (arith, fit.room)) ];
+          elim (cases_ne j k) [
+            | inl same ↦
+                subst (λ n. IsApart (address_of places k + 8 * field) 8 (address_of places n + 8 * fields_of program) (places.size - 8 * fields_of program)) (sym same)
+                (inl (omega (arith, below)))
+            | inr differ ↦
+                blocks_apart places fit.small k j (8 * field) 8 (8 * fields_of program) (places.size - 8 * fields_of program) differ
+                (omega (arith, fit.room, below)) (omega (arith, fit.room))
+          ];
     }
 
 -- what was written is read
@@ -328,7 +344,7 @@ written_kept program places range heap address word spot pointer =
             bytes_stay range address (to_le_bytes w64 word) 8 (address_of places k + 8 * fields_of program) (places.size - 8 * fields_of program) refl
             spot.inside
             (inside_part range (address_of places k) places.size (8 * fields_of program) (places.size - 8 * fields_of program)
-              (inside_block program places range heap k (omega (arith, h, heap.room))) (omega (arith, fit.room)))
+            (inside_block program places range heap k (omega (arith, h, heap.room))) (omega (arith, fit.room)))
             (spot.rest k h)
             ∙ heap.pointers.rest k h;
       };

@@ -153,6 +153,11 @@ pub record IsHeap (program : Program) (places : Places) (range : Range) : Type 0
 abbrev pub IsObject : Program → Places → Range → ℕ → Type 0
 IsObject program places range address = IsSingle (graph_of program places range).objects address the_node
 
+-- each object before is one after
+abbrev pub KeepsObjects : Program → Places → Range → Places → Range → Type 0
+KeepsObjects program old before new after =
+    (address : ℕ) → IsObject program old before address → IsObject program new after address
+
 -- a pointer is null, or to an object of the heap
 abbrev pub IsTarget : Program → Places → Range → Option ℕ → Type 0
 IsTarget program places range target = IfSome target (λ address. IsObject program places range address)

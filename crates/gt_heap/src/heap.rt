@@ -4,7 +4,7 @@ ghost use Rattle.gt_space.specs.Range.{fresh_range};
 ghost use Rattle.gt_heap.specs.Tree.{part_at, with_part};
 ghost use Rattle.gt_heap.specs.Ledger.{Room, rounded};
 ghost use Rattle.gt_heap.specs.Graph.{Makes, leaf_of};
-ghost use Rattle.gt_heap.specs.Heap.{IsFirst, IsHeap, IsObject, IsTarget, PartIs, SetsOnly, fields_of, graph_of};
+ghost use Rattle.gt_heap.specs.Heap.{IsFirst, IsHeap, IsObject, IsTarget, KeepsObjects, PartIs, SetsOnly, fields_of, graph_of};
 
 use crate::sizes::rounded_size;
 use crate::words::{block_address, read_pointer, write_pointer};
@@ -95,6 +95,7 @@ impl Heap {
         ensures room { OnOk result (Room (graph_of program.now self.old space.old).ledger self.old.size) }
         ensures unchanged { OnErr result ((self.new ≡ self.old) × (space.new ≡ space.old)) }
         ensures heap { IsHeap program.now self.new space.new }
+        ensures objects { KeepsObjects program.now self.old space.old self.new space.new }
     {
         let per_page = PAGE_BYTES as u32 / self.size;
         if self.made == self.pages * per_page {
@@ -137,6 +138,7 @@ impl Heap {
         requires target { IsTarget program.now self.now space.old target }
         ensures written { graph_of program.now self.now space.new ≡ record (graph_of program.now self.now space.old) { statics = with_part (graph_of program.now self.now space.old).statics (root ∷ []) (leaf_of target) } }
         ensures heap { IsHeap program.now self.now space.new }
+        ensures objects { KeepsObjects program.now self.now space.old self.now space.new }
     {
         let addr = space.start() + POINTER_BYTES * root as u64;
         write_pointer(space, addr, target);
@@ -157,6 +159,7 @@ impl Heap {
         requires target { IsTarget program.now self.now space.old target }
         ensures written { SetsOnly (graph_of program.now self.now space.old) object (0 ∷ field ∷ []) (leaf_of target) (graph_of program.now self.now space.new) }
         ensures heap { IsHeap program.now self.now space.new }
+        ensures objects { KeepsObjects program.now self.now space.old self.now space.new }
     {
         write_pointer(space, object + POINTER_BYTES * field as u64, target);
     }

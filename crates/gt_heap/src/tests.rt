@@ -1,12 +1,13 @@
 //! Objects of three fields lie in blocks of 32 bytes, 128 to a page; they are filled to the last place, and their pointers
 //! are read back.
-ghost use Rattle.std.specs.Prelude.{◌≡◌, IfOk, length};
-ghost use Rattle.gt_heap.specs.Heap.{IsFirst, IsPlain, fields_of};
+ghost use Rattle.std.specs.Prelude.{◌≡◌, ◌+◌, ◌*◌, ◌≤◌, All, IfOk, length};
+ghost use Rattle.gt_heap.specs.Heap.{IsFirst, IsHeap, IsPlain, fields_of};
 
 use super::*;
-use gt_space::Space;
+use gt_space::{MIN_PAGES, Space};
 use gt_types::{Active, Field, List, Program, PtrKind, Root, Structure, Target, Ty, TypeId, Word};
 use std::alloc::Global;
+use std::process::Abort;
 use std::test::Fail;
 
 fn pointer() -> Ty
@@ -19,40 +20,45 @@ fn pointer() -> Ty
     }
 }
 
-fn field(alloc: Global, name: &str) -> Result<Field, Fail>
-    ensures { IfOk result (λ field. IsPlain field.ty) }
+fn add_field(alloc: Global, fields: &mut List<Field>, name: &str) -> Result<(), Fail>
+    requires { All (λ field. IsPlain field.ty) fields.old }
+    ensures count { IfOk result (λ _. length fields.new ≡ length fields.old + 1) }
+    ensures plain { IfOk result (λ _. All (λ field. IsPlain field.ty) fields.new) }
 {
-    Ok(Field {
-        name: Word::of(alloc, name)?,
+    let name = Word::of(alloc, name)?;
+    let field = Field {
+        name,
         ty: pointer(),
         active: Active::Always,
-    })
+    };
+    fields.push(field)?;
+    Ok(())
 }
 
-// A program of a structure of three pointers, and one root.
-fn three_pointers(alloc: Global) -> Result<Program, Fail>
+// A program of a structure of these fields, and one root.
+fn program_of(alloc: Global, fields: List<Field>) -> Result<Program, Fail>
+    requires some { 1 ≤ length fields }
+    requires few { length fields ≤ 32 }
+    requires plain { All (λ field. IsPlain field.ty) fields }
     ensures first { IfOk result (λ program. IsFirst program) }
-    ensures fields { IfOk result (λ program. fields_of program ≡ 3) }
-    ensures roots { IfOk result (λ program. length program.roots ≡ 1) }
+    ensures fields { IfOk result (λ program. fields_of program ≡ length fields) }
 {
-    let mut fields = List::new(alloc);
-    fields.push(field(alloc, "left")?)?;
-    fields.push(field(alloc, "right")?)?;
-    fields.push(field(alloc, "up")?)?;
-    let mut structures = List::new(alloc);
-    structures.push(Structure {
+    let node = Structure {
         name: Word::of(alloc, "tree")?,
         is_union: false,
         desc: None,
         fields,
         chains: List::new(alloc),
-    })?;
-    let mut roots = List::new(alloc);
-    roots.push(Root {
+    };
+    let mut structures = List::new(alloc);
+    structures.push(node)?;
+    let top = Root {
         name: Word::of(alloc, "top")?,
         ty: pointer(),
         deletable: false,
-    })?;
+    };
+    let mut roots = List::new(alloc);
+    roots.push(top)?;
     Ok(Program {
         structures,
         roots,
@@ -61,29 +67,60 @@ fn three_pointers(alloc: Global) -> Result<Program, Fail>
     })
 }
 
+fn three_pointers(alloc: Global) -> Result<Program, Fail>
+    ensures first { IfOk result (λ program. IsFirst program) }
+    ensures fields { IfOk result (λ program. fields_of program ≡ 3) }
+{
+    let mut fields = List::new(alloc);
+    add_field(alloc, &mut fields, "left")?;
+    add_field(alloc, &mut fields, "right")?;
+    add_field(alloc, &mut fields, "up")?;
+    program_of(alloc, fields)
+}
+
+// A heap of the fewest pages, in a fresh space.
+fn fresh(alloc: Global, program: &Program) -> Result<(Heap, Space), Fail>
+    requires { IsFirst program.now }
+    ensures { IfOk result (λ made. IsHeap program.now made.0 made.1) }
+{
+    let mut space = Space::empty(alloc);
+    space.resize_fresh(MIN_PAGES, 8 * program.roots.len() as u32)?;
+    Ok((Heap::new(program, MIN_PAGES), space))
+}
+
+// Makes the object of a number, links it to the object of the root, and makes it that of the root.
+fn link(
+    rt: &impl Abort,
+    program: &Program,
+    heap: &mut Heap,
+    space: &mut Space,
+    number: u64,
+) -> Result<(), MakeFail>
+    requires heap { IsHeap program.now heap.old space.old }
+    requires fields { fields_of program.now ≡ 3 }
+    ensures { IsHeap program.now heap.new space.new }
+{
+    let made = heap.make(program, space)?;
+    let before = heap.root(program, space, 0);
+    assert_eq!(rt; made.size, 32);
+    assert_eq!(rt; made.addr, 0x10000000 + 32 * number);
+    assert_eq!(rt; heap.field(program, space, made.addr, 2), None);
+    heap.set_field(program, space, made.addr, 1, before);
+    assert_eq!(rt; heap.field(program, space, made.addr, 1), before);
+    heap.set_root(program, space, 0, Some(made.addr));
+    assert_eq!(rt; heap.root(program, space, 0), Some(made.addr));
+    Ok(())
+}
+
 #[test]
 fn objects_fill_the_pages_in_order(rt: HostRuntime) -> Result<(), Fail> {
-    let alloc = rt.alloc();
-    let program = three_pointers(alloc)?;
-    let mut space = Space::empty(alloc);
-    space.resize_fresh(16, 8)?;
-    let mut heap = Heap::new(&program, 16);
-    assert_eq!(rt; heap.root(&program, &space, 0), None);
-    for k in 0..16 * 128 {
-        let Ok(made) = heap.make(&program, &mut space) else {
-            return Err("full too early")?;
-        };
-        assert_eq!(rt; made.size, 32);
-        assert_eq!(rt; made.addr, 0x10000000 + 32 * k);
-        assert_eq!(rt; heap.field(&program, &space, made.addr, 2), None);
-        let before = heap.root(&program, &space, 0);
-        heap.set_field(&program, &mut space, made.addr, 1, before);
-        heap.set_root(&program, &mut space, 0, Some(made.addr));
-        assert_eq!(rt; heap.field(&program, &space, made.addr, 1), before);
-        assert_eq!(rt; heap.root(&program, &space, 0), Some(made.addr));
+    let program = three_pointers(rt.alloc())?;
+    let (mut heap, mut space) = fresh(rt.alloc(), &program)?;
+    for number in 0..16 * 128 {
+        assert_eq!(rt; link(&rt, &program, &mut heap, &mut space, number), Ok(()));
     }
     assert_eq!(rt;
-        heap.make(&program, &mut space),
+        link(&rt, &program, &mut heap, &mut space, 2048),
         Err(MakeFail::Full { need: 32 })
     );
     Ok(())
