@@ -7,7 +7,6 @@ use super::*;
 use gt_space::{MIN_PAGES, Space};
 use gt_types::{Active, Field, List, Program, PtrKind, Root, Structure, Target, Ty, TypeId, Word};
 use std::alloc::Global;
-use std::process::Abort;
 use std::test::Fail;
 
 fn pointer() -> Ty
@@ -88,40 +87,55 @@ fn fresh(alloc: Global, program: &Program) -> Result<(Heap, Space), Fail>
     Ok((Heap::new(program, MIN_PAGES), space))
 }
 
-// Makes the object of a number, links it to the object of the root, and makes it that of the root.
-fn link(
-    rt: &impl Abort,
-    program: &Program,
-    heap: &mut Heap,
-    space: &mut Space,
-    number: u64,
-) -> Result<(), MakeFail>
+// An object that was made, what its last field and its second one point to then, and what the root does.
+#[derive(Clone, Copy, Debug, PartialEq, Eq)]
+struct Linked {
+    made: Made,
+    up: Option<u64>,
+    right: Option<u64>,
+    top: Option<u64>,
+}
+
+// Makes an object, links it to the object of the root, and makes it that of the root.
+fn link(program: &Program, heap: &mut Heap, space: &mut Space) -> Result<Linked, MakeFail>
     requires heap { IsHeap program.now heap.old space.old }
     requires fields { fields_of program.now ≡ 3 }
     ensures { IsHeap program.now heap.new space.new }
 {
     let made = heap.make(program, space)?;
     let before = heap.root(program, space, 0);
-    assert_eq!(rt; made.size, 32);
-    assert_eq!(rt; made.addr, 0x10000000 + 32 * number);
-    assert_eq!(rt; heap.field(program, space, made.addr, 2), None);
+    let up = heap.field(program, space, made.addr, 2);
     heap.set_field(program, space, made.addr, 1, before);
-    assert_eq!(rt; heap.field(program, space, made.addr, 1), before);
+    let right = heap.field(program, space, made.addr, 1);
     heap.set_root(program, space, 0, Some(made.addr));
-    assert_eq!(rt; heap.root(program, space, 0), Some(made.addr));
-    Ok(())
+    let top = heap.root(program, space, 0);
+    Ok(Linked {
+        made,
+        up,
+        right,
+        top,
+    })
+}
+
+// What is to come of the object of a number.
+fn expected(number: u32) -> Linked {
+    let addr = 0x10000000 + 32 * number as u64;
+    Linked {
+        made: Made { addr, size: 32 },
+        up: None,
+        right: if number == 0 { None } else { Some(addr - 32) },
+        top: Some(addr),
+    }
 }
 
 #[test]
 fn objects_fill_the_pages_in_order(rt: HostRuntime) -> Result<(), Fail> {
     let program = three_pointers(rt.alloc())?;
     let (mut heap, mut space) = fresh(rt.alloc(), &program)?;
-    for number in 0..16 * 128 {
-        assert_eq!(rt; link(&rt, &program, &mut heap, &mut space, number), Ok(()));
+    for number in 0..2048 {
+        assert_eq!(rt; link(&program, &mut heap, &mut space), Ok(expected(number)));
     }
-    assert_eq!(rt;
-        link(&rt, &program, &mut heap, &mut space, 2048),
-        Err(MakeFail::Full { need: 32 })
-    );
+    let full = MakeFail::Full { need: 32 };
+    assert_eq!(rt; link(&program, &mut heap, &mut space), Err(full));
     Ok(())
 }
