@@ -1,15 +1,15 @@
 -- The ledger of a heap: its blocks lie in their places, and where the next one may lie.
-use Rattle.std.proofs.Common.{◌≡◌, ◌≢◌, ℕ, zero, suc, ◌+◌, ◌-◌, ◌*◌, ◌/◌, ◌%◌, ◌<◌, ◌≤◌, ◌⊎◌, inl, inr, List, [], ◌∷◌, ◌++◌, refl, ap, sym, subst, ◌∙◌, arith, mul_comm}
+use Rattle.std.proofs.Common.{◌≡◌, ℕ, zero, suc, ◌+◌, ◌-◌, ◌*◌, ◌/◌, ◌%◌, ◌<◌, ◌≤◌, ◌⊎◌, inl, inr, List, refl, ap, sym, subst, ◌∙◌, arith, mul_comm}
 use Rattle.std.specs.Prelude.{All, Contains}
 use Rattle.std.proofs.Math.Nat.{mul-le-mul_left}
 use Rattle.std.proofs.lemmas.Bool.{cases_lt}
 use Rattle.std.proofs.lemmas.Nat.{div_below, mod_below, div-mul-add}
 use Rattle.std.proofs.lemmas.List.Elements.{All-contains, All-weaker}
-use Rattle.gt_space.specs.declared.TheConstants.{PAGE_BYTES, HEAP_START}
+use Rattle.gt_space.specs.declared.TheConstants.{HEAP_START}
 use Rattle.gt_space.specs.Laws.{IsApart}
 use Rattle.gt_heap.specs.Ledger.{Block, Ledger, Sound, Place, Room, AreApart, AreFree, HasFreePlace, IsInPlace, IsOffPage, IsImagePage, LiesInside, LiesOutside, page_of, page_address, pages_of, with_block}
-use Rattle.gt_heap.specs.Heap.{Places, per_page, block_at, block_of, ledger_of, each_from, address_of}
-use Rattle.gt_heap.proofs.Quotients.{IsSmall, per_page_pos, per_page_fits, place_fits, place_within, number_of, block_within, page_of-block_at, offset_is_multiple, offset_within, block_at-place, page_le, ordered}
+use Rattle.gt_heap.specs.Heap.{Places, per_page, block_of, ledger_of, each_from, address_of}
+use Rattle.gt_heap.proofs.Quotients.{IsSmall, per_page_pos, place_fits, number_of, block_within, page_of-block_at, offset_is_multiple, offset_within, block_at-place, page_le, ordered}
 use Rattle.gt_heap.proofs.Each.{All-each, All-each_from, Contains-each, contained_each, each-push}
 
 -- ---- the blocks that were made

@@ -1,5 +1,5 @@
 -- The least size with room for the fields of a structure.
-use Rattle.std.proofs.Common.{◌≡◌, ◌≢◌, ℕ, suc, ◌+◌, ◌*◌, ◌<◌, ◌≤◌, Bool, true, false, cond, List, [], ◌∷◌, ◌++◌, Option, Some, None, refl, ap, sym, subst, ◌∙◌, arith, rules, inl, inr, lit≤}
+use Rattle.std.proofs.Common.{◌≡◌, ℕ, ◌*◌, ◌≤◌, true, cond, List, [], ◌∷◌, ◌++◌, Option, Some, ap, ◌∙◌, arith, rules, inl, inr, lit≤}
 use Rattle.std.specs.Prelude.{find, nat_le}
 use Rattle.std.proofs.lemmas.Bool.{cases_Bool}
 use Rattle.gt_heap.specs.Ledger.{rounded}

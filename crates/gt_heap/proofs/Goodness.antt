@@ -1,9 +1,8 @@
 -- What the code keeps makes a heap: the graph is good, and the bytes stand for it.
-use Rattle.std.proofs.Common.{◌≡◌, ◌≢◌, ℕ, zero, suc, ◌+◌, ◌-◌, ◌*◌, ◌<◌, ◌≤◌, ◌⊎◌, inl, inr, Bool, false, List, [], ◌∷◌, ◌++◌, length, Option, Some, None, refl, ap, ap₂, sym, subst, ◌∙◌, arith}
-use Rattle.std.specs.Prelude.{All, Contains, map, replicate, slice_get, IfSome}
+use Rattle.std.proofs.Common.{◌≡◌, ◌≢◌, ℕ, zero, suc, ◌+◌, ◌-◌, ◌*◌, ◌<◌, ◌≤◌, inl, inr, Bool, List, [], ◌∷◌, length, Option, Some, None, refl, ap, sym, subst, ◌∙◌, arith}
+use Rattle.std.specs.Prelude.{All, map, slice_get}
 use Rattle.std.proofs.lemmas.List.Elements.{All-head, All-tail, All-map}
 use Rattle.std.proofs.lemmas.List.{length-map}
-use Rattle.gt_types.specs.declared.types.TypeId.{TypeId}
 use Rattle.gt_types.specs.declared.types.Target.TheVariants.{Node}
 use Rattle.gt_types.specs.declared.types.PtrKind.TheVariants.{Plain}
 use Rattle.gt_types.specs.declared.types.Ty.{Ty}
@@ -12,17 +11,16 @@ use Rattle.gt_types.specs.declared.program.Structure.{Structure}
 use Rattle.gt_types.specs.declared.program.Program.{Program}
 use Rattle.gt_space.specs.Range.{Range}
 use Rattle.gt_space.specs.Numbers.{u64_at}
-use Rattle.gt_heap.specs.Tree.{Tree, Rec, Row, Trees, End, And}
-use Rattle.gt_heap.specs.Values.{Nodes, Object, IsSingle, Fits, AllFit, ObjectFits, StaticsFit, MayStand, types_of}
-use Rattle.gt_heap.specs.Ledger.{Block, Ledger, rounded, page_address}
-use Rattle.gt_heap.specs.Graph.{Graph, IsGood, AreDistinct, AreBlocksOf, IsBlockOf, KindStands, leaf_of}
-use Rattle.gt_heap.specs.Stands.{Stands, LeafStands, LeavesStand, BlockStands, BlocksStand, AreZero, count_of}
-use Rattle.gt_heap.specs.Heap.{IsFirst, IsHeap, IsPlain, IsObject, IsTarget, KeepsObjects, block_at, IsPointer, HoldsPointers, Places, the_node, address_of, block_of, each_from, fields_of, graph_of, ledger_of, leaves_at, object_at, pointer_of, word_of}
+use Rattle.gt_heap.specs.Tree.{Rec, Trees, End, And}
+use Rattle.gt_heap.specs.Values.{Object, Fits, AllFit, ObjectFits, StaticsFit, MayStand, types_of}
+use Rattle.gt_heap.specs.Ledger.{rounded}
+use Rattle.gt_heap.specs.Graph.{IsGood, AreDistinct, AreBlocksOf, IsBlockOf, KindStands, leaf_of}
+use Rattle.gt_heap.specs.Stands.{Stands, LeafStands, BlockStands, BlocksStand, AreZero, count_of}
+use Rattle.gt_heap.specs.Heap.{IsFirst, IsHeap, IsPlain, IsObject, IsTarget, KeepsObjects, block_at, IsPointer, Places, the_node, address_of, block_of, each_from, fields_of, graph_of, ledger_of, leaves_at, object_at, pointer_of, word_of}
 use Rattle.gt_heap.proofs.Quotients.{IsSmall, ordered}
 use Rattle.gt_heap.proofs.Each.{All-each, All-each_from, Contains-each, contained_each}
-use Rattle.gt_heap.proofs.FittingSize.{Fitting}
-use Rattle.gt_heap.proofs.Blocks.{block_in_space, ledger_sound}
-use Rattle.gt_heap.proofs.Leaves.{leaf_at, count_of-leaves_at, LeavesStand-leaves_at}
+use Rattle.gt_heap.proofs.Blocks.{ledger_sound}
+use Rattle.gt_heap.proofs.Leaves.{count_of-leaves_at, LeavesStand-leaves_at}
 use Rattle.gt_heap.proofs.Memory.{Kept, fields_of-first, size_fits}
 
 -- the object of a number

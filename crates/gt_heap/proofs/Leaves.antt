@@ -1,13 +1,12 @@
 -- The words of a space as pointers in trees.
-use Rattle.std.proofs.Common.{◌≡◌, ◌≢◌, ℕ, zero, suc, ◌+◌, ◌-◌, ◌*◌, ◌<◌, ◌≤◌, ◌⊎◌, inl, inr, List, [], ◌∷◌, Option, Some, None, length, refl, ap, ap₂, sym, subst, ◌∙◌, arith}
-use Rattle.std.specs.Prelude.{All, Contains, replicate}
-use Rattle.gt_space.specs.Range.{Range, IsInside, bytes_at}
+use Rattle.std.proofs.Common.{◌≡◌, ◌≢◌, ℕ, zero, suc, ◌+◌, ◌*◌, ◌<◌, [], Option, Some, refl, ap, ap₂, sym, subst, ◌∙◌, arith}
+use Rattle.gt_space.specs.Range.{Range}
 use Rattle.gt_space.specs.Numbers.{u64_at}
-use Rattle.gt_heap.specs.Tree.{Tree, Rec, Row, Trees, End, And, part_at, part_of, with_part_of}
+use Rattle.gt_heap.specs.Tree.{Tree, And, part_of, with_part_of}
 use Rattle.gt_heap.specs.Graph.{leaf_of}
-use Rattle.gt_heap.specs.Ledger.{Block, Ledger}
+use Rattle.gt_heap.specs.Ledger.{Ledger}
 use Rattle.gt_heap.specs.Stands.{LeafStands, LeavesStand, count_of}
-use Rattle.gt_heap.specs.Heap.{pointer_of, word_of, leaves_at}
+use Rattle.gt_heap.specs.Heap.{pointer_of, leaves_at}
 
 -- the leaf of a word
 abbrev pub leaf_at : Range → ℕ → Tree

@@ -1,18 +1,13 @@
 -- Where the static record and the blocks lie in the space of a heap, and what a write leaves.
-use Rattle.std.proofs.Common.{◌≡◌, ◌≢◌, ℕ, zero, suc, ◌+◌, ◌-◌, ◌*◌, ◌/◌, ◌%◌, ◌^◌, ◌<◌, ◌≤◌, ◌⊎◌, inl, inr, List, [], ◌∷◌, ◌++◌, length, drop, take, Option, Some, None, refl, ap, sym, subst, ◌∙◌, arith, lit<}
+use Rattle.std.proofs.Common.{◌≡◌, ℕ, ◌+◌, ◌-◌, ◌*◌, ◌^◌, ◌<◌, ◌≤◌, inl, inr, List, ◌++◌, length, drop, take, Some, None, ap, ◌∙◌, arith}
 use Rattle.std.specs.Prelude.{slice_get}
-use Rattle.std.specs.Int.{w64, to_le_bytes}
-use Rattle.std.proofs.lemmas.Bool.{cases_lt}
 use Rattle.gt_types.specs.declared.program.Structure.{Structure}
 use Rattle.gt_types.specs.declared.program.Program.{Program}
 use Rattle.gt_space.specs.declared.TheConstants.{PAGE_BYTES, HEAP_START, MIN_PAGES, MAX_PAGES}
-use Rattle.gt_space.specs.Range.{Range, IsInside, IsSized, IsSpace, bytes_at, with_bytes, statics_start, pages_for, space_len}
-use Rattle.gt_space.specs.Numbers.{u64_at, with_u64}
-use Rattle.gt_space.specs.Laws.{IsApart}
+use Rattle.gt_space.specs.Range.{Range, IsInside, IsSized, IsSpace, with_bytes, statics_start, space_len}
 use Rattle.gt_space.proofs.RangeLemmas.{length-with_bytes}
 use Rattle.gt_heap.specs.Ledger.{rounded, page_address}
-use Rattle.gt_heap.specs.Heap.{IsFirst, IsHeap, IsPointer, HoldsPointers, Places, per_page, block_at, address_of, fields_of}
-use Rattle.gt_heap.proofs.Quotients.{IsSmall, ordered}
+use Rattle.gt_heap.specs.Heap.{IsFirst, IsHeap, IsPointer, HoldsPointers, Places, per_page, address_of, fields_of}
 use Rattle.gt_heap.proofs.FittingSize.{Fitting, fitting}
 use Rattle.gt_heap.proofs.Blocks.{block_in_space}
 use Rattle.gt_heap.proofs.SmallBytes.{AreBytes, bytes-append, bytes-take, bytes-drop}

@@ -1,10 +1,10 @@
 -- Where the blocks of one size lie: which page, and at which place of it.
-use Rattle.std.proofs.Common.{◌≡◌, ℕ, ◌+◌, ◌-◌, ◌*◌, ◌/◌, ◌%◌, ◌<◌, ◌≤◌, ◌⊎◌, inl, inr, refl, ap, sym, subst, ◌∙◌, arith, mul_comm}
-use Rattle.std.proofs.Math.Nat.{mul-div-le, lt-div-mul-add, mul-mod_right, mul-le-mul_left}
-use Rattle.std.proofs.lemmas.Nat.{div-mul-add, mod-mul-add, div_below, div-add-mod', mod_below, le-div}
+use Rattle.std.proofs.Common.{◌≡◌, ℕ, ◌+◌, ◌-◌, ◌*◌, ◌/◌, ◌%◌, ◌<◌, ◌≤◌, ◌⊎◌, inl, inr, ap, sym, subst, ◌∙◌, arith, mul_comm}
+use Rattle.std.proofs.Math.Nat.{mul-div-le, mul-mod_right, mul-le-mul_left}
+use Rattle.std.proofs.lemmas.Nat.{div-mul-add, mod-mul-add, div-add-mod', mod_below, le-div}
 use Rattle.std.proofs.lemmas.Bool.{cases_lt}
 use Rattle.gt_space.specs.declared.TheConstants.{PAGE_BYTES, HEAP_START}
-use Rattle.gt_heap.specs.Ledger.{page_of, offset_of, page_address, pages_of}
+use Rattle.gt_heap.specs.Ledger.{page_of, offset_of}
 use Rattle.gt_heap.specs.Heap.{per_page, block_at}
 
 -- a size of blocks of which a page holds one or more

@@ -1,23 +1,22 @@
 -- A fresh space, a new block and a written pointer keep what a heap keeps.
-use Rattle.std.proofs.Common.{◌≡◌, ◌≢◌, ℕ, zero, suc, ◌+◌, ◌-◌, ◌*◌, ◌/◌, ◌%◌, ◌^◌, ◌<◌, ◌≤◌, ◌⊎◌, inl, inr, List, [], ◌∷◌, ◌++◌, length, get_or, take, drop, Option, Some, None, refl, ap, sym, subst, ◌∙◌, arith, lit<}
+use Rattle.std.proofs.Common.{◌≡◌, ◌≢◌, ℕ, ◌+◌, ◌-◌, ◌*◌, ◌<◌, ◌≤◌, ◌⊎◌, inl, inr, List, length, take, drop, Some, refl, ap, sym, subst, ◌∙◌, arith}
 use Rattle.std.specs.Prelude.{replicate}
 use Rattle.std.specs.Int.{w64, to_le_bytes, from_le_bytes}
 use Rattle.std.proofs.lemmas.Bool.{cases_lt}
 use Rattle.std.proofs.lemmas.List.{places, same_lists, length-replicate}
 use Rattle.gt_types.specs.declared.program.Program.{Program}
-use Rattle.gt_space.specs.declared.TheConstants.{PAGE_BYTES, HEAP_START, MIN_PAGES, MAX_PAGES}
+use Rattle.gt_space.specs.declared.TheConstants.{MIN_PAGES, MAX_PAGES}
 use Rattle.gt_space.specs.Range.{Range, IsInside, IsSized, IsSpace, bytes_at, with_bytes, fresh_range, statics_start, space_len}
 use Rattle.gt_space.specs.Numbers.{u64_at, with_u64}
 use Rattle.gt_space.specs.Laws.{IsApart}
 use Rattle.gt_space.proofs.RangeLemmas.{bytes_at-with_bytes_within, bytes_at-with_bytes_apart}
 use Rattle.gt_space.proofs.NumberLemmas.{u64_at-bytes_at, u64_at-with_u64, u64_at-with_bytes_apart}
-use Rattle.gt_heap.specs.Ledger.{rounded, page_address}
+use Rattle.gt_heap.specs.Ledger.{rounded}
 use Rattle.gt_heap.specs.Stands.{AreZero}
-use Rattle.gt_heap.specs.Heap.{IsFirst, IsPointer, HoldsPointers, Places, per_page, address_of, fields_of}
+use Rattle.gt_heap.specs.Heap.{IsFirst, IsPointer, Places, per_page, address_of, fields_of}
 use Rattle.gt_heap.proofs.Quotients.{IsSmall, ordered}
-use Rattle.gt_heap.proofs.FittingSize.{Fitting}
-use Rattle.gt_heap.proofs.Blocks.{one_more, block_in_space}
-use Rattle.gt_heap.proofs.SmallBytes.{AreBytes, bytes-replicate, bytes-low_first}
+use Rattle.gt_heap.proofs.Blocks.{one_more}
+use Rattle.gt_heap.proofs.SmallBytes.{bytes-replicate, bytes-low_first}
 use Rattle.gt_heap.proofs.Memory.{Kept, size_fits, few_bytes, statics_below, statics_end, roots_below, inside_root, inside_block, inside_field, inside_part, pointer_fits, IsSized-with_bytes, IsSpace-with_bytes}
 
 -- ---- zeros

@@ -1,9 +1,9 @@
 -- A heap without bytes: objects that point to one another, the values of the roots, and the ledger of places.
-use Rattle.std.specs.Prelude.{◌≡◌, ◌≢◌, ℕ, ◌*◌, List, [], ◌∷◌, ◌++◌, Option, Some, None, All, Contains, map}
+use Rattle.std.specs.Prelude.{◌≡◌, ◌≢◌, ℕ, ◌*◌, List, [], ◌∷◌, ◌++◌, Option, Some, None, All}
 use Rattle.gt_types.specs.declared.types.TypeId.{TypeId}
 use Rattle.gt_types.specs.declared.program.Program.{Program}
 use Rattle.gt_heap.specs.Tree.{Tree, Null, To, with_part}
-use Rattle.gt_heap.specs.Values.{Kind, Nodes, Object, IsSingle, MayStand, ObjectFits, ObjectIsZero, StaticsFit, element_of, HasSize}
+use Rattle.gt_heap.specs.Values.{Kind, Nodes, Object, MayStand, ObjectFits, ObjectIsZero, StaticsFit, element_of, HasSize}
 use Rattle.gt_heap.specs.Ledger.{Block, Ledger, Sound, Place, with_block, rounded}
 
 -- the objects in the order in which they were made, the static value, and where each object lies

@@ -1,5 +1,5 @@
 -- Where objects lie: the sizes that are given out, the pages, and which place a new block may have.
-use Rattle.std.specs.Prelude.{◌≡◌, ◌≢◌, ℕ, ◌+◌, ◌-◌, ◌*◌, ◌/◌, ◌%◌, ◌<◌, ◌≤◌, ◌⊎◌, List, [], ◌∷◌, ◌++◌, Option, nat_le, find, All, Contains}
+use Rattle.std.specs.Prelude.{◌≡◌, ℕ, ◌+◌, ◌-◌, ◌*◌, ◌/◌, ◌%◌, ◌<◌, ◌≤◌, ◌⊎◌, List, [], ◌∷◌, ◌++◌, Option, nat_le, find, All, Contains}
 use Rattle.gt_space.specs.declared.TheConstants.{PAGE_BYTES, HEAP_START}
 use Rattle.gt_space.specs.Laws.{IsApart}
 

@@ -1,6 +1,5 @@
 -- The bytes of a space stand for a graph. Each leaf takes a word of eight bytes so far.
-use Rattle.std.specs.Prelude.{◌≡◌, ℕ, ◌+◌, ◌-◌, ◌*◌, List, [], ◌∷◌, Contains, replicate, length}
-use Rattle.gt_types.specs.declared.program.Program.{Program}
+use Rattle.std.specs.Prelude.{◌≡◌, ℕ, ◌+◌, ◌-◌, ◌*◌, List, [], ◌∷◌, Contains, replicate}
 use Rattle.gt_space.specs.Range.{Range, bytes_at}
 use Rattle.gt_space.specs.Numbers.{u64_at}
 use Rattle.gt_heap.specs.Tree.{Tree, Null, To, Rec, Row, Trees, End, And}

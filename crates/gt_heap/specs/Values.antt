@@ -1,6 +1,6 @@
 -- Which values a type has, its zero value, and the writing of one leaf. The types that are built so far are pointers to one
 -- structure and structures of them; no other type has a value yet.
-use Rattle.std.specs.Prelude.{◌≡◌, ℕ, ◌*◌, List, [], ◌∷◌, Option, Some, None, false, Contains, length, map, replicate, slice_get}
+use Rattle.std.specs.Prelude.{◌≡◌, ℕ, ◌*◌, List, [], ◌∷◌, Some, None, false, Contains, length, map, replicate, slice_get}
 use Rattle.gt_types.specs.declared.types.TypeId.{TypeId}
 use Rattle.gt_types.specs.declared.types.Target.TheVariants as target
 use Rattle.gt_types.specs.declared.types.PtrKind.TheVariants as kind

@@ -1,13 +1,13 @@
 //! A heap of objects of one structure, whose fields are plain pointers to it. Nothing is freed yet.
-ghost use Rattle.std.specs.Prelude.{◌≡◌, ℕ, ◌+◌, ◌-◌, ◌*◌, ◌<◌, ◌≤◌, [], ◌∷◌, Some, IfOk, IfErr, IfSome, OnOk, OnErr, length};
+ghost use Rattle.std.specs.Prelude.{◌≡◌, ◌*◌, ◌<◌, ◌≤◌, [], ◌∷◌, Some, IfOk, IfErr, OnOk, OnErr, length};
 ghost use Rattle.gt_space.specs.Range.{fresh_range};
 ghost use Rattle.gt_heap.specs.Tree.{part_at, with_part};
 ghost use Rattle.gt_heap.specs.Ledger.{Room, rounded};
 ghost use Rattle.gt_heap.specs.Graph.{Makes, leaf_of};
 ghost use Rattle.gt_heap.specs.Heap.{IsFirst, IsHeap, IsObject, IsTarget, KeepsObjects, PartIs, SetsOnly, fields_of, graph_of};
 
-use crate::sizes::rounded_size;
-use crate::words::{block_address, read_pointer, write_pointer};
+use crate::sizes::{block_address, rounded_size};
+use crate::words::{read_pointer, write_pointer};
 use gt_space::{MAX_PAGES, MIN_PAGES, PAGE_BYTES, Space};
 use gt_types::Program;
 use std::marker::Model;

@@ -1,6 +1,10 @@
-// The sizes of blocks, as GCC's page collector has them: few, so that each page holds blocks of one size.
-ghost use Rattle.std.specs.Prelude.{◌≡◌};
+// The sizes of blocks, which are few, so that each page holds blocks of one size, as in GCC's page collector (ggc-page.cc);
+// and where the blocks of one size lie.
+ghost use Rattle.std.specs.Prelude.{◌≡◌, ◌<◌, ◌≤◌};
 ghost use Rattle.gt_heap.specs.Ledger.{rounded};
+ghost use Rattle.gt_heap.specs.Heap.{block_at};
+
+use gt_space::{HEAP_START, PAGE_BYTES};
 
 /// The sizes of blocks in bytes.
 const SIZES: [u32; 29] = [
@@ -13,4 +17,16 @@ pub fn rounded_size(need: u32) -> Option<u32>
     ensures { result ≡ rounded need }
 {
     SIZES.iter().copied().find(|size| need <= *size)
+}
+
+/// The address of the block of this number, where all blocks have this size in bytes.
+pub fn block_address(size: u32, number: u32) -> u64
+    requires some { 0 < size }
+    requires within_a_page { size ≤ PAGE_BYTES }
+    ensures { result ≡ block_at size number }
+{
+    let size = size as u64;
+    let number = number as u64;
+    let per_page = PAGE_BYTES / size;
+    HEAP_START + PAGE_BYTES * (number / per_page) + size * (number % per_page)
 }

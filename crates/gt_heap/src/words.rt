@@ -1,22 +1,10 @@
-// The words of a space as pointers, and where the blocks of a size lie.
-ghost use Rattle.std.specs.Prelude.{◌≡◌, ◌+◌, ◌-◌, ◌*◌, ◌<◌, ◌≤◌, IfSome};
+// The words of a space as pointers: 0 is null, and any other word is the address of an object.
+ghost use Rattle.std.specs.Prelude.{◌≡◌};
 ghost use Rattle.gt_space.specs.Range.{IsInside, KeepsAddresses};
 ghost use Rattle.gt_space.specs.Numbers.{u64_at, with_u64};
-ghost use Rattle.gt_heap.specs.Heap.{block_at, pointer_of, word_of};
+ghost use Rattle.gt_heap.specs.Heap.{pointer_of, word_of};
 
-use gt_space::{HEAP_START, PAGE_BYTES, Space};
-
-/// The address of the block of this number, where all blocks have this size in bytes.
-pub fn block_address(size: u32, number: u32) -> u64
-    requires some { 0 < size }
-    requires within_a_page { size ≤ PAGE_BYTES }
-    ensures { result ≡ block_at size number }
-{
-    let size = size as u64;
-    let number = number as u64;
-    let per_page = PAGE_BYTES / size;
-    HEAP_START + PAGE_BYTES * (number / per_page) + size * (number % per_page)
-}
+use gt_space::Space;
 
 /// The pointer in the word at an address.
 pub fn read_pointer(space: &Space, addr: u64) -> Option<u64>

@@ -1,4 +1,3 @@
-use Rattle.std.proofs.Common.{◌∷◌, [], ◌++◌, rules}
 use Rattle.std.proofs.lemmas.List.Elements.{All-push, All-same}
 use Rattle.gt_heap.specs.Heap.{IsPlain}
 use Rattle.gt_types.specs.declared.program.Field.{Field}

@@ -1,4 +1,4 @@
-use Rattle.std.proofs.Common.{◌≡◌, ◌+◌, ap, sym, arith}
+use Rattle.std.proofs.Common.{◌+◌, ap, sym, arith}
 use Rattle.gt_heap.specs.declared.heap.MakeFail.TheVariants.{Full}
 use Rattle.gt_heap.specs.Heap.{Places}
 use Rattle.gt_heap.proofs.Goodness.{objects_kept}

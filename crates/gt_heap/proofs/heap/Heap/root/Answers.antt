@@ -1,4 +1,4 @@
-use Rattle.std.proofs.Common.{◌≡◌, ◌+◌, ◌*◌, ap}
+use Rattle.std.proofs.Common.{◌+◌, ◌*◌, ap}
 use Rattle.gt_heap.proofs.Graphs.{root_part, root_target}
 use Rattle.gt_heap.proofs.heap.Heap.root.Goals as goal
 

@@ -1,4 +1,4 @@
-use Rattle.std.proofs.Common.{refl, arith, ◌≡◌, ◌+◌, ◌*◌, ◌∷◌, [], sym, subst, rules}
+use Rattle.std.proofs.Common.{refl, arith, ◌∷◌, [], sym, subst, rules}
 use Rattle.gt_heap.specs.Graph.{leaf_of}
 use Rattle.gt_heap.specs.Heap.{IsHeap, SetsOnly, graph_of}
 use Rattle.gt_heap.proofs.Goodness.{objects_kept}

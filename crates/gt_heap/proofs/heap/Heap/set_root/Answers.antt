@@ -1,4 +1,4 @@
-use Rattle.std.proofs.Common.{refl, arith, ◌≡◌, ℕ, ◌+◌, ◌*◌, ap, sym, subst, ◌∙◌}
+use Rattle.std.proofs.Common.{refl, arith, ◌+◌, ◌*◌, ap, sym, subst, ◌∙◌}
 use Rattle.gt_space.specs.Numbers.{with_u64}
 use Rattle.gt_heap.specs.Heap.{IsHeap, graph_of, word_of}
 use Rattle.gt_heap.proofs.Goodness.{objects_kept}
