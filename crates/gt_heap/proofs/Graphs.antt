@@ -1,6 +1,6 @@
 -- What a read, a written pointer and a new block mean in the graph.
 use Rattle.std.proofs.Common.{◌≡◌, ◌≢◌, ℕ, zero, suc, ◌+◌, ◌-◌, ◌*◌, ◌^◌, ◌<◌, inl, inr, List, [], ◌∷◌, ◌++◌, length, Option, Some, refl, ap, ap₂, sym, subst, ◌∙◌, arith}
-use Rattle.std.specs.Prelude.{All, replicate}
+use Rattle.std.specs.Prelude.{All, replicate, map}
 use Rattle.std.proofs.lemmas.List.{length-map}
 use Rattle.std.proofs.lemmas.List.Elements.{All-head, All-tail, All-map}
 use Rattle.gt_types.specs.declared.types.Target.TheVariants.{Node}
@@ -9,19 +9,19 @@ use Rattle.gt_types.specs.declared.types.Ty.{Ty}
 use Rattle.gt_types.specs.declared.types.Ty.TheVariants.{Ptr}
 use Rattle.gt_types.specs.declared.program.Structure.{Structure}
 use Rattle.gt_types.specs.declared.program.Program.{Program}
-use Rattle.gt_space.specs.Range.{Range, IsInside, with_bytes}
+use Rattle.gt_space.specs.Range.{Range, IsInside, with_bytes, fresh_range, statics_start}
 use Rattle.gt_space.specs.Numbers.{u64_at, with_u64}
 use Rattle.gt_heap.specs.Tree.{Rec, Row, Trees, End, And, part_at, with_part, with_part_of}
 use Rattle.gt_heap.specs.Values.{Object, ObjectIsZero, IsZero, AllZero, types_of}
 use Rattle.gt_heap.specs.Ledger.{Room}
 use Rattle.gt_heap.specs.Graph.{Graph, Makes, SetsPart, leaf_of}
-use Rattle.gt_heap.specs.Heap.{IsHeap, IsPlain, IsObject, IsTarget, PartIs, SetsOnly, IsPointer, Places, the_node, per_page, address_of, block_of, each_from, fields_of, graph_of, ledger_of, leaves_at, object_at, pointer_of, word_of}
+use Rattle.gt_heap.specs.Heap.{IsFirst, IsFresh, IsHeap, IsPlain, IsObject, IsTarget, PartIs, SetsOnly, IsPointer, Places, the_node, per_page, address_of, block_of, each_from, fields_of, graph_of, ledger_of, leaves_at, object_at, pointer_of, word_of}
 use Rattle.gt_heap.proofs.Each.{Contains-each, each_from-same, each-push, each-split}
 use Rattle.gt_heap.proofs.Blocks.{one_more, next_place, with_next, room_left, no_room}
 use Rattle.gt_heap.proofs.Leaves.{leaf_at, SameWords, part_of-leaves_at, leaves_at-same, leaves_at-with_part}
-use Rattle.gt_heap.proofs.Memory.{Kept, kept, size_fits, fields_of-first, inside_root, inside_field}
+use Rattle.gt_heap.proofs.Memory.{few_bytes, Kept, kept, size_fits, fields_of-first, inside_root, inside_field}
 use Rattle.gt_heap.proofs.Goodness.{object_of, single_of, number_of_object, target_of, pointer_of_target, block_of_object, node_is, heap_from}
-use Rattle.gt_heap.proofs.Writes.{root_spot, field_spot, roots_apart, words_apart, blocks_apart, root_apart_block, word_written, word_apart, written_kept, with_zeros, roots_stay_made, fields_stay_made, zero_fields_made, made_kept}
+use Rattle.gt_heap.proofs.Writes.{fresh_root, root_spot, field_spot, roots_apart, words_apart, blocks_apart, root_apart_block, word_written, word_apart, written_kept, with_zeros, roots_stay_made, fields_stay_made, zero_fields_made, made_kept}
 
 -- ---- reads
 
@@ -367,3 +367,23 @@ pub none_left :
 none_left program old range places view heap full =
     let here : IsHeap program places range = subst (λ p. IsHeap program p range) (sym view) heap in
     subst (λ p. Room (ledger_of p) p.size → ⊥) view (no_room places (size_fits program places here.first here.fits).small full)
+
+-- ---- a fresh heap
+
+pub fresh_graph :
+    (program : Program) (size pages : ℕ) → IsFirst program
+    → IsFresh program (graph_of program (record { size = size; made = 0; pages = pages }) (fresh_range pages (8 * length program.roots)))
+fresh_graph program size pages first =
+    record {
+      objects = refl;
+      blocks = refl;
+      no_image = refl;
+      roots = (
+        leaves_at (fresh_range pages (8 * length program.roots)) (statics_start (8 * length program.roots)) (length program.roots),
+        refl,
+        leaves_are_zero program (fresh_range pages (8 * length program.roots)) (map (λ r. r.ty) program.roots)
+            (statics_start (8 * length program.roots)) (length program.roots)
+            (All-map IsPlain (λ r. r.ty) program.roots first.roots) (length-map program.roots (λ r. r.ty))
+            (λ root below. fresh_root pages (length program.roots) root below (few_bytes program first)),
+      );
+    }

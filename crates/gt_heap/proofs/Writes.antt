@@ -45,6 +45,12 @@ fresh_word pages statics skip h =
     zero_word (fresh_range pages statics) (statics_start statics + skip)
     (ap (λ k. take 8 (drop k (zeros (space_len pages statics)))) at ∙ part_of_zeros (space_len pages statics) skip 8 h)
 
+-- each root's word in a fresh space
+pub fresh_root :
+    (pages roots root : ℕ) → root < roots → 8 * roots ≤ 32768
+    → u64_at (fresh_range pages (8 * roots)) (statics_start (8 * roots) + 8 * root) ≡ 0
+fresh_root pages roots root below few = fresh_word pages (8 * roots) (8 * root) (omega (arith, below, few))
+
 fresh_sized : (pages statics : ℕ) → IsSized (fresh_range pages statics) pages statics
 fresh_sized pages statics = record { start = refl; len = length-zeros (space_len pages statics) }
 

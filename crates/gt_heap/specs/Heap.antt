@@ -1,5 +1,5 @@
 -- A heap of single objects of one structure: which graph its numbers and the bytes of a space mean, and what holds of it.
-use Rattle.std.specs.Prelude.{◌≡◌, ℕ, zero, suc, ◌+◌, ◌-◌, ◌*◌, ◌/◌, ◌%◌, ◌<◌, ◌≤◌, ◌⊎◌, Bool, false, List, [], ◌∷◌, Option, Some, None, All, Contains, IfSome, length, refl, slice_get}
+use Rattle.std.specs.Prelude.{◌≡◌, ℕ, zero, suc, ◌+◌, ◌-◌, ◌*◌, ◌/◌, ◌%◌, ◌<◌, ◌≤◌, ◌⊎◌, Bool, false, List, [], ◌∷◌, Option, Some, None, All, Contains, IfSome, length, map, refl, slice_get}
 use Rattle.std.specs.Coded.{Coded, code_by, coded×, coded_ℕ}
 use Rattle.gt_types.specs.declared.types.TypeId.{TypeId}
 use Rattle.gt_types.specs.declared.types.Target.TheVariants.{Node}
@@ -12,7 +12,7 @@ use Rattle.gt_space.specs.declared.TheConstants.{PAGE_BYTES, HEAP_START, MIN_PAG
 use Rattle.gt_space.specs.Range.{Range, IsSized, IsSpace}
 use Rattle.gt_space.specs.Numbers.{u64_at}
 use Rattle.gt_heap.specs.Tree.{Tree, Rec, Row, Trees, End, And, part_at}
-use Rattle.gt_heap.specs.Values.{Nodes, Object, IsSingle}
+use Rattle.gt_heap.specs.Values.{AllZero, Nodes, Object, IsSingle}
 use Rattle.gt_heap.specs.Ledger.{Block, Ledger, rounded}
 use Rattle.gt_heap.specs.Graph.{Graph, IsGood, SetsPart, leaf_of}
 use Rattle.gt_heap.specs.Stands.{Stands, AreZero}
@@ -148,6 +148,13 @@ pub record IsHeap (program : Program) (places : Places) (range : Range) : Type 0
   pub pointers : HoldsPointers program places range
 
 -- ---- what the calls speak of
+
+-- no object and no block, no image, and each root null
+pub record IsFresh (program : Program) (g : Graph) : Type 0 where
+  pub objects : g.objects ≡ []
+  pub blocks : g.ledger.blocks ≡ []
+  pub no_image : g.ledger.image.count ≡ 0
+  pub roots : (trees : Trees) × (g.statics ≡ Rec trees) × AllZero program (map (λ r. r.ty) program.roots) trees
 
 -- the address is that of an object of the heap
 abbrev pub IsObject : Program → Places → Range → ℕ → Type 0

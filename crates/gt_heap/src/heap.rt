@@ -4,7 +4,7 @@ ghost use Rattle.gt_space.specs.Range.{fresh_range};
 ghost use Rattle.gt_heap.specs.Tree.{part_at, with_part};
 ghost use Rattle.gt_heap.specs.Ledger.{Room, rounded};
 ghost use Rattle.gt_heap.specs.Graph.{Makes, leaf_of};
-ghost use Rattle.gt_heap.specs.Heap.{IsFirst, IsHeap, IsObject, IsTarget, KeepsObjects, PartIs, SetsOnly, fields_of, graph_of};
+ghost use Rattle.gt_heap.specs.Heap.{IsFirst, IsFresh, IsHeap, IsObject, IsTarget, KeepsObjects, PartIs, SetsOnly, fields_of, graph_of};
 
 use crate::sizes::{block_address, rounded_size};
 use crate::words::{read_pointer, write_pointer};
@@ -74,8 +74,9 @@ impl Heap {
         ensures empty { result.made ≡ 0 }
         ensures pages { result.pages ≡ pages }
 
-        // With the fresh space of the same pages it is a heap.
+        // With the fresh space of the same pages it is a heap, without objects and with null roots.
         ensures heap { IsHeap program.now result (fresh_range pages (8 * length program.now.roots)) }
+        ensures fresh { IsFresh program.now (graph_of program.now result (fresh_range pages (8 * length program.now.roots))) }
     {
         Heap {
             size: node_size(program),
