@@ -9,3 +9,4 @@ pub mod Memory
 pub mod Goodness
 pub mod Writes
 pub mod Graphs
+pub mod PlainSpans

@@ -4,3 +4,4 @@ pub mod Ledger
 pub mod Graph
 pub mod Stands
 pub mod Heap
+pub mod Plain

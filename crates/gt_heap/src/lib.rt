@@ -4,11 +4,13 @@
 
 mod heap;
 mod laws;
+mod plain;
 mod sizes;
 mod words;
 
 pub use heap::{Heap, Made, MakeFail};
 pub use laws::objects_stay;
+pub use plain::{Span, are_apart};
 
 #[cfg(test)]
 mod tests;
