@@ -1,13 +1,14 @@
 -- Lists of spans that are apart.
-use Rattle.std.proofs.Common.{◌≡◌, ℕ, zero, suc, ◌+◌, ◌-◌, ◌<◌, ◌≤◌, Bool, true, false, List, [], ◌∷◌, length, get_or, take, drop, refl, ap, sym, subst, ◌∙◌, arith}
+use Rattle.std.proofs.Common.{◌≡◌, ℕ, zero, suc, ◌+◌, ◌-◌, ◌<◌, ◌≤◌, ◌⊎◌, inl, inr, Bool, true, false, List, [], ◌∷◌, length, get_or, take, drop, refl, ap, sym, subst, ◌∙◌, arith}
 use Rattle.std.specs.Prelude.{All, map}
 use Rattle.std.specs.Bool.{Decides}
 use Rattle.std.proofs.lemmas.List.{take_all}
 use Rattle.std.proofs.lemmas.List.Elements.{All-map, All-more, All-nil, All-cons, All-head, All-tail}
+use Rattle.gt_space.specs.declared.TheConstants.{HEAP_START}
 use Rattle.gt_space.specs.Laws.{IsApart}
 use Rattle.gt_heap.specs.declared.plain.Span.{Span}
-use Rattle.gt_heap.specs.Ledger.{Block, AreApart}
-use Rattle.gt_heap.specs.Plain.{AreTwoApart, block_of_span}
+use Rattle.gt_heap.specs.Ledger.{Block, Ledger, Sound, AreApart, IsInPlace, IsOffPage, LiesInside, LiesOutside, page_address, page_of}
+use Rattle.gt_heap.specs.Plain.{AreTwoApart, IsPlaced, LiesIn, block_of_span, plain_ledger}
 
 -- a span apart from each of a list is so as a block
 blocks_from_spans :
@@ -58,3 +59,55 @@ stops spans [] d b some decides fails left apart = absurd (omega (arith, some))
 stops spans (x ∷ xs) d b some decides fails left apart =
     let others = spans_from_blocks x xs (left.1 apart).0 in
     sym fails ∙ decides.1 (subst (λ others. All (λ y. AreTwoApart x y) others) (sym (rest_of-cons x xs)) others)
+
+-- ---- the ledger of spans
+
+-- what holds of each block of spans holds of each span
+spans_of_blocks : (P : Block → Type 0) (spans : List Span) → All P (map block_of_span spans) → All (λ s. P (block_of_span s)) spans
+spans_of_blocks P [] all = All-nil (λ s. P (block_of_span s))
+spans_of_blocks P (x ∷ xs) all =
+    All-cons (λ s. P (block_of_span s)) x xs (All-head P (block_of_span x) (map block_of_span xs) all)
+    (spans_of_blocks P xs (All-tail P (block_of_span x) (map block_of_span xs) all))
+
+outside : (pages : ℕ) (spans : List Span) (address size : ℕ) → LiesOutside (plain_ledger pages spans) address size
+outside pages spans address size page image = absurd (omega (arith, image.0, image.1))
+
+placed_from : (pages : ℕ) (spans : List Span) (s : Span) → IsInPlace (plain_ledger pages spans) (block_of_span s) → IsPlaced spans s
+placed_from pages spans s place = (
+  place.small,
+  λ small. spans_of_blocks (λ c. (c.size ≡ s.size) ⊎ IsOffPage c.address c.size (page_of s.addr)) spans (place.alike small),
+  place.large,
+)
+
+in_place_from : (pages : ℕ) (spans : List Span) (s : Span) → IsPlaced spans s → IsInPlace (plain_ledger pages spans) (block_of_span s)
+in_place_from pages spans s placed =
+    record {
+      small = placed.0;
+      alike = λ small. All-map (λ (c : Block). (c.size ≡ s.size) ⊎ IsOffPage c.address c.size (page_of s.addr)) block_of_span spans (placed.1 small);
+      large = placed.2;
+    }
+
+-- the ledger is sound exactly where the spans lie in the pages, are apart, and are placed
+pub sound_from :
+    (pages : ℕ) (spans : List Span) → All (λ s. LiesIn pages s) spans → AreApart (map block_of_span spans) → All (λ s. IsPlaced spans s) spans
+    → Sound (plain_ledger pages spans)
+sound_from pages spans inside apart placed =
+    let ledger : Ledger = plain_ledger pages spans in
+    record {
+      in_space = All-map (λ (b : Block). (HEAP_START ≤ b.address) × (b.address + b.size ≤ page_address pages)) block_of_span spans inside;
+      apart = apart;
+      sides = All-map (λ (b : Block). LiesInside ledger b.address b.size ⊎ LiesOutside ledger b.address b.size) block_of_span spans
+          (λ k d h. inr (outside pages spans (get_or spans k d).addr (get_or spans k d).size));
+      places = All-map (λ (b : Block). LiesOutside ledger b.address b.size → IsInPlace ledger b) block_of_span spans
+          (λ k d h out. in_place_from pages spans (get_or spans k d) (placed k d h));
+    }
+
+pub inside_from : (pages : ℕ) (spans : List Span) → Sound (plain_ledger pages spans) → All (λ s. LiesIn pages s) spans
+inside_from pages spans sound = spans_of_blocks (λ b. (HEAP_START ≤ b.address) × (b.address + b.size ≤ page_address pages)) spans sound.in_space
+
+pub all_placed_from : (pages : ℕ) (spans : List Span) → Sound (plain_ledger pages spans) → All (λ s. IsPlaced spans s) spans
+all_placed_from pages spans sound =
+    let ledger : Ledger = plain_ledger pages spans in
+    let places : All (λ s. LiesOutside ledger s.addr s.size → IsInPlace ledger (block_of_span s)) spans =
+    spans_of_blocks (λ b. LiesOutside ledger b.address b.size → IsInPlace ledger b) spans sound.places in
+    λ k d h. placed_from pages spans (get_or spans k d) (places k d h (outside pages spans (get_or spans k d).addr (get_or spans k d).size))

@@ -10,7 +10,7 @@ mod words;
 
 pub use heap::{Heap, Made, MakeFail};
 pub use laws::objects_stay;
-pub use plain::{Span, are_apart};
+pub use plain::{Span, is_sound};
 
 #[cfg(test)]
 mod tests;

@@ -12,6 +12,7 @@ loop-b-preserved c =
     (c.are_two_apart.ensures.0 c.if-not-are_two_apart.false)
 
 pub returns : goal.returns
-returns c =
-    ( λ holds. subst (λ xs. All (λ (b : Span). AreTwoApart c.args.a b) xs) (take_all c.loop-b.b-index c.args.others.now c.loop-b-test.false) c.loop-b.invariant,
-      λ all. refl )
+returns c = (
+  λ holds. subst (λ xs. All (λ (b : Span). AreTwoApart c.args.a b) xs) (take_all c.loop-b.b-index c.args.others.now c.loop-b-test.false) c.loop-b.invariant,
+  λ all. refl,
+)
