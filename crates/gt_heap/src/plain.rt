@@ -1,6 +1,6 @@
 //! A plain slow program beside the heap: whether blocks lie as a ledger without an image wants them to. It looks at each
 //! pair of them, for tests on small cases.
-ghost use Rattle.std.specs.Prelude.{◌≡◌, ◌<◌, All, map};
+ghost use Rattle.std.specs.Prelude.{◌≡◌, ◌%◌, ◌<◌, All, map};
 ghost use Rattle.std.specs.Bool.{Decides};
 ghost use Rattle.gt_heap.specs.Ledger.{AreApart, IsOffPage, Sound, offset_of, page_of};
 ghost use Rattle.gt_heap.specs.Plain.{AreTwoApart, IsAlike, IsPlaced, LiesIn, block_of_span, plain_ledger};
@@ -16,7 +16,6 @@ pub struct Span {
 
 /// Whether blocks lie in so many pages, share no byte, and lie in their places.
 pub fn is_sound(pages: u32, spans: &[Span]) -> bool
-    requires { All (λ s. 0 < s.size) spans.now }
     ensures { Decides result (Sound (plain_ledger pages spans.now)) }
 {
     if !all_lie_in(pages, spans) {
@@ -117,20 +116,25 @@ fn all_are_alike(s: Span, others: &[Span]) -> bool
     true
 }
 
+// What is left of a number, all of it by 0.
+fn remainder(number: u64, by: u64) -> u64
+    ensures { result ≡ number % by }
+{
+    number.checked_rem(by).unwrap_or(number)
+}
+
 fn is_placed(spans: &[Span], s: Span) -> bool
-    requires { 0 < s.size }
     ensures { Decides result (IsPlaced spans.now s) }
 {
     let (offset, size) = (offset(s.addr), s.size as u64);
     if size <= PAGE_BYTES {
-        offset % size == 0 && offset + size <= PAGE_BYTES && all_are_alike(s, spans)
+        remainder(offset, size) == 0 && offset + size <= PAGE_BYTES && all_are_alike(s, spans)
     } else {
         offset == 0
     }
 }
 
 fn all_are_placed(spans: &[Span]) -> bool
-    requires { All (λ s. 0 < s.size) spans.now }
     ensures { Decides result (All (λ s. IsPlaced spans.now s) spans.now) }
 {
     for s in spans {

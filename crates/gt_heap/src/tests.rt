@@ -139,3 +139,33 @@ fn objects_fill_the_pages_in_order(rt: HostRuntime) -> Result<(), Fail> {
     assert_eq!(rt; link(&program, &mut heap, &mut space), Err(full));
     Ok(())
 }
+
+fn span(addr: u32, size: u32) -> Span {
+    Span { addr, size }
+}
+
+#[test]
+fn places_of_blocks(rt: HostRuntime) {
+    // The first block of the heap, the last one of its page, and the next.
+    let heap = [
+        span(0x1000_0000, 32),
+        span(0x1000_0fe0, 32),
+        span(0x1000_1000, 32),
+    ];
+    assert!(rt; is_sound(16, &heap));
+    assert!(rt; is_sound(16, &[]));
+    // The last block of the space, and one behind it; one below the heap.
+    assert!(rt; is_sound(16, &[span(0x1000_ffe0, 32)]));
+    assert!(rt; !is_sound(16, &[span(0x1001_0000, 32)]));
+    assert!(rt; !is_sound(16, &[span(0x0fff_ffe0, 32)]));
+    // One block twice; one at no multiple of its size; one across the end of its page.
+    assert!(rt; !is_sound(16, &[span(0x1000_0020, 32), span(0x1000_0020, 32)]));
+    assert!(rt; !is_sound(16, &[span(0x1000_0010, 32)]));
+    assert!(rt; !is_sound(16, &[span(0x1000_0ff0, 48)]));
+    // Two sizes in one page, and in two.
+    assert!(rt; !is_sound(16, &[span(0x1000_0000, 32), span(0x1000_0800, 64)]));
+    assert!(rt; is_sound(16, &[span(0x1000_0000, 32), span(0x1000_1800, 64)]));
+    // Two pages from a page's start, and from its middle.
+    assert!(rt; is_sound(16, &[span(0x1000_1000, 8192)]));
+    assert!(rt; !is_sound(16, &[span(0x1000_1800, 8192)]));
+}

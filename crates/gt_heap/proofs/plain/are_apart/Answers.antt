@@ -1,4 +1,3 @@
-use Rattle.std.proofs.Common.{sym, ◌∙◌}
 use Rattle.gt_heap.proofs.PlainSpans.{goes_on, stops}
 use Rattle.gt_heap.proofs.plain.are_apart.Goals as goal
 
