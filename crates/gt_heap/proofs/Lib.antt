@@ -1,0 +1,12 @@
+pub mod Quotients
+pub mod Each
+pub mod FittingSize
+pub mod Blocks
+pub mod Leaves
+pub mod Singles
+pub mod SmallBytes
+pub mod Memory
+pub mod Goodness
+pub mod Writes
+pub mod Graphs
+pub mod PlainSpans

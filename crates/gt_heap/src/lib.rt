@@ -1,0 +1,16 @@
+//! The typed heap: objects in the raw bytes of a space, at places that a ledger names. The layers above make objects, read
+//! and write their pointers and those of the roots, and know of the bytes only that they stand for the graph of the objects.
+#![tactic(auto)]
+
+mod heap;
+mod laws;
+mod plain;
+mod sizes;
+mod words;
+
+pub use heap::{Heap, Made, MakeFail};
+pub use laws::objects_stay;
+pub use plain::{Span, is_sound};
+
+#[cfg(test)]
+mod tests;
