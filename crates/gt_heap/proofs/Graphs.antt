@@ -16,7 +16,8 @@ use Rattle.gt_heap.specs.Values.{Object, ObjectIsZero, IsZero, AllZero, types_of
 use Rattle.gt_heap.specs.Ledger.{Room}
 use Rattle.gt_heap.specs.Graph.{Graph, Makes, SetsPart, leaf_of}
 use Rattle.gt_heap.specs.Heap.{IsFirst, IsFresh, IsHeap, IsPlain, IsObject, IsTarget, PartIs, SetsOnly, IsPointer, Places, the_node, per_page, address_of, block_of, each_from, fields_of, graph_of, ledger_of, leaves_at, object_at, pointer_of, word_of}
-use Rattle.gt_heap.proofs.Each.{Contains-each, each_from-same, each-push, each-split}
+use Rattle.gt_heap.proofs.Quotients.{ordered}
+use Rattle.gt_heap.proofs.Each.{All-each_from, Contains-each, each_from-same, each-push, each-split}
 use Rattle.gt_heap.proofs.Blocks.{one_more, next_place, with_next, room_left, no_room}
 use Rattle.gt_heap.proofs.Leaves.{leaf_at, SameWords, part_of-leaves_at, leaves_at-same, leaves_at-with_part}
 use Rattle.gt_heap.proofs.Memory.{few_bytes, Kept, kept, size_fits, fields_of-first, inside_root, inside_field}
@@ -304,9 +305,12 @@ pub made_graph :
     (graph_of program (one_more places) (with_zeros places range))
 made_graph program places range heap room =
     let old = kept program places range heap in
+    let small = (size_fits program places old.first old.fits).small in
     record {
       object = object_of program places (with_zeros places range) places.made;
       block = block_of places places.made;
+      new_name = All-each_from (λ p. p.id ≢ address_of places places.made) (object_of program places range) 0 places.made
+          (λ k from to same. omega (arith, same, small.some, ordered places.size k places.made small (omega (arith, to))));
       kind = refl;
       single = refl;
       no_tail = refl;
@@ -367,6 +371,15 @@ pub none_left :
 none_left program old range places view heap full =
     let here : IsHeap program places range = subst (λ p. IsHeap program p range) (sym view) heap in
     subst (λ p. Room (ledger_of p) p.size → ⊥) view (no_room places (size_fits program places here.first here.fits).small full)
+
+-- and room where it finds some
+pub some_left :
+    (program : Program) (old : Places) (range : Range) (places : Places) → places ≡ old → IsHeap program old range
+    → (places.made ≡ places.pages * per_page places.size → ⊥) → Room (ledger_of old) old.size
+some_left program old range places view heap not_full =
+    let here : IsHeap program places range = subst (λ p. IsHeap program p range) (sym view) heap in
+    let less : places.made < places.pages * per_page places.size = omega (arith, here.room, not_full) in
+    subst (λ p. Room (ledger_of p) p.size) view (room_left places (size_fits program places here.first here.fits).small less)
 
 -- ---- a fresh heap
 

@@ -46,6 +46,7 @@ pub record IsGood (program : Program) (g : Graph) : Type 0 where
 pub record Makes (program : Program) (node : TypeId) (old : Graph) (address size : ℕ) (new : Graph) : Type 0 where
   pub object : Object
   pub block : Block
+  pub new_name : All (λ o. o.id ≢ object.id) old.objects
   pub kind : object.kind ≡ Nodes node
   pub single : object.count ≡ 1
   pub no_tail : object.capacity ≡ 0

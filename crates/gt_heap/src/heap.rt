@@ -1,10 +1,11 @@
 //! A heap of objects of one structure, whose fields are plain pointers to it. Nothing is freed yet.
-ghost use Rattle.std.specs.Prelude.{◌≡◌, ◌*◌, ◌<◌, ◌≤◌, [], ◌∷◌, Some, IfOk, IfErr, OnOk, OnErr, length};
+ghost use Rattle.std.specs.Prelude.{◌≡◌, ◌+◌, ◌*◌, ◌<◌, ◌≤◌, ◌↔◌, [], ◌∷◌, Some, IfOk, IfErr, IsTrue, OnOk, OnErr, length};
 ghost use Rattle.gt_space.specs.Range.{fresh_range};
+ghost use Rattle.gt_space.specs.Numbers.{u64_at};
 ghost use Rattle.gt_heap.specs.Tree.{part_at, with_part};
 ghost use Rattle.gt_heap.specs.Ledger.{Room, rounded};
 ghost use Rattle.gt_heap.specs.Graph.{Makes, leaf_of};
-ghost use Rattle.gt_heap.specs.Heap.{IsFirst, IsFresh, IsHeap, IsObject, IsTarget, KeepsObjects, PartIs, SetsOnly, fields_of, graph_of};
+ghost use Rattle.gt_heap.specs.Heap.{IsFirst, IsFresh, IsHeap, IsObject, IsTarget, KeepsObjects, PartIs, SetsOnly, fields_of, graph_of, pointer_of};
 
 use crate::sizes::{block_address, rounded_size};
 use crate::words::{read_pointer, write_pointer};
@@ -111,12 +112,25 @@ impl Heap {
         })
     }
 
+    /// Whether there is a place for one more object.
+    pub fn has_room(&self, program: &Program, space: &Space) -> bool
+        requires heap { IsHeap program.now self.now space.now }
+        ensures room { IsTrue result ↔ Room (graph_of program.now self.now space.now).ledger self.now.size }
+    {
+        let places = self.pages * (PAGE_BYTES as u32 / self.size);
+        if places == self.made {
+            return false;
+        }
+        true
+    }
+
     /// What a root points to: None for null, else the address of the object.
     pub fn root(&self, program: &Program, space: &Space, root: u32) -> Option<u64>
         requires heap { IsHeap program.now self.now space.now }
         requires place { root < length program.now.roots }
         ensures leaf { part_at (graph_of program.now self.now space.now).statics (root ∷ []) ≡ Some (leaf_of result) }
         ensures single { IsTarget program.now self.now space.now result }
+        ensures word { result ≡ pointer_of (u64_at space.now (space.now.start + 8 * root)) }
     {
         read_pointer(space, space.start() + POINTER_BYTES * root as u64)
     }
@@ -128,6 +142,7 @@ impl Heap {
         requires place { field < fields_of program.now }
         ensures leaf { PartIs (graph_of program.now self.now space.now).objects object (0 ∷ field ∷ []) (leaf_of result) }
         ensures single { IsTarget program.now self.now space.now result }
+        ensures word { result ≡ pointer_of (u64_at space.now (object + 8 * field)) }
     {
         read_pointer(space, object + POINTER_BYTES * field as u64)
     }

@@ -1,0 +1,21 @@
+#!/usr/bin/env bash
+# Makes 32,768 and 65,536 objects and compares the times. Run by hand, from any folder; the ratio should stay under 3.
+set -eu
+root=$(cd "$(dirname "$0")/.." && pwd)
+work=$(mktemp -d)
+trap 'rm -rf "$work"' EXIT
+cp "$root/examples/node.h" "$work/node.h"
+for n in 32768 65536; do
+  for ((i = 0; i < n; i++)); do echo "new \$v$i node"; done >"$work/$n.gty"
+done
+"$root/gtyheap" "$work/32768.gty" "$work/node.h" >/dev/null
+seconds() {
+  local start end
+  start=$(date +%s%N)
+  for _ in 1 2 3 4 5; do "$root/gtyheap" "$work/$1.gty" "$work/node.h" >/dev/null; done
+  end=$(date +%s%N)
+  echo $((end - start))
+}
+small=$(seconds 32768)
+large=$(seconds 65536)
+awk -v a="$small" -v b="$large" 'BEGIN { printf "32768: %.3f s, 65536: %.3f s, ratio %.2f\n", a / 5e9, b / 5e9, b / a }'

@@ -1,0 +1,13 @@
+mod CompleteLemmas
+mod EndLemmas
+mod GoodLemmas
+mod InputLemmas
+mod RunLemmas
+mod ShowDigits
+mod ShowFields
+mod ShowSpots
+mod StepMaking
+mod StepMoves
+mod StepObjects
+mod StepPaths
+mod VarsEntries

@@ -1,0 +1,41 @@
+-- The files that a call names, in the order in which they are read, and their texts.
+use Rattle.std.specs.Prelude.{◌≡◌, ℕ, ◌+◌, ◌≤◌, List, [], ◌∷◌, ◌++◌, length, Option, Some, None}
+use Rattle.std.specs.List.{AllByRecursion}
+use Rattle.gt_io.specs.Held.{Held}
+use Rattle.gt_io.specs.Reads.{Tells}
+use Rattle.gt_run.specs.Call.{Call}
+use Rattle.gt_run.specs.declared.TheConstants.{MAX_HEADER_BYTES, MAX_SCRIPT_BYTES}
+
+-- a file: its place among the words, 0 for the script and i for the i-th header, its name, and its limit in bytes
+pub record File : Type 0 where
+  pub word : ℕ
+  pub name : List ℕ
+  pub limit : ℕ
+
+-- the headers from this place on
+abbrev pub headers_from : ℕ → List (List ℕ) → List File
+headers_from word [] = []
+headers_from word (name ∷ names) = record { word = word; name = name; limit = MAX_HEADER_BYTES } ∷ headers_from (word + 1) names
+
+-- the headers in order, and then the script
+abbrev pub files_in_order : Call → List File
+files_in_order call = headers_from 1 call.headers ++ record { word = 0; name = call.script; limit = MAX_SCRIPT_BYTES } ∷ []
+
+-- the bytes of a file are within its limit, and those that are told
+abbrev pub IsTextOf : Option Held → File → List ℕ → Type 0
+IsTextOf told file bytes = (length bytes ≤ file.limit) × Tells told file.name (Some bytes)
+
+-- the bytes of the headers in order, and those of the script
+pub record Texts : Type 0 where
+  pub headers : List (List ℕ)
+  pub script : List ℕ
+
+-- each file has its text
+abbrev pub AreTextsOf : Option Held → List File → List (List ℕ) → Type 0
+AreTextsOf told [] [] = Unit {0}
+AreTextsOf told (file ∷ files) (text ∷ texts) = IsTextOf told file text × AreTextsOf told files texts
+AreTextsOf told files texts = ⊥
+
+-- the texts of a call
+abbrev pub AreTexts : Option Held → Call → Texts → Type 0
+AreTexts told call texts = AreTextsOf told (files_in_order call) (texts.headers ++ texts.script ∷ [])

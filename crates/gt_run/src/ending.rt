@@ -1,0 +1,14 @@
+use crate::Refusal;
+
+/// How the program ends.
+#[derive(Clone, Copy, Debug, PartialEq, Eq)]
+pub enum Ending {
+    /// Every line was answered.
+    Finished,
+    /// No line was run.
+    Refused(Refusal),
+    /// The sink failed.
+    SinkFailed,
+    /// Want of memory.
+    NoMemory,
+}

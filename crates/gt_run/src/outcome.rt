@@ -1,0 +1,88 @@
+// What the program tells at its end.
+ghost use Rattle.std.specs.Prelude.{◌≡◌, if◌then◌else◌};
+ghost use Rattle.std.specs.List.{list_any};
+ghost use Rattle.gt_run.specs.Ended.{is_refusal as is_refusal_of, refusal_status as refusal_status_of};
+
+use crate::ending::Ending;
+use crate::{Answer, Refusal};
+use gt_types::List;
+
+/// How a call of the program ended: its status, the answers so far, and the refusal where there was one.
+/// The status is 0 where all lines were answered, 1 where one of the answers is a refusal, 2 or 3 where no line was run, 4
+/// where the sink failed, and 9 for want of memory.
+#[derive(Debug, Drop)]
+pub struct Outcome {
+    pub status: u8,
+    pub answers: List<Answer>,
+    pub refusal: Option<Refusal>,
+}
+
+impl Outcome {
+    ghost use Rattle.std.specs.Prelude.{◌≡◌};
+    ghost use Rattle.gt_run.specs.Ended.{status_of, refusal_of};
+
+    /// The outcome of an ending.
+    pub fn of(ending: Ending, answers: List<Answer>) -> Outcome
+        ensures status { result.status ≡ status_of ending answers }
+        ensures answers { result.answers ≡ answers }
+        ensures refusal { result.refusal ≡ refusal_of ending }
+    {
+        match ending {
+            Ending::Finished => Outcome {
+                status: finished_status(&answers),
+                answers,
+                refusal: None,
+            },
+            Ending::Refused(refusal) => Outcome {
+                status: refusal_status(refusal),
+                answers,
+                refusal: Some(refusal),
+            },
+            Ending::SinkFailed => Outcome {
+                status: 4,
+                answers,
+                refusal: None,
+            },
+            Ending::NoMemory => Outcome {
+                status: 9,
+                answers,
+                refusal: None,
+            },
+        }
+    }
+}
+
+// 1 where some answer is a refusal, else 0.
+fn finished_status(answers: &List<Answer>) -> u8
+    ensures { result ≡ (if list_any is_refusal_of answers.now then 1 else 0) }
+{
+    let refused = any_refusal(answers.as_slice());
+    if refused { 1 } else { 0 }
+}
+
+fn any_refusal(answers: &[Answer]) -> bool
+    ensures { result ≡ list_any is_refusal_of answers.now }
+{
+    answers.iter().any(|answer| is_refusal(answer))
+}
+
+fn is_refusal(answer: &Answer) -> bool
+    ensures { result ≡ is_refusal_of answer.now }
+{
+    match answer {
+        Answer::Refused(_) => true,
+        Answer::Done => false,
+        Answer::Made { .. } => false,
+        Answer::Shown(_) => false,
+    }
+}
+
+// 3 for a file, else 2.
+fn refusal_status(refusal: Refusal) -> u8
+    ensures { result ≡ refusal_status_of refusal }
+{
+    match refusal {
+        Refusal::File { .. } => 3,
+        _ => 2,
+    }
+}

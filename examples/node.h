@@ -1,0 +1,1 @@
+struct GTY(()) node { struct node *next; struct node *other; }; static GTY(()) struct node *head;
