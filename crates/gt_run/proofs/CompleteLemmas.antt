@@ -1,18 +1,15 @@
 -- Where all is well, nothing is refused.
 use Rattle.std.proofs.Common.{◌≡◌, ℕ, ◌<◌, ◌≤◌, ◌⊎◌, List, [], ◌∷◌, ◌++◌, length, refl, sym, ap, subst, ◌∙◌, Some, None, Option, inl, inr, arith, Bool, true, false, cond}
 use Rattle.std.specs.Prelude.{IsSomeAnd}
-use Rattle.std.specs.List.{AllByRecursion, list_any}
-use Rattle.gt_types.specs.declared.program.Program.{Program}
+use Rattle.std.specs.List.{list_any}
 use Rattle.gt_space.specs.Range.{Range}
 use Rattle.gt_io.specs.Held.{Held, contents}
-use Rattle.gt_script.specs.declared.command.Line.{Line}
 use Rattle.gt_script.specs.Script.{Parsed}
-use Rattle.gt_run.specs.Call.{Call, call_of}
-use Rattle.gt_run.specs.Texts.{File, Texts, files_in_order, AreTextsOf}
+use Rattle.gt_run.specs.Call.{Call}
+use Rattle.gt_run.specs.Texts.{File, files_in_order, AreTextsOf}
 use Rattle.gt_run.specs.Comes.{Comes, Declares, IsRefusedFor}
 use Rattle.gt_run.specs.Complete.{AreHeld, IsWell}
 use Rattle.gt_run.specs.Ended.{Ended, Ends, status_of, refusal_of, is_refusal}
-use Rattle.gt_run.specs.declared.answer.Answer.{Answer}
 use Rattle.gt_run.specs.declared.ending.Ending.{Ending}
 use Rattle.gt_run.specs.declared.ending.Ending.TheVariants.{Finished, Refused, SinkFailed, NoMemory}
 use Rattle.gt_run.specs.declared.outcome.Outcome.{Outcome}

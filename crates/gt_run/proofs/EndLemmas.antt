@@ -1,18 +1,17 @@
 -- What the program comes to, from what its parts did.
-use Rattle.std.proofs.Common.{◌≡◌, ℕ, ◌*◌, ◌<◌, ◌≤◌, ◌⊎◌, List, [], ◌∷◌, ◌++◌, length, map, All, Bool, true, false, cond, refl, sym, ap, subst, ◌∙◌, append-nil, Some, None, Option, inl, inr, arith}
+use Rattle.std.proofs.Common.{◌≡◌, ℕ, ◌*◌, ◌⊎◌, List, [], ◌∷◌, ◌++◌, length, map, All, Bool, true, false, cond, refl, sym, ap, subst, ◌∙◌, Some, None, Option, inl, inr, arith}
 use Rattle.std.specs.List.{AllByRecursion}
 use Rattle.std.proofs.lemmas.List.{length-map}
 use Rattle.std.proofs.lemmas.List.Elements.{All-nil, All-cons}
 use Rattle.gt_types.specs.declared.program.Program.{Program}
-use Rattle.gt_types.specs.declared.program.Field.{Field}
 use Rattle.gt_space.specs.Range.{Range, IsSized}
 use Rattle.gt_io.specs.Held.{Held}
 use Rattle.gt_script.specs.declared.command.Line.{Line}
-use Rattle.gt_script.specs.Script.{Parsed, AreLines}
-use Rattle.gt_first.specs.Header.{Form, IsForm, field_of, program_of, pointer_type, Declares as DeclaresAlone}
+use Rattle.gt_script.specs.Script.{AreLines}
+use Rattle.gt_first.specs.Header.{Form, IsForm, field_of, program_of, Declares as DeclaresAlone}
 use Rattle.gt_heap.specs.Heap.{IsFirst, IsPlain}
 use Rattle.gt_run.specs.Call.{Call, Settings, call_of, default_settings}
-use Rattle.gt_run.specs.Asks.{Asks, AsksFor, Runs}
+use Rattle.gt_run.specs.Asks.{AsksFor, Runs}
 use Rattle.gt_run.specs.Comes.{Comes, Declares}
 use Rattle.gt_run.specs.Lines.{IsPlainLine, Opened, RanFirst, RunsLines, RunsScript}
 use Rattle.gt_run.specs.Refuses.{HasLine, Refuses}

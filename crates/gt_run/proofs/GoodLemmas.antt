@@ -1,5 +1,5 @@
 -- A run leaves the numbers as they were, and a session is a good state.
-use Rattle.std.proofs.Common.{◌≡◌, ◌≤◌, ℕ, List, [], ◌∷◌, Some, Option, refl, sym, ap, subst, ◌∙◌, arith}
+use Rattle.std.proofs.Common.{◌≡◌, ◌≤◌, List, [], ◌∷◌, Option, ap, ◌∙◌, arith}
 use Rattle.gt_types.specs.declared.program.Program.{Program}
 use Rattle.gt_script.specs.declared.command.Line.{Line}
 use Rattle.gt_script.specs.declared.command.Command.{Command}
@@ -17,7 +17,6 @@ use Rattle.gt_io.specs.Held.{Held}
 use Rattle.gt_run.specs.declared.TheConstants.{MAX_MIN_EXPAND, MAX_MIN_HEAPSIZE, MAX_ALLOCATED}
 use Rattle.gt_run.specs.declared.answer.Answer.{Answer}
 use Rattle.gt_run.specs.declared.answer.Answer.TheVariants.{Done, Made, Shown, Refused}
-use Rattle.gt_run.specs.declared.answer.Why.{Why}
 use Rattle.gt_run.specs.declared.answer.Why.TheVariants.{Unbound, NoType, NoField, Full}
 
 same : (s t : State) → t ≡ s → HasSameNumbers s t

@@ -1,20 +1,18 @@
 -- What the reading of the words and the files comes to, for a call of one header.
-use Rattle.std.proofs.Common.{◌≡◌, ℕ, ◌≤◌, List, [], ◌∷◌, ◌++◌, length, refl, sym, Some, Option, inl, inr}
+use Rattle.std.proofs.Common.{◌≡◌, ℕ, List, [], ◌∷◌, refl, sym, Some, Option, inl, inr}
 use Rattle.gt_types.specs.declared.program.Program.{Program}
 use Rattle.gt_io.specs.Held.{Held}
 use Rattle.gt_script.specs.declared.command.Line.{Line}
 use Rattle.gt_script.specs.Script.{Parsed}
 use Rattle.gt_first.specs.Header.{Declares as DeclaresAlone}
 use Rattle.gt_run.specs.Call.{Call, call_of, default_settings}
-use Rattle.gt_run.specs.Texts.{File, Texts, IsTextOf, AreTexts}
-use Rattle.gt_run.specs.Comes.{Comes, FileComes, IsRefusedFor}
+use Rattle.gt_run.specs.Texts.{File, Texts, IsTextOf}
+use Rattle.gt_run.specs.Comes.{Comes}
 use Rattle.gt_run.specs.Halts.{Halts, HaltsAt}
-use Rattle.gt_run.specs.Asks.{Asks, AsksFor}
+use Rattle.gt_run.specs.Asks.{AsksFor}
 use Rattle.gt_run.specs.declared.TheConstants.{MAX_HEADER_BYTES, MAX_SCRIPT_BYTES}
 use Rattle.gt_run.specs.declared.inputs.Halt.{Halt}
 use Rattle.gt_run.specs.declared.inputs.Halt.TheVariants as halt
-use Rattle.gt_run.specs.declared.refusal.FileWhy.{FileWhy}
-use Rattle.gt_run.specs.declared.refusal.Refusal.{Refusal}
 use Rattle.gt_run.specs.declared.refusal.Refusal.TheVariants.{Words, Header, Script, NotBuilt, File as InFile}
 
 -- the call of one header

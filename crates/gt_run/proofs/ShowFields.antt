@@ -1,5 +1,5 @@
 -- The texts of an object's fields, one after another.
-use Rattle.std.proofs.Common.{◌≡◌, ℕ, zero, suc, ◌+◌, ◌-◌, ◌*◌, ◌<◌, ◌≤◌, ◌⊎◌, inl, inr, List, [], ◌∷◌, ◌++◌, length, get_or, drop, refl, sym, ap, ap₂, subst, ◌∙◌, Option, Some, None, IfSome, arith, append-nil}
+use Rattle.std.proofs.Common.{◌≡◌, ℕ, zero, suc, ◌+◌, ◌-◌, ◌*◌, ◌<◌, ◌≤◌, inl, inr, List, [], ◌∷◌, ◌++◌, length, drop, refl, sym, ap, ap₂, subst, ◌∙◌, Option, Some, None, IfSome, arith, append-nil}
 use Rattle.std.specs.Prelude.{codes, encode_utf8_all}
 use Rattle.std.specs.List.{slice_get}
 use Rattle.std.proofs.Math.Seq.{drop-cons}
@@ -11,7 +11,7 @@ use Rattle.gt_types.specs.declared.program.Structure.{Structure}
 use Rattle.gt_types.specs.declared.program.Program.{Program}
 use Rattle.gt_space.specs.Range.{Range}
 use Rattle.gt_space.specs.Numbers.{u64_at}
-use Rattle.gt_heap.specs.Tree.{Null, To, And}
+use Rattle.gt_heap.specs.Tree.{Null, To}
 use Rattle.gt_heap.specs.Graph.{leaf_of}
 use Rattle.gt_heap.specs.Heap.{IsFirst, IsPlain, leaves_at, pointer_of}
 use Rattle.gt_run.specs.Show.{IsShown, AreShown, gap_before}

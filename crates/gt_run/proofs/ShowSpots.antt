@@ -1,17 +1,16 @@
 -- The text of what stands at a root, at a field, or of an object.
-use Rattle.std.proofs.Common.{◌≡◌, ℕ, ◌+◌, ◌<◌, ◌≤◌, ◌⊎◌, inl, inr, List, [], ◌∷◌, ◌++◌, length, refl, sym, ap, subst, ◌∙◌, Option, Some, None, arith}
+use Rattle.std.proofs.Common.{◌≡◌, ℕ, ◌<◌, inl, inr, List, [], ◌∷◌, ◌++◌, length, sym, ap, subst, Option, Some, None, arith}
 use Rattle.std.specs.Prelude.{codes, Contains}
 use Rattle.std.specs.List.{slice_get}
-use Rattle.std.proofs.lemmas.Option.{slice_get_cases, get_or_from_slice_get}
+use Rattle.std.proofs.lemmas.Option.{slice_get_cases}
 use Rattle.gt_types.specs.declared.types.TypeId.{TypeId}
-use Rattle.gt_types.specs.declared.types.Ty.{Ty}
 use Rattle.gt_types.specs.declared.program.Field.{Field}
 use Rattle.gt_types.specs.declared.program.Root.{Root}
 use Rattle.gt_types.specs.declared.program.Structure.{Structure}
 use Rattle.gt_types.specs.declared.program.Program.{Program}
 use Rattle.gt_space.specs.Range.{Range}
 use Rattle.gt_heap.specs.Tree.{Tree, Rec, part_at}
-use Rattle.gt_heap.specs.Values.{Kind, Nodes, Object, element_of}
+use Rattle.gt_heap.specs.Values.{Nodes, Object, element_of}
 use Rattle.gt_heap.specs.Graph.{leaf_of}
 use Rattle.gt_heap.specs.Heap.{IsFirst, IsPlain, IsObject, PartIs, Places, the_node, fields_of, graph_of, leaves_at, object_at}
 use Rattle.gt_run.specs.Show.{IsShown, AreShown}

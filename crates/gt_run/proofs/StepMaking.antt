@@ -1,14 +1,13 @@
 -- The making of an object, and the binding of a variable to it.
-use Rattle.std.proofs.Common.{◌≡◌, ℕ, ◌*◌, ◌<◌, Bool, true, false, cond, List, [], ◌∷◌, ◌++◌, length, refl, sym, ap, subst, ◌∙◌, Option, Some, None, IsSome}
+use Rattle.std.proofs.Common.{◌≡◌, ℕ, ◌*◌, Bool, true, false, cond, List, [], ◌∷◌, length, refl, sym, ap, subst, ◌∙◌, Option, Some}
 use Rattle.std.specs.Prelude.{Contains}
 use Rattle.std.specs.Ordering.{nat_cmp}
 use Rattle.std.specs.Cmp.Lexicographic.{slice_cmp}
 use Rattle.std.specs.BTreeMap.{is_at}
 use Rattle.std.proofs.lemmas.List.Elements.{Contains-append_left, Contains-push}
-use Rattle.gt_types.specs.declared.types.TypeId.{TypeId}
 use Rattle.gt_types.specs.declared.program.Program.{Program}
 use Rattle.gt_space.specs.Range.{Range}
-use Rattle.gt_heap.specs.Values.{Object, IsSingle}
+use Rattle.gt_heap.specs.Values.{IsSingle}
 use Rattle.gt_io.specs.Held.{Held}
 use Rattle.gt_heap.specs.Ledger.{Block, Room}
 use Rattle.gt_heap.specs.Graph.{Graph, Makes}
@@ -20,7 +19,7 @@ use Rattle.gt_run.specs.declared.answer.Answer.TheVariants.{Refused}
 use Rattle.gt_run.specs.declared.answer.Why.{Why}
 use Rattle.gt_run.specs.declared.answer.Why.TheVariants.{Full}
 use Rattle.gt_run.specs.declared.session.Session.{Session}
-use Rattle.gt_run.proofs.VarsEntries.{with_variable_twice, meaning-with_variable}
+use Rattle.gt_run.proofs.VarsEntries.{meaning-with_variable}
 use Rattle.gt_run.proofs.ShowSpots.{fields_of-there}
 use Rattle.gt_run.proofs.StepObjects.{each_contained}
 

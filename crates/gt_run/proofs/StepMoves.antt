@@ -1,12 +1,11 @@
 -- The moves of the machine, from what their parts found.
-use Rattle.std.proofs.Common.{◌≡◌, ℕ, ◌+◌, ◌<◌, ◌⊎◌, inl, inr, Bool, true, false, cond, List, [], ◌∷◌, ◌++◌, refl, sym, ap, subst, ◌∙◌, Option, Some, Err, Ok}
-use Rattle.std.specs.Prelude.{Contains}
+use Rattle.std.proofs.Common.{◌≡◌, ℕ, inl, inr, [], ◌∷◌, refl, ap, ◌∙◌, Option, Err, Ok}
 use Rattle.gt_types.specs.declared.program.Program.{Program}
 use Rattle.gt_script.specs.declared.command.Route.{Route}
 use Rattle.gt_script.specs.declared.command.Given.{Given}
 use Rattle.gt_space.specs.Range.{Range}
 use Rattle.gt_io.specs.Held.{Held}
-use Rattle.gt_heap.specs.Tree.{Tree, with_part}
+use Rattle.gt_heap.specs.Tree.{with_part}
 use Rattle.gt_heap.specs.Graph.{Graph, leaf_of}
 use Rattle.gt_heap.specs.Heap.{Places, IsObject, SetsOnly, address_of, fields_of, graph_of, object_at}
 use Rattle.gt_run.specs.State.{State}

@@ -1,5 +1,5 @@
 -- What the words of the command line ask for.
-use Rattle.std.specs.Prelude.{◌≡◌, ℕ, Bool, true, false, not, ◌&&◌, ◌==◌, List, [], ◌∷◌, Option, Some, None, if◌then◌else◌}
+use Rattle.std.specs.Prelude.{◌≡◌, ℕ, Bool, false, not, ◌&&◌, ◌==◌, List, [], ◌∷◌, Option, Some, None, if◌then◌else◌}
 use Rattle.gt_run.specs.declared.TheConstants.{DEFAULT_PAGES, DEFAULT_MIN_EXPAND, DEFAULT_MIN_HEAPSIZE}
 
 -- the pages of the space, and the two numbers by which a collection may be skipped

@@ -1,7 +1,6 @@
 -- What a command may answer, and what it leaves. A refusal changes nothing.
-use Rattle.std.specs.Prelude.{◌≡◌, ◌≢◌, ℕ, ◌*◌, ◌<◌, ◌⊎◌, Bool, true, false, List, [], ◌∷◌, length, Option, Some, None, Contains, slice_get}
+use Rattle.std.specs.Prelude.{◌≡◌, ℕ, ◌⊎◌, true, false, List, [], ◌∷◌, Some, None, Contains, slice_get}
 use Rattle.gt_types.specs.declared.types.TypeId.{TypeId}
-use Rattle.gt_types.specs.declared.types.Ty.{Ty}
 use Rattle.gt_types.specs.declared.program.Field.{Field}
 use Rattle.gt_types.specs.declared.program.Root.{Root}
 use Rattle.gt_types.specs.declared.program.Structure.{Structure}
@@ -9,20 +8,18 @@ use Rattle.gt_types.specs.declared.program.Program.{Program}
 use Rattle.gt_script.specs.declared.command.Command.{Command}
 use Rattle.gt_script.specs.declared.command.Command.TheVariants.{New, Set, Print}
 use Rattle.gt_script.specs.declared.command.Route.{Route}
-use Rattle.gt_script.specs.declared.command.Hop.{Hop}
 use Rattle.gt_script.specs.declared.command.Hop.TheVariants.{Name}
 use Rattle.gt_script.specs.declared.command.Given.{Given}
 use Rattle.gt_script.specs.declared.command.Given.TheVariants.{Integer, Null, Var}
 use Rattle.gt_heap.specs.Tree.{Tree, To, part_at, with_part}
 use Rattle.gt_heap.specs.Tree as tree
-use Rattle.gt_heap.specs.Values.{Kind, Nodes, Object, element_of, HasSize}
+use Rattle.gt_heap.specs.Values.{Nodes, Object, element_of, HasSize}
 use Rattle.gt_heap.specs.Ledger.{Room, rounded}
 use Rattle.gt_heap.specs.Graph.{Graph, Makes, SetsPart}
 use Rattle.gt_run.specs.State.{State, meaning, with_variable}
 use Rattle.gt_run.specs.Show.{IsShown}
 use Rattle.gt_run.specs.declared.answer.Answer.{Answer}
 use Rattle.gt_run.specs.declared.answer.Answer.TheVariants.{Done, Made, Shown, Refused}
-use Rattle.gt_run.specs.declared.answer.Why.{Why}
 use Rattle.gt_run.specs.declared.answer.Why.TheVariants.{Unbound, NoType, NoField, Full}
 
 -- the word is the tag of this structure, which may be an object of its own

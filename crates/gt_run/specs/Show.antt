@@ -1,6 +1,5 @@
 -- The text of a value, by its type.
-use Rattle.std.specs.Prelude.{◌≡◌, ℕ, List, [], ◌∷◌, ◌++◌, Option, Some, None, codes, slice_get, encode_utf8_all}
-use Rattle.gt_types.specs.declared.types.TypeId.{TypeId}
+use Rattle.std.specs.Prelude.{◌≡◌, ℕ, List, [], ◌∷◌, ◌++◌, Some, codes, slice_get, encode_utf8_all}
 use Rattle.gt_types.specs.declared.types.Target.TheVariants as target
 use Rattle.gt_types.specs.declared.types.PtrKind.TheVariants as kind
 use Rattle.gt_types.specs.declared.types.Ty.{Ty}

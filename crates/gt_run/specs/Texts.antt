@@ -1,6 +1,5 @@
 -- The files that a call names, in the order in which they are read, and their texts.
-use Rattle.std.specs.Prelude.{◌≡◌, ℕ, ◌+◌, ◌≤◌, List, [], ◌∷◌, ◌++◌, length, Option, Some, None}
-use Rattle.std.specs.List.{AllByRecursion}
+use Rattle.std.specs.Prelude.{ℕ, ◌+◌, ◌≤◌, List, [], ◌∷◌, ◌++◌, length, Option, Some}
 use Rattle.gt_io.specs.Held.{Held}
 use Rattle.gt_io.specs.Reads.{Tells}
 use Rattle.gt_run.specs.Call.{Call}

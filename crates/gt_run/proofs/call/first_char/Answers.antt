@@ -1,4 +1,4 @@
-use Rattle.std.proofs.Common.{◌≡◌, ℕ, ◌≤◌, List, [], ◌∷◌, ◌++◌, length, Option, arith, sym, ap, ◌∙◌, refl, Some, None, subst}
+use Rattle.std.proofs.Common.{◌≡◌, ℕ, ◌≤◌, List, [], ◌∷◌, ◌++◌, length, Option, arith, sym, ap, ◌∙◌, refl, Some, None}
 use Rattle.std.specs.Prelude.{encode_utf8, encode_utf8_all, MatchOption}
 use Rattle.std.proofs.lemmas.Str.{cons_from_encodes, length-le-encodes}
 use Rattle.gt_run.specs.Call.{IsFirstOf}

@@ -1,4 +1,4 @@
-use Rattle.std.proofs.Common.{◌≡◌, List, ℕ, Option, subst, sym, rules}
+use Rattle.std.proofs.Common.{◌≡◌, List, ℕ, Option, subst, rules}
 use Rattle.gt_types.specs.declared.program.Program.{Program}
 use Rattle.gt_io.specs.Held.{Held}
 use Rattle.gt_first.specs.Header.{Declares}
@@ -6,7 +6,7 @@ use Rattle.gt_script.specs.declared.command.Line.{Line}
 use Rattle.gt_script.specs.Script.{Parsed}
 use Rattle.gt_run.specs.Texts.{IsTextOf}
 use Rattle.gt_run.specs.Halts.{HaltsAt}
-use Rattle.gt_run.proofs.InputLemmas.{header_file, script_file, Halts-header, Halts-script, Comes-header, Comes-script, AsksFor-read}
+use Rattle.gt_run.proofs.InputLemmas.{script_file, Halts-header, Halts-script, Comes-header, Comes-script, AsksFor-read}
 use Rattle.gt_run.proofs.inputs.prepare.Goals as goal
 
 pub returns-in-Err-clause-halted : goal.returns-in-Err-clause-halted

@@ -1,5 +1,4 @@
-use Rattle.std.proofs.Common.{◌≡◌, ◌+◌, drop, rules, inl, inr, ap, ◌∙◌}
-use Rattle.gt_run.specs.Session.{state_of}
+use Rattle.std.proofs.Common.{◌+◌, drop, rules, inl, inr}
 use Rattle.gt_run.proofs.RunLemmas.{Run-more, RanFirst-more, RanFirst-same, Adds-same, Adds-texts, AddsAllBut-front, AddsAllBut-nothing, forms-drop}
 use Rattle.gt_run.proofs.lines.run_lines.Goals as goal
 

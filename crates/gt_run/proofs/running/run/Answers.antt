@@ -1,9 +1,8 @@
-use Rattle.std.proofs.Common.{◌≡◌, ℕ, ◌*◌, List, length, Option, ap, subst, sym, ◌∙◌, rules}
+use Rattle.std.proofs.Common.{◌≡◌, ◌*◌, List, length, subst, sym, rules}
 use Rattle.gt_types.specs.declared.program.Program.{Program}
 use Rattle.gt_space.specs.Range.{Range, IsSized, fresh_range}
 use Rattle.gt_run.specs.Good.{IsGoodState}
 use Rattle.gt_run.proofs.GoodLemmas.{session_good}
-use Rattle.gt_io.specs.Held.{Held}
 use Rattle.gt_script.specs.declared.command.Line.{Line}
 use Rattle.gt_run.specs.Call.{default_settings}
 use Rattle.gt_run.specs.State.{IsOpening}

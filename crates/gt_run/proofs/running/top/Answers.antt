@@ -1,4 +1,4 @@
-use Rattle.std.proofs.Common.{◌≡◌, Option, ap, subst, ◌∙◌}
+use Rattle.std.proofs.Common.{Option, ap, subst, ◌∙◌}
 use Rattle.gt_io.specs.Held.{Held}
 use Rattle.gt_run.specs.Lines.{RunsScript}
 use Rattle.gt_run.specs.Ended.{status_of}

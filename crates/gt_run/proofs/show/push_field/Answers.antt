@@ -1,9 +1,8 @@
-use Rattle.std.proofs.Common.{◌≡◌, ◌<◌, ◌≤◌, ◌+◌, List, ℕ, ◌++◌, length, drop, refl, sym, ap, ◌∙◌, Some, append-nil, arith}
+use Rattle.std.proofs.Common.{◌≡◌, ◌<◌, ◌≤◌, ◌+◌, List, ◌++◌, length, refl, sym, ap, ◌∙◌, Some, append-nil, arith}
 use Rattle.std.specs.List.{slice_get}
 use Rattle.std.proofs.lemmas.Option.{slice_get_read}
 use Rattle.gt_types.specs.declared.program.Field.{Field}
 use Rattle.gt_run.specs.Added.{pointer_text}
-use Rattle.gt_run.specs.Show.{gap_before}
 use Rattle.gt_run.proofs.ShowFields.{gap_before-drop, gap_before-drop_all, added_whole}
 use Rattle.gt_run.proofs.show.push_field.Goals as goal
 

@@ -1,7 +1,7 @@
 use Rattle.gt_run.proofs.ShowSpots.{shown_root}
 use Rattle.gt_heap.specs.Tree.{part_at}
 use Rattle.gt_heap.specs.Heap.{graph_of}
-use Rattle.std.proofs.Common.{[], ◌∷◌, ◌++◌, ◌∙◌, ap, ◌≡◌}
+use Rattle.std.proofs.Common.{[], ◌∷◌, ◌++◌, ◌∙◌, ap}
 use Rattle.gt_run.specs.Added.{pointer_text}
 use Rattle.gt_run.proofs.show.root_text.Goals as goal
 

@@ -1,7 +1,7 @@
 use Rattle.std.proofs.Common.{◌≡◌, ℕ, List, Some, ◌∙◌, ap, subst, IfOk, IfSome, arith, false, []}
 use Rattle.std.specs.String.{string_bytes}
 use Rattle.std.specs.Option.{option_map}
-use Rattle.std.specs.Fmt.{digits_output, padded_integral, styled_digits_output, format_spec}
+use Rattle.std.specs.Fmt.{padded_integral, styled_digits_output, format_spec}
 use Rattle.gt_run.proofs.ShowDigits.{padded-hexadecimal}
 use Rattle.gt_run.proofs.texts.hexadecimal_text.Goals as goal
 

@@ -1,4 +1,4 @@
-use Rattle.std.proofs.Common.{◌≡◌, ap, ◌∙◌}
+use Rattle.std.proofs.Common.{ap, ◌∙◌}
 use Rattle.gt_run.specs.State.{with_variable}
 use Rattle.gt_run.proofs.VarsEntries.{variables_of-put}
 use Rattle.gt_run.proofs.vars.Vars.bind.Goals as goal

@@ -1,4 +1,4 @@
-use Rattle.std.proofs.Common.{◌≡◌, sym, ap, ◌∙◌}
+use Rattle.std.proofs.Common.{sym, ap, ◌∙◌}
 use Rattle.gt_run.specs.State.{meaning}
 use Rattle.gt_run.proofs.VarsEntries.{meaning-variables_of}
 use Rattle.gt_run.proofs.vars.Vars.get.Goals as goal
