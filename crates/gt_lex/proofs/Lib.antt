@@ -1,1 +1,5 @@
+mod Tests
 mod Runs
+mod Numbers
+mod Comments
+mod Literals

@@ -4,6 +4,7 @@ use Rattle.std.specs.Prelude.{◌&&◌, IsTrue}
 use Rattle.std.specs.List.{list_all}
 use Rattle.std.proofs.lemmas.Bool.{false≢true}
 use Rattle.gt_text.specs.Identifier.{starts_identifier_of, continues_identifier_of}
+use Rattle.gt_lex.proofs.Tests.{and_cases}
 use Rattle.gt_lex.specs.Characters.{first_passes}
 use Rattle.gt_lex.specs.Extents.{IsLongest, IsIdentifier}
 use Rattle.gt_lex.specs.Reading.{rest_while}
@@ -28,24 +29,16 @@ pub run_of : (test : ℕ → Bool) (cs : List ℕ) → Run test cs (rest_while t
 run_of test [] = record { front = []; parts = refl; passes = refl; stops = refl }
 run_of test (c ∷ cs) = run_step test c cs (test c) refl (run_of test cs)
 
-and_left : (a b : Bool) → (a && b) ≡ true → a ≡ true
-and_left true b e = refl
-and_left false b e = e
-
-and_right : (a b : Bool) → (a && b) ≡ true → b ≡ true
-and_right true b e = e
-and_right false b e = absurd (false≢true e)
-
 -- characters that pass are among the run
 pub within_run : (test : ℕ → Bool) (xs more front rest : List ℕ) → list_all test xs ≡ true → first_passes test rest ≡ false → xs ++ more ≡ front ++ rest → length xs ≤ length front
 within_run test [] more front rest passes stops e = omega arith
 within_run test (x ∷ xs) more [] rest passes stops e =
-    let one : test x ≡ true = and_left _ _ passes in
+    let one : test x ≡ true = (and_cases (test x) (list_all test xs) passes).0 in
     let same : test x ≡ false = ap (first_passes test) e ∙ stops in
     absurd (false≢true (sym same ∙ one))
 within_run test (x ∷ xs) more (f ∷ front) rest passes stops e =
     let tails : xs ++ more ≡ front ++ rest = cc in
-    omega (arith, within_run test xs more front rest (and_right _ _ passes) stops tails)
+    omega (arith, within_run test xs more front rest ((and_cases (test x) (list_all test xs) passes).1) stops tails)
 
 longest_identifier : (c : ℕ) (front rest other more : List ℕ) → first_passes continues_identifier_of rest ≡ false → IsIdentifier other → other ++ more ≡ c ∷ (front ++ rest) → length other ≤ length (c ∷ front)
 longest_identifier c front rest [] more stops is e = absurd is
