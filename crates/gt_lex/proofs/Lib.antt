@@ -3,3 +3,6 @@ mod Runs
 mod Numbers
 mod Comments
 mod Literals
+mod Opening
+mod Parts
+mod Again

@@ -36,12 +36,15 @@ Stands fresh (Directive ps) rest = IsTrue fresh × AreInDirective ps rest × End
 abbrev pub has_newline : List ℕ → Bool
 has_newline cs = list_any (λ c. c == newline) cs
 
+abbrev pub is_item : Part → Bool
+is_item (Space c) = false
+is_item (Block inside) = false
+is_item (Line inside) = false
+is_item (Continuation end) = false
+is_item (Item kind cs) = true
+
 abbrev pub is_token : Piece → Bool
-is_token (Plain (Space c)) = false
-is_token (Plain (Block inside)) = false
-is_token (Plain (Line inside)) = false
-is_token (Plain (Continuation end)) = false
-is_token (Plain (Item kind cs)) = true
+is_token (Plain p) = is_item p
 is_token (Directive ps) = false
 
 -- whether no token stands on the line before what follows a piece

@@ -1,0 +1,78 @@
+-- What the first characters say of the part that begins.
+use Rattle.std.proofs.Common.{◌≡◌, ℕ, Bool, true, false, cond, List, [], ◌∷◌, refl, sym, ap, ◌∙◌}
+use Rattle.std.specs.Prelude.{◌&&◌, ◌||◌, ◌==◌, IsTrue}
+use Rattle.std.specs.Char.{is_ascii_digit}
+use Rattle.std.proofs.lemmas.Bool.{false≢true, eqb-true}
+use Rattle.gt_text.specs.Identifier.{starts_identifier_of}
+use Rattle.gt_text.specs.WhiteSpace.{is_white_space_of}
+use Rattle.gt_lex.specs.declared.starts.Start.{Start}
+use Rattle.gt_lex.specs.declared.starts.Start.TheVariants.{End, Space, Block, Line, Continuation, Directive, BadNumber, Token}
+use Rattle.gt_lex.specs.declared.tokens.Kind.TheVariants.{Ident, Number, Quoted, CharLit, Punct}
+use Rattle.gt_lex.specs.Characters.{newline, double_quote, hash, single_quote, star, dot, slash, first_passes, first_is}
+use Rattle.gt_lex.specs.Starts.{plain_start, text_start, directive_start, is_bad_number, is_continuation}
+use Rattle.gt_lex.proofs.Tests.{and_cases}
+
+abbrev pub begins_number : List ℕ → Bool
+begins_number [] = false
+begins_number (c ∷ cs) = is_ascii_digit c || ((c == dot) && first_passes is_ascii_digit cs)
+
+-- what is known of the characters where a part begins
+abbrev pub Opens : Start → List ℕ → Type 0
+Opens End cs = Unit {0}
+Opens Space cs = Unit {0}
+Opens Block cs = (inside : List ℕ) × (cs ≡ slash ∷ star ∷ inside)
+Opens Line cs = (inside : List ℕ) × (cs ≡ slash ∷ slash ∷ inside)
+Opens Continuation cs = IsTrue (is_continuation cs)
+Opens Directive cs = IsTrue (first_is hash cs)
+Opens BadNumber cs = IsTrue (is_bad_number cs)
+Opens (Token Ident) cs = IsTrue (first_passes starts_identifier_of cs)
+Opens (Token Number) cs = IsTrue (begins_number cs)
+Opens (Token Quoted) cs = IsTrue (first_is double_quote cs)
+Opens (Token CharLit) cs = IsTrue (first_is single_quote cs)
+Opens (Token Punct) cs = Unit {0}
+
+pick_plain : (cs : List ℕ) (space block line ident number : Bool) → (block ≡ true → Opens Block cs) → (line ≡ true → Opens Line cs) → (ident ≡ true → Opens (Token Ident) cs) → (number ≡ true → Opens (Token Number) cs)
+    → Opens (cond space Space (cond block Block (cond line Line (cond ident (Token Ident) (cond number (Token Number) (Token Punct)))))) cs
+pick_plain cs true block line ident number b l i n = tt
+pick_plain cs false true line ident number b l i n = b refl
+pick_plain cs false false true ident number b l i n = l refl
+pick_plain cs false false false true number b l i n = i refl
+pick_plain cs false false false false true b l i n = n refl
+pick_plain cs false false false false false b l i n = tt
+
+pub first_split : (x : ℕ) (cs : List ℕ) → first_is x cs ≡ true → (rest : List ℕ) × (cs ≡ x ∷ rest)
+first_split x [] e = absurd (false≢true e)
+first_split x (c ∷ cs) e = (cs, ap (λ y. y ∷ cs) (eqb-true c x e))
+
+two_split : (x : ℕ) (c : ℕ) (cs : List ℕ) → ((c == slash) && first_is x cs) ≡ true → (inside : List ℕ) × (c ∷ cs ≡ slash ∷ x ∷ inside)
+two_split x c cs e =
+    let both = and_cases (c == slash) (first_is x cs) e in
+    let is_slash : c ≡ slash = eqb-true c slash both.0 in
+    let split = first_split x cs both.1 in
+    let tail : cs ≡ x ∷ split.0 = split.1 in
+    (split.0, cc)
+
+pub plain_opens : (cs : List ℕ) → Opens (plain_start cs) cs
+plain_opens [] = tt
+plain_opens (c ∷ cs) =
+    pick_plain (c ∷ cs) (is_white_space_of c) ((c == slash) && first_is star cs) ((c == slash) && first_is slash cs) (starts_identifier_of c) (begins_number (c ∷ cs)) (two_split star c cs) (two_split slash c cs) (λ e. e) (λ e. e)
+
+pick_text : (cs : List ℕ) (directive bad double single : Bool) (other : Start) → (directive ≡ true → Opens Directive cs) → (bad ≡ true → Opens BadNumber cs) → (double ≡ true → Opens (Token Quoted) cs) → (single ≡ true → Opens (Token CharLit) cs) → Opens other cs
+    → Opens (cond directive Directive (cond bad BadNumber (cond double (Token Quoted) (cond single (Token CharLit) other)))) cs
+pick_text cs true bad double single other a b d s o = a refl
+pick_text cs false true double single other a b d s o = b refl
+pick_text cs false false true single other a b d s o = d refl
+pick_text cs false false false true other a b d s o = s refl
+pick_text cs false false false false other a b d s o = o
+
+pub text_opens : (fresh : Bool) (cs : List ℕ) → Opens (text_start fresh cs) cs
+text_opens fresh cs =
+    pick_text cs (fresh && first_is hash cs) (is_bad_number cs) (first_is double_quote cs) (first_is single_quote cs) (plain_start cs) (λ e. (and_cases fresh (first_is hash cs) e).1) (λ e. e) (λ e. e) (λ e. e) (plain_opens cs)
+
+pick_directive : (cs : List ℕ) (ends continues : Bool) (other : Start) → (continues ≡ true → Opens Continuation cs) → Opens other cs → Opens (cond ends End (cond continues Continuation other)) cs
+pick_directive cs true continues other c o = tt
+pick_directive cs false true other c o = c refl
+pick_directive cs false false other c o = o
+
+pub directive_opens : (cs : List ℕ) → Opens (directive_start cs) cs
+directive_opens cs = pick_directive cs (first_is newline cs) (is_continuation cs) (plain_start cs) (λ e. e) (plain_opens cs)
