@@ -75,7 +75,7 @@ begins_longer (c ∷ []) more e =
     ⊎_elim (λ d. rw d refl) (λ both. absurd (false≢true (and_cases (c == dot) false both).1)) (or_cases (is_ascii_digit c) ((c == dot) && false) e)
 begins_longer (c ∷ d ∷ cs) more e = e
 
-number_begins : (cs : List ℕ) → IsNumber cs → begins_number cs ≡ true
+pub number_begins : (cs : List ℕ) → IsNumber cs → begins_number cs ≡ true
 number_begins _ (first_digit c d) = rw d refl
 number_begins _ (first_point c d) = d
 number_begins _ (digit cs c is d) = begins_longer cs (c ∷ []) (number_begins cs is)

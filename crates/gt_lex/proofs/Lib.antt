@@ -6,3 +6,6 @@ mod Literals
 mod Opening
 mod Parts
 mod Again
+mod Offsets
+mod SeenTokens
+mod Directives

@@ -1,5 +1,5 @@
 -- What the first characters say of the part that begins.
-use Rattle.std.proofs.Common.{◌≡◌, ℕ, Bool, true, false, cond, List, [], ◌∷◌, refl, sym, ap, ◌∙◌}
+use Rattle.std.proofs.Common.{◌≡◌, ℕ, Bool, true, false, cond, List, [], ◌∷◌, refl, sym, ap, subst, ◌∙◌}
 use Rattle.std.specs.Prelude.{◌&&◌, ◌||◌, ◌==◌, IsTrue}
 use Rattle.std.specs.Char.{is_ascii_digit}
 use Rattle.std.proofs.lemmas.Bool.{false≢true, eqb-true}
@@ -8,7 +8,7 @@ use Rattle.gt_text.specs.WhiteSpace.{is_white_space_of}
 use Rattle.gt_lex.specs.declared.starts.Start.{Start}
 use Rattle.gt_lex.specs.declared.starts.Start.TheVariants.{End, Space, Block, Line, Continuation, Directive, BadNumber, Token}
 use Rattle.gt_lex.specs.declared.tokens.Kind.TheVariants.{Ident, Number, Quoted, CharLit, Punct}
-use Rattle.gt_lex.specs.Characters.{newline, double_quote, hash, single_quote, star, dot, slash, first_passes, first_is}
+use Rattle.gt_lex.specs.Characters.{newline, double_quote, hash, single_quote, star, dot, slash, first_passes, first_is, EndsLine}
 use Rattle.gt_lex.specs.Starts.{plain_start, text_start, directive_start, is_bad_number, is_continuation}
 use Rattle.gt_lex.proofs.Tests.{and_cases}
 
@@ -76,3 +76,94 @@ pick_directive cs false false other c o = o
 
 pub directive_opens : (cs : List ℕ) → Opens (directive_start cs) cs
 directive_opens cs = pick_directive cs (first_is newline cs) (is_continuation cs) (plain_start cs) (λ e. e) (plain_opens cs)
+
+-- ---- what does not begin
+
+-- a fact where nothing begins
+abbrev pub IfEnd : Start → Type 0 → Type 0
+IfEnd End P = P
+IfEnd Space P = Unit {0}
+IfEnd Block P = Unit {0}
+IfEnd Line P = Unit {0}
+IfEnd Continuation P = Unit {0}
+IfEnd Directive P = Unit {0}
+IfEnd BadNumber P = Unit {0}
+IfEnd (Token kind) P = Unit {0}
+
+plain_pick_end : (P : Type 0) (space block line ident number : Bool) → IfEnd (cond space Space (cond block Block (cond line Line (cond ident (Token Ident) (cond number (Token Number) (Token Punct)))))) P
+plain_pick_end P true block line ident number = tt
+plain_pick_end P false true line ident number = tt
+plain_pick_end P false false true ident number = tt
+plain_pick_end P false false false true number = tt
+plain_pick_end P false false false false true = tt
+plain_pick_end P false false false false false = tt
+
+plain_end : (P : Type 0) (c : ℕ) (cs : List ℕ) → IfEnd (plain_start (c ∷ cs)) P
+plain_end P c cs =
+    plain_pick_end P (is_white_space_of c) ((c == slash) && first_is star cs) ((c == slash) && first_is slash cs) (starts_identifier_of c) (begins_number (c ∷ cs))
+
+directive_pick_end : (P : Type 0) (ends continues : Bool) (other : Start) → (ends ≡ true → P) → IfEnd other P → IfEnd (cond ends End (cond continues Continuation other)) P
+directive_pick_end P true continues other e o = e refl
+directive_pick_end P false true other e o = tt
+directive_pick_end P false false other e o = o
+
+-- a directive ends at the line's end
+pub directive_ends : (cs : List ℕ) → directive_start cs ≡ End → EndsLine cs
+directive_ends [] e = tt
+directive_ends (c ∷ cs) e =
+    let P : Type 0 = c ≡ newline in
+    subst (λ (s : Start). IfEnd s P) e (directive_pick_end P (c == newline) (is_continuation (c ∷ cs)) (plain_start (c ∷ cs)) (eqb-true c newline) (plain_end P c cs))
+
+pub ends_directive : (cs : List ℕ) → EndsLine cs → directive_start cs ≡ End
+ends_directive [] ends = refl
+ends_directive (c ∷ cs) ends = rw ends refl
+
+-- a text ends where nothing begins
+text_pick_end : (P : Type 0) (directive bad double single : Bool) (other : Start) → IfEnd other P → IfEnd (cond directive Directive (cond bad BadNumber (cond double (Token Quoted) (cond single (Token CharLit) other)))) P
+text_pick_end P true bad double single other o = tt
+text_pick_end P false true double single other o = tt
+text_pick_end P false false true single other o = tt
+text_pick_end P false false false true other o = tt
+text_pick_end P false false false false other o = o
+
+pub text_ends : (fresh : Bool) (cs : List ℕ) → text_start fresh cs ≡ End → cs ≡ []
+text_ends fresh [] e = refl
+text_ends fresh (c ∷ cs) e =
+    let P : Type 0 = c ∷ cs ≡ [] in
+    subst (λ (s : Start). IfEnd s P) e
+    (text_pick_end P (fresh && first_is hash (c ∷ cs)) (is_bad_number (c ∷ cs)) (first_is double_quote (c ∷ cs)) (first_is single_quote (c ∷ cs)) (plain_start (c ∷ cs)) (plain_end P c cs))
+
+-- what may begin in a directive
+abbrev pub BeginsInDirective : Start → Type 0
+BeginsInDirective End = Unit {0}
+BeginsInDirective Space = Unit {0}
+BeginsInDirective Block = Unit {0}
+BeginsInDirective Line = Unit {0}
+BeginsInDirective Continuation = Unit {0}
+BeginsInDirective Directive = ⊥
+BeginsInDirective BadNumber = ⊥
+BeginsInDirective (Token Ident) = Unit {0}
+BeginsInDirective (Token Number) = Unit {0}
+BeginsInDirective (Token Quoted) = ⊥
+BeginsInDirective (Token CharLit) = ⊥
+BeginsInDirective (Token Punct) = Unit {0}
+
+plain_pick_begins : (space block line ident number : Bool) → BeginsInDirective (cond space Space (cond block Block (cond line Line (cond ident (Token Ident) (cond number (Token Number) (Token Punct))))))
+plain_pick_begins true block line ident number = tt
+plain_pick_begins false true line ident number = tt
+plain_pick_begins false false true ident number = tt
+plain_pick_begins false false false true number = tt
+plain_pick_begins false false false false true = tt
+plain_pick_begins false false false false false = tt
+
+plain_begins : (cs : List ℕ) → BeginsInDirective (plain_start cs)
+plain_begins [] = tt
+plain_begins (c ∷ cs) = plain_pick_begins (is_white_space_of c) ((c == slash) && first_is star cs) ((c == slash) && first_is slash cs) (starts_identifier_of c) (begins_number (c ∷ cs))
+
+pick_begins : (ends continues : Bool) (other : Start) → BeginsInDirective other → BeginsInDirective (cond ends End (cond continues Continuation other))
+pick_begins true continues other o = tt
+pick_begins false true other o = tt
+pick_begins false false other o = o
+
+pub directive_begins : (cs : List ℕ) → BeginsInDirective (directive_start cs)
+directive_begins cs = pick_begins (first_is newline cs) (is_continuation cs) (plain_start cs) (plain_begins cs)

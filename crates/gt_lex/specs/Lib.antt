@@ -5,3 +5,5 @@ pub mod Extents
 pub mod Constants
 pub mod Texts
 pub mod Reading
+pub mod Seen
+pub mod Progress

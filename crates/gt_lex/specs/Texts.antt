@@ -25,7 +25,7 @@ start_of (Item kind cs) = start.Token kind
 -- the parts of a directive, of which each begins as it must there and reaches so far, where rest follows them
 abbrev pub AreInDirective : List Part → List ℕ → Type 0
 AreInDirective [] rest = Unit {0}
-AreInDirective (p ∷ ps) rest = (directive_start (spelling p ++ spellings ps ++ rest) ≡ start_of p) × Reaches p (spellings ps ++ rest) × AreInDirective ps rest
+AreInDirective (p ∷ ps) rest = (directive_start (spelling p ++ (spellings ps ++ rest)) ≡ start_of p) × Reaches p (spellings ps ++ rest) × AreInDirective ps rest
 
 -- A piece that stands before rest, on a line where no token stands before it if fresh is true. A directive is the first
 -- of its line and runs to the line's end.

@@ -1,6 +1,6 @@
 // What follows a part.
-ghost use Rattle.std.specs.Prelude.{◌≡◌, ℕ, Bool, false, ◌==◌, not, ◌∷◌, drop, if◌then◌else◌};
-ghost use Rattle.std.specs.Str.{chars};
+ghost use Rattle.std.specs.Prelude.{◌≡◌, ℕ, Bool, false, ◌==◌, not, ◌∷◌, drop, if◌then◌else◌, IfSome};
+ghost use Rattle.std.specs.Str.{chars, IsUtf8};
 ghost use Rattle.std.specs.Option.{option_map};
 ghost use Rattle.gt_text.specs.Identifier.{continues_identifier_of};
 ghost use Rattle.gt_lex.specs.Characters.{newline, first_is};
@@ -73,7 +73,8 @@ fn past_number(start: char, text: &str) -> &str
 
 // Behind the opening of a comment; None where it does not end.
 fn past_comment(text: &str) -> Option<(bool, &str)>
-    ensures { option_map (λ r. (r.0, chars r.1.now)) result ≡ comment_rest false (chars text.now) }
+    ensures rest { option_map (λ r. (r.0, chars r.1.now)) result ≡ comment_rest false (chars text.now) }
+    ensures utf8 { IfSome result (λ r. IsUtf8 r.1.now) }
 {
     let mut newline = false;
     let mut rest = text;
@@ -89,7 +90,8 @@ fn past_comment(text: &str) -> Option<(bool, &str)>
 
 // Behind the opening quote; None where the line ends first.
 fn past_literal(quote: char, text: &str) -> Option<&str>
-    ensures { option_map (λ r. chars r.now) result ≡ literal_rest quote false (chars text.now) }
+    ensures rest { option_map (λ r. chars r.now) result ≡ literal_rest quote false (chars text.now) }
+    ensures utf8 { IfSome result (λ r. IsUtf8 r.now) }
 {
     let mut escaped = false;
     let mut rest = text;
@@ -107,7 +109,8 @@ fn past_literal(quote: char, text: &str) -> Option<&str>
 }
 
 fn past_token(kind: Kind, c: char, after: &str) -> Option<&str>
-    ensures { option_map (λ r. chars r.now) result ≡ token_rest kind c (chars after.now) }
+    ensures rest { option_map (λ r. chars r.now) result ≡ token_rest kind c (chars after.now) }
+    ensures utf8 { IfSome result (λ r. IsUtf8 r.now) }
 {
     match kind {
         Kind::Ident => Some(past_identifier(after)),
@@ -130,7 +133,8 @@ fn past_line_break(after: &str) -> &str
 /// What follows the part that begins, and whether a newline stood in it. None where a comment or a literal does not
 /// end, and where no part begins.
 pub fn past(start: Start, text: &str) -> Option<(bool, &str)>
-    ensures { option_map (λ r. (r.0, chars r.1.now)) result ≡ rest_of start (chars text.now) }
+    ensures rest { option_map (λ r. (r.0, chars r.1.now)) result ≡ rest_of start (chars text.now) }
+    ensures utf8 { IfSome result (λ r. IsUtf8 r.1.now) }
 {
     let (c, after) = first(text)?;
     match start {

@@ -1,5 +1,5 @@
 // Texts from their first character on.
-ghost use Rattle.std.specs.Prelude.{◌≡◌, ◌<◌, ℕ, Bool, [], ◌∷◌, length, drop, MatchOption};
+ghost use Rattle.std.specs.Prelude.{◌≡◌, ◌<◌, ◌≤◌, ◌-◌, ◌^◌, ℕ, Bool, [], ◌∷◌, length, take, drop, MatchOption};
 ghost use Rattle.std.specs.Str.{chars, IsUtf8};
 ghost use Rattle.gt_lex.specs.Characters.{first_is};
 
@@ -31,4 +31,21 @@ pub fn tail(text: &str) -> &str
         Some((_, rest)) => rest,
         None => text,
     }
+}
+
+/// The offset of a rest of a text that has `whole` bytes.
+pub fn place(whole: usize, rest: &str) -> u32
+    requires within { length rest.now ≤ whole }
+    requires fits { whole < 2 ^ 32 }
+    ensures { result ≡ whole - length rest.now }
+{
+    (whole - rest.len()) as u32
+}
+
+/// The bytes of a text up to a rest of it.
+pub fn before<'a>(text: &'a str, rest: &str) -> &'a [u8]
+    requires { length rest.now ≤ length text.now }
+    ensures { result.now ≡ take (length text.now - length rest.now) text.now }
+{
+    &text.as_bytes()[..text.len() - rest.len()]
 }
