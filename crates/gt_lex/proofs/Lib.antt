@@ -9,3 +9,4 @@ mod Again
 mod Offsets
 mod SeenTokens
 mod Directives
+mod Front

@@ -167,3 +167,39 @@ pick_begins false false other o = o
 
 pub directive_begins : (cs : List ℕ) → BeginsInDirective (directive_start cs)
 directive_begins cs = pick_begins (first_is newline cs) (is_continuation cs) (plain_start cs) (plain_begins cs)
+
+-- a directive begins where no token stands before it on its line
+abbrev pub OpensDirective : Start → Bool → List ℕ → Type 0
+OpensDirective End fresh cs = Unit {0}
+OpensDirective Space fresh cs = Unit {0}
+OpensDirective Block fresh cs = Unit {0}
+OpensDirective Line fresh cs = Unit {0}
+OpensDirective Continuation fresh cs = Unit {0}
+OpensDirective Directive fresh cs = IsTrue fresh × IsTrue (first_is hash cs)
+OpensDirective BadNumber fresh cs = Unit {0}
+OpensDirective (Token kind) fresh cs = Unit {0}
+
+pick_hash : (fresh : Bool) (cs : List ℕ) (bad double single : Bool) (other : Start) → (here : Bool) → (here ≡ true → OpensDirective Directive fresh cs) → OpensDirective other fresh cs
+    → OpensDirective (cond here Directive (cond bad BadNumber (cond double (Token Quoted) (cond single (Token CharLit) other)))) fresh cs
+pick_hash fresh cs bad double single other true h o = h refl
+pick_hash fresh cs true double single other false h o = tt
+pick_hash fresh cs false true single other false h o = tt
+pick_hash fresh cs false false true other false h o = tt
+pick_hash fresh cs false false false other false h o = o
+
+plain_pick_hash : (fresh : Bool) (cs : List ℕ) (space block line ident number : Bool) → OpensDirective (cond space Space (cond block Block (cond line Line (cond ident (Token Ident) (cond number (Token Number) (Token Punct)))))) fresh cs
+plain_pick_hash fresh cs true block line ident number = tt
+plain_pick_hash fresh cs false true line ident number = tt
+plain_pick_hash fresh cs false false true ident number = tt
+plain_pick_hash fresh cs false false false true number = tt
+plain_pick_hash fresh cs false false false false true = tt
+plain_pick_hash fresh cs false false false false false = tt
+
+plain_hash : (fresh : Bool) (whole cs : List ℕ) → OpensDirective (plain_start cs) fresh whole
+plain_hash fresh whole [] = tt
+plain_hash fresh whole (c ∷ cs) =
+    plain_pick_hash fresh whole (is_white_space_of c) ((c == slash) && first_is star cs) ((c == slash) && first_is slash cs) (starts_identifier_of c) (begins_number (c ∷ cs))
+
+pub directive_fresh : (fresh : Bool) (cs : List ℕ) → OpensDirective (text_start fresh cs) fresh cs
+directive_fresh fresh cs =
+    pick_hash fresh cs (is_bad_number cs) (first_is double_quote cs) (first_is single_quote cs) (plain_start cs) (fresh && first_is hash cs) (λ e. and_cases fresh (first_is hash cs) e) (plain_hash fresh cs cs)

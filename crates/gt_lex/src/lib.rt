@@ -6,10 +6,13 @@
 mod extents;
 mod constants;
 mod directive;
+mod pieces;
+
 mod faults;
 mod starts;
 mod text;
 mod tokens;
 
 pub use faults::{BAD_NUMBER, BAD_UTF8, OPEN_COMMENT, OPEN_STRING};
+
 pub use tokens::{Define, Kind, Lexed, Token};
