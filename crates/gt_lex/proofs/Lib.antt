@@ -10,3 +10,4 @@ mod Offsets
 mod SeenTokens
 mod Directives
 mod Front
+mod Scanning

@@ -8,6 +8,8 @@ use Rattle.gt_lex.specs.declared.starts.Start.{Start}
 use Rattle.gt_lex.specs.declared.starts.Start.TheVariants as start
 use Rattle.gt_lex.specs.declared.tokens.Token.{Token}
 use Rattle.gt_lex.specs.declared.tokens.Define.{Define}
+use Rattle.gt_types.specs.declared.faults.Stop.{Stop}
+use Rattle.gt_types.specs.declared.faults.Stop.TheVariants.{Memory, At}
 use Rattle.gt_lex.specs.Characters.{newline, double_quote, hash, single_quote, EndsLine, byte_len}
 use Rattle.gt_lex.specs.Parts.{Part, Space, Block, Line, Continuation, Item, Piece, Plain, Directive, spelling, spellings, piece_spelling, text_of}
 use Rattle.gt_lex.specs.Starts.{text_start, directive_start, is_bad_number}
@@ -104,3 +106,8 @@ pub data HasFault (fresh : Bool) (cs : List ℕ) : ℕ → ℕ → Type 0 where
 pub data IsFirstFault (text : List ℕ) : ℕ → ℕ → Type 0 where
   bad_utf8 : (IsUtf8 text → ⊥) → IsFirstFault text 1 (utf8_valid_len text)
   behind : (pieces : List Piece) (rest : List ℕ) (number offset : ℕ) → IsUtf8 text → chars text ≡ text_of pieces ++ rest → ArePieces true pieces rest → HasFault (fresh_behind true pieces) rest number offset → IsFirstFault text number (byte_len (text_of pieces) + offset)
+
+-- what may be answered in place of tokens: want of memory, or the first fault
+abbrev pub IsStop : ℕ → List ℕ → Stop → Type 0
+IsStop file text Memory = Unit {0}
+IsStop file text (At fault) = (fault.file ≡ file) × IsFirstFault text fault.number fault.at

@@ -7,6 +7,7 @@ mod extents;
 mod constants;
 mod directive;
 mod pieces;
+mod lexing;
 
 mod faults;
 mod starts;
@@ -15,4 +16,5 @@ mod tokens;
 
 pub use faults::{BAD_NUMBER, BAD_UTF8, OPEN_COMMENT, OPEN_STRING};
 
+pub use lexing::lex;
 pub use tokens::{Define, Kind, Lexed, Token};
