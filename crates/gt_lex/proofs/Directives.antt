@@ -56,8 +56,7 @@ byte_len-spellings-push ps p =
 AreInDirective-push : (ps : List Part) (p : Part) (rest : List ℕ) → AreInDirective ps (spelling p ++ rest) → directive_start (spelling p ++ rest) ≡ start_of p → Reaches p rest → AreInDirective (ps ++ p ∷ []) rest
 AreInDirective-push [] p rest each begins reaches = (begins, reaches, tt)
 AreInDirective-push (q ∷ ps) p rest each begins reaches =
-    let same = spellings-push ps p rest in
-    (
+    let same = spellings-push ps p rest in (
       subst (λ (x : List ℕ). directive_start (spelling q ++ x) ≡ start_of q) (sym same) each.0,
       subst (λ (x : List ℕ). Reaches q x) (sym same) each.1,
       AreInDirective-push ps p rest each.2 begins reaches,

@@ -11,3 +11,5 @@ mod SeenTokens
 mod Directives
 mod Front
 mod Scanning
+mod Unique
+mod Outcomes

@@ -95,7 +95,7 @@ module _ {text rest : List ℕ} {fresh : Bool} {tokens : List Token} {defines : 
       let offset : byte_len (text_of so_far.pieces) + (length rest - length fault) ≡ at = omega (arith, rest_at, refused.within, rest_within) in
       subst (λ (n : ℕ). IsFirstFault text number n) offset
       (behind so_far.pieces (chars rest) number (length rest - length fault) text_utf8 so_far.whole so_far.each
-        (subst (λ (b : Bool). HasFault b (chars rest) number (length rest - length fault)) so_far.fresh_is refused.fault))
+      (subst (λ (b : Bool). HasFault b (chars rest) number (length rest - length fault)) so_far.fresh_is refused.fault))
 
 token_here : (found : Found) (p : Piece) (start at : ℕ) → start ≡ at → tokens_with found at (at + byte_len (piece_spelling p)) ≡ token_at at p → tokens_with found start (start + byte_len (piece_spelling p)) ≡ token_at start p
 token_here found p start at e h = subst (λ (n : ℕ). tokens_with found n (n + byte_len (piece_spelling p)) ≡ token_at n p) (sym e) h
@@ -110,7 +110,7 @@ SoFar-step text rest after fresh next_fresh tokens next_tokens defines next_defi
     let here : byte_len (text_of ps) ≡ start = rest_at text_utf8 so_far ∙ sym start_is in
     let at_end : start ≡ 0 + byte_len (text_of ps) = omega (arith, here) in
     let there : end ≡ start + byte_len (piece_spelling p) =
-        omega (arith, length_before rest (piece_spelling p) after so_far.utf8 next.utf8 next.whole, rest_within text_utf8 so_far, start_is, end_is) in
+    omega (arith, length_before rest (piece_spelling p) after so_far.utf8 next.utf8 next.whole, rest_within text_utf8 so_far, start_is, end_is) in
     record {
       pieces = ps ++ p ∷ [];
       whole = so_far.whole ∙ ap (λ (x : List ℕ). text_of ps ++ x) next.whole ∙ sym (text_of-push ps p (chars after));

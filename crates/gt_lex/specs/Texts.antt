@@ -1,5 +1,5 @@
 -- Which pieces a text has, what they give, and which fault is its first.
-use Rattle.std.specs.Prelude.{◌≡◌, ℕ, ◌+◌, Bool, true, false, ◌&&◌, ◌||◌, not, ◌==◌, List, [], ◌∷◌, ◌++◌, IsTrue}
+use Rattle.std.specs.Prelude.{◌≡◌, ℕ, ◌+◌, Bool, true, false, ◌&&◌, ◌||◌, not, ◌==◌, List, [], ◌∷◌, ◌++◌, IsTrue, Result, Ok, Err}
 use Rattle.std.specs.List.{list_any}
 use Rattle.std.specs.Option.{option_to_list}
 use Rattle.std.specs.Str.{IsUtf8, chars}
@@ -8,6 +8,8 @@ use Rattle.gt_lex.specs.declared.starts.Start.{Start}
 use Rattle.gt_lex.specs.declared.starts.Start.TheVariants as start
 use Rattle.gt_lex.specs.declared.tokens.Token.{Token}
 use Rattle.gt_lex.specs.declared.tokens.Define.{Define}
+use Rattle.gt_lex.specs.declared.tokens.Lexed.{Lexed}
+use Rattle.gt_types.specs.declared.faults.Fault.{Fault}
 use Rattle.gt_types.specs.declared.faults.Stop.{Stop}
 use Rattle.gt_types.specs.declared.faults.Stop.TheVariants.{Memory, At}
 use Rattle.gt_lex.specs.Characters.{newline, double_quote, hash, single_quote, EndsLine, byte_len}
@@ -111,3 +113,15 @@ pub data IsFirstFault (text : List ℕ) : ℕ → ℕ → Type 0 where
 abbrev pub IsStop : ℕ → List ℕ → Stop → Type 0
 IsStop file text Memory = Unit {0}
 IsStop file text (At fault) = (fault.file ≡ file) × IsFirstFault text fault.number fault.at
+
+-- these tokens and constants are answered, unless memory runs out
+abbrev pub GivesTokens : Result Lexed Stop → List Token → List Define → Type 0
+GivesTokens (Ok lexed) tokens defines = (lexed.tokens ≡ tokens) × (lexed.defines ≡ defines)
+GivesTokens (Err Memory) tokens defines = Unit {0}
+GivesTokens (Err (At fault)) tokens defines = ⊥
+
+-- this fault is answered, unless memory runs out
+abbrev pub GivesFault : Result Lexed Stop → Fault → Type 0
+GivesFault (Ok lexed) is = ⊥
+GivesFault (Err Memory) is = Unit {0}
+GivesFault (Err (At fault)) is = fault ≡ is

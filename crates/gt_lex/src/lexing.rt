@@ -1,6 +1,9 @@
 // The tokens and constants of a text.
-ghost use Rattle.std.specs.Prelude.{◌≡◌, ◌<◌, ◌^◌, length, MatchResult, IfOk, IfErr};
-ghost use Rattle.gt_lex.specs.Texts.{IsLexed, IsStop};
+ghost use Rattle.std.specs.Prelude.{◌≡◌, ◌<◌, ◌^◌, List, length, MatchResult, IfOk, IfErr};
+ghost use Rattle.gt_types.specs.declared.faults.Fault.{Fault};
+ghost use Rattle.gt_lex.specs.declared.tokens.Token.{Token};
+ghost use Rattle.gt_lex.specs.declared.tokens.Define.{Define};
+ghost use Rattle.gt_lex.specs.Texts.{IsLexed, IsFirstFault, IsStop, GivesTokens, GivesFault};
 
 use crate::faults::BAD_UTF8;
 use crate::pieces::next_piece;
@@ -42,21 +45,36 @@ fn scan(alloc: Global, file: u32, text: &str) -> Result<Lexed, Stop>
     }
 }
 
-/// The tokens of a text and the constants of its `#define` directives.
-pub fn lex(alloc: Global, file: u32, text: &[u8]) -> Result<Lexed, Stop>
+// The same of bytes, which may be no text.
+fn read(alloc: Global, file: u32, text: &[u8]) -> Result<Lexed, Stop>
     requires { length text.now < 2 ^ 32 }
     ensures tokens { IfOk result (λ lexed. IsLexed text.now lexed.tokens lexed.defines) }
     ensures fault { IfErr result (IsStop file text.now) }
 {
     match str::from_utf8(text) {
         Ok(text) => scan(alloc, file, text),
-        Err(e) => {
-            let at = e.valid_up_to() as u32;
-            Err(Stop::At(Fault {
-                number: BAD_UTF8,
-                file,
-                at,
-            }))
-        }
+        Err(e) => Err(Stop::At(Fault {
+            number: BAD_UTF8,
+            file,
+            at: e.valid_up_to() as u32,
+        })),
     }
+}
+
+/// The tokens of a text and the constants of its `#define` directives. Otherwise want of memory, or the text's first
+/// fault, at a byte offset in the file that the caller names: `BAD_UTF8`, `OPEN_COMMENT`, `OPEN_STRING` or `BAD_NUMBER`.
+pub fn lex(alloc: Global, file: u32, text: &[u8]) -> Result<Lexed, Stop>
+    requires { length text.now < 2 ^ 32 }
+
+    // What is answered is so: the tokens and constants of the text, or its first fault.
+    ensures tokens { IfOk result (λ lexed. IsLexed text.now lexed.tokens lexed.defines) }
+    ensures fault { IfErr result (IsStop file text.now) }
+
+    // What is so is answered, unless memory runs out.
+    ensures all_tokens { (tokens : List Token) (defines : List Define) →
+        IsLexed text.now tokens defines → GivesTokens result tokens defines }
+    ensures each_fault { (first : Fault) → first.file ≡ file →
+        IsFirstFault text.now first.number first.at → GivesFault result first }
+{
+    read(alloc, file, text)
 }

@@ -3,18 +3,16 @@
 //! none is refused with its first fault.
 #![tactic(auto)]
 
-mod extents;
 mod constants;
 mod directive;
-mod pieces;
-mod lexing;
-
+mod extents;
 mod faults;
+mod lexing;
+mod pieces;
 mod starts;
 mod text;
 mod tokens;
 
 pub use faults::{BAD_NUMBER, BAD_UTF8, OPEN_COMMENT, OPEN_STRING};
-
 pub use lexing::lex;
 pub use tokens::{Define, Kind, Lexed, Token};

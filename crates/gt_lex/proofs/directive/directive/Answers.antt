@@ -35,7 +35,7 @@ pub with-seen-requires : goal.with-seen-requires
 with-seen-requires c =
     let here = (goal.at.with-seen-requires c).In-Some in
     let long : length c.before-in-parts.result.now ≤ length c.parts.rest.now =
-        omega (arith, ap length c.before-in-parts.ensures, length-take (length c.parts.rest.now - length c.in-Some.after.now) c.parts.rest.now) in
+    omega (arith, ap length c.before-in-parts.ensures, length-take (length c.parts.rest.now - length c.in-Some.after.now) c.parts.rest.now) in
     omega (arith, within here, c.requires.within, c.requires.fits, c.place.ensures)
 
 pub parts-smaller : goal.parts-smaller
@@ -45,5 +45,5 @@ pub parts-preserved : goal.parts-preserved
 parts-preserved c =
     let here = (goal.at.parts-preserved c).In-Some in
     let so_far =
-        SoFar-step c.args.whole c.args.text.now c.parts.rest.now c.in-Some.after.now c.parts.seen c.with-seen.result c.directive_start-start.result c.place.result c.before-in-parts.result.now c.utf8.text c.requires.within c.parts.invariant.1 (read_here here) c.place.ensures c.before-in-parts.ensures c.with-seen.ensures in
+    SoFar-step c.args.whole c.args.text.now c.parts.rest.now c.in-Some.after.now c.parts.seen c.with-seen.result c.directive_start-start.result c.place.result c.before-in-parts.result.now c.utf8.text c.requires.within c.parts.invariant.1 (read_here here) c.place.ensures c.before-in-parts.ensures c.with-seen.ensures in
     (so_far.utf8, so_far)

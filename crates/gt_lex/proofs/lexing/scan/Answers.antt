@@ -33,14 +33,14 @@ pieces-smaller c = shorter (goal.at.pieces-smaller c).In-Ok-Some
 pub pieces-preserved : goal.pieces-preserved
 pieces-preserved c =
     let step =
-        SoFar-step c.args.text.now c.pieces.rest.now c.in-Ok-Some.after.now c.pieces.fresh c.keeps_fresh-fresh.result c.pieces.tokens.items c.add_to.new.tokens.items c.pieces.defines.items c.add_to.new.defines.items c.in-Ok-Some.found c.place-start.result c.place-end.result c.utf8.text
-        c.pieces.invariant.2
-        (next_here (goal.at.pieces-preserved c).In-Ok-Some)
-        c.place-start.ensures
-        c.place-end.ensures
-        c.in_ok-add_to-in-Ok-Some.ensures.tokens
-        c.in_ok-add_to-in-Ok-Some.ensures.defines
-        c.keeps_fresh-fresh.ensures in
+    SoFar-step c.args.text.now c.pieces.rest.now c.in-Ok-Some.after.now c.pieces.fresh c.keeps_fresh-fresh.result c.pieces.tokens.items c.add_to.new.tokens.items c.pieces.defines.items c.add_to.new.defines.items c.in-Ok-Some.found c.place-start.result c.place-end.result c.utf8.text
+    c.pieces.invariant.2
+    (next_here (goal.at.pieces-preserved c).In-Ok-Some)
+    c.place-start.ensures
+    c.place-end.ensures
+    c.in_ok-add_to-in-Ok-Some.ensures.tokens
+    c.in_ok-add_to-in-Ok-Some.ensures.defines
+    c.keeps_fresh-fresh.ensures in
     (step.utf8, refl, step)
 
 pub place-at-requires-clause-within : goal.place-at-requires-clause-within
