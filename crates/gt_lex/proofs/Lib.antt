@@ -13,3 +13,4 @@ mod Front
 mod Scanning
 mod Unique
 mod Outcomes
+mod Slices

@@ -16,18 +16,18 @@ use Rattle.gt_lex.proofs.Directives.{spelling_positive}
 
 -- ---- one more piece at the end
 
-text_of-push : (ps : List Piece) (p : Piece) (rest : List ℕ) → text_of (ps ++ p ∷ []) ++ rest ≡ text_of ps ++ (piece_spelling p ++ rest)
+pub text_of-push : (ps : List Piece) (p : Piece) (rest : List ℕ) → text_of (ps ++ p ∷ []) ++ rest ≡ text_of ps ++ (piece_spelling p ++ rest)
 text_of-push [] p rest = append_assoc (piece_spelling p) [] rest
 text_of-push (q ∷ ps) p rest =
     append_assoc (piece_spelling q) (text_of (ps ++ p ∷ [])) rest ∙ ap (λ (x : List ℕ). piece_spelling q ++ x) (text_of-push ps p rest)
     ∙ sym (append_assoc (piece_spelling q) (text_of ps) (piece_spelling p ++ rest))
 
-ArePieces-push : (fresh : Bool) (ps : List Piece) (p : Piece) (rest : List ℕ) → ArePieces fresh ps (piece_spelling p ++ rest) → Stands (fresh_behind fresh ps) p rest → ArePieces fresh (ps ++ p ∷ []) rest
+pub ArePieces-push : (fresh : Bool) (ps : List Piece) (p : Piece) (rest : List ℕ) → ArePieces fresh ps (piece_spelling p ++ rest) → Stands (fresh_behind fresh ps) p rest → ArePieces fresh (ps ++ p ∷ []) rest
 ArePieces-push fresh [] p rest each stands = (stands, tt)
 ArePieces-push fresh (q ∷ ps) p rest each stands =
     (subst (λ (x : List ℕ). Stands fresh q x) (sym (text_of-push ps p rest)) each.0, ArePieces-push (fresh_after fresh q) ps p rest each.1 stands)
 
-fresh_behind-push : (fresh : Bool) (ps : List Piece) (p : Piece) → fresh_behind fresh (ps ++ p ∷ []) ≡ fresh_after (fresh_behind fresh ps) p
+pub fresh_behind-push : (fresh : Bool) (ps : List Piece) (p : Piece) → fresh_behind fresh (ps ++ p ∷ []) ≡ fresh_after (fresh_behind fresh ps) p
 fresh_behind-push fresh [] p = refl
 fresh_behind-push fresh (q ∷ ps) p = fresh_behind-push (fresh_after fresh q) ps p
 

@@ -7,3 +7,4 @@ pub mod Texts
 pub mod Reading
 pub mod Seen
 pub mod Progress
+pub mod Spans
