@@ -1,6 +1,6 @@
 -- A part that stands before a rest is read again, so a text has one part at its front, and it is open or it is not.
-use Rattle.std.proofs.Common.{◌≡◌, ◌≢◌, ℕ, suc, Bool, true, false, cond, List, [], ◌∷◌, ◌++◌, length, drop, Option, Some, None, refl, sym, ap, subst, ◌∙◌, ◌⊎◌, inl, inr, ⊎_elim, append_assoc, arith}
-use Rattle.std.specs.Prelude.{◌&&◌, ◌||◌, ◌==◌, not, IsTrue}
+use Rattle.std.proofs.Common.{◌≡◌, ℕ, Bool, true, false, List, [], ◌∷◌, ◌++◌, Option, Some, None, refl, sym, ap, subst, ◌∙◌, inl, inr, ⊎_elim, append_assoc, arith}
+use Rattle.std.specs.Prelude.{◌&&◌, ◌==◌, not}
 use Rattle.std.specs.List.{list_all}
 use Rattle.std.specs.Option.{option_map}
 use Rattle.std.specs.Char.{is_ascii_digit}
@@ -12,18 +12,17 @@ use Rattle.gt_lex.specs.declared.starts.Start.{Start}
 use Rattle.gt_lex.specs.declared.starts.Start.TheVariants as start
 use Rattle.gt_lex.specs.declared.tokens.Kind.{Kind}
 use Rattle.gt_lex.specs.declared.tokens.Kind.TheVariants.{Ident, Number, Quoted, CharLit, Punct}
-use Rattle.gt_lex.specs.Characters.{newline, carriage_return, double_quote, single_quote, star, dot, slash, backslash, first_passes, EndsLine}
+use Rattle.gt_lex.specs.Characters.{newline, double_quote, single_quote, star, dot, slash, first_passes, EndsLine}
 use Rattle.gt_lex.specs.Extents.{IsLongest, IsIdentifier, IsNumber, first_digit, first_point, digit, letter, exponent, point, IsLiteral, Reaches, IsOpenComment, IsOpenLiteral}
 use Rattle.gt_lex.specs.Parts.{Part, Space, Block, Line, Continuation, Item, spelling}
 use Rattle.gt_lex.specs.Texts.{start_of, has_newline}
-use Rattle.gt_lex.specs.Reading.{rest_while, number_rest, comment_rest, literal_rest, within_line, token_rest, rest_of}
-use Rattle.gt_lex.proofs.Tests.{and_cases, or_cases}
+use Rattle.gt_lex.specs.Reading.{rest_while, number_rest, comment_rest, literal_rest, within_line, rest_of}
+use Rattle.gt_lex.proofs.Bools.{and_cases, or_cases}
 use Rattle.gt_lex.proofs.Runs.{run_of, identifier_longest, same_longest}
 use Rattle.gt_lex.proofs.Numbers.{digit_number, point_number}
 use Rattle.gt_lex.proofs.Comments.{comment_again, comment_open_again}
 use Rattle.gt_lex.proofs.Literals.{IsQuote, literal_again, literal_open_again}
 use Rattle.gt_lex.proofs.Opening.{begins_number}
-use Rattle.gt_lex.proofs.Parts.{IsOpen}
 
 abbrev found : Bool → List ℕ → Option (Bool × List ℕ)
 found within rest = Some (within, rest)

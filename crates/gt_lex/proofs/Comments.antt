@@ -1,9 +1,9 @@
 -- A block comment ends at its first star and slash.
-use Rattle.std.proofs.Common.{◌≡◌, ℕ, Bool, true, false, cond, List, [], ◌∷◌, ◌++◌, drop, Option, Some, None, refl, sym, ap, ◌∙◌, ◌⊎◌, ⊎_elim}
-use Rattle.std.specs.Prelude.{◌&&◌, ◌||◌, ◌==◌, IsFalse}
+use Rattle.std.proofs.Common.{◌≡◌, ℕ, Bool, true, false, cond, List, [], ◌∷◌, ◌++◌, drop, Option, Some, None, refl, sym, ap, ◌∙◌, ⊎_elim}
+use Rattle.std.specs.Prelude.{◌&&◌, ◌||◌, ◌==◌}
 use Rattle.std.proofs.lemmas.Bool.{false≢true, eqb-true}
 use Rattle.std.proofs.lemmas.Option.{some_pair_parts}
-use Rattle.gt_lex.proofs.Tests.{and_cases, or_false, or_assoc, chosen}
+use Rattle.gt_lex.proofs.Bools.{and_cases, or_false, or_assoc, chosen}
 use Rattle.gt_lex.specs.Characters.{newline, star, slash, first_is}
 use Rattle.gt_lex.specs.Extents.{HasNoClose}
 use Rattle.gt_lex.specs.Texts.{has_newline}

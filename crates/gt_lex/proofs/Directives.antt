@@ -1,14 +1,12 @@
 -- What is read of a directive, part by part.
-use Rattle.std.proofs.Common.{◌≡◌, ◌≢◌, ℕ, ◌+◌, ◌-◌, ◌<◌, ◌≤◌, Bool, true, false, List, [], ◌∷◌, ◌++◌, length, take, Option, Some, None, refl, sym, ap, subst, ◌∙◌, ◌⊎◌, inl, inr, append_assoc, add-zero, arith, IsUtf8}
+use Rattle.std.proofs.Common.{◌≡◌, ◌≢◌, ℕ, ◌+◌, ◌-◌, ◌<◌, ◌≤◌, Bool, List, [], ◌∷◌, ◌++◌, length, take, Option, Some, None, refl, sym, ap, subst, ◌∙◌, append_assoc, add-zero, arith, IsUtf8}
 use Rattle.std.specs.Prelude.{fold, encode_utf8_all}
-use Rattle.std.specs.List.{flat_map}
 use Rattle.std.specs.Str.{chars}
 use Rattle.std.proofs.lemmas.Bool.{false≢true}
-use Rattle.std.proofs.lemmas.Grind.{fold-append, flat_map-append}
+use Rattle.std.proofs.lemmas.Grind.{fold-append}
 use Rattle.std.proofs.lemmas.List.{append-nil}
 use Rattle.gt_lex.specs.declared.starts.Start.{Start}
 use Rattle.gt_lex.specs.declared.starts.Start.TheVariants as start
-use Rattle.gt_lex.specs.declared.tokens.Kind.{Kind}
 use Rattle.gt_lex.specs.declared.tokens.Kind.TheVariants.{Ident, Number, Quoted, CharLit, Punct}
 use Rattle.gt_lex.specs.declared.constants.Seen.{Seen}
 use Rattle.gt_lex.specs.declared.constants.Seen.TheVariants.{Nothing}
@@ -25,7 +23,7 @@ use Rattle.gt_lex.proofs.SeenTokens.{constant_of-seen}
 use Rattle.gt_lex.specs.Reading.{rest_of}
 use Rattle.gt_lex.proofs.Again.{number_begins}
 use Rattle.gt_lex.proofs.Opening.{Opens, directive_opens, directive_ends, BeginsInDirective, directive_begins}
-use Rattle.gt_lex.proofs.Parts.{Taken, takes, IsOpen, opened}
+use Rattle.gt_lex.proofs.Parts.{takes, IsOpen, opened}
 use Rattle.gt_lex.proofs.Offsets.{byte_len-append, length_before, taken_before, byte_len_positive}
 
 -- a part has a character

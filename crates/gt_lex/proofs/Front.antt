@@ -1,25 +1,21 @@
 -- What stands at the front of a text.
-use Rattle.std.proofs.Common.{◌≡◌, ◌≢◌, ℕ, ◌+◌, ◌-◌, ◌<◌, ◌≤◌, Bool, true, false, List, [], ◌∷◌, ◌++◌, length, drop, Option, Some, None, refl, sym, ap, subst, ◌∙◌, arith, lit<, IsUtf8}
-use Rattle.std.specs.Prelude.{◌&&◌, ◌||◌, not, IsTrue}
+use Rattle.std.proofs.Common.{◌≡◌, ◌≢◌, ℕ, ◌+◌, ◌-◌, ◌≤◌, Bool, true, false, List, [], ◌∷◌, ◌++◌, length, drop, Option, Some, None, refl, sym, ap, subst, ◌∙◌, arith, lit<, IsUtf8}
+use Rattle.std.specs.Prelude.{◌||◌, IsTrue}
 use Rattle.std.specs.Option.{option_to_list}
 use Rattle.std.specs.Str.{chars}
-use Rattle.std.proofs.lemmas.Bool.{false≢true}
 use Rattle.std.proofs.lemmas.Str.{encode_ascii}
 use Rattle.gt_lex.specs.declared.starts.Start.{Start}
 use Rattle.gt_lex.specs.declared.starts.Start.TheVariants as start
-use Rattle.gt_lex.specs.declared.tokens.Kind.{Kind}
 use Rattle.gt_lex.specs.declared.tokens.Kind.TheVariants.{Ident, Number, Quoted, CharLit, Punct}
 use Rattle.gt_lex.specs.declared.tokens.Define.{Define}
 use Rattle.gt_lex.specs.declared.pieces.Found.TheVariants as found
 use Rattle.gt_lex.specs.Characters.{hash, byte_len}
 use Rattle.gt_lex.specs.Starts.{text_start}
-use Rattle.gt_lex.specs.Extents.{Reaches, IsOpenComment}
-use Rattle.gt_lex.specs.Parts.{Part, Space, Block, Line, Continuation, Item, Plain, Directive, spelling, spellings, piece_spelling}
+use Rattle.gt_lex.specs.Parts.{Part, Space, Block, Line, Continuation, Item, Plain, Directive, spelling, spellings}
 use Rattle.gt_lex.specs.Constants.{lexemes_from, constant_of}
-use Rattle.gt_lex.specs.Texts.{start_of, is_item, has_newline, fresh_after, token_at, define_at, Stands, HasFault, open_comment, open_comment_in_directive, open_string, open_character, bad_number}
+use Rattle.gt_lex.specs.Texts.{start_of, is_item, has_newline, fresh_after, token_at, HasFault, open_comment, open_comment_in_directive, open_string, open_character, bad_number}
 use Rattle.gt_lex.specs.Reading.{rest_of}
 use Rattle.gt_lex.specs.Progress.{IsDirective, StopsInDirective, found_of, open_fault_of, fresh_with, tokens_with, defines_with, IsNext, IsRefused}
-use Rattle.gt_lex.proofs.Tests.{and_cases, or_true}
 use Rattle.gt_lex.proofs.Opening.{Opens, text_opens, first_split, OpensDirective, directive_fresh}
 use Rattle.gt_lex.proofs.Parts.{Taken, takes, IsOpen, opened}
 use Rattle.gt_lex.proofs.Offsets.{length_before}
@@ -39,7 +35,7 @@ pub record IsHashed (fresh : Bool) (text behind : List ℕ) : Type 0 where
   pub whole : chars text ≡ hash ∷ chars behind
   pub long : length text ≡ 1 + length behind
 
-one_byte : byte_len (hash ∷ []) ≡ 1
+pub one_byte : byte_len (hash ∷ []) ≡ 1
 one_byte = ap (λ (x : List ℕ). length (x ++ [])) (encode_ascii hash (lit< tt))
 
 pub hashed : (fresh : Bool) (text behind : List ℕ) → IsUtf8 text → IsUtf8 behind → text_start fresh (chars text) ≡ start.Directive → chars behind ≡ drop 1 (chars text) → IsHashed fresh text behind

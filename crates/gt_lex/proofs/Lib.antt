@@ -1,4 +1,4 @@
-mod Tests
+mod Bools
 mod Runs
 mod Numbers
 mod Comments
@@ -14,3 +14,4 @@ mod Scanning
 mod Unique
 mod Outcomes
 mod Slices
+mod Names

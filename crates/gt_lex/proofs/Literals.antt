@@ -1,8 +1,8 @@
 -- A literal ends at the first quote of its line that no backslash escapes.
-use Rattle.std.proofs.Common.{◌≡◌, ◌≢◌, ℕ, Bool, true, false, cond, List, [], ◌∷◌, ◌++◌, Option, Some, None, refl, sym, ap, ◌∙◌, ◌⊎◌, inl, inr, ⊎_elim, eq-eqb}
-use Rattle.std.specs.Prelude.{◌&&◌, ◌==◌, not}
-use Rattle.std.proofs.lemmas.Bool.{false≢true, eqb-true, eqb-false, ne_eqb}
-use Rattle.gt_lex.proofs.Tests.{chosen}
+use Rattle.std.proofs.Common.{◌≡◌, ◌≢◌, ℕ, Bool, true, false, cond, List, [], ◌∷◌, ◌++◌, Option, Some, None, refl, ap, ◌∙◌, ◌⊎◌, inl, inr, ⊎_elim, eq-eqb}
+use Rattle.std.specs.Prelude.{◌==◌}
+use Rattle.std.proofs.lemmas.Bool.{eqb-true, eqb-false, ne_eqb}
+use Rattle.gt_lex.proofs.Bools.{chosen}
 use Rattle.gt_lex.specs.Characters.{newline, backslash, EndsLine}
 use Rattle.gt_lex.specs.Extents.{IsInside, nothing, other, escape, StopsLiteral}
 use Rattle.gt_lex.specs.Reading.{literal_rest}

@@ -1,14 +1,14 @@
 -- A number reaches as far as its characters go on: the rules of its grammar, from the left and from the right.
-use Rattle.std.proofs.Common.{◌≡◌, ℕ, suc, ◌+◌, ◌<◌, ◌≤◌, Bool, true, false, cond, List, [], ◌∷◌, ◌++◌, length, refl, sym, ap, subst, ◌∙◌, ◌⊎◌, inl, inr, ⊎_elim, append_assoc, arith, lit<}
-use Rattle.std.specs.Prelude.{◌&&◌, ◌||◌, ◌==◌, nat_le, IsTrue}
+use Rattle.std.proofs.Common.{◌≡◌, ℕ, ◌<◌, ◌≤◌, Bool, true, false, cond, List, [], ◌∷◌, ◌++◌, length, refl, sym, ap, subst, ◌∙◌, ⊎_elim, append_assoc, arith, lit<}
+use Rattle.std.specs.Prelude.{◌&&◌, ◌||◌, ◌==◌, nat_le}
 use Rattle.std.specs.Char.{is_ascii_digit}
 use Rattle.std.specs.Int.{is_in_range}
 use Rattle.std.proofs.lemmas.Bool.{false≢true, eqb-true, leb-true}
-use Rattle.std.proofs.lemmas.List.{append-nil, length-append}
+use Rattle.std.proofs.lemmas.List.{append-nil}
 use Rattle.unicode_ident.specs.Ident.{is_xid_continue}
 use Rattle.unicode_ident.proofs.IdentLemmas.{is_xid_continue-ascii}
 use Rattle.gt_text.specs.Identifier.{continues_identifier_of}
-use Rattle.gt_lex.proofs.Tests.{or_cases, and_cases, or_true}
+use Rattle.gt_lex.proofs.Bools.{or_cases, and_cases, or_true}
 use Rattle.gt_lex.specs.Characters.{dot, first_passes}
 use Rattle.gt_lex.specs.Extents.{IsLongest, IsNumber, first_digit, first_point, digit, letter, exponent, point, is_exponent, is_sign}
 use Rattle.gt_lex.specs.Reading.{continues_number_of, number_rest}

@@ -1,5 +1,5 @@
 -- What the first characters say of the part that begins.
-use Rattle.std.proofs.Common.{◌≡◌, ℕ, Bool, true, false, cond, List, [], ◌∷◌, refl, sym, ap, subst, ◌∙◌}
+use Rattle.std.proofs.Common.{◌≡◌, ℕ, Bool, true, false, cond, List, [], ◌∷◌, refl, ap, subst}
 use Rattle.std.specs.Prelude.{◌&&◌, ◌||◌, ◌==◌, IsTrue}
 use Rattle.std.specs.Char.{is_ascii_digit}
 use Rattle.std.proofs.lemmas.Bool.{false≢true, eqb-true}
@@ -10,7 +10,7 @@ use Rattle.gt_lex.specs.declared.starts.Start.TheVariants.{End, Space, Block, Li
 use Rattle.gt_lex.specs.declared.tokens.Kind.TheVariants.{Ident, Number, Quoted, CharLit, Punct}
 use Rattle.gt_lex.specs.Characters.{newline, double_quote, hash, single_quote, star, dot, slash, first_passes, first_is, EndsLine}
 use Rattle.gt_lex.specs.Starts.{plain_start, text_start, directive_start, is_bad_number, is_continuation}
-use Rattle.gt_lex.proofs.Tests.{and_cases}
+use Rattle.gt_lex.proofs.Bools.{and_cases}
 
 abbrev pub begins_number : List ℕ → Bool
 begins_number [] = false

@@ -1,5 +1,5 @@
 -- A text has its tokens, or its first fault, and not both.
-use Rattle.std.proofs.Common.{◌≡◌, ℕ, ◌+◌, Bool, true, List, [], ◌++◌, Result, Ok, Err, refl, sym, ap, subst, ◌∙◌, IsUtf8}
+use Rattle.std.proofs.Common.{◌≡◌, ℕ, ◌+◌, true, List, [], ◌++◌, Result, Ok, Err, refl, sym, ap, subst, ◌∙◌, IsUtf8}
 use Rattle.std.specs.Str.{chars}
 use Rattle.std.specs.Prelude.{IfOk, IfErr}
 use Rattle.std.proofs.lemmas.List.{append-nil}
@@ -12,7 +12,7 @@ use Rattle.gt_lex.specs.declared.tokens.Lexed.{Lexed}
 use Rattle.gt_lex.specs.Characters.{byte_len}
 use Rattle.gt_lex.specs.Parts.{Piece, text_of}
 use Rattle.gt_lex.specs.Texts.{ArePieces, fresh_behind, tokens_from, defines_from, HasFault, IsLexed, IsFirstFault, bad_utf8, behind, IsStop, GivesTokens, GivesFault}
-use Rattle.gt_lex.proofs.Unique.{Stops, at_end, at_fault, one_reading, no_fault_at_end, one_fault}
+use Rattle.gt_lex.proofs.Unique.{at_end, at_fault, one_reading, no_fault_at_end, one_fault}
 
 pub one_lexed : (text : List ℕ) (tokens others : List Token) (defines other_defines : List Define) → IsLexed text tokens defines → IsLexed text others other_defines → (tokens ≡ others) × (defines ≡ other_defines)
 one_lexed text tokens others defines other_defines a b =

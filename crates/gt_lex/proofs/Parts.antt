@@ -1,12 +1,11 @@
 -- What is read at the front of a text is a part, and each part is read.
-use Rattle.std.proofs.Common.{◌≡◌, ◌≢◌, ℕ, Bool, true, false, cond, List, [], ◌∷◌, ◌++◌, length, drop, Option, Some, None, refl, sym, ap, subst, ◌∙◌, ◌⊎◌, inl, inr, ⊎_elim, append_assoc, arith}
-use Rattle.std.specs.Prelude.{◌&&◌, ◌||◌, ◌==◌, not, IsTrue}
-use Rattle.std.specs.List.{list_all, list_any}
+use Rattle.std.proofs.Common.{◌≡◌, ℕ, Bool, true, false, cond, List, [], ◌∷◌, ◌++◌, drop, Option, Some, None, refl, sym, ap, subst, ◌∙◌, ◌⊎◌, inl, inr, ⊎_elim, append_assoc}
+use Rattle.std.specs.Prelude.{◌&&◌, ◌||◌, ◌==◌, not}
+use Rattle.std.specs.List.{list_all}
 use Rattle.std.specs.Option.{option_map}
 use Rattle.std.specs.Char.{is_ascii_digit}
-use Rattle.std.proofs.lemmas.Bool.{false≢true, eqb-true, eqb-false}
+use Rattle.std.proofs.lemmas.Bool.{false≢true, eqb-true}
 use Rattle.std.proofs.lemmas.Option.{some_pair_parts}
-use Rattle.std.proofs.lemmas.List.{append-nil, append_cancel_left, append_cancel_right}
 use Rattle.gt_text.specs.Identifier.{starts_identifier_of, continues_identifier_of}
 use Rattle.gt_lex.specs.declared.starts.Start.{Start}
 use Rattle.gt_lex.specs.declared.starts.Start.TheVariants as start
@@ -18,7 +17,7 @@ use Rattle.gt_lex.specs.Extents.{IsLiteral, Reaches, IsOpenComment, IsOpenLitera
 use Rattle.gt_lex.specs.Parts.{Part, Space, Block, Line, Continuation, Item, spelling}
 use Rattle.gt_lex.specs.Texts.{start_of, is_item, has_newline}
 use Rattle.gt_lex.specs.Reading.{rest_while, number_rest, comment_rest, literal_rest, within_line, token_rest, part_rest, rest_of}
-use Rattle.gt_lex.proofs.Tests.{and_cases, or_cases, or_false, or_assoc}
+use Rattle.gt_lex.proofs.Bools.{and_cases, or_cases, or_false, or_assoc}
 use Rattle.gt_lex.proofs.Runs.{Run, run_of, identifier_longest}
 use Rattle.gt_lex.proofs.Numbers.{digit_number, point_number}
 use Rattle.gt_lex.proofs.Comments.{comment_takes, comment_open}

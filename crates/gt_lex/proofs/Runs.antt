@@ -1,10 +1,9 @@
 -- Runs of characters that pass a test, and identifiers.
-use Rattle.std.proofs.Common.{◌≡◌, ℕ, suc, ◌+◌, ◌<◌, ◌≤◌, Bool, true, false, cond, List, [], ◌∷◌, ◌++◌, length, refl, sym, ap, ◌∙◌, arith}
-use Rattle.std.specs.Prelude.{◌&&◌, IsTrue}
+use Rattle.std.proofs.Common.{◌≡◌, ℕ, ◌≤◌, Bool, true, false, cond, List, [], ◌∷◌, ◌++◌, length, refl, sym, ap, ◌∙◌, arith}
 use Rattle.std.specs.List.{list_all}
 use Rattle.std.proofs.lemmas.Bool.{false≢true}
 use Rattle.gt_text.specs.Identifier.{starts_identifier_of, continues_identifier_of}
-use Rattle.gt_lex.proofs.Tests.{and_cases}
+use Rattle.gt_lex.proofs.Bools.{and_cases}
 use Rattle.gt_lex.specs.Characters.{first_passes}
 use Rattle.gt_lex.specs.Extents.{IsLongest, IsIdentifier}
 use Rattle.gt_lex.specs.Reading.{rest_while}

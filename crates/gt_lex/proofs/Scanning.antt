@@ -1,15 +1,13 @@
 -- What is read of a text, piece by piece.
-use Rattle.std.proofs.Common.{◌≡◌, ℕ, ◌+◌, ◌-◌, ◌<◌, ◌≤◌, Bool, true, false, List, [], ◌∷◌, ◌++◌, length, refl, sym, ap, subst, ◌∙◌, append_assoc, add-zero, arith, IsUtf8}
+use Rattle.std.proofs.Common.{◌≡◌, ℕ, ◌+◌, ◌-◌, ◌<◌, ◌≤◌, Bool, true, List, [], ◌∷◌, ◌++◌, length, refl, sym, ap, subst, ◌∙◌, append_assoc, add-zero, arith, IsUtf8}
 use Rattle.std.specs.Str.{chars}
 use Rattle.std.proofs.lemmas.List.{append-nil}
-use Rattle.gt_types.specs.declared.faults.Fault.{Fault}
-use Rattle.gt_types.specs.declared.faults.Stop.TheVariants.{At}
 use Rattle.gt_lex.specs.declared.tokens.Token.{Token}
 use Rattle.gt_lex.specs.declared.tokens.Define.{Define}
 use Rattle.gt_lex.specs.declared.pieces.Found.{Found}
 use Rattle.gt_lex.specs.Characters.{hash, byte_len}
 use Rattle.gt_lex.specs.Parts.{Piece, Plain, Directive, spellings, piece_spelling, text_of}
-use Rattle.gt_lex.specs.Texts.{Stands, ArePieces, fresh_after, fresh_behind, token_at, tokens_from, define_at, defines_from, IsLexed, IsFirstFault, behind, IsStop, HasFault}
+use Rattle.gt_lex.specs.Texts.{Stands, ArePieces, fresh_after, fresh_behind, token_at, tokens_from, define_at, defines_from, IsLexed, IsFirstFault, behind, HasFault}
 use Rattle.gt_lex.specs.Progress.{fresh_with, tokens_with, defines_with, IsNext, IsRefused}
 use Rattle.gt_lex.proofs.Offsets.{byte_len-append, length_before, byte_len_positive}
 use Rattle.gt_lex.proofs.Directives.{spelling_positive}

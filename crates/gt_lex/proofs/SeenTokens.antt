@@ -1,12 +1,11 @@
 -- The constant that the tokens of a directive make, taken in one after another, is the constant of their list.
-use Rattle.std.proofs.Common.{◌≡◌, ℕ, Bool, true, false, cond, List, [], ◌∷◌, ◌++◌, codes, Option, Some, None, ℤ, pos, refl, sym, ap, ◌∙◌}
+use Rattle.std.proofs.Common.{◌≡◌, ℕ, Bool, true, false, cond, List, [], ◌∷◌, codes, Option, Some, None, ℤ, pos, refl, sym, ap, ◌∙◌}
 use Rattle.std.specs.Prelude.{fold, ◌&&◌, ◌+◌, length}
 use Rattle.std.specs.Option.{option_map}
 use Rattle.std.specs.Str.{bytes_eq}
 use Rattle.std.proofs.lemmas.Slice.Eq.{bytes_eq-Decides}
 use Rattle.gt_text.specs.Integer.{integer_of}
-use Rattle.gt_lex.specs.declared.constants.Seen.{Seen}
-use Rattle.gt_lex.specs.declared.constants.Seen.TheVariants.{Nothing, Word, Name, Minus, Constant, Other}
+use Rattle.gt_lex.specs.declared.constants.Seen.TheVariants.{Nothing, Word, Minus, Other}
 use Rattle.gt_lex.specs.declared.tokens.Define.{Define}
 use Rattle.gt_lex.specs.Constants.{Lexeme, is_name, value_of, negative_value_of, constant, constant_of}
 use Rattle.gt_lex.specs.Seen.{then_of, constant_seen, constant_from, named_from}

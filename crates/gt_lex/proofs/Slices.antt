@@ -1,6 +1,6 @@
 -- The tokens of a text are slices of it, in order, and between them is what is no token.
-use Rattle.std.proofs.Common.{◌≡◌, ℕ, ◌+◌, ◌-◌, ◌<◌, ◌≤◌, Bool, true, false, List, [], ◌∷◌, ◌++◌, length, map, take, drop, refl, sym, ap, subst, ◌∙◌, append_assoc, arith, IsUtf8}
-use Rattle.std.specs.Prelude.{◌&&◌, not, All, slice_range, encode_utf8_all, IsTrue}
+use Rattle.std.proofs.Common.{◌≡◌, ℕ, ◌+◌, ◌-◌, ◌<◌, ◌≤◌, Bool, true, false, List, [], ◌∷◌, ◌++◌, length, take, drop, refl, sym, ap, subst, ◌∙◌, append_assoc, arith, IsUtf8}
+use Rattle.std.specs.Prelude.{not, All, slice_range, encode_utf8_all, IsTrue}
 use Rattle.std.specs.List.{list_all, AllByRecursion}
 use Rattle.std.specs.Str.{chars}
 use Rattle.std.proofs.lemmas.Str.{encodes-append, encodes-chars}
@@ -12,16 +12,16 @@ use Rattle.gt_lex.specs.declared.tokens.Token.{Token}
 use Rattle.gt_lex.specs.declared.tokens.Define.{Define}
 use Rattle.gt_lex.specs.Characters.{byte_len}
 use Rattle.gt_lex.specs.Extents.{Reaches}
-use Rattle.gt_lex.specs.Parts.{Part, Space, Block, Line, Continuation, Item, Piece, Plain, Directive, piece_spelling, text_of}
+use Rattle.gt_lex.specs.Parts.{Space, Block, Line, Continuation, Item, Piece, Plain, Directive, piece_spelling, text_of}
 use Rattle.gt_lex.specs.Texts.{Stands, ArePieces, fresh_after, fresh_behind, is_token, token_at, tokens_from, IsLexed}
 use Rattle.gt_lex.specs.Spans.{AreSpans, token_spans, IsOfKind, IsSlice, IsGap, AreApart}
 use Rattle.gt_lex.proofs.Offsets.{byte_len-append}
 use Rattle.gt_lex.proofs.Scanning.{piece_positive, ArePieces-push, text_of-push, fresh_behind-push}
-use Rattle.gt_lex.proofs.Tests.{and_cases}
+use Rattle.gt_lex.proofs.Bools.{and_cases}
 
 -- ---- in order
 
-spans_lower : (low from to : ℕ) (ss : List (ℕ × ℕ)) → low ≤ from → AreSpans from ss to → AreSpans low ss to
+pub spans_lower : (low from to : ℕ) (ss : List (ℕ × ℕ)) → low ≤ from → AreSpans from ss to → AreSpans low ss to
 spans_lower low from to [] le spans = omega arith
 spans_lower low from to (s ∷ ss) le spans = let first = spans.0 in (omega arith, spans.1, spans.2)
 
@@ -39,10 +39,10 @@ spans_from fresh at (p ∷ ps) rest each =
     let total : at + byte_len (piece_spelling p) + byte_len (text_of ps) ≡ at + byte_len (text_of (p ∷ ps)) = omega (arith, byte_len-append (piece_spelling p) (text_of ps)) in
     piece_spans at (at + byte_len (text_of (p ∷ ps))) p (tokens_from (at + byte_len (piece_spelling p)) ps) (piece_positive fresh p (text_of ps ++ rest) each.0)
     (subst (λ (n : ℕ). AreSpans (at + byte_len (piece_spelling p)) (token_spans (tokens_from (at + byte_len (piece_spelling p)) ps)) n) total
-      (spans_from (fresh_after fresh p) (at + byte_len (piece_spelling p)) ps rest each.1))
+    (spans_from (fresh_after fresh p) (at + byte_len (piece_spelling p)) ps rest each.1))
 
 -- the bytes of a text are those of its pieces
-bytes_are : (text : List ℕ) (ps : List Piece) → IsUtf8 text → chars text ≡ text_of ps → text ≡ encode_utf8_all (text_of ps)
+pub bytes_are : (text : List ℕ) (ps : List Piece) → IsUtf8 text → chars text ≡ text_of ps → text ≡ encode_utf8_all (text_of ps)
 bytes_are text ps utf8 e = sym (encodes-chars text utf8) ∙ ap encode_utf8_all e
 
 pub tokens_in_order : (text : List ℕ) (tokens : List Token) (defines : List Define) → IsLexed text tokens defines → AreSpans 0 (token_spans tokens) (length text)
@@ -54,14 +54,14 @@ tokens_in_order text tokens defines is =
 -- ---- slices
 
 -- what stands behind a front, as many bytes as it has
-slice_behind : (text front middle back : List ℕ) (from to : ℕ) → text ≡ front ++ (middle ++ back) → from ≡ length front → to ≡ from + length middle → slice_range text from to ≡ middle
+pub slice_behind : (text front middle back : List ℕ) (from to : ℕ) → text ≡ front ++ (middle ++ back) → from ≡ length front → to ≡ from + length middle → slice_range text from to ≡ middle
 slice_behind text front middle back from to e from_is to_is =
     let n : length middle ≡ to - from = omega arith in
     ap (λ (x : List ℕ). take (to - from) (drop from x)) e
     ∙ ap (take (to - from)) (drop_at front (middle ++ back) from (sym from_is))
     ∙ take_at middle back (to - from) n
 
-of_kind : (kind : Kind) (cs rest : List ℕ) → Reaches (Item kind cs) rest → IsOfKind kind cs
+pub of_kind : (kind : Kind) (cs rest : List ℕ) → Reaches (Item kind cs) rest → IsOfKind kind cs
 of_kind Ident cs rest is = is.fits
 of_kind Number cs rest is = is.fits
 of_kind Quoted cs rest is = is
@@ -69,13 +69,13 @@ of_kind CharLit cs rest is = is
 of_kind Punct cs rest is = is
 
 -- text that begins with a front and goes on with pieces
-abbrev Behind : List ℕ → List ℕ → List Piece → Type 0
+abbrev pub Behind : List ℕ → List ℕ → List Piece → Type 0
 Behind text front ps = text ≡ front ++ encode_utf8_all (text_of ps)
 
-behind_one : (text front : List ℕ) (p : Piece) (ps : List Piece) → Behind text front (p ∷ ps) → text ≡ front ++ (encode_utf8_all (piece_spelling p) ++ encode_utf8_all (text_of ps))
+pub behind_one : (text front : List ℕ) (p : Piece) (ps : List Piece) → Behind text front (p ∷ ps) → text ≡ front ++ (encode_utf8_all (piece_spelling p) ++ encode_utf8_all (text_of ps))
 behind_one text front p ps e = e ∙ ap (λ (x : List ℕ). front ++ x) (encodes-append (piece_spelling p) (text_of ps))
 
-behind_next : (text front : List ℕ) (p : Piece) (ps : List Piece) → Behind text front (p ∷ ps) → Behind text (front ++ encode_utf8_all (piece_spelling p)) ps
+pub behind_next : (text front : List ℕ) (p : Piece) (ps : List Piece) → Behind text front (p ∷ ps) → Behind text (front ++ encode_utf8_all (piece_spelling p)) ps
 behind_next text front p ps e = behind_one text front p ps e ∙ sym (append_assoc front (encode_utf8_all (piece_spelling p)) (encode_utf8_all (text_of ps)))
 
 piece_slices : (text front : List ℕ) (at : ℕ) (fresh : Bool) (p : Piece) (ps : List Piece) (rest : List ℕ) (ts : List Token) → Behind text front (p ∷ ps) → at ≡ length front → Stands fresh p rest → AllByRecursion (IsSlice text) ts → AllByRecursion (IsSlice text) (token_at at p ++ ts)
@@ -141,7 +141,7 @@ more_gap text front from at fresh gaps p ps rest b is =
       parts = b.parts
           ∙ ap (λ (x : List ℕ). front ++ x)
           (ap (λ (x : List ℕ). encode_utf8_all (text_of gaps) ++ x) (encodes-append (piece_spelling p) (text_of ps)) ∙ sym (append_assoc (encode_utf8_all (text_of gaps)) (encode_utf8_all (piece_spelling p)) (encode_utf8_all (text_of ps)))
-            ∙ ap (λ (x : List ℕ). x ++ encode_utf8_all (text_of ps)) (sym pushed));
+          ∙ ap (λ (x : List ℕ). x ++ encode_utf8_all (text_of ps)) (sym pushed));
       from_is = b.from_is;
       at_is = omega (arith, b.at_is, ap length pushed, length-append (encode_utf8_all (text_of gaps)) (encode_utf8_all (piece_spelling p)));
       gaps_stand = ArePieces-push fresh gaps p (text_of ps ++ rest) (subst (λ (x : List ℕ). ArePieces fresh gaps x) (append_assoc (piece_spelling p) (text_of ps) rest) b.gaps_stand) b.stand.0;
@@ -170,7 +170,7 @@ gap_here text front from at fresh gaps ps rest b =
 last_gap : (text front : List ℕ) (from at : ℕ) (fresh : Bool) (gaps : List Piece) (rest : List ℕ) → Between text front from at fresh gaps [] rest → IsGap (drop from text)
 last_gap text front from at fresh gaps rest b =
     let behind : drop from text ≡ encode_utf8_all (text_of gaps) =
-        ap (drop from) b.parts ∙ drop_at front (encode_utf8_all (text_of gaps) ++ []) from (sym b.from_is) ∙ append-nil (encode_utf8_all (text_of gaps)) in
+    ap (drop from) b.parts ∙ drop_at front (encode_utf8_all (text_of gaps) ++ []) from (sym b.from_is) ∙ append-nil (encode_utf8_all (text_of gaps)) in
     (fresh, gaps, rest, b.gaps_stand, b.gaps_all, behind)
 
 apart_from : (text front : List ℕ) (from at : ℕ) (fresh : Bool) (gaps ps : List Piece) (rest : List ℕ) → Between text front from at fresh gaps ps rest → AreApart text from (tokens_from at ps)
@@ -184,4 +184,4 @@ pub tokens_apart : (text : List ℕ) (tokens : List Token) (defines : List Defin
 tokens_apart text tokens defines is =
     subst (λ (ts : List Token). AreApart text 0 ts) (sym is.tokens_are)
     (apart_from text [] 0 0 true [] is.pieces []
-      (record { parts = bytes_are text is.pieces is.utf8 is.whole; from_is = refl; at_is = omega arith; gaps_stand = tt; gaps_all = refl; stand = is.each }))
+    (record { parts = bytes_are text is.pieces is.utf8 is.whole; from_is = refl; at_is = omega arith; gaps_stand = tt; gaps_all = refl; stand = is.each }))

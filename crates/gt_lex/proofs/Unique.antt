@@ -1,18 +1,17 @@
 -- A text has one reading: its pieces up to the end, or up to the first fault.
-use Rattle.std.proofs.Common.{◌≡◌, ◌≢◌, ℕ, ◌+◌, ◌<◌, ◌≤◌, Bool, true, false, cond, List, [], ◌∷◌, ◌++◌, length, refl, sym, ap, subst, ◌∙◌, ◌⊎◌, inl, inr, ⊎_elim, append_assoc, arith}
+use Rattle.std.proofs.Common.{◌≡◌, ℕ, ◌+◌, Bool, true, false, cond, List, [], ◌∷◌, ◌++◌, refl, sym, ap, subst, ◌∙◌, ◌⊎◌, inl, inr, append_assoc, arith}
 use Rattle.std.specs.Prelude.{◌&&◌, ◌||◌, ◌==◌, not, IsTrue}
 use Rattle.std.specs.Char.{is_ascii_hexdigit}
 use Rattle.std.proofs.lemmas.Bool.{false≢true, eqb-true}
 use Rattle.gt_text.specs.WhiteSpace.{is_white_space_of}
-use Rattle.gt_lex.specs.declared.starts.Start.{Start}
 use Rattle.gt_lex.specs.declared.starts.Start.TheVariants as start
 use Rattle.gt_lex.specs.declared.tokens.Kind.TheVariants.{Quoted, CharLit}
-use Rattle.gt_lex.specs.Characters.{newline, double_quote, hash, single_quote, star, slash, first_passes, first_is, EndsLine, byte_len}
+use Rattle.gt_lex.specs.Characters.{double_quote, hash, single_quote, star, slash, first_passes, first_is, EndsLine, byte_len}
 use Rattle.gt_lex.specs.Starts.{text_start, directive_start, is_bad_number}
-use Rattle.gt_lex.specs.Extents.{Reaches, IsOpenComment, IsOpenLiteral}
+use Rattle.gt_lex.specs.Extents.{Reaches, IsOpenComment}
 use Rattle.gt_lex.specs.Parts.{Part, Space, Block, Line, Continuation, Item, Piece, Plain, Directive, spelling, spellings, piece_spelling, text_of}
 use Rattle.gt_lex.specs.Texts.{start_of, AreInDirective, Stands, ArePieces, fresh_after, fresh_behind, HasFault, open_comment, open_comment_in_directive, open_string, open_character, bad_number}
-use Rattle.gt_lex.proofs.Tests.{and_cases}
+use Rattle.gt_lex.proofs.Bools.{and_cases}
 use Rattle.gt_lex.proofs.Opening.{ends_directive}
 use Rattle.gt_lex.proofs.Again.{one_part, no_open_comment, no_open_quoted, no_open_character}
 use Rattle.gt_lex.proofs.Scanning.{piece_positive}

@@ -4,7 +4,7 @@ use Rattle.std.specs.List.{list_all, list_any}
 use Rattle.std.specs.Char.{is_ascii_digit}
 use Rattle.gt_text.specs.Identifier.{starts_identifier_of, continues_identifier_of}
 use Rattle.gt_lex.specs.declared.tokens.Kind.TheVariants.{Ident, Number, Quoted, CharLit, Punct}
-use Rattle.gt_lex.specs.Characters.{newline, carriage_return, double_quote, single_quote, star, dot, slash, backslash, first_passes, first_is, EndsLine}
+use Rattle.gt_lex.specs.Characters.{newline, carriage_return, double_quote, single_quote, star, dot, slash, backslash, first_is, EndsLine}
 use Rattle.gt_lex.specs.Parts.{Part, Space, Block, Line, Continuation, Item}
 
 -- front is the longest of the texts with a property that the whole, front and then rest, begins with

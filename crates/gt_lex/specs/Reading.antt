@@ -1,5 +1,5 @@
 -- How the functions of this crate go over a text, step by step. Nothing is promised in these words.
-use Rattle.std.specs.Prelude.{◌≡◌, ℕ, Bool, true, false, ◌&&◌, ◌||◌, not, ◌==◌, if◌then◌else◌, List, [], ◌∷◌, drop, Option, Some, None}
+use Rattle.std.specs.Prelude.{ℕ, Bool, true, false, ◌&&◌, ◌||◌, not, ◌==◌, if◌then◌else◌, List, [], ◌∷◌, drop, Option, Some, None}
 use Rattle.std.specs.Option.{option_map}
 use Rattle.gt_text.specs.Identifier.{continues_identifier_of}
 use Rattle.gt_lex.specs.declared.starts.Start.{Start}

@@ -1,5 +1,5 @@
 -- Where the tokens of a text lie: they are slices of it, in order, and between them is what is no token.
-use Rattle.std.specs.Prelude.{◌≡◌, ℕ, ◌<◌, ◌≤◌, Bool, not, List, [], ◌∷◌, length, map, drop, slice_range, encode_utf8_all, All, IsTrue}
+use Rattle.std.specs.Prelude.{◌≡◌, ℕ, ◌<◌, ◌≤◌, Bool, not, List, [], ◌∷◌, length, map, drop, slice_range, encode_utf8_all, IsTrue}
 use Rattle.std.specs.List.{list_all}
 use Rattle.gt_lex.specs.declared.tokens.Kind.{Kind}
 use Rattle.gt_lex.specs.declared.tokens.Kind.TheVariants.{Ident, Number, Quoted, CharLit, Punct}

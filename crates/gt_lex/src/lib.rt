@@ -7,6 +7,7 @@ mod constants;
 mod directive;
 mod extents;
 mod faults;
+mod laws;
 mod lexing;
 mod pieces;
 mod starts;
@@ -14,5 +15,9 @@ mod text;
 mod tokens;
 
 pub use faults::{BAD_NUMBER, BAD_UTF8, OPEN_COMMENT, OPEN_STRING};
+pub use laws::{constant_names, one_answer, token_slices};
 pub use lexing::lex;
 pub use tokens::{Define, Kind, Lexed, Token};
+
+#[cfg(test)]
+mod tests;

@@ -1,4 +1,4 @@
-use Rattle.std.proofs.Common.{◌≡◌, ◌<◌, ◌≤◌, ◌-◌, length, arith, sym, ap, refl, ◌∙◌}
+use Rattle.std.proofs.Common.{◌<◌, ◌≤◌, ◌-◌, length, arith, sym, ap, ◌∙◌}
 use Rattle.std.proofs.lemmas.List.{length-take}
 use Rattle.gt_lex.proofs.Directives.{Read, read_part, read_shorter, rest_within, SoFar-step, is_directive, stops_in_directive}
 use Rattle.gt_lex.proofs.directive.directive.Goals as goal

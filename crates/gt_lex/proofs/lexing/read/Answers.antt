@@ -1,4 +1,4 @@
-use Rattle.std.proofs.Common.{ℕ, ◌≡◌, sym, refl, subst, ◌∙◌}
+use Rattle.std.proofs.Common.{ℕ, sym, refl, subst, ◌∙◌}
 use Rattle.gt_lex.specs.Texts.{IsFirstFault, bad_utf8}
 use Rattle.gt_lex.proofs.lexing.read.Goals as goal
 

@@ -1,4 +1,4 @@
-use Rattle.std.proofs.Common.{◌≡◌, ◌-◌, ◌<◌, ◌≤◌, length, arith, refl}
+use Rattle.std.proofs.Common.{◌-◌, ◌<◌, ◌≤◌, length, arith, refl}
 use Rattle.gt_lex.specs.Progress.{IsNext}
 use Rattle.gt_lex.proofs.Scanning.{SoFar, SoFar-step, rest_within, next_shorter, is_first_fault}
 use Rattle.gt_lex.proofs.lexing.scan.Goals as goal

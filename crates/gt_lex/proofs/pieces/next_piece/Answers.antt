@@ -1,7 +1,5 @@
-use Rattle.std.proofs.Common.{◌≡◌, ◌≤◌, ◌-◌, length, arith, sym, ap, ◌∙◌}
+use Rattle.std.proofs.Common.{◌-◌, length, arith, sym, ◌∙◌}
 use Rattle.std.specs.Str.{chars}
-use Rattle.gt_lex.specs.Starts.{text_start}
-use Rattle.gt_lex.specs.Progress.{IsNext, IsRefused, found_of}
 use Rattle.gt_lex.proofs.Opening.{text_ends}
 use Rattle.gt_lex.proofs.Front.{IsHashed, hashed, next_directive, refused_directive, next_part, refused_open, refused_number}
 use Rattle.gt_lex.proofs.pieces.next_piece.Goals as goal
