@@ -12,12 +12,12 @@ use Rattle.gt_lex.specs.declared.starts.Start.{Start}
 use Rattle.gt_lex.specs.declared.starts.Start.TheVariants as start
 use Rattle.gt_lex.specs.declared.tokens.Kind.{Kind}
 use Rattle.gt_lex.specs.declared.tokens.Kind.TheVariants.{Ident, Number, Quoted, CharLit, Punct}
-use Rattle.gt_lex.specs.Characters.{newline, double_quote, single_quote, star, dot, slash, first_passes, EndsLine}
+use Rattle.gt_lex.specs.Characters.{has_newline, newline, double_quote, single_quote, star, dot, slash, first_passes, EndsLine}
 use Rattle.gt_lex.specs.Extents.{IsLongest, IsIdentifier, IsNumber, first_digit, first_point, digit, letter, exponent, point, IsLiteral, Reaches, IsOpenComment, IsOpenLiteral}
 use Rattle.gt_lex.specs.Parts.{Part, Space, Block, Line, Continuation, Item, spelling}
-use Rattle.gt_lex.specs.Texts.{start_of, has_newline}
+use Rattle.gt_lex.specs.Texts.{start_of}
 use Rattle.gt_lex.specs.Reading.{rest_while, number_rest, comment_rest, literal_rest, within_line, rest_of}
-use Rattle.gt_lex.proofs.Bools.{and_cases, or_cases}
+use Rattle.gt_lex.proofs.Bools.{and_cases, or_cases, neither}
 use Rattle.gt_lex.proofs.Runs.{run_of, identifier_longest, same_longest}
 use Rattle.gt_lex.proofs.Numbers.{digit_number, point_number}
 use Rattle.gt_lex.proofs.Comments.{comment_again, comment_open_again}
@@ -35,11 +35,11 @@ block_reads : (inside rest : List ℕ) → Reaches (Block inside) rest → Reads
 block_reads inside rest reaches =
     (has_newline inside, ap (comment_rest false) (append_assoc inside (star ∷ slash ∷ []) rest) ∙ comment_again false inside rest reaches)
 
-line_rest : (inside rest : List ℕ) → list_all (λ c. not (c == newline)) inside ≡ true → EndsLine rest → rest_while (λ c. not (c == newline)) (inside ++ rest) ≡ rest
-line_rest [] [] all ends = refl
-line_rest [] (c ∷ cs) all ends = rw ends refl
-line_rest (c ∷ cs) rest all ends =
-    let both = and_cases (not (c == newline)) (list_all (λ d. not (d == newline)) cs) all in
+line_rest : (inside rest : List ℕ) → has_newline inside ≡ false → EndsLine rest → rest_while (λ c. not (c == newline)) (inside ++ rest) ≡ rest
+line_rest [] [] none ends = refl
+line_rest [] (c ∷ cs) none ends = rw ends refl
+line_rest (c ∷ cs) rest none ends =
+    let both = neither (c == newline) (has_newline cs) none in
     rw both.0 (line_rest cs rest both.1 ends)
 
 line_reads : (inside rest : List ℕ) → Reaches (Line inside) rest → Reads (Line inside) rest

@@ -4,9 +4,8 @@ use Rattle.std.specs.Prelude.{◌&&◌, ◌||◌, ◌==◌}
 use Rattle.std.proofs.lemmas.Bool.{false≢true, eqb-true}
 use Rattle.std.proofs.lemmas.Option.{some_pair_parts}
 use Rattle.gt_lex.proofs.Bools.{and_cases, or_false, or_assoc, chosen}
-use Rattle.gt_lex.specs.Characters.{newline, star, slash, first_is}
+use Rattle.gt_lex.specs.Characters.{has_newline, newline, star, slash, first_is}
 use Rattle.gt_lex.specs.Extents.{HasNoClose}
-use Rattle.gt_lex.specs.Texts.{has_newline}
 use Rattle.gt_lex.specs.Reading.{comment_rest}
 
 abbrev Found : Type 0

@@ -9,11 +9,11 @@ use Rattle.gt_lex.specs.declared.starts.Start.TheVariants as start
 use Rattle.gt_lex.specs.declared.tokens.Kind.TheVariants.{Ident, Number, Quoted, CharLit, Punct}
 use Rattle.gt_lex.specs.declared.tokens.Define.{Define}
 use Rattle.gt_lex.specs.declared.pieces.Found.TheVariants as found
-use Rattle.gt_lex.specs.Characters.{hash, byte_len}
+use Rattle.gt_lex.specs.Characters.{has_newline, hash, byte_len}
 use Rattle.gt_lex.specs.Starts.{text_start}
 use Rattle.gt_lex.specs.Parts.{Part, Space, Block, Line, Continuation, Item, Plain, Directive, spelling, spellings}
 use Rattle.gt_lex.specs.Constants.{lexemes_from, constant_of}
-use Rattle.gt_lex.specs.Texts.{start_of, is_item, has_newline, fresh_after, token_at, HasFault, open_comment, open_comment_in_directive, open_string, open_character, bad_number}
+use Rattle.gt_lex.specs.Texts.{start_of, is_item, fresh_after, token_at, HasFault, open_comment, open_comment_in_directive, open_string, open_character, bad_number}
 use Rattle.gt_lex.specs.Reading.{rest_of}
 use Rattle.gt_lex.specs.Progress.{IsDirective, StopsInDirective, found_of, open_fault_of, fresh_with, tokens_with, defines_with, IsNext, IsRefused}
 use Rattle.gt_lex.proofs.Opening.{Opens, text_opens, first_split, OpensDirective, directive_fresh}

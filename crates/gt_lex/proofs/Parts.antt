@@ -11,11 +11,11 @@ use Rattle.gt_lex.specs.declared.starts.Start.{Start}
 use Rattle.gt_lex.specs.declared.starts.Start.TheVariants as start
 use Rattle.gt_lex.specs.declared.tokens.Kind.{Kind}
 use Rattle.gt_lex.specs.declared.tokens.Kind.TheVariants.{Ident, Number, Quoted, CharLit, Punct}
-use Rattle.gt_lex.specs.Characters.{newline, carriage_return, double_quote, single_quote, star, dot, slash, backslash, first_passes, first_is, EndsLine}
+use Rattle.gt_lex.specs.Characters.{has_newline, newline, carriage_return, double_quote, single_quote, star, dot, slash, backslash, first_passes, first_is, EndsLine}
 use Rattle.gt_lex.specs.Starts.{is_line_break}
 use Rattle.gt_lex.specs.Extents.{IsLiteral, Reaches, IsOpenComment, IsOpenLiteral}
 use Rattle.gt_lex.specs.Parts.{Part, Space, Block, Line, Continuation, Item, spelling}
-use Rattle.gt_lex.specs.Texts.{start_of, is_item, has_newline}
+use Rattle.gt_lex.specs.Texts.{start_of, is_item}
 use Rattle.gt_lex.specs.Reading.{rest_while, number_rest, comment_rest, literal_rest, within_line, token_rest, part_rest, rest_of}
 use Rattle.gt_lex.proofs.Bools.{and_cases, or_cases, or_false, or_assoc}
 use Rattle.gt_lex.proofs.Runs.{Run, run_of, identifier_longest}
@@ -87,7 +87,7 @@ line_takes inside within rest e =
       part = Line run.front;
       parts = ap (λ (x : List ℕ). slash ∷ slash ∷ x) run.parts;
       begins = refl;
-      reaches = (run.passes, ends_line rest run.stops);
+      reaches = (no_newline run.front run.passes, ends_line rest run.stops);
       lines = λ _. sym same.0 ∙ sym (no_newline run.front run.passes);
     }
 

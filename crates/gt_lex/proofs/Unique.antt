@@ -7,7 +7,7 @@ use Rattle.gt_text.specs.WhiteSpace.{is_white_space_of}
 use Rattle.gt_lex.specs.declared.starts.Start.TheVariants as start
 use Rattle.gt_lex.specs.declared.tokens.Kind.TheVariants.{Quoted, CharLit}
 use Rattle.gt_lex.specs.Characters.{double_quote, hash, single_quote, star, slash, first_passes, first_is, EndsLine, byte_len}
-use Rattle.gt_lex.specs.Starts.{text_start, directive_start, is_bad_number}
+use Rattle.gt_lex.specs.Starts.{text_start, directive_start, is_bare_prefix, is_bad_number}
 use Rattle.gt_lex.specs.Extents.{Reaches, IsOpenComment}
 use Rattle.gt_lex.specs.Parts.{Part, Space, Block, Line, Continuation, Item, Piece, Plain, Directive, spelling, spellings, piece_spelling, text_of}
 use Rattle.gt_lex.specs.Texts.{start_of, AreInDirective, Stands, ArePieces, fresh_after, fresh_behind, HasFault, open_comment, open_comment_in_directive, open_string, open_character, bad_number}
@@ -43,10 +43,7 @@ character_begins fresh (c ∷ cs) = rw (and_false fresh) refl
 -- a bad number begins with a 0
 zero_first : (cs : List ℕ) → is_bad_number cs ≡ true → (rest : List ℕ) × (cs ≡ 48 ∷ rest)
 zero_first [] bad = absurd (false≢true bad)
-zero_first (z ∷ []) bad = absurd (false≢true bad)
-zero_first (z ∷ x ∷ cs) bad =
-    let both = and_cases ((z == 48) && ((x == 120) || (x == 88))) (not (first_passes is_ascii_hexdigit cs)) bad in
-    (x ∷ cs, ap (λ y. y ∷ x ∷ cs) (eqb-true z 48 (and_cases (z == 48) ((x == 120) || (x == 88)) both.0).0))
+zero_first (z ∷ cs) bad = (cs, ap (λ y. y ∷ cs) (eqb-true z 48 (and_cases (z == 48) (is_bare_prefix cs) bad).0))
 
 zero_begins : (cs : List ℕ) → is_bad_number cs ≡ true → first_is hash cs ≡ false
 zero_begins cs bad = ap (first_is hash) (zero_first cs bad).1

@@ -1,5 +1,6 @@
 -- The characters that mean something to the reader of a header, and how many bytes a text takes.
 use Rattle.std.specs.Prelude.{◌≡◌, ℕ, Bool, false, ◌==◌, List, [], ◌∷◌, length, encode_utf8_all}
+use Rattle.std.specs.List.{list_any}
 
 abbrev pub newline : ℕ
 newline = 10
@@ -36,6 +37,10 @@ first_passes test (c ∷ cs) = test c
 -- whether a text begins with a character
 abbrev pub first_is : ℕ → List ℕ → Bool
 first_is x = first_passes (λ c. c == x)
+
+-- whether a newline stands among characters
+abbrev pub has_newline : List ℕ → Bool
+has_newline cs = list_any (λ c. c == newline) cs
 
 -- a line ends at a newline, and at the text's end
 abbrev pub EndsLine : List ℕ → Type 0

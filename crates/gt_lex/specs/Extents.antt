@@ -4,7 +4,7 @@ use Rattle.std.specs.List.{list_all, list_any}
 use Rattle.std.specs.Char.{is_ascii_digit}
 use Rattle.gt_text.specs.Identifier.{starts_identifier_of, continues_identifier_of}
 use Rattle.gt_lex.specs.declared.tokens.Kind.TheVariants.{Ident, Number, Quoted, CharLit, Punct}
-use Rattle.gt_lex.specs.Characters.{newline, carriage_return, double_quote, single_quote, star, dot, slash, backslash, first_is, EndsLine}
+use Rattle.gt_lex.specs.Characters.{newline, carriage_return, double_quote, single_quote, star, dot, slash, backslash, first_is, has_newline, EndsLine}
 use Rattle.gt_lex.specs.Parts.{Part, Space, Block, Line, Continuation, Item}
 
 -- front is the longest of the texts with a property that the whole, front and then rest, begins with
@@ -49,11 +49,12 @@ abbrev pub HasNoClose : List ℕ → Type 0
 HasNoClose [] = Unit {0}
 HasNoClose (c ∷ cs) = IsFalse ((c == star) && first_is slash cs) × HasNoClose cs
 
--- A part that begins reaches so far, where rest follows it. A block comment ends at the first star and slash.
+-- A part that begins reaches so far, where rest follows it: an identifier and a number are the longest that fit, and a
+-- block comment ends at the first star and slash.
 abbrev pub Reaches : Part → List ℕ → Type 0
 Reaches (Space c) rest = Unit {0}
 Reaches (Block inside) rest = HasNoClose (inside ++ star ∷ [])
-Reaches (Line inside) rest = IsTrue (list_all (λ c. Rattle.std.specs.Prelude.not (c == newline)) inside) × EndsLine rest
+Reaches (Line inside) rest = IsFalse (has_newline inside) × EndsLine rest
 Reaches (Continuation end) rest = (end ≡ newline ∷ []) ⊎ (end ≡ carriage_return ∷ newline ∷ [])
 Reaches (Item Ident cs) rest = IsLongest IsIdentifier cs rest
 Reaches (Item Number cs) rest = IsLongest IsNumber cs rest

@@ -19,11 +19,15 @@ plain_start (c ∷ cs) =
     else if is_ascii_digit c || ((c == dot) && first_passes is_ascii_digit cs) then Token Number
     else Token Punct
 
+-- whether an x without a hexadecimal digit behind it begins
+abbrev pub is_bare_prefix : List ℕ → Bool
+is_bare_prefix [] = false
+is_bare_prefix (x ∷ cs) = ((x == 120) || (x == 88)) && not (first_passes is_ascii_hexdigit cs)
+
 -- whether a number begins with 0x or 0X and has no hexadecimal digit directly after it
 abbrev pub is_bad_number : List ℕ → Bool
 is_bad_number [] = false
-is_bad_number (z ∷ []) = false
-is_bad_number (z ∷ x ∷ cs) = (z == 48) && ((x == 120) || (x == 88)) && not (first_passes is_ascii_hexdigit cs)
+is_bad_number (z ∷ cs) = (z == 48) && is_bare_prefix cs
 
 -- In a text: a directive where no token stands before the `#` on its line, a bad number, a literal, or one of the above.
 abbrev pub text_start : Bool → List ℕ → Start

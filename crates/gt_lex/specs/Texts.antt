@@ -1,18 +1,18 @@
 -- Which pieces a text has, what they give, and which fault is its first.
 use Rattle.std.specs.Prelude.{◌≡◌, ℕ, ◌+◌, Bool, true, false, ◌&&◌, ◌||◌, not, ◌==◌, List, [], ◌∷◌, ◌++◌, IsTrue, Result, Ok, Err}
-use Rattle.std.specs.List.{list_any}
 use Rattle.std.specs.Option.{option_to_list}
 use Rattle.std.specs.Str.{IsUtf8, chars}
 use Rattle.std.specs.Str.Lossy.{utf8_valid_len}
 use Rattle.gt_lex.specs.declared.starts.Start.{Start}
 use Rattle.gt_lex.specs.declared.starts.Start.TheVariants as start
+use Rattle.gt_lex.specs.declared.faults.TheConstants.{BAD_UTF8, OPEN_COMMENT, OPEN_STRING, BAD_NUMBER}
 use Rattle.gt_lex.specs.declared.tokens.Token.{Token}
 use Rattle.gt_lex.specs.declared.tokens.Define.{Define}
 use Rattle.gt_lex.specs.declared.tokens.Lexed.{Lexed}
 use Rattle.gt_types.specs.declared.faults.Fault.{Fault}
 use Rattle.gt_types.specs.declared.faults.Stop.{Stop}
 use Rattle.gt_types.specs.declared.faults.Stop.TheVariants.{Memory, At}
-use Rattle.gt_lex.specs.Characters.{newline, double_quote, hash, single_quote, EndsLine, byte_len}
+use Rattle.gt_lex.specs.Characters.{double_quote, hash, single_quote, has_newline, EndsLine, byte_len}
 use Rattle.gt_lex.specs.Parts.{Part, Space, Block, Line, Continuation, Item, Piece, Plain, Directive, spelling, spellings, piece_spelling, text_of}
 use Rattle.gt_lex.specs.Starts.{text_start, directive_start, is_bad_number}
 use Rattle.gt_lex.specs.Extents.{Reaches, IsOpenComment, IsOpenLiteral}
@@ -37,9 +37,7 @@ abbrev pub Stands : Bool → Piece → List ℕ → Type 0
 Stands fresh (Plain p) rest = (text_start fresh (spelling p ++ rest) ≡ start_of p) × Reaches p rest
 Stands fresh (Directive ps) rest = IsTrue fresh × AreInDirective ps rest × EndsLine rest
 
-abbrev pub has_newline : List ℕ → Bool
-has_newline cs = list_any (λ c. c == newline) cs
-
+-- whether a part or a piece is a token
 abbrev pub is_item : Part → Bool
 is_item (Space c) = false
 is_item (Block inside) = false
@@ -65,7 +63,7 @@ abbrev pub fresh_behind : Bool → List Piece → Bool
 fresh_behind fresh [] = fresh
 fresh_behind fresh (p ∷ ps) = fresh_behind (fresh_after fresh p) ps
 
--- the tokens among pieces, of which the first begins at an offset
+-- the token of a piece that begins at an offset, and the tokens of pieces
 abbrev pub token_at : ℕ → Piece → List Token
 token_at at (Plain (Item kind cs)) = record { kind = kind; start = at; end = at + byte_len cs } ∷ []
 token_at at (Plain (Space c)) = []
@@ -78,7 +76,7 @@ abbrev pub tokens_from : ℕ → List Piece → List Token
 tokens_from at [] = []
 tokens_from at (p ∷ ps) = token_at at p ++ tokens_from (at + byte_len (piece_spelling p)) ps
 
--- the constants among pieces, of which the first begins at an offset
+-- the constant of a piece that begins at an offset, and the constants of pieces
 abbrev pub define_at : ℕ → Piece → List Define
 define_at at (Plain p) = []
 define_at at (Directive ps) = option_to_list (constant_of (lexemes_from (at + 1) ps))
@@ -98,16 +96,18 @@ pub record IsLexed (text : List ℕ) (tokens : List Token) (defines : List Defin
 
 -- a fault that stands where characters go on: its number, and its offset from there
 pub data HasFault (fresh : Bool) (cs : List ℕ) : ℕ → ℕ → Type 0 where
-  open_comment : IsOpenComment cs → HasFault fresh cs 2 0
-  open_comment_in_directive : (ps : List Part) (rest : List ℕ) → IsTrue fresh → cs ≡ hash ∷ (spellings ps ++ rest) → AreInDirective ps rest → IsOpenComment rest → HasFault fresh cs 2 (1 + byte_len (spellings ps))
-  open_string : IsOpenLiteral double_quote cs → HasFault fresh cs 3 0
-  open_character : IsOpenLiteral single_quote cs → HasFault fresh cs 3 0
-  bad_number : IsTrue (is_bad_number cs) → HasFault fresh cs 4 0
+  open_comment : IsOpenComment cs → HasFault fresh cs OPEN_COMMENT 0
+  open_comment_in_directive : (ps : List Part) (rest : List ℕ) → IsTrue fresh → cs ≡ hash ∷ (spellings ps ++ rest)
+      → AreInDirective ps rest → IsOpenComment rest → HasFault fresh cs OPEN_COMMENT (1 + byte_len (spellings ps))
+  open_string : IsOpenLiteral double_quote cs → HasFault fresh cs OPEN_STRING 0
+  open_character : IsOpenLiteral single_quote cs → HasFault fresh cs OPEN_STRING 0
+  bad_number : IsTrue (is_bad_number cs) → HasFault fresh cs BAD_NUMBER 0
 
 -- the first fault of a text: that it is not UTF-8, or the one that stands behind pieces without a fault
 pub data IsFirstFault (text : List ℕ) : ℕ → ℕ → Type 0 where
-  bad_utf8 : (IsUtf8 text → ⊥) → IsFirstFault text 1 (utf8_valid_len text)
-  behind : (pieces : List Piece) (rest : List ℕ) (number offset : ℕ) → IsUtf8 text → chars text ≡ text_of pieces ++ rest → ArePieces true pieces rest → HasFault (fresh_behind true pieces) rest number offset → IsFirstFault text number (byte_len (text_of pieces) + offset)
+  bad_utf8 : (IsUtf8 text → ⊥) → IsFirstFault text BAD_UTF8 (utf8_valid_len text)
+  behind : (pieces : List Piece) (rest : List ℕ) (number offset : ℕ) → IsUtf8 text → chars text ≡ text_of pieces ++ rest
+      → ArePieces true pieces rest → HasFault (fresh_behind true pieces) rest number offset → IsFirstFault text number (byte_len (text_of pieces) + offset)
 
 -- what may be answered in place of tokens: want of memory, or the first fault
 abbrev pub IsStop : ℕ → List ℕ → Stop → Type 0

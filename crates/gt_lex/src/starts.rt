@@ -1,10 +1,10 @@
 // What begins at a place.
-ghost use Rattle.std.specs.Prelude.{◌≡◌, ℕ, Bool};
+ghost use Rattle.std.specs.Prelude.{◌≡◌, ◌∷◌};
 ghost use Rattle.std.specs.Str.{chars};
 ghost use Rattle.std.specs.Char.{is_ascii_digit, is_ascii_hexdigit};
 ghost use Rattle.gt_text.specs.WhiteSpace.{is_white_space_of};
 ghost use Rattle.gt_lex.specs.Characters.{first_passes};
-ghost use Rattle.gt_lex.specs.Starts.{plain_start, is_bad_number, text_start, is_line_break, is_continuation, directive_start};
+ghost use Rattle.gt_lex.specs.Starts.{plain_start, is_bare_prefix, text_start, is_line_break, directive_start};
 
 use crate::text::{first, first_is};
 use crate::tokens::Kind;
@@ -48,12 +48,10 @@ fn begins_with_hex_digit(text: &str) -> bool
     }
 }
 
-fn plain_start(text: &str) -> Start
-    ensures { result ≡ plain_start (chars text.now) }
+// What begins with a character in a text and in a directive alike.
+fn plain_start(c: char, after: &str) -> Start
+    ensures { result ≡ plain_start (c ∷ chars after.now) }
 {
-    let Some((c, after)) = first(text) else {
-        return Start::End;
-    };
     if is_space(c) {
         Start::Space
     } else if c == '/' && first_is('*', after) {
@@ -69,32 +67,29 @@ fn plain_start(text: &str) -> Start
     }
 }
 
-fn is_bad_number(text: &str) -> bool
-    ensures { result ≡ is_bad_number (chars text.now) }
+// Whether an x without a hexadecimal digit behind it follows a number's 0.
+fn is_bare_prefix(after: &str) -> bool
+    ensures { result ≡ is_bare_prefix (chars after.now) }
 {
-    let Some(('0', after)) = first(text) else {
-        return false;
-    };
-    let Some(('x' | 'X', digits)) = first(after) else {
-        return false;
-    };
-    !begins_with_hex_digit(digits)
+    match first(after) {
+        Some(('x' | 'X', digits)) => !begins_with_hex_digit(digits),
+        _ => false,
+    }
 }
 
 /// What begins at a place of a text, where `fresh` says that no token stands before it on its line.
 pub fn text_start(fresh: bool, text: &str) -> Start
     ensures { result ≡ text_start fresh (chars text.now) }
 {
-    if fresh && first_is('#', text) {
-        Start::Directive
-    } else if is_bad_number(text) {
-        Start::BadNumber
-    } else if first_is('"', text) {
-        Start::Token(Kind::Quoted)
-    } else if first_is('\'', text) {
-        Start::Token(Kind::CharLit)
-    } else {
-        plain_start(text)
+    let Some((c, after)) = first(text) else {
+        return Start::End;
+    };
+    match c {
+        '#' if fresh => Start::Directive,
+        '0' if is_bare_prefix(after) => Start::BadNumber,
+        '"' => Start::Token(Kind::Quoted),
+        '\'' => Start::Token(Kind::CharLit),
+        _ => plain_start(c, after),
     }
 }
 
@@ -107,24 +102,16 @@ fn is_line_break(text: &str) -> bool
     }
 }
 
-fn is_continuation(text: &str) -> bool
-    ensures { result ≡ is_continuation (chars text.now) }
-{
-    match first(text) {
-        Some((c, after)) => c == '\\' && is_line_break(after),
-        None => false,
-    }
-}
-
 /// What begins at a place of a directive.
 pub fn directive_start(text: &str) -> Start
     ensures { result ≡ directive_start (chars text.now) }
 {
-    if first_is('\n', text) {
-        Start::End
-    } else if is_continuation(text) {
-        Start::Continuation
-    } else {
-        plain_start(text)
+    let Some((c, after)) = first(text) else {
+        return Start::End;
+    };
+    match c {
+        '\n' => Start::End,
+        '\\' if is_line_break(after) => Start::Continuation,
+        _ => plain_start(c, after),
     }
 }
