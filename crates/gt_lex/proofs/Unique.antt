@@ -1,12 +1,11 @@
 -- A text has one reading: its pieces up to the end, or up to the first fault.
 use Rattle.std.proofs.Common.{◌≡◌, ℕ, ◌+◌, Bool, true, false, cond, List, [], ◌∷◌, ◌++◌, refl, sym, ap, subst, ◌∙◌, ◌⊎◌, inl, inr, append_assoc, arith}
-use Rattle.std.specs.Prelude.{◌&&◌, ◌||◌, ◌==◌, not, IsTrue}
-use Rattle.std.specs.Char.{is_ascii_hexdigit}
+use Rattle.std.specs.Prelude.{◌&&◌, ◌||◌, ◌==◌, IsTrue}
 use Rattle.std.proofs.lemmas.Bool.{false≢true, eqb-true}
 use Rattle.gt_text.specs.WhiteSpace.{is_white_space_of}
 use Rattle.gt_lex.specs.declared.starts.Start.TheVariants as start
 use Rattle.gt_lex.specs.declared.tokens.Kind.TheVariants.{Quoted, CharLit}
-use Rattle.gt_lex.specs.Characters.{double_quote, hash, single_quote, star, slash, first_passes, first_is, EndsLine, byte_len}
+use Rattle.gt_lex.specs.Characters.{double_quote, hash, single_quote, star, slash, first_is, EndsLine, byte_len}
 use Rattle.gt_lex.specs.Starts.{text_start, directive_start, is_bare_prefix, is_bad_number}
 use Rattle.gt_lex.specs.Extents.{Reaches, IsOpenComment}
 use Rattle.gt_lex.specs.Parts.{Part, Space, Block, Line, Continuation, Item, Piece, Plain, Directive, spelling, spellings, piece_spelling, text_of}
