@@ -1,0 +1,17 @@
+mod Bools
+mod Runs
+mod Numbers
+mod Comments
+mod Literals
+mod Opening
+mod Parts
+mod Again
+mod Offsets
+mod SeenTokens
+mod Directives
+mod Front
+mod Scanning
+mod Unique
+mod Outcomes
+mod Slices
+mod Names

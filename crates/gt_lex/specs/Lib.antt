@@ -1,0 +1,10 @@
+pub mod Characters
+pub mod Parts
+pub mod Starts
+pub mod Extents
+pub mod Constants
+pub mod Texts
+pub mod Reading
+pub mod Seen
+pub mod Progress
+pub mod Spans
