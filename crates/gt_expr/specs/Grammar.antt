@@ -36,8 +36,8 @@ pub data IsPlace : List Part → Base → List (List ℕ) → Type 0 where
 pub data Derives : Line → List Part → RawExpr → Type 0 where
   -- cond := or | or "?" cond ":" cond
   no_choice : {ps : List Part} {t : RawExpr} → Derives (Level 6) ps t → Derives Conditional ps t
-  choice : {xs ys zs : List Part} {test yes no : RawExpr} → Derives (Level 6) xs test → Derives Conditional ys yes → Derives Conditional zs no
-      → Derives Conditional (xs ++ Question ∷ ys ++ Colon ∷ zs) (Cond test yes no)
+  choice : {xs ys zs : List Part} {test first second : RawExpr} → Derives (Level 6) xs test → Derives Conditional ys first → Derives Conditional zs second
+      → Derives Conditional (xs ++ Question ∷ ys ++ Colon ∷ zs) (Cond test first second)
   -- a level's operators: an operand of the next level, or a tree of this one, an operator and an operand of the next
   operand : {level : ℕ} {ps : List Part} {t : RawExpr} → Derives (Level level) ps t → Derives (Level (suc level)) ps t
   operation : {level : ℕ} {xs ys : List Part} {op : Op} {a b : RawExpr} → level_of op ≡ suc level → Derives (Level (suc level)) xs a → Derives (Level level) ys b
