@@ -1,3 +1,4 @@
-mod Lines
-mod Derived
 mod Again
+mod CharactersLemmas
+mod Derived
+mod Lines

@@ -1,2 +1,4 @@
+pub mod Characters
 pub mod Grammar
+pub mod Parts
 pub mod Reading
