@@ -57,6 +57,20 @@ character_at-some text c e =
 pub Begins-len : (text : List ℕ) (c : ℕ) → Begins text c → len_utf8 c ≤ length text
 Begins-len text c begins = omega (arith, ap length begins.parts, length-append (encode_utf8 c) (drop (len_utf8 c) text), length-encode c)
 
+pub width_at-within : (text : List ℕ) → 0 < length text → width_at text ≤ length text
+width_at-within text some = go (character_at text) refl
+  where
+    go : (o : Option ℕ) → character_at text ≡ o → option_map_or len_utf8 o 1 ≤ length text
+    go None e = omega arith
+    go (Some c) e = Begins-len text c (character_at-some text c e)
+
+pub width_at-some : (text : List ℕ) → 0 < width_at text
+width_at-some text = go (character_at text)
+  where
+    go : (o : Option ℕ) → 0 < option_map_or len_utf8 o 1
+    go None = omega arith
+    go (Some c) = omega (arith, (len_utf8_bounds c).0)
+
 pub Begins-take : (text : List ℕ) (c : ℕ) → Begins text c → take (len_utf8 c) text ≡ encode_utf8 c
 Begins-take text c begins = ap (λ bytes. take (len_utf8 c) bytes) begins.parts ∙ take_at (encode_utf8 c) (drop (len_utf8 c) text) (len_utf8 c) (length-encode c)
 

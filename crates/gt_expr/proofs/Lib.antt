@@ -1,4 +1,7 @@
 mod Again
 mod CharactersLemmas
 mod Derived
+mod ExpressionLemmas
+mod IntegersLemmas
 mod Lines
+mod PartsLemmas

@@ -1,4 +1,5 @@
 pub mod Characters
+pub mod Expression
 pub mod Grammar
 pub mod Parts
 pub mod Reading

@@ -1,5 +1,5 @@
 -- The parts of an expression's text, from left to right: each the longest that fits, with white space between them.
-use Rattle.std.specs.Prelude.{ℕ, zero, suc, ◌+◌, ◌-◌, pos, Bool, ◌==◌, nat_eq, if◌then◌else◌, codes, List, [], ◌∷◌, length, take, Option, Some, None, is_some, find}
+use Rattle.std.specs.Prelude.{◌≡◌, ℕ, zero, suc, ◌+◌, ◌-◌, pos, Bool, false, ◌==◌, nat_eq, if◌then◌else◌, codes, List, [], ◌∷◌, length, take, Option, Some, None, is_some, find}
 use Rattle.std.specs.Option.{option_map_or}
 use Rattle.std.specs.List.{starts_with}
 use Rattle.std.specs.Str.{chars}
@@ -54,3 +54,8 @@ parts_behind zero (b ∷ bs) =
 
 abbrev pub parts_of : List ℕ → List Part
 parts_of text = parts_behind 0 text
+
+-- no white space stands at the front
+abbrev pub BeginsPart : List ℕ → Type 0
+BeginsPart [] = Unit {0}
+BeginsPart (b ∷ bs) = is_white_space_of b ≡ false

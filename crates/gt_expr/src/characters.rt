@@ -1,4 +1,4 @@
-ghost use Rattle.std.specs.Prelude.{◌≡◌, ℕ, List, Option};
+ghost use Rattle.std.specs.Prelude.{◌≡◌, ◌<◌, ◌≤◌, ℕ, List, length, Option};
 ghost use Rattle.gt_expr.specs.Characters.{front_of, character_at, width_at};
 
 // As many bytes at the front as the first one says that its character has.
@@ -26,7 +26,9 @@ pub fn character_at(text: &[u8]) -> Option<char>
 
 // How many bytes that character has. A byte of no character stands by itself.
 pub fn width_at(text: &[u8]) -> usize
-    ensures { result ≡ width_at text.now }
+    ensures width { result ≡ width_at text.now }
+    ensures within { 0 < length text.now → result ≤ length text.now }
+    ensures some { 0 < result }
 {
     character_at(text).map_or(1, char::len_utf8)
 }

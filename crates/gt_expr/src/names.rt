@@ -9,7 +9,9 @@ use gt_text::{continues_identifier, starts_identifier};
 
 // The longest identifier at the front of a text, or no character where none begins there.
 pub fn name_at(text: &[u8]) -> &str
-    ensures { result.now ≡ take (name_len text.now) text.now }
+    ensures name { result.now ≡ take (name_len text.now) text.now }
+    ensures len { length result.now ≡ name_len text.now }
+    ensures within { length result.now ≤ length text.now }
 {
     std::str::from_utf8(&text[..name_len(text)]).unwrap()
 }

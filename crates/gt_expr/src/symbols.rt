@@ -8,7 +8,9 @@ use gt_types::{Base, Op};
 // The symbol at the front of a text and its length, or else one character that is no part of an expression.
 #[tactic(auto, unfolding(crate::specs::Parts::symbol_at))]
 pub fn symbol_at(text: &[u8]) -> (Part, usize)
-    ensures { result ≡ symbol_at text.now }
+    ensures part { result ≡ symbol_at text.now }
+    ensures within { 0 < length text.now → result.1 ≤ length text.now }
+    ensures some { 0 < result.1 }
 {
     match text {
         [b'&', b'&', ..] => (Part::Operator(Op::And), 2),
