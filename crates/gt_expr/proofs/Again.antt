@@ -97,7 +97,7 @@ place_again at_base n h rest = refl
 place_again (in_brackets {ps} {base} {steps} p) zero h rest = absurd (omega arith)
 place_again (in_brackets {ps} {base} {steps} p) (suc n) h rest =
     let inner : unary_at (tree_at n) (ps ++ Close ∷ rest) ≡ Some (Path base steps, Close ∷ rest) =
-        place_again p n (omega (arith, length-append ps (Close ∷ []))) (Close ∷ rest) ∙ with_steps-none (Path base steps) (Close ∷ rest) (record { steps = refl; behind = refl }) in
+    place_again p n (omega (arith, length-append ps (Close ∷ []))) (Close ∷ rest) ∙ with_steps-none (Path base steps) (Close ∷ rest) (record { steps = refl; behind = refl }) in
     let alone = level_alone (unary_at (tree_at n)) 6 (ps ++ Close ∷ rest) (Path base steps) (Close ∷ rest) inner (Stops-close rest) in
     brackets_again (suc n) ps (Path base steps) rest (conditional_alone n (ps ++ Close ∷ rest) (Path base steps) (Close ∷ rest) alone (λ deeper test. refl))
 place_again (with_step {ps} {base} {steps} name p) n h rest =
@@ -181,12 +181,12 @@ choice_reads n xs ys zs test first second x y z rest after =
     let rs = zs ++ rest in
     let qs = ys ++ (Colon ∷ rs) in
     let flat : xs ++ Question ∷ ys ++ Colon ∷ zs ++ rest ≡ xs ++ (Question ∷ qs) =
-        append_assoc (xs ++ Question ∷ ys) (Colon ∷ zs) rest ∙ append_assoc xs (Question ∷ ys) (Colon ∷ rs) in
+    append_assoc (xs ++ Question ∷ ys) (Colon ∷ zs) rest ∙ append_assoc xs (Question ∷ ys) (Colon ∷ rs) in
     ap (λ (ps : List Part). line_at (tree_at (suc n)) Conditional ps) flat
     ∙ choice_steps (tree_at (suc n)) (xs ++ (Question ∷ qs)) qs rs rest test first second
-        (sym (line_at_level (tree_at (suc n)) 6 (xs ++ (Question ∷ qs))) ∙ x (Question ∷ qs) (Stops-question qs))
-        (deeper_is n Conditional qs ∙ y (Colon ∷ rs) (Stops-colon rs, λ deeper t. refl))
-        (deeper_is n Conditional rs ∙ z rest after)
+    (sym (line_at_level (tree_at (suc n)) 6 (xs ++ (Question ∷ qs))) ∙ x (Question ∷ qs) (Stops-question qs))
+    (deeper_is n Conditional qs ∙ y (Colon ∷ rs) (Stops-colon rs, λ deeper t. refl))
+    (deeper_is n Conditional rs ∙ z rest after)
 
 no_choice_reads : (n : ℕ) (ps : List Part) (t : RawExpr) → Reads n (Level 6) ps t → Reads n Conditional ps t
 unfolding Reads line_at

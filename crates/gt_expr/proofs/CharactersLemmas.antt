@@ -102,7 +102,6 @@ run_behind-no p (b ∷ bs) e = rw e refl
 -- ---- one character more, behind len bytes
 
 module _ (text : List ℕ) (len : ℕ) where
-
   found_behind : (o : Option ℕ) → o ≡ character_at (take (length text - len) (drop len text)) → character_at (drop len text) ≡ o
   found_behind o e = ap character_at (sym (take_rest text len)) ∙ sym e
 

@@ -93,7 +93,6 @@ closed_takes inner u ps t rest d e = absurd cc
 -- ---- unaries
 
 module _ (deeper : Line → List Part → Reading) (sound : (line : Line) → IsSound line (deeper line)) where
-
   unary_takes : IsSound (Level 0) (unary_at deeper)
   unfolding unary_at
   unary_takes (Operator Not ∷ ps) t rest e =
@@ -127,7 +126,6 @@ operator_at_some level (Operator o ∷ ps) op after e =
 operator_at_some level ps op after e = absurd cc
 
 module _ (reader : List Part → Reading) (level : ℕ) (sound : IsSound (Level level) reader) where
-
   -- operators and operands join a tree that was derived before
   record Joins (before : List Part) (ps : List Part) (t : RawExpr) (rest : List Part) : Type 0 where
     front : List Part
@@ -183,7 +181,6 @@ level_takes unary sound (suc level) ps t rest e =
 -- ---- conditionals
 
 module _ (deeper : Line → List Part → Reading) (sound : (line : Line) → IsSound line (deeper line)) where
-
   no_takes : (xs ys : List Part) (test one : RawExpr) (ps : List Part) (t : RawExpr) (rest : List Part) → Derives (Level 6) xs test → Derives Conditional ys one
       → no_at deeper test one ps ≡ Some (t, rest) → Takes Conditional (xs ++ Question ∷ ys ++ ps) t rest
   no_takes xs ys test one (Colon ∷ ps) t rest x y e =

@@ -1,23 +1,32 @@
 -- Texts and their trees.
-use Rattle.std.proofs.Common.{◌≡◌, ℕ, List, Option, Some, None, Result, Ok, Err, refl, sym, ap, ◌∙◌, inl, inr}
+use Rattle.std.proofs.Common.{◌≡◌, ℕ, ◌≤◌, List, length, Option, Some, None, Result, Ok, Err, refl, sym, ap, ◌∙◌, inl, inr, arith}
 use Rattle.gt_types.specs.declared.faults.Stop.{Stop}
 use Rattle.gt_types.specs.declared.faults.Stop.TheVariants.{Memory, At}
-use Rattle.gt_expr.specs.declared.TheConstants.{BAD_EXPR}
+use Rattle.gt_expr.specs.declared.TheConstants.{MAX_PARTS, BAD_EXPR}
 use Rattle.gt_expr.specs.declared.part.Part.{Part}
 use Rattle.gt_expr.specs.declared.raw.RawExpr.{RawExpr}
 use Rattle.gt_expr.specs.Parts.{parts_of}
 use Rattle.gt_expr.specs.Reading.{tree_of}
 use Rattle.gt_expr.specs.Expression.{IsTooLarge, HasTree, IsExpression, IsStopped, IsUnlessMemory, fault_at}
 use Rattle.gt_expr.proofs.Derived.{tree_of-derived}
+use Rattle.gt_expr.specs.Grammar.{Derives}
+use Rattle.gt_expr.specs.Spelling.{Spells}
+use Rattle.gt_expr.specs.declared.part.Line.TheVariants.{Conditional}
 use Rattle.gt_expr.proofs.Again.{derived-tree_of}
+use Rattle.gt_expr.proofs.Spelled.{parts_of-spelled}
 
 -- no text has two trees
 pub HasTree-one : (text : List ℕ) (s t : RawExpr) → HasTree text s → HasTree text t → s ≡ t
 HasTree-one text s t a b =
     let same : Some s ≡ Some t = sym (derived-tree_of (parts_of text) s a) ∙ derived-tree_of (parts_of text) t b in cc
 
-module _ (text : List ℕ) (ps : List Part) (are : ps ≡ parts_of text) where
+-- a tree that is spelled in few parts is the tree of its text
+pub IsExpression-spelled : (text : List ℕ) (ps : List Part) (t : RawExpr) → Spells text ps → Derives Conditional ps t → length ps ≤ MAX_PARTS → IsExpression text t
+IsExpression-spelled text ps t s d few =
+    let parts = parts_of-spelled s in
+    record { few = λ large. absurd (omega (arith, ap length parts)); has_tree = rw parts d }
 
+module _ (text : List ℕ) (ps : List Part) (are : ps ≡ parts_of text) where
   pub is_expression : (t : RawExpr) → ¬ IsTooLarge text → tree_of ps ≡ Some t → IsExpression text t
   is_expression t few read = record { few = few; has_tree = rw (← are) (tree_of-derived ps t read) }
 

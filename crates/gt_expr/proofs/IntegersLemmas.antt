@@ -17,9 +17,9 @@ use Rattle.gt_expr.specs.Parts.{longest_up_to, integer_len}
 pub longest_up_to-is : (p : List ℕ → Bool) (text : List ℕ) (n len : ℕ) → n ≤ len → p (take n text) ≡ true → ((m : ℕ) → n < m → m ≤ len → p (take m text) ≡ false) → longest_up_to p text len ≡ n
 longest_up_to-is p text n zero h e longer = omega arith
 longest_up_to-is p text n (suc len) h e longer = elim (cases_lt n (suc len)) [
-    | inl lt ↦ rw (longer (suc len) lt (omega arith)) (longest_up_to-is p text n len (omega arith) e (λ m a b. longer m a (omega arith)))
-    | inr le ↦ let same : n ≡ suc len = omega arith in let here : p (take (suc len) text) ≡ true = rw same at e in rw here (sym same)
-  ]
+  | inl lt ↦ rw (longer (suc len) lt (omega arith)) (longest_up_to-is p text n len (omega arith) e (λ m a b. longer m a (omega arith)))
+  | inr le ↦ let same : n ≡ suc len = omega arith in let here : p (take (suc len) text) ≡ true = rw same at e in rw here (sym same)
+]
 
 pub longest_up_to-none : (p : List ℕ → Bool) (text : List ℕ) (len : ℕ) → ((m : ℕ) → 0 < m → m ≤ len → p (take m text) ≡ false) → longest_up_to p text len ≡ 0
 longest_up_to-none p text zero longer = refl
@@ -36,9 +36,9 @@ prefix_len-take : (p : ℕ → Bool) (m : ℕ) (xs : List ℕ) → prefix_len p 
 prefix_len-take p zero xs = omega arith
 prefix_len-take p (suc m) [] = omega arith
 prefix_len-take p (suc m) (x ∷ xs) = elim (cases_Bool (p x)) [
-    | inl e ↦ let more = prefix_len-take p m xs in rw e (omega (arith, more))
-    | inr e ↦ rw e (omega arith)
-  ]
+  | inl e ↦ let more = prefix_len-take p m xs in rw e (omega (arith, more))
+  | inr e ↦ rw e (omega arith)
+]
 
 both_pass : (b r : Bool) (m n : ℕ) → suc m ≤ cond b (1 + n) 0 → (m ≤ n → r ≡ true) → (b && r) ≡ true
 both_pass true r m n h f = f (omega arith)
@@ -85,10 +85,10 @@ is_some-cond true n = refl
 is_some-cond false n = refl
 
 -- what a numeral asks, of its digits and of what stands behind them
-abbrev asks : ℕ → List ℕ → List ℕ → Bool
+abbrev pub asks : ℕ → List ℕ → List ℕ → Bool
 asks base digits behind = not (length digits == 0) && is_suffix_of behind && nat_lt (value_of base digits) (2 ^ 63)
 
-numeral_some : (base : ℕ) (text : List ℕ) → is_some (numeral_of base text) ≡ asks base (digits_of base text) (suffix_of base text)
+pub numeral_some : (base : ℕ) (text : List ℕ) → is_some (numeral_of base text) ≡ asks base (digits_of base text) (suffix_of base text)
 numeral_some base text = is_some-cond (asks base (digits_of base text) (suffix_of base text)) (value_of base (digits_of base text))
 
 asks_yes : (base : ℕ) (digits behind : List ℕ) → 0 < length digits → is_suffix_of behind ≡ true → value_of base digits < 2 ^ 63 → asks base digits behind ≡ true
@@ -97,7 +97,7 @@ asks_yes base digits behind some suffix small = rw (ne_eqb (length digits) 0 (λ
 asks_none : (base : ℕ) (digits behind : List ℕ) → length digits ≡ 0 → asks base digits behind ≡ false
 asks_none base digits behind e = rw (eq-eqb (length digits) 0 e) refl
 
-asks_suffix : (base : ℕ) (digits behind : List ℕ) → is_suffix_of behind ≡ false → asks base digits behind ≡ false
+pub asks_suffix : (base : ℕ) (digits behind : List ℕ) → is_suffix_of behind ≡ false → asks base digits behind ≡ false
 asks_suffix base digits behind e = rw e (and_false (not (length digits == 0)) (nat_lt (value_of base digits) (2 ^ 63)))
   where
     and_false : (a b : Bool) → (a && false && b) ≡ false
@@ -115,7 +115,6 @@ digit_is_none base c most digit (x ∷ xs) h =
     or_from (x == c) (list_any (λ y. y == c) xs) (ne_eqb x c (λ e. omega (arith, leb-true 16 (digit_value x) parts.0, ltb-true (digit_value c) base digit, ap digit_value e))) (digit_is_none base c most digit xs parts.1)
 
 module _ (base : ℕ) (text : List ℕ) (least : 8 ≤ base) (most : base ≤ 16) where
-
   abbrev is_base : ℕ → Bool
   is_base c = is_digit c base
 
@@ -144,14 +143,13 @@ module _ (base : ℕ) (text : List ℕ) (least : 8 ≤ base) (most : base ≤ 16
   passes_is m k j e split =
       let digits : digits_of base (take m text) ≡ take k text = digits_of-take m ∙ ap (λ n. take n text) e in
       let behind : suffix_of base (take m text) ≡ take j (drop k text) =
-          suffix_of-take m ∙ ap₂ (λ a b. drop a (take b text)) e split ∙ drop-take k j text in
+      suffix_of-take m ∙ ap₂ (λ a b. drop a (take b text)) e split ∙ drop-take k j text in
       numeral_some base (take m text) ∙ ap₂ (asks base) digits behind
 
   letter_is_none : (c : ℕ) → is_base c ≡ true → is_letter c ≡ false
   letter_is_none c e = digit_is_none base c most e (codes "uUlL") refl
 
   module _ (d : ℕ) (within : d ≤ length text) (digits : d ≤ run) (small : value_of base (take d text) < 2 ^ 63) (large : d < run → 2 ^ 63 ≤ value_of base (take (d + 1) text)) where
-
     abbrev letters : ℕ
     letters = prefix_len is_letter (drop d text)
 
@@ -172,22 +170,22 @@ module _ (base : ℕ) (text : List ℕ) (least : 8 ≤ base) (most : base ≤ 16
 
     front_passes : 0 < d → passes (d + letters) ≡ true
     front_passes some = elim (cases_lt d run) [
-        | inl lt ↦
+      | inl lt ↦
           let none = no_letters lt in
           passes_is (d + letters) d letters (omega arith) refl
           ∙ asks_yes base (take d text) (take letters (drop d text)) (omega (arith, length-front)) (list_all-take-within is_letter letters (drop d text) (omega arith)) small
-        | inr le ↦
+      | inr le ↦
           passes_is (d + letters) d letters (omega arith) refl
           ∙ asks_yes base (take d text) (take letters (drop d text)) (omega (arith, length-front)) (list_all-take-within is_letter letters (drop d text) (omega arith)) small
-      ]
+    ]
 
     longer_fails : (m : ℕ) → d + letters < m → m ≤ length text → passes m ≡ false
     longer_fails m longer fits = elim (cases_lt d run) [
-        | inl lt ↦ large_fails lt m (omega arith)
-        | inr le ↦
+      | inl lt ↦ large_fails lt m (omega arith)
+      | inr le ↦
           let behind = list_all-take-past is_letter (m - d) (drop d text) (omega arith) (omega (arith, length-drop d text)) in
           passes_is m d (m - d) (omega arith) (omega arith) ∙ asks_suffix base (take d text) (take (m - d) (drop d text)) behind
-      ]
+    ]
 
     pub numeral_len-some : 0 < d → d + letters ≡ longest_up_to (λ front. is_some (numeral_of base front)) text (length text)
     numeral_len-some some =
@@ -199,8 +197,8 @@ module _ (base : ℕ) (text : List ℕ) (least : 8 ≤ base) (most : base ≤ 16
         sym (longest_up_to-none (λ front. is_some (numeral_of base front)) text (length text) (λ m some fits. elim (cases_lt d run) [
           | inl lt ↦ large_fails lt m (omega arith)
           | inr le ↦
-            let start : min m run ≡ 0 = omega arith in
-            passes_is m 0 m start (omega arith) ∙ asks_none base [] (take m text) refl
+              let start : min m run ≡ 0 = omega arith in
+              passes_is m 0 m start (omega arith) ∙ asks_none base [] (take m text) refl
         ]))
 
 -- ---- the base of a literal
@@ -210,31 +208,31 @@ longest_behind : (p q : List ℕ → Bool) (a b : ℕ) (text : List ℕ) → p (
     → longest_up_to p (a ∷ b ∷ text) (suc (suc n)) ≡ cond (longest_up_to q text n == 0) 1 (suc (suc (longest_up_to q text n)))
 longest_behind p q a b text one none same zero = rw (same [], none, one) refl
 longest_behind p q a b text one none same (suc n) = elim (cases_Bool (q (take (suc n) text))) [
-    | inl e ↦ rw (same (take (suc n) text), e, ne_eqb (suc n) 0 (λ h. omega arith)) refl
-    | inr e ↦ rw (same (take (suc n) text), e) (longest_behind p q a b text one none same n)
-  ]
+  | inl e ↦ rw (same (take (suc n) text), e, ne_eqb (suc n) 0 (λ h. omega arith)) refl
+  | inr e ↦ rw (same (take (suc n) text), e) (longest_behind p q a b text one none same n)
+]
 
-abbrev is_hex : List ℕ → Bool
+abbrev pub is_hex : List ℕ → Bool
 is_hex text = starts_with nat_eq text (codes "0x") || starts_with nat_eq text (codes "0X")
 
-abbrev begins_with_0 : List ℕ → Bool
+abbrev pub begins_with_0 : List ℕ → Bool
 begins_with_0 text = starts_with nat_eq text (codes "0")
 
-abbrev is_integer : List ℕ → Bool
+abbrev pub is_integer : List ℕ → Bool
 is_integer front = is_some (integer_of front)
 
-abbrev is_numeral : ℕ → List ℕ → Bool
+abbrev pub is_numeral : ℕ → List ℕ → Bool
 is_numeral base front = is_some (numeral_of base front)
 
-hex_is : (a b : ℕ) (rest : List ℕ) → is_hex (a ∷ b ∷ rest) ≡ true → is_integer (a ∷ b ∷ rest) ≡ is_numeral 16 rest
+pub hex_is : (a b : ℕ) (rest : List ℕ) → is_hex (a ∷ b ∷ rest) ≡ true → is_integer (a ∷ b ∷ rest) ≡ is_numeral 16 rest
 unfolding integer_of
 hex_is a b rest e = rw e refl
 
-octal_is : (text : List ℕ) → is_hex text ≡ false → begins_with_0 text ≡ true → is_integer text ≡ is_numeral 8 text
+pub octal_is : (text : List ℕ) → is_hex text ≡ false → begins_with_0 text ≡ true → is_integer text ≡ is_numeral 8 text
 unfolding integer_of
 octal_is text hex zeros = rw (hex, zeros) refl
 
-decimal_is : (text : List ℕ) → is_hex text ≡ false → begins_with_0 text ≡ false → is_integer text ≡ is_numeral 10 text
+pub decimal_is : (text : List ℕ) → is_hex text ≡ false → begins_with_0 text ≡ false → is_integer text ≡ is_numeral 10 text
 unfolding integer_of
 decimal_is text hex zeros = rw (hex, zeros) refl
 
@@ -276,11 +274,11 @@ zero_alone : (a : ℕ) → a ≡ 48 → is_integer (a ∷ []) ≡ true
 unfolding integer_of
 zero_alone a e = rw e refl
 
-hex_zero : (a b : ℕ) (rest : List ℕ) → is_hex (a ∷ b ∷ rest) ≡ true → a ≡ 48
+pub hex_zero : (a b : ℕ) (rest : List ℕ) → is_hex (a ∷ b ∷ rest) ≡ true → a ≡ 48
 hex_zero a b rest e = elim (or_cases (starts_with nat_eq (a ∷ b ∷ rest) (codes "0x")) (starts_with nat_eq (a ∷ b ∷ rest) (codes "0X")) e) [
-    | inl x ↦ sym (eqb-true 48 a (and_parts (48 == a) _ x).0)
-    | inr x ↦ sym (eqb-true 48 a (and_parts (48 == a) _ x).0)
-  ]
+  | inl x ↦ sym (eqb-true 48 a (and_parts (48 == a) _ x).0)
+  | inr x ↦ sym (eqb-true 48 a (and_parts (48 == a) _ x).0)
+]
 
 pub hex_len : (text : List ℕ) (n : ℕ) → true ≡ is_hex text → n ≡ longest_up_to (is_numeral 16) (take (length text - 2) (drop 2 text)) (length (take (length text - 2) (drop 2 text)))
     → integer_len text ≡ cond (n == 0) 1 (suc (suc n))

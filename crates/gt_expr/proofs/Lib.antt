@@ -5,3 +5,4 @@ mod ExpressionLemmas
 mod IntegersLemmas
 mod Lines
 mod PartsLemmas
+mod Spelled

@@ -47,7 +47,6 @@ level_at_begins unary (suc level) ps left rest h e =
 
 module _ (operand : List Part → Reading) (level count i : ℕ) (left : RawExpr) (rest : List Part) (op : Op) (after : List Part) (total : Reading) (lt : i < count)
     (found : operator_at level rest ≡ Some (op, after)) (so_far : more_at operand level (count - i) left rest ≡ total) where
-
   here : total ≡ (operand after >>= λ right. more_at operand level (count - (i + 1)) (Two op left right.0) right.1)
   unfolding more_at
   here = let k : count - i ≡ suc (count - (i + 1)) = omega arith in sym so_far ∙ rw (k, found) refl

@@ -6,17 +6,18 @@
 mod characters;
 mod expressions;
 mod integers;
+mod laws;
 mod names;
 mod part;
 mod raw;
-
 mod reading;
 mod scanning;
 mod symbols;
 mod unread;
 
-pub use raw::RawExpr;
 pub use expressions::read;
+pub use laws::{one_tree, parts_as_spelled, trees_as_spelled};
+pub use raw::RawExpr;
 
 /// How many parts an expression may have.
 pub const MAX_PARTS: usize = 256;

@@ -26,7 +26,12 @@ pub fn tree(alloc: Global, parts: &[Part]) -> Result<RawExpr, Unread>
 
 // A line of the grammar, where fewer than `depth` lines stand in one another.
 #[cycle(reading)]
-fn nested(alloc: Global, depth: usize, line: Line, parts: &[Part]) -> Result<(RawExpr, &[Part]), Unread>
+fn nested(
+    alloc: Global,
+    depth: usize,
+    line: Line,
+    parts: &[Part],
+) -> Result<(RawExpr, &[Part]), Unread>
     ensures { Gives (λ x. (x.0, x.1.now)) result (tree_at depth line parts.now) }
 {
     let Some(depth) = depth.checked_sub(1) else {
@@ -62,7 +67,12 @@ fn conditional(alloc: Global, depth: usize, parts: &[Part]) -> Result<(RawExpr, 
 
 // The operators of a level, each grouped to the left. Each turn takes two parts or more.
 #[cycle(reading)]
-fn binary(alloc: Global, depth: usize, level: u8, parts: &[Part]) -> Result<(RawExpr, &[Part]), Unread>
+fn binary(
+    alloc: Global,
+    depth: usize,
+    level: u8,
+    parts: &[Part],
+) -> Result<(RawExpr, &[Part]), Unread>
     ensures { Gives (λ x. (x.0, x.1.now)) result (level_at (unary_at (tree_at depth)) level parts.now) }
 {
     if level == 0 {
@@ -126,7 +136,11 @@ fn one(alloc: Global, op: Op, a: RawExpr) -> Result<RawExpr, AllocError>
 }
 
 // A path takes the steps behind it; another tree has none.
-fn with_steps(alloc: Global, tree: RawExpr, parts: &[Part]) -> Result<(RawExpr, &[Part]), AllocError>
+fn with_steps(
+    alloc: Global,
+    tree: RawExpr,
+    parts: &[Part],
+) -> Result<(RawExpr, &[Part]), AllocError>
     ensures tree { IfOk result (λ x. x.0 ≡ (with_steps tree parts.now).0) }
     ensures rest { IfOk result (λ x. x.1.now ≡ (with_steps tree parts.now).1) }
 {
@@ -140,7 +154,11 @@ fn with_steps(alloc: Global, tree: RawExpr, parts: &[Part]) -> Result<(RawExpr, 
 }
 
 // Steps of a path, and those at the front of the parts.
-fn more_steps(alloc: Global, mut steps: List<Word>, parts: &[Part]) -> Result<(List<Word>, &[Part]), AllocError>
+fn more_steps(
+    alloc: Global,
+    mut steps: List<Word>,
+    parts: &[Part],
+) -> Result<(List<Word>, &[Part]), AllocError>
     ensures steps { IfOk result (λ x. x.0 ≡ steps ++ (steps_at parts.now).0) }
     ensures rest { IfOk result (λ x. x.1.now ≡ (steps_at parts.now).1) }
 {

@@ -31,10 +31,20 @@ fn shown(alloc: Global, tree: &RawExpr) -> Result<String, AllocError> {
             format!(in alloc; "({} {})", sign(*op), shown(alloc, a.get())?)
         }
         RawExpr::Two { op, a, b } => {
-            format!(in alloc; "({} {} {})", shown(alloc, a.get())?, sign(*op), shown(alloc, b.get())?)
+            format!(in alloc;
+                "({} {} {})",
+                shown(alloc, a.get())?,
+                sign(*op),
+                shown(alloc, b.get())?
+            )
         }
         RawExpr::Cond { test, yes, no } => {
-            format!(in alloc; "({} ? {} : {})", shown(alloc, test.get())?, shown(alloc, yes.get())?, shown(alloc, no.get())?)
+            format!(in alloc;
+                "({} ? {} : {})",
+                shown(alloc, test.get())?,
+                shown(alloc, yes.get())?,
+                shown(alloc, no.get())?
+            )
         }
     }
 }
@@ -198,7 +208,13 @@ fn other_texts_have_fault_5(rt: HostRuntime) -> Result<(), Fail> {
         let found = answer(rt.alloc(), text.as_bytes())?;
         assert_eq!(rt; found.as_str(), "5 in 3 at 7", "of {text}");
     }
-    for text in [b"\xff".as_slice(), b"a\xe4\xb8", b"a\x80", b"\xc0\x80", b"\xed\xa0\x80"] {
+    for text in [
+        b"\xff".as_slice(),
+        b"a\xe4\xb8",
+        b"a\x80",
+        b"\xc0\x80",
+        b"\xed\xa0\x80",
+    ] {
         let found = answer(rt.alloc(), text)?;
         assert_eq!(rt; found.as_str(), "5 in 3 at 7", "of {text:?}");
     }
@@ -206,7 +222,12 @@ fn other_texts_have_fault_5(rt: HostRuntime) -> Result<(), Fail> {
 }
 
 // A text in 127 pairs of brackets, with as many of another text before it as `times` says.
-fn in_brackets(alloc: Global, times: usize, before: &[u8], text: &[u8]) -> Result<Vec<u8>, AllocError> {
+fn in_brackets(
+    alloc: Global,
+    times: usize,
+    before: &[u8],
+    text: &[u8],
+) -> Result<Vec<u8>, AllocError> {
     let mut whole = repeated(alloc, 127, b"(")?;
     whole.extend_from_slice(&repeated(alloc, times, before)?)?;
     whole.extend_from_slice(text)?;

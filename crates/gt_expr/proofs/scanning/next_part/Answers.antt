@@ -10,4 +10,4 @@ returns c =
     let part = c.in_ok-part.ensures in
     sym c.without_white_space-text.ensures.same
     ∙ parts_of-part c.without_white_space-text.result.now c.in_ok-part.part c.in_ok-part.len c.without_white_space-text.ensures.begins
-        (part.within (some_from _ c.if-is_empty.ensures)) part.some part.part
+    (part.within (some_from _ c.if-is_empty.ensures)) part.some part.part
