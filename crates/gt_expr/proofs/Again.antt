@@ -1,19 +1,18 @@
 -- What the grammar gives is read: the parts that stand for a tree are read as that tree, whatever may follow it.
-use Rattle.std.proofs.Common.{◌≡◌, ℕ, zero, suc, ℤ, ◌+◌, ◌-◌, ◌≤◌, ◌<◌, Bool, true, false, cond, eqb, List, [], ◌∷◌, ◌++◌, length, Option, Some, None, refl, sym, ap, subst, ◌∙◌, append_assoc, arith}
+use Rattle.std.proofs.Common.{◌≡◌, ℕ, zero, suc, ℤ, ◌-◌, ◌≤◌, ◌<◌, false, eqb, List, [], ◌∷◌, ◌++◌, length, Some, None, refl, sym, ap, ◌∙◌, append_assoc, arith}
 use Rattle.std.proofs.lemmas.Bool.{eq-eqb, ne_eqb}
 use Rattle.std.proofs.lemmas.List.{append-nil, length-append}
-use Rattle.std.specs.Option.{option_map_or}
 use Rattle.gt_types.specs.declared.expressions.Base.{Base}
 use Rattle.gt_types.specs.declared.expressions.Op.{Op}
 use Rattle.gt_types.specs.declared.expressions.Op.TheVariants.{Neg, Not, Sub}
 use Rattle.gt_expr.specs.declared.part.Part.{Part}
-use Rattle.gt_expr.specs.declared.part.Part.TheVariants.{Integer, Name, Percent, Operator, Question, Colon, Dot, Open, Close, Other}
+use Rattle.gt_expr.specs.declared.part.Part.TheVariants.{Integer, Name, Operator, Question, Colon, Dot, Open, Close}
 use Rattle.gt_expr.specs.declared.part.Line.{Line}
 use Rattle.gt_expr.specs.declared.part.Line.TheVariants.{Conditional, Level}
 use Rattle.gt_expr.specs.declared.raw.RawExpr.{RawExpr}
 use Rattle.gt_expr.specs.declared.raw.RawExpr.TheVariants.{Int, Path, Named, One, Two, Cond}
 use Rattle.gt_expr.specs.Grammar.{level_of, IsPlace, at_base, in_brackets, with_step, Derives, no_choice, choice, operand, operation, negated, negative, integer, named, place, bracketed}
-use Rattle.gt_expr.specs.Reading.{Reading, ◌>>=◌, operator_at, more_at, level_at, steps_at, with_steps, closed_at, unary_at, no_at, branches_at, line_at, tree_at, whole_of, tree_of}
+use Rattle.gt_expr.specs.Reading.{Reading, operator_at, more_at, level_at, steps_at, with_steps, unary_at, branches_at, line_at, tree_at, tree_of}
 use Rattle.gt_expr.proofs.Lines.{line_at_level, more_at_ends}
 
 -- ---- what may follow

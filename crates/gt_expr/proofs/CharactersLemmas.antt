@@ -1,12 +1,12 @@
 -- The character at the front of a text, and characters that pass a test.
-use Rattle.std.proofs.Common.{◌≡◌, ℕ, zero, suc, ◌+◌, ◌-◌, ◌<◌, ◌≤◌, Bool, true, false, cond, List, [], ◌∷◌, ◌++◌, length, take, drop, Option, Some, None, refl, sym, ap, ◌∙◌, append_assoc, add-one, arith}
+use Rattle.std.proofs.Common.{◌≡◌, ℕ, zero, suc, ◌+◌, ◌-◌, ◌<◌, ◌≤◌, Bool, true, false, cond, List, [], ◌∷◌, ◌++◌, length, take, drop, Option, Some, None, refl, sym, ap, ◌∙◌, append_assoc, arith}
 use Rattle.std.specs.Prelude.{slice_get, encode_utf8}
 use Rattle.std.specs.Char.{IsScalar, len_utf8}
 use Rattle.std.specs.Option.{option_map_or}
 use Rattle.std.specs.Str.{IsUtf8, is_utf8, chars, all_scalars, encode_utf8_all, continuation_len}
 use Rattle.std.proofs.Math.Seq.{take-add}
 use Rattle.std.proofs.lemmas.Bool.{false_from_ne_true, and_parts}
-use Rattle.std.proofs.lemmas.List.{append-nil, take-append-drop, drop_at, take_at, drop-drop, length-append, length-drop, take_rest}
+use Rattle.std.proofs.lemmas.List.{take-append-drop, drop_at, take_at, drop-drop, length-append, length-drop, take_rest}
 use Rattle.std.proofs.lemmas.Str.{IsUtf8-from_is_utf8, is_utf8-from_IsUtf8, IsUtf8-append, IsUtf8-encode, encodes-chars, scalars-chars, length-encode, len_utf8_bounds}
 use Rattle.gt_expr.specs.Characters.{front_of, character_at, width_at, begins_with, run_behind}
 

@@ -1,5 +1,5 @@
 -- What is read is derived: the grammar gives the parts that a reader took, and their tree.
-use Rattle.std.proofs.Common.{◌≡◌, ℕ, zero, suc, ◌+◌, Bool, true, false, cond, eqb, List, [], ◌∷◌, ◌++◌, length, Option, Some, None, refl, sym, ap, subst, ◌∙◌, append_assoc, arith}
+use Rattle.std.proofs.Common.{◌≡◌, ℕ, zero, suc, eqb, List, [], ◌∷◌, ◌++◌, length, Option, Some, None, refl, sym, ap, ◌∙◌, append_assoc}
 use Rattle.std.proofs.lemmas.Bool.{eqb-true}
 use Rattle.std.proofs.lemmas.List.{append-nil}
 use Rattle.std.proofs.lemmas.Option.{some_pair_parts, cond_some}
@@ -8,7 +8,7 @@ use Rattle.gt_types.specs.declared.expressions.Base.{Base}
 use Rattle.gt_types.specs.declared.expressions.Op.{Op}
 use Rattle.gt_types.specs.declared.expressions.Op.TheVariants.{Neg, Not, Sub}
 use Rattle.gt_expr.specs.declared.part.Part.{Part}
-use Rattle.gt_expr.specs.declared.part.Part.TheVariants.{Integer, Name, Percent, Operator, Question, Colon, Dot, Open, Close, Other}
+use Rattle.gt_expr.specs.declared.part.Part.TheVariants.{Integer, Name, Percent, Operator, Question, Colon, Dot, Open, Close}
 use Rattle.gt_expr.specs.declared.part.Line.{Line}
 use Rattle.gt_expr.specs.declared.part.Line.TheVariants.{Conditional, Level}
 use Rattle.gt_expr.specs.declared.raw.RawExpr.{RawExpr}

@@ -1,7 +1,7 @@
 -- Texts and their trees.
-use Rattle.std.proofs.Common.{◌≡◌, ℕ, ◌≤◌, List, length, Option, Some, None, Result, Ok, Err, refl, sym, ap, ◌∙◌, inl, inr, arith}
+use Rattle.std.proofs.Common.{◌≡◌, ℕ, ◌≤◌, List, length, Some, None, Ok, refl, sym, ap, ◌∙◌, inr, arith}
 use Rattle.gt_types.specs.declared.faults.Stop.{Stop}
-use Rattle.gt_types.specs.declared.faults.Stop.TheVariants.{Memory, At}
+use Rattle.gt_types.specs.declared.faults.Stop.TheVariants.{At}
 use Rattle.gt_expr.specs.declared.TheConstants.{MAX_PARTS, BAD_EXPR}
 use Rattle.gt_expr.specs.declared.part.Part.{Part}
 use Rattle.gt_expr.specs.declared.raw.RawExpr.{RawExpr}

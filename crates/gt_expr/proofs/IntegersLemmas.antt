@@ -1,12 +1,12 @@
 -- The longest integer literal at the front of a text.
-use Rattle.std.proofs.Common.{◌≡◌, ℕ, zero, suc, ◌+◌, ◌*◌, ◌-◌, ◌^◌, ◌<◌, ◌≤◌, min, Bool, true, false, cond, not, ◌&&◌, ◌||◌, eqb, ltb, List, [], ◌∷◌, ◌++◌, length, get_or, take, drop, Option, Some, None, refl, sym, ap, ap₂, ◌∙◌, add-one, arith, ◌⊎◌, inl, inr}
+use Rattle.std.proofs.Common.{◌≡◌, ℕ, zero, suc, ◌+◌, ◌*◌, ◌-◌, ◌^◌, ◌<◌, ◌≤◌, min, Bool, true, false, cond, not, ◌&&◌, ◌||◌, List, [], ◌∷◌, ◌++◌, length, get_or, take, drop, Some, None, refl, sym, ap, ap₂, ◌∙◌, arith, inl, inr}
 use Rattle.std.specs.Prelude.{is_some, codes, fold, ◌==◌, nat_eq, nat_lt, nat_le}
 use Rattle.std.specs.Char.{digit_value, is_digit}
-use Rattle.std.specs.List.{prefix_len, list_any, list_all, take_while, starts_with}
+use Rattle.std.specs.List.{prefix_len, list_any, list_all, starts_with}
 use Rattle.std.proofs.Math.Nat.{mul-le-mul_left}
 use Rattle.std.proofs.Math.Seq.{take-add}
-use Rattle.std.proofs.lemmas.Bool.{cases_Bool, cases_lt, false_from_ne_true, or_cases, eqb-true, ltb-true, lt-ltb, le-ltb, ne_eqb, eq-eqb, and_right, and_parts, or_from, leb-true}
-use Rattle.std.proofs.lemmas.List.{length-take, length-drop, take-take, take_all, drop_all, drop-take, take_rest}
+use Rattle.std.proofs.lemmas.Bool.{cases_Bool, cases_lt, or_cases, eqb-true, ltb-true, lt-ltb, le-ltb, ne_eqb, eq-eqb, and_right, and_parts, or_from, leb-true}
+use Rattle.std.proofs.lemmas.List.{length-take, length-drop, take-take, drop-take, take_rest}
 use Rattle.std.proofs.lemmas.List.Sums.{fold-append, prefix_len-le-length, prefix_len-drop_no, prefix_len_passes}
 use Rattle.gt_text.specs.Integer.{digits_of, suffix_of, is_suffix_of, value_of, numeral_of, integer_of}
 use Rattle.gt_expr.specs.Parts.{longest_up_to, integer_len}

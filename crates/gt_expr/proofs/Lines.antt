@@ -1,9 +1,9 @@
 -- The lines of the grammar, one step at a time.
-use Rattle.std.proofs.Common.{◌≡◌, ℕ, zero, suc, ◌+◌, ◌-◌, ◌<◌, ◌≤◌, List, [], ◌∷◌, length, Option, Some, None, Result, Ok, Err, refl, sym, ap, ◌∙◌, arith}
+use Rattle.std.proofs.Common.{◌≡◌, ℕ, zero, suc, ◌+◌, ◌-◌, ◌<◌, List, length, Some, None, refl, sym, ◌∙◌, arith}
 use Rattle.gt_types.specs.declared.expressions.Op.{Op}
 use Rattle.gt_expr.specs.declared.part.Part.{Part}
 use Rattle.gt_expr.specs.declared.part.Line.{Line}
-use Rattle.gt_expr.specs.declared.part.Line.TheVariants.{Conditional, Level}
+use Rattle.gt_expr.specs.declared.part.Line.TheVariants.{Level}
 use Rattle.gt_expr.specs.declared.raw.RawExpr.{RawExpr}
 use Rattle.gt_expr.specs.declared.raw.RawExpr.TheVariants.{Two}
 use Rattle.gt_expr.specs.declared.unread.Unread.{Unread}

@@ -1,13 +1,13 @@
 -- Parts that are spelled with white space between them are the parts of that text.
-use Rattle.std.proofs.Common.{◌≡◌, ℕ, zero, suc, ℤ, pos, ◌+◌, ◌-◌, ◌*◌, ◌/◌, ◌%◌, ◌^◌, ◌<◌, ◌≤◌, Bool, true, false, cond, not, ◌&&◌, ◌||◌, List, [], ◌∷◌, ◌++◌, length, get_or, take, drop, Option, Some, None, refl, sym, ap, ap₂, ◌∙◌, append_assoc, arith, ◌⊎◌, inl, inr, lit<}
+use Rattle.std.proofs.Common.{◌≡◌, ℕ, suc, ℤ, pos, ◌+◌, ◌-◌, ◌/◌, ◌%◌, ◌<◌, ◌≤◌, Bool, true, false, cond, not, ◌&&◌, ◌||◌, List, [], ◌∷◌, ◌++◌, length, take, drop, Option, Some, None, refl, sym, ap, ◌∙◌, append_assoc, arith, inl, inr, lit<}
 use lib.Utf8.{encode, scalar as scalar_of}
-use Rattle.std.specs.Prelude.{slice_get, encode_utf8_all, codes, nat_eq, ◌==◌, nat_lt, is_some, find}
+use Rattle.std.specs.Prelude.{encode_utf8_all, codes, ◌==◌, nat_lt}
 use Rattle.std.specs.Char.{IsScalar, len_utf8, digit_value, is_digit, is_ascii_alphabetic, is_ascii_alphanumeric}
 use Rattle.unicode_ident.proofs.IdentLemmas.{is_xid_start-ascii, is_xid_continue-ascii, is_xid_start-is_xid_continue}
 use Rattle.unicode_ident.specs.Ident.{is_xid_start, is_xid_continue}
-use Rattle.std.specs.Option.{option_map, option_map_or}
-use Rattle.std.specs.List.{prefix_len, list_any, list_all, starts_with}
-use Rattle.std.specs.Str.{IsUtf8, is_utf8, chars, all_scalars, continuation_len}
+use Rattle.std.specs.Option.{option_map}
+use Rattle.std.specs.List.{prefix_len, list_any, list_all}
+use Rattle.std.specs.Str.{chars, all_scalars}
 use Rattle.std.proofs.Math.Seq.{take-append-add}
 use Rattle.std.proofs.lemmas.Bool.{cases_lt, lt-ltb, le-ltb, and_parts, and_from, or_left, or_right, agree_below_at, or_cases, or_parts, and_right, both_ways, cases_Bool, false_from_ne_true, eqb-true, ne_eqb, ltb-true, not-true}
 use Rattle.std.proofs.lemmas.List.{append-nil, take_at, drop_at, drop-append-le, length-append, take_rest}
@@ -15,14 +15,14 @@ use Rattle.std.proofs.lemmas.Option.{same_Some}
 use Rattle.std.proofs.lemmas.List.Folds.{length-prefix_len}
 use Rattle.std.proofs.lemmas.Str.{is_utf8-from_IsUtf8, IsUtf8-encode, chars_past_char, length-encode, len_utf8_bounds, encode_ascii, chars-encodes}
 use Rattle.gt_text.specs.Identifier.{starts_identifier_of, continues_identifier_of}
-use Rattle.gt_text.specs.Integer.{integer_of, numeral_of, digits_of, suffix_of, is_suffix_of, value_of}
+use Rattle.gt_text.specs.Integer.{integer_of, digits_of, suffix_of, is_suffix_of}
 use Rattle.gt_text.specs.WhiteSpace.{is_white_space_of}
-use Rattle.gt_expr.specs.Characters.{front_of, character_at, width_at, begins_with, run_behind}
-use Rattle.gt_expr.specs.Parts.{integer_len, name_len, symbols, symbol_at, word_at, part_at, parts_behind, parts_of, BeginsPart}
+use Rattle.gt_expr.specs.Characters.{front_of, character_at, begins_with, run_behind}
+use Rattle.gt_expr.specs.Parts.{integer_len, name_len, symbol_at, word_at, part_at, parts_behind, parts_of, BeginsPart}
 use Rattle.gt_types.specs.declared.expressions.Base.TheVariants.{Here, Outer, Outermost}
-use Rattle.gt_types.specs.declared.expressions.Op.TheVariants.{Neg, Not, Add, Sub, Mul, Lt, Le, Gt, Ge, Eq, Ne, And, Or}
+use Rattle.gt_types.specs.declared.expressions.Op.TheVariants.{Not, Add, Sub, Mul, Lt, Le, Gt, Ge, Eq, Ne, And, Or}
 use Rattle.gt_expr.specs.declared.part.Part.{Part}
-use Rattle.gt_expr.specs.declared.part.Part.TheVariants.{Integer, Name, Percent, Operator, Question, Colon, Dot, Open, Close, Other}
+use Rattle.gt_expr.specs.declared.part.Part.TheVariants.{Integer, Name, Percent, Operator, Question, Colon, Dot, Open, Close}
 use Rattle.gt_expr.specs.Spelling.{symbol_text, IsIdentifier, IsSpelling, Spells, no_parts, white_space, one_part}
 use Rattle.gt_expr.proofs.IntegersLemmas.{longest_up_to-is, numeral_some, asks_suffix, is_hex, begins_with_0, is_integer, is_numeral, hex_is, octal_is, decimal_is, decimal_len, numeral_len-none}
 use Rattle.gt_expr.proofs.CharactersLemmas.{run_behind-yes, run_behind-no}

@@ -1,5 +1,5 @@
 -- The parts of an expression's text, from left to right: each the longest that fits, with white space between them.
-use Rattle.std.specs.Prelude.{◌≡◌, ℕ, zero, suc, ◌+◌, ◌-◌, pos, Bool, false, ◌==◌, nat_eq, if◌then◌else◌, codes, List, [], ◌∷◌, length, take, Option, Some, None, is_some, find}
+use Rattle.std.specs.Prelude.{◌≡◌, ℕ, zero, suc, ◌-◌, pos, Bool, false, ◌==◌, nat_eq, if◌then◌else◌, codes, List, [], ◌∷◌, length, take, is_some, find}
 use Rattle.std.specs.Option.{option_map_or}
 use Rattle.std.specs.List.{starts_with}
 use Rattle.std.specs.Str.{chars}

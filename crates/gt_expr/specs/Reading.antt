@@ -1,11 +1,10 @@
 -- Reading a tree from parts, from left to right.
-use Rattle.std.specs.Prelude.{◌≡◌, ℕ, zero, suc, ℤ, List, [], ◌∷◌, ◌++◌, length, Option, Some, None, Result, Ok, Err, ◌==◌, if◌then◌else◌}
+use Rattle.std.specs.Prelude.{◌≡◌, ℕ, zero, suc, List, [], ◌∷◌, ◌++◌, length, Option, Some, None, Result, Ok, Err, ◌==◌, if◌then◌else◌}
 use Rattle.std.specs.Option.{option_map_or}
-use Rattle.gt_types.specs.declared.expressions.Base.{Base}
 use Rattle.gt_types.specs.declared.expressions.Op.{Op}
 use Rattle.gt_types.specs.declared.expressions.Op.TheVariants.{Neg, Not, Sub}
 use Rattle.gt_expr.specs.declared.part.Part.{Part}
-use Rattle.gt_expr.specs.declared.part.Part.TheVariants.{Integer, Name, Percent, Operator, Question, Colon, Dot, Open, Close, Other}
+use Rattle.gt_expr.specs.declared.part.Part.TheVariants.{Integer, Name, Percent, Operator, Question, Colon, Dot, Open, Close}
 use Rattle.gt_expr.specs.declared.part.Line.{Line}
 use Rattle.gt_expr.specs.declared.part.Line.TheVariants.{Conditional, Level}
 use Rattle.gt_expr.specs.declared.raw.RawExpr.{RawExpr}

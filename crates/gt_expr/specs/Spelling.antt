@@ -1,5 +1,5 @@
 -- How the parts of an expression are spelled, whatever reads them.
-use Rattle.std.specs.Prelude.{◌≡◌, ℕ, pos, Bool, true, codes, List, [], ◌∷◌, ◌++◌, Option, Some, None, encode_utf8_all}
+use Rattle.std.specs.Prelude.{◌≡◌, ℕ, pos, true, codes, List, [], ◌∷◌, ◌++◌, Option, Some, None, encode_utf8_all}
 use Rattle.std.specs.Option.{option_map}
 use Rattle.std.specs.List.{list_all}
 use Rattle.std.specs.Str.{all_scalars}

@@ -1,4 +1,4 @@
-use Rattle.std.proofs.Common.{◌≡◌, ◌≤◌, ◌<◌, rules, arith}
+use Rattle.std.proofs.Common.{◌≡◌, rules, arith}
 use Rattle.gt_expr.specs.Characters.{width_at}
 use Rattle.gt_expr.proofs.CharactersLemmas.{width_at-within, width_at-some}
 use Rattle.gt_expr.proofs.characters.width_at.Goals as goal

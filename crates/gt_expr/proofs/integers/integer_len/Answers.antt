@@ -1,4 +1,4 @@
-use Rattle.std.proofs.Common.{◌≡◌, ◌+◌, sym, ap, ◌∙◌, arith}
+use Rattle.std.proofs.Common.{sym, arith}
 use Rattle.gt_expr.proofs.IntegersLemmas.{octal_len, decimal_len, hex_len, hex_len-some}
 use Rattle.gt_expr.proofs.integers.integer_len.Goals as goal
 

@@ -1,4 +1,4 @@
-use Rattle.std.proofs.Common.{◌≡◌, ◌≤◌, ◌+◌, length, sym, refl, arith}
+use Rattle.std.proofs.Common.{sym, refl, arith}
 use Rattle.std.specs.Prelude.{Some, None}
 use Rattle.gt_text.specs.Identifier.{continues_identifier_of}
 use Rattle.gt_expr.proofs.CharactersLemmas.{more_within, more_utf8, more_run, run_ends}

@@ -1,6 +1,6 @@
-use Rattle.std.proofs.Common.{◌≡◌, ◌+◌, ◌-◌, sym, ap, ◌∙◌, arith}
+use Rattle.std.proofs.Common.{◌≡◌, sym, ◌∙◌, arith}
 use Rattle.std.proofs.lemmas.Result.{err_from_is_err_and}
-use Rattle.gt_expr.specs.Reading.{Gives, more_at, level_at, unary_at, line_at, tree_at}
+use Rattle.gt_expr.specs.Reading.{unary_at, tree_at}
 use Rattle.gt_expr.proofs.Lines.{tree_at_deeper, tree_at_end, line_at_level, level_at_unary, level_at_fails, level_at_begins, more_at_goes_on, more_at_fails, more_at_ends, more_at_none}
 use Rattle.gt_expr.proofs.reading.+reading.Goals as goal
 use Rattle.gt_expr.proofs.reading.+reading.Goals.{binary-else-loop-test, binary-then-loop-test+in_default}

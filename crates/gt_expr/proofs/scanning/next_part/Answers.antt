@@ -1,4 +1,4 @@
-use Rattle.std.proofs.Common.{◌≤◌, length, sym, ◌∙◌, arith}
+use Rattle.std.proofs.Common.{sym, ◌∙◌}
 use Rattle.gt_expr.proofs.PartsLemmas.{parts_of-empty, parts_of-part, some_from}
 use Rattle.gt_expr.proofs.scanning.next_part.Goals as goal
 
