@@ -64,14 +64,16 @@ abbrev pub closed_at : RawExpr → List Part → Reading
 closed_at t (Close ∷ ps) = Some (with_steps t ps)
 closed_at t ps = None
 
+-- an operator of one operand, behind the operator
+abbrev pub prefixed_at : (Line → List Part → Reading) → Op → List Part → Reading
+prefixed_at deeper op ps = do
+  a ← deeper (Level 0) ps
+  Some (One op a.0, a.1)
+
 -- a unary, by a reader of what stands deeper
 unfoldable pub unary_at : (Line → List Part → Reading) → List Part → Reading
-unary_at deeper (Operator Not ∷ ps) = do
-  a ← deeper (Level 0) ps
-  Some (One Not a.0, a.1)
-unary_at deeper (Operator Sub ∷ ps) = do
-  a ← deeper (Level 0) ps
-  Some (One Neg a.0, a.1)
+unary_at deeper (Operator Not ∷ ps) = prefixed_at deeper Not ps
+unary_at deeper (Operator Sub ∷ ps) = prefixed_at deeper Neg ps
 unary_at deeper (Integer value ∷ ps) = Some (Int value, ps)
 unary_at deeper (Name name ∷ ps) = Some (Named name, ps)
 unary_at deeper (Percent base ∷ ps) = Some (with_steps (Path base []) ps)

@@ -1,4 +1,4 @@
-ghost use Rattle.std.specs.Prelude.{◌≡◌, ◌<◌, ◌≤◌, ◌+◌, ◌++◌, ℕ, List, length, IfOk, IfErr, MatchOption, Ok, Err};
+ghost use Rattle.std.specs.Prelude.{◌≡◌, IfOk, IfErr, MatchOption, Ok, Err};
 ghost use Rattle.gt_types.specs.declared.faults.Stop.TheVariants.{At};
 ghost use Rattle.gt_expr.specs.declared.raw.RawExpr.{RawExpr};
 ghost use Rattle.gt_expr.specs.Expression.{IsExpression, IsTooLarge, HasTree, IsStopped, IsUnlessMemory, fault_at};
@@ -13,10 +13,26 @@ use crate::{BAD_EXPR, EXPR_TOO_LARGE, MAX_PARTS};
 use gt_types::{Fault, Stop};
 use std::alloc::{AllocError, Global};
 
-/// The tree of an expression's text. `file` and `at` are the place that a fault names.
+/// The tree of an expression's text:
 ///
-/// Fault 6 says that the text has more than 256 parts, and fault 5 that it does not and is in no other way an
-/// expression. `Stop::Memory` says that memory ran out.
+/// ```text
+/// cond  := or ["?" cond ":" cond]
+/// or    := and {"||" and}
+/// and   := eq {"&&" eq}
+/// eq    := rel {("==" | "!=") rel}
+/// rel   := sum {("<" | "<=" | ">" | ">=") sum}
+/// sum   := prod {("+" | "-") prod}
+/// prod  := unary {"*" unary}
+/// unary := ("!" | "-") unary | INTEGER | NAME | place | "(" cond ")"
+/// place := ("%h" | "%1" | "%0" | "(" place ")") {"." NAME}
+/// ```
+///
+/// A name is an identifier, and an integer a literal of C with a value below 2 to the 63. Each part is the longest
+/// that fits, and white space may stand between parts. An operator of two operands groups to the left.
+///
+/// A text with more than 256 parts has fault 6, and any other text that the grammar does not give fault 5; `file` and
+/// `at` are the place that the fault names. A text that is not UTF-8 is not in the grammar. `Stop::Memory` says that
+/// memory ran out.
 pub fn read(alloc: Global, file: u32, at: u32, text: &[u8]) -> Result<RawExpr, Stop>
     // What is read is an expression with this tree.
     ensures tree { IfOk result (λ t. IsExpression text.now t) }

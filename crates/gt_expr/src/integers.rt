@@ -1,4 +1,4 @@
-ghost use Rattle.std.specs.Prelude.{◌≡◌, ◌≤◌, ◌<◌, ◌+◌, ◌*◌, ◌^◌, ◌==◌, ◌||◌, nat_eq, codes, ℕ, List, length, take, SomeIff, is_some};
+ghost use Rattle.std.specs.Prelude.{◌≡◌, ◌≤◌, ◌<◌, ◌+◌, ◌*◌, ◌^◌, ◌==◌, ◌||◌, nat_eq, codes, length, take, SomeIff, is_some};
 ghost use Rattle.std.specs.Char.{is_digit};
 ghost use Rattle.std.specs.List.{prefix_len, list_any, starts_with};
 ghost use Rattle.gt_text.specs.Integer.{numeral_of, value_of};

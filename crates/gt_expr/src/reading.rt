@@ -1,12 +1,12 @@
-ghost use Rattle.std.specs.Prelude.{◌≡◌, ◌≤◌, ℕ, List, [], ◌∷◌, ◌++◌, length, IfOk, Ok};
+ghost use Rattle.std.specs.Prelude.{◌≡◌, List, [], ◌++◌, IfOk, Ok};
 ghost use Rattle.std.specs.Option.{option_map};
 ghost use Rattle.gt_expr.specs.Grammar.{level_of};
-ghost use Rattle.gt_expr.specs.Reading.{Gives, operator_at, steps_at, with_steps, level_at, unary_at, line_at, tree_at, tree_of};
+ghost use Rattle.gt_expr.specs.Reading.{Gives, operator_at, steps_at, with_steps, level_at, prefixed_at, unary_at, line_at, tree_at, tree_of};
 
 use crate::part::{Line, Part};
 use crate::raw::RawExpr;
 use crate::unread::Unread;
-use gt_types::{Base, Boxed, Copied, List, Op, Word};
+use gt_types::{Boxed, Copied, List, Op, Word};
 use std::alloc::{AllocError, Global};
 
 // The level of the operators that bind the loosest.
@@ -100,14 +100,8 @@ fn unary(alloc: Global, depth: usize, parts: &[Part]) -> Result<(RawExpr, &[Part
     ensures { Gives (λ x. (x.0, x.1.now)) result (unary_at (tree_at depth) parts.now) }
 {
     match parts {
-        [Part::Operator(Op::Not), after @ ..] => {
-            let (a, rest) = nested(alloc, depth, Line::Level(0), after)?;
-            Ok((one(alloc, Op::Not, a)?, rest))
-        }
-        [Part::Operator(Op::Sub), after @ ..] => {
-            let (a, rest) = nested(alloc, depth, Line::Level(0), after)?;
-            Ok((one(alloc, Op::Neg, a)?, rest))
-        }
+        [Part::Operator(Op::Not), after @ ..] => prefixed(alloc, depth, Op::Not, after),
+        [Part::Operator(Op::Sub), after @ ..] => prefixed(alloc, depth, Op::Neg, after),
         [Part::Integer(value), after @ ..] => Ok((RawExpr::Int(*value), after)),
         [Part::Name(name), after @ ..] => Ok((RawExpr::Named(name.copy(alloc)?), after)),
         [Part::Percent(base), after @ ..] => {
@@ -125,14 +119,19 @@ fn unary(alloc: Global, depth: usize, parts: &[Part]) -> Result<(RawExpr, &[Part
     }
 }
 
-// An operator of one operand.
-fn one(alloc: Global, op: Op, a: RawExpr) -> Result<RawExpr, AllocError>
-    ensures { IfOk result (λ t. t ≡ RawExpr.One op a) }
+// The operand of an operator of one operand, behind the operator.
+#[cycle(reading)]
+fn prefixed(
+    alloc: Global,
+    depth: usize,
+    op: Op,
+    parts: &[Part],
+) -> Result<(RawExpr, &[Part]), Unread>
+    ensures { Gives (λ x. (x.0, x.1.now)) result (prefixed_at (tree_at depth) op parts.now) }
 {
-    Ok(RawExpr::One {
-        op,
-        a: Boxed::new(alloc, a)?,
-    })
+    let (a, rest) = nested(alloc, depth, Line::Level(0), parts)?;
+    let a = Boxed::new(alloc, a)?;
+    Ok((RawExpr::One { op, a }, rest))
 }
 
 // A path takes the steps behind it; another tree has none.

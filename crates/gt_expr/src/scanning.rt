@@ -1,5 +1,5 @@
-ghost use Rattle.std.specs.Prelude.{◌≡◌, ◌≤◌, ◌<◌, ◌+◌, ℕ, List, [], ◌∷◌, ◌++◌, length, drop, IfOk, MatchOption, MatchResult};
-ghost use Rattle.gt_expr.specs.Parts.{part_at, parts_of, word_at, name_len, BeginsPart};
+ghost use Rattle.std.specs.Prelude.{◌≡◌, ◌≤◌, ◌<◌, [], ◌∷◌, length, IfOk, MatchOption};
+ghost use Rattle.gt_expr.specs.Parts.{part_at, parts_of, word_at, BeginsPart};
 
 use crate::integers::integer_len;
 use crate::names::name_at;

@@ -6,13 +6,16 @@ abbrev pub decreases-nested : goal.decreases-nested
 decreases-nested l = 300 * l.depth
 
 abbrev pub decreases-unary : goal.decreases-unary
-decreases-unary l = 300 * l.depth + 1
+decreases-unary l = 300 * l.depth + 2
+
+abbrev pub decreases-prefixed : goal.decreases-prefixed
+decreases-prefixed l = 300 * l.depth + 1
 
 abbrev pub decreases-binary : goal.decreases-binary
-decreases-binary l = 300 * l.depth + 2 + l.level
+decreases-binary l = 300 * l.depth + 3 + l.level
 
 abbrev pub decreases-conditional : goal.decreases-conditional
-decreases-conditional l = 300 * l.depth + 9
+decreases-conditional l = 300 * l.depth + 10
 
 abbrev pub invariant-binary-loop : goal.invariant-binary-loop
 invariant-binary-loop l =
