@@ -10,7 +10,7 @@ use Rattle.gt_expr.specs.declared.part.Line.TheVariants.{Conditional, Level}
 use Rattle.gt_expr.specs.declared.raw.RawExpr.{RawExpr}
 use Rattle.gt_expr.specs.declared.raw.RawExpr.TheVariants.{Int, Path, Named, One, Two, Cond}
 
--- how tight an operator of two operands binds: 1 is the tightest, 6 the loosest; an operator of one has 0
+-- how tight an operator of two operands binds, from 1, the tightest, to 6: the lines prod, sum, rel, eq, and, or; an operator of one has 0
 abbrev pub level_of : Op → ℕ
 level_of Neg = 0
 level_of Not = 0
@@ -38,7 +38,7 @@ pub data Derives : Line → List Part → RawExpr → Type 0 where
   no_choice : {ps : List Part} {t : RawExpr} → Derives (Level 6) ps t → Derives Conditional ps t
   choice : {xs ys zs : List Part} {test first second : RawExpr} → Derives (Level 6) xs test → Derives Conditional ys first → Derives Conditional zs second
       → Derives Conditional (xs ++ Question ∷ ys ++ Colon ∷ zs) (Cond test first second)
-  -- a level's operators: an operand of the next level, or a tree of this one, an operator and an operand of the next
+  -- or, and, eq, rel, sum, prod: an operand of the next line, or a tree of this line, an operator of it and an operand of the next
   operand : {level : ℕ} {ps : List Part} {t : RawExpr} → Derives (Level level) ps t → Derives (Level (suc level)) ps t
   operation : {level : ℕ} {xs ys : List Part} {op : Op} {a b : RawExpr} → level_of op ≡ suc level → Derives (Level (suc level)) xs a → Derives (Level level) ys b
       → Derives (Level (suc level)) (xs ++ Operator op ∷ ys) (Two op a b)

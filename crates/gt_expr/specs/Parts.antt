@@ -52,6 +52,7 @@ parts_behind (suc n) (b ∷ bs) = parts_behind n bs
 parts_behind zero (b ∷ bs) =
     if is_white_space_of b then parts_behind zero bs else ((part_at (b ∷ bs)).0 ∷ parts_behind ((part_at (b ∷ bs)).1 - 1) bs)
 
+-- the parts of a text
 abbrev pub parts_of : List ℕ → List Part
 parts_of text = parts_behind 0 text
 

@@ -17,16 +17,18 @@ use Rattle.gt_expr.specs.Grammar.{level_of}
 abbrev pub Reading : Type 0
 Reading = Option (RawExpr × List Part)
 
+-- a step that needs what the one before gave
 infixl 10 ◌>>=◌
 abbrev pub ◌>>=◌ : {A B : Type 0} → Option A → (A → Option B) → Option B
 None >>= f = None
 (Some x) >>= f = f x
 
--- what a function returned, seen by view, is what reading gives, unless memory ran out
+-- what an error says of a reading: that it gives nothing, unless memory ran out
 abbrev pub Fails : {Y : Type 0} → Unread → Option Y → Type 0
 Fails Memory read = Unit {0}
 Fails NotGiven read = read ≡ None
 
+-- what a function returned, seen by view, is what reading gives, unless memory ran out
 abbrev pub Gives : {X Y : Type 0} → (X → Y) → Result X Unread → Option Y → Type 0
 Gives view (Ok x) read = read ≡ Some (view x)
 Gives view (Err e) read = Fails e read
