@@ -1,0 +1,70 @@
+#!/usr/bin/env bash
+# Cuts headers of 1 MB and of a tenth of that into tokens, and compares the times. Run by hand, from any folder; each
+# ratio should stay under 12. The program that reads them is written and built in a copy of the crates that it needs.
+set -eu
+root=$(cd "$(dirname "$0")/.." && pwd)
+work=$(mktemp -d)
+trap 'rm -rf "$work"' EXIT
+names='gt_types gt_text gt_io gt_lex'
+mkdir -p "$work/crates/read_tokens/src"
+for name in $names; do
+  (cd "$root/crates" && tar -c --exclude=out "$name") | tar -x -C "$work/crates"
+  grep "^$name:" "$root/crates.txt" >>"$work/crates.txt"
+done
+echo 'read_tokens: gt_types gt_io gt_lex' >>"$work/crates.txt"
+cat >"$work/crates/read_tokens/src/main.rt" <<'END'
+//! Says how many tokens the header `header.h` has.
+#![tactic(auto)]
+
+use gt_io::{Files, HostFiles};
+use gt_lex::lex;
+use gt_types::Word;
+use std::process::ExitCode;
+
+fn main(rt: HostRuntime) -> ExitCode {
+    let alloc = rt.alloc();
+    let Ok(name) = Word::of(alloc, "header.h") else {
+        return ExitCode::from(9);
+    };
+    let mut files = HostFiles::new(rt);
+    let Ok(Some(bytes)) = files.read(alloc, &name, 4000000) else {
+        return ExitCode::from(3);
+    };
+    match lex(alloc, 0, bytes.as_slice()) {
+        Ok(_) => ExitCode::from(0),
+        Err(_) => ExitCode::from(2),
+    }
+}
+END
+for name in $names; do (cd "$work/crates/$name" && rt lib) >"$work/log" 2>&1 || { cat "$work/log" >&2; exit 2; }; done
+echo >"$work/crates/read_tokens/header.h"
+(cd "$work/crates/read_tokens" && rt run) >"$work/log" 2>&1 || { cat "$work/log" >&2; exit 2; }
+program=$work/crates/read_tokens/out/read_tokens
+
+# A header of so many bytes, the word again and again.
+header() { yes "$2" | tr -d '\n' | head -c "$1"; }
+tokens() { header "$1" 'int x; a->b += 0x1f * c.d [3]; '; }
+comment() { printf '/*'; header "$1" 'a * b / c '; printf '*/'; }
+line_comment() { printf '//'; header "$1" 'a * b / c '; }
+literal() { printf '"'; header "$1" 'one long text '; printf '"'; }
+identifier() { header "$1" 'name'; }
+hashes() { header "$1" '#'; }
+lines_of_hashes() { yes '#' | head -c "$1"; }
+defines() { yes '#define N -5' | head -c "$1"; }
+
+nanoseconds() {
+  local start end
+  cd "$work"
+  start=$(date +%s%N)
+  for _ in 1 2 3 4 5; do "$program"; done
+  end=$(date +%s%N)
+  echo $((end - start))
+}
+for kind in tokens comment line_comment literal identifier hashes lines_of_hashes defines; do
+  $kind 100000 >"$work/header.h"
+  small=$(nanoseconds)
+  $kind 1000000 >"$work/header.h"
+  large=$(nanoseconds)
+  awk -v k="$kind" -v a="$small" -v b="$large" \
+    'BEGIN { printf "%-16s 100 KB: %.4f s, 1 MB: %.4f s, ratio %.1f\n", k, a / 5e9, b / 5e9, b / a }'
+done
