@@ -9,13 +9,11 @@ for n in 32768 65536; do
   for ((i = 0; i < n; i++)); do echo "new \$v$i node"; done >"$work/$n.gty"
 done
 "$root/gtyheap" "$work/32768.gty" "$work/node.h" >/dev/null
+# Seconds of the processor that five runs take.
 seconds() {
-  local start end
-  start=$(date +%s%N)
-  for _ in 1 2 3 4 5; do "$root/gtyheap" "$work/$1.gty" "$work/node.h" >/dev/null; done
-  end=$(date +%s%N)
-  echo $((end - start))
+  local TIMEFORMAT='%U %S'
+  { time for _ in 1 2 3 4 5; do "$root/gtyheap" "$work/$1.gty" "$work/node.h" >/dev/null; done; } 2>&1 | awk '{ print $1 + $2 }'
 }
 small=$(seconds 32768)
 large=$(seconds 65536)
-awk -v a="$small" -v b="$large" 'BEGIN { printf "32768: %.3f s, 65536: %.3f s, ratio %.2f\n", a / 5e9, b / 5e9, b / a }'
+awk -v a="$small" -v b="$large" 'BEGIN { printf "32768: %.3f s, 65536: %.3f s, ratio %.2f\n", a / 5, b / 5, b / a }'

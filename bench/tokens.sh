@@ -52,19 +52,17 @@ hashes() { header "$1" '#'; }
 lines_of_hashes() { yes '#' | head -c "$1"; }
 defines() { yes '#define N -5' | head -c "$1"; }
 
-nanoseconds() {
-  local start end
+# Seconds of the processor that twenty runs take.
+seconds() {
+  local TIMEFORMAT='%U %S'
   cd "$work"
-  start=$(date +%s%N)
-  for _ in 1 2 3 4 5; do "$program"; done
-  end=$(date +%s%N)
-  echo $((end - start))
+  { time for _ in {1..20}; do "$program"; done; } 2>&1 | awk '{ print $1 + $2 }'
 }
 for kind in tokens comment line_comment literal identifier hashes lines_of_hashes defines; do
   $kind 100000 >"$work/header.h"
-  small=$(nanoseconds)
+  small=$(seconds)
   $kind 1000000 >"$work/header.h"
-  large=$(nanoseconds)
+  large=$(seconds)
   awk -v k="$kind" -v a="$small" -v b="$large" \
-    'BEGIN { printf "%-16s 100 KB: %.4f s, 1 MB: %.4f s, ratio %.1f\n", k, a / 5e9, b / 5e9, b / a }'
+    'BEGIN { printf "%-16s 100 KB: %.4f s, 1 MB: %.4f s, ratio %.1f\n", k, a / 20, b / 20, b / a }'
 done
