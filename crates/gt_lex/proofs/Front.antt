@@ -40,7 +40,7 @@ one_byte = ap (λ (x : List ℕ). length (x ++ [])) (encode_ascii hash (lit< tt)
 
 pub hashed : (fresh : Bool) (text behind : List ℕ) → IsUtf8 text → IsUtf8 behind → text_start fresh (chars text) ≡ start.Directive → chars behind ≡ drop 1 (chars text) → IsHashed fresh text behind
 hashed fresh text behind text_utf8 utf8 begins tail =
-    let opens = subst (λ (b : Start). OpensDirective b fresh (chars text)) begins (directive_fresh fresh (chars text)) in
+    let opens = subst (λ (b : Start). OpensDirective fresh (chars text) b) begins (directive_fresh fresh (chars text)) in
     let split = first_split hash (chars text) opens.1 in
     let whole : chars text ≡ (hash ∷ []) ++ chars behind = split.1 ∙ ap (λ (x : List ℕ). hash ∷ x) (sym (tail ∙ ap (drop 1) split.1)) in
     record { is_fresh = opens.0; whole = whole; long = length_before text (hash ∷ []) behind text_utf8 utf8 whole ∙ ap (λ n. n + length behind) one_byte }

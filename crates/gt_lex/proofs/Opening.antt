@@ -31,14 +31,42 @@ Opens (Token Quoted) cs = IsTrue (first_is double_quote cs)
 Opens (Token CharLit) cs = IsTrue (first_is single_quote cs)
 Opens (Token Punct) cs = Unit {0}
 
-pick_plain : (cs : List ℕ) (space block line ident number : Bool) → (block ≡ true → Opens Block cs) → (line ≡ true → Opens Line cs) → (ident ≡ true → Opens (Token Ident) cs) → (number ≡ true → Opens (Token Number) cs)
-    → Opens (cond space Space (cond block Block (cond line Line (cond ident (Token Ident) (cond number (Token Number) (Token Punct)))))) cs
-pick_plain cs true block line ident number b l i n = tt
-pick_plain cs false true line ident number b l i n = b refl
-pick_plain cs false false true ident number b l i n = l refl
-pick_plain cs false false false true number b l i n = i refl
-pick_plain cs false false false false true b l i n = n refl
-pick_plain cs false false false false false b l i n = tt
+-- ---- a fact of what begins, from a fact for each case
+
+pick_plain : (P : Start → Type 0) (space block line ident number : Bool) → P Space → (block ≡ true → P Block) → (line ≡ true → P Line) → (ident ≡ true → P (Token Ident)) → (number ≡ true → P (Token Number)) → P (Token Punct)
+    → P (cond space Space (cond block Block (cond line Line (cond ident (Token Ident) (cond number (Token Number) (Token Punct))))))
+pick_plain P true block line ident number s b l i n p = s
+pick_plain P false true line ident number s b l i n p = b refl
+pick_plain P false false true ident number s b l i n p = l refl
+pick_plain P false false false true number s b l i n p = i refl
+pick_plain P false false false false true s b l i n p = n refl
+pick_plain P false false false false false s b l i n p = p
+
+plain_by : (P : Start → Type 0) (c : ℕ) (cs : List ℕ) → P Space → (((c == slash) && first_is star cs) ≡ true → P Block) → (((c == slash) && first_is slash cs) ≡ true → P Line) → (starts_identifier_of c ≡ true → P (Token Ident)) → (begins_number (c ∷ cs) ≡ true → P (Token Number)) → P (Token Punct)
+    → P (plain_start (c ∷ cs))
+plain_by P c cs = pick_plain P (is_white_space_of c) ((c == slash) && first_is star cs) ((c == slash) && first_is slash cs) (starts_identifier_of c) (begins_number (c ∷ cs))
+
+pick_text : (P : Start → Type 0) (directive bad double single : Bool) (other : Start) → (directive ≡ true → P Directive) → (bad ≡ true → P BadNumber) → (double ≡ true → P (Token Quoted)) → (single ≡ true → P (Token CharLit)) → P other
+    → P (cond directive Directive (cond bad BadNumber (cond double (Token Quoted) (cond single (Token CharLit) other))))
+pick_text P true bad double single other a b d s o = a refl
+pick_text P false true double single other a b d s o = b refl
+pick_text P false false true single other a b d s o = d refl
+pick_text P false false false true other a b d s o = s refl
+pick_text P false false false false other a b d s o = o
+
+text_by : (P : Start → Type 0) (fresh : Bool) (cs : List ℕ) → ((fresh && first_is hash cs) ≡ true → P Directive) → (is_bad_number cs ≡ true → P BadNumber) → (first_is double_quote cs ≡ true → P (Token Quoted)) → (first_is single_quote cs ≡ true → P (Token CharLit)) → P (plain_start cs)
+    → P (text_start fresh cs)
+text_by P fresh cs = pick_text P (fresh && first_is hash cs) (is_bad_number cs) (first_is double_quote cs) (first_is single_quote cs) (plain_start cs)
+
+pick_directive : (P : Start → Type 0) (ends continues : Bool) (other : Start) → (ends ≡ true → P End) → (continues ≡ true → P Continuation) → P other → P (cond ends End (cond continues Continuation other))
+pick_directive P true continues other e c o = e refl
+pick_directive P false true other e c o = c refl
+pick_directive P false false other e c o = o
+
+directive_by : (P : Start → Type 0) (cs : List ℕ) → (first_is newline cs ≡ true → P End) → (is_continuation cs ≡ true → P Continuation) → P (plain_start cs) → P (directive_start cs)
+directive_by P cs = pick_directive P (first_is newline cs) (is_continuation cs) (plain_start cs)
+
+-- ---- what the first characters are
 
 pub first_split : (x : ℕ) (cs : List ℕ) → first_is x cs ≡ true → (rest : List ℕ) × (cs ≡ x ∷ rest)
 first_split x [] e = absurd (false≢true e)
@@ -52,88 +80,52 @@ two_split x c cs e =
     let tail : cs ≡ x ∷ split.0 = split.1 in
     (split.0, cc)
 
-pub plain_opens : (cs : List ℕ) → Opens (plain_start cs) cs
+plain_opens : (cs : List ℕ) → Opens (plain_start cs) cs
 plain_opens [] = tt
-plain_opens (c ∷ cs) =
-    pick_plain (c ∷ cs) (is_white_space_of c) ((c == slash) && first_is star cs) ((c == slash) && first_is slash cs) (starts_identifier_of c) (begins_number (c ∷ cs)) (two_split star c cs) (two_split slash c cs) (λ e. e) (λ e. e)
-
-pick_text : (cs : List ℕ) (directive bad double single : Bool) (other : Start) → (directive ≡ true → Opens Directive cs) → (bad ≡ true → Opens BadNumber cs) → (double ≡ true → Opens (Token Quoted) cs) → (single ≡ true → Opens (Token CharLit) cs) → Opens other cs
-    → Opens (cond directive Directive (cond bad BadNumber (cond double (Token Quoted) (cond single (Token CharLit) other)))) cs
-pick_text cs true bad double single other a b d s o = a refl
-pick_text cs false true double single other a b d s o = b refl
-pick_text cs false false true single other a b d s o = d refl
-pick_text cs false false false true other a b d s o = s refl
-pick_text cs false false false false other a b d s o = o
+plain_opens (c ∷ cs) = plain_by (λ s. Opens s (c ∷ cs)) c cs tt (two_split star c cs) (two_split slash c cs) (λ e. e) (λ e. e) tt
 
 pub text_opens : (fresh : Bool) (cs : List ℕ) → Opens (text_start fresh cs) cs
-text_opens fresh cs =
-    pick_text cs (fresh && first_is hash cs) (is_bad_number cs) (first_is double_quote cs) (first_is single_quote cs) (plain_start cs) (λ e. (and_cases fresh (first_is hash cs) e).1) (λ e. e) (λ e. e) (λ e. e) (plain_opens cs)
-
-pick_directive : (cs : List ℕ) (ends continues : Bool) (other : Start) → (continues ≡ true → Opens Continuation cs) → Opens other cs → Opens (cond ends End (cond continues Continuation other)) cs
-pick_directive cs true continues other c o = tt
-pick_directive cs false true other c o = c refl
-pick_directive cs false false other c o = o
+text_opens fresh cs = text_by (λ s. Opens s cs) fresh cs (λ e. (and_cases fresh (first_is hash cs) e).1) (λ e. e) (λ e. e) (λ e. e) (plain_opens cs)
 
 pub directive_opens : (cs : List ℕ) → Opens (directive_start cs) cs
-directive_opens cs = pick_directive cs (first_is newline cs) (is_continuation cs) (plain_start cs) (λ e. e) (plain_opens cs)
+directive_opens cs = directive_by (λ s. Opens s cs) cs (λ e. tt) (λ e. e) (plain_opens cs)
 
--- ---- what does not begin
+-- ---- where nothing begins
 
 -- a fact where nothing begins
-abbrev pub IfEnd : Start → Type 0 → Type 0
-IfEnd End P = P
-IfEnd Space P = Unit {0}
-IfEnd Block P = Unit {0}
-IfEnd Line P = Unit {0}
-IfEnd Continuation P = Unit {0}
-IfEnd Directive P = Unit {0}
-IfEnd BadNumber P = Unit {0}
-IfEnd (Token kind) P = Unit {0}
+abbrev IfEnd : Type 0 → Start → Type 0
+IfEnd P End = P
+IfEnd P Space = Unit {0}
+IfEnd P Block = Unit {0}
+IfEnd P Line = Unit {0}
+IfEnd P Continuation = Unit {0}
+IfEnd P Directive = Unit {0}
+IfEnd P BadNumber = Unit {0}
+IfEnd P (Token kind) = Unit {0}
 
-plain_pick_end : (P : Type 0) (space block line ident number : Bool) → IfEnd (cond space Space (cond block Block (cond line Line (cond ident (Token Ident) (cond number (Token Number) (Token Punct)))))) P
-plain_pick_end P true block line ident number = tt
-plain_pick_end P false true line ident number = tt
-plain_pick_end P false false true ident number = tt
-plain_pick_end P false false false true number = tt
-plain_pick_end P false false false false true = tt
-plain_pick_end P false false false false false = tt
-
-plain_end : (P : Type 0) (c : ℕ) (cs : List ℕ) → IfEnd (plain_start (c ∷ cs)) P
-plain_end P c cs =
-    plain_pick_end P (is_white_space_of c) ((c == slash) && first_is star cs) ((c == slash) && first_is slash cs) (starts_identifier_of c) (begins_number (c ∷ cs))
-
-directive_pick_end : (P : Type 0) (ends continues : Bool) (other : Start) → (ends ≡ true → P) → IfEnd other P → IfEnd (cond ends End (cond continues Continuation other)) P
-directive_pick_end P true continues other e o = e refl
-directive_pick_end P false true other e o = tt
-directive_pick_end P false false other e o = o
+plain_end : (P : Type 0) (c : ℕ) (cs : List ℕ) → IfEnd P (plain_start (c ∷ cs))
+plain_end P c cs = plain_by (IfEnd P) c cs tt (λ e. tt) (λ e. tt) (λ e. tt) (λ e. tt) tt
 
 -- a directive ends at the line's end
 pub directive_ends : (cs : List ℕ) → directive_start cs ≡ End → EndsLine cs
 directive_ends [] e = tt
 directive_ends (c ∷ cs) e =
     let P : Type 0 = c ≡ newline in
-    subst (λ (s : Start). IfEnd s P) e (directive_pick_end P (c == newline) (is_continuation (c ∷ cs)) (plain_start (c ∷ cs)) (eqb-true c newline) (plain_end P c cs))
+    subst (λ (s : Start). IfEnd P s) e (directive_by (IfEnd P) (c ∷ cs) (eqb-true c newline) (λ f. tt) (plain_end P c cs))
 
 pub ends_directive : (cs : List ℕ) → EndsLine cs → directive_start cs ≡ End
 ends_directive [] ends = refl
 ends_directive (c ∷ cs) ends = rw ends refl
 
 -- a text ends where nothing begins
-text_pick_end : (P : Type 0) (directive bad double single : Bool) (other : Start) → IfEnd other P → IfEnd (cond directive Directive (cond bad BadNumber (cond double (Token Quoted) (cond single (Token CharLit) other)))) P
-text_pick_end P true bad double single other o = tt
-text_pick_end P false true double single other o = tt
-text_pick_end P false false true single other o = tt
-text_pick_end P false false false true other o = tt
-text_pick_end P false false false false other o = o
-
 pub text_ends : (fresh : Bool) (cs : List ℕ) → text_start fresh cs ≡ End → cs ≡ []
 text_ends fresh [] e = refl
 text_ends fresh (c ∷ cs) e =
     let P : Type 0 = c ∷ cs ≡ [] in
-    subst (λ (s : Start). IfEnd s P) e
-    (text_pick_end P (fresh && first_is hash (c ∷ cs)) (is_bad_number (c ∷ cs)) (first_is double_quote (c ∷ cs)) (first_is single_quote (c ∷ cs)) (plain_start (c ∷ cs)) (plain_end P c cs))
+    subst (λ (s : Start). IfEnd P s) e (text_by (IfEnd P) fresh (c ∷ cs) (λ f. tt) (λ f. tt) (λ f. tt) (λ f. tt) (plain_end P c cs))
 
--- what may begin in a directive
+-- ---- what begins in a directive, and where a directive begins
+
 abbrev pub BeginsInDirective : Start → Type 0
 BeginsInDirective End = Unit {0}
 BeginsInDirective Space = Unit {0}
@@ -148,58 +140,27 @@ BeginsInDirective (Token Quoted) = ⊥
 BeginsInDirective (Token CharLit) = ⊥
 BeginsInDirective (Token Punct) = Unit {0}
 
-plain_pick_begins : (space block line ident number : Bool) → BeginsInDirective (cond space Space (cond block Block (cond line Line (cond ident (Token Ident) (cond number (Token Number) (Token Punct))))))
-plain_pick_begins true block line ident number = tt
-plain_pick_begins false true line ident number = tt
-plain_pick_begins false false true ident number = tt
-plain_pick_begins false false false true number = tt
-plain_pick_begins false false false false true = tt
-plain_pick_begins false false false false false = tt
-
 plain_begins : (cs : List ℕ) → BeginsInDirective (plain_start cs)
 plain_begins [] = tt
-plain_begins (c ∷ cs) = plain_pick_begins (is_white_space_of c) ((c == slash) && first_is star cs) ((c == slash) && first_is slash cs) (starts_identifier_of c) (begins_number (c ∷ cs))
-
-pick_begins : (ends continues : Bool) (other : Start) → BeginsInDirective other → BeginsInDirective (cond ends End (cond continues Continuation other))
-pick_begins true continues other o = tt
-pick_begins false true other o = tt
-pick_begins false false other o = o
+plain_begins (c ∷ cs) = plain_by BeginsInDirective c cs tt (λ e. tt) (λ e. tt) (λ e. tt) (λ e. tt) tt
 
 pub directive_begins : (cs : List ℕ) → BeginsInDirective (directive_start cs)
-directive_begins cs = pick_begins (first_is newline cs) (is_continuation cs) (plain_start cs) (plain_begins cs)
+directive_begins cs = directive_by BeginsInDirective cs (λ e. tt) (λ e. tt) (plain_begins cs)
 
 -- a directive begins where no token stands before it on its line
-abbrev pub OpensDirective : Start → Bool → List ℕ → Type 0
-OpensDirective End fresh cs = Unit {0}
-OpensDirective Space fresh cs = Unit {0}
-OpensDirective Block fresh cs = Unit {0}
-OpensDirective Line fresh cs = Unit {0}
-OpensDirective Continuation fresh cs = Unit {0}
-OpensDirective Directive fresh cs = IsTrue fresh × IsTrue (first_is hash cs)
-OpensDirective BadNumber fresh cs = Unit {0}
-OpensDirective (Token kind) fresh cs = Unit {0}
+abbrev pub OpensDirective : Bool → List ℕ → Start → Type 0
+OpensDirective fresh cs Directive = IsTrue fresh × IsTrue (first_is hash cs)
+OpensDirective fresh cs End = Unit {0}
+OpensDirective fresh cs Space = Unit {0}
+OpensDirective fresh cs Block = Unit {0}
+OpensDirective fresh cs Line = Unit {0}
+OpensDirective fresh cs Continuation = Unit {0}
+OpensDirective fresh cs BadNumber = Unit {0}
+OpensDirective fresh cs (Token kind) = Unit {0}
 
-pick_hash : (fresh : Bool) (cs : List ℕ) (bad double single : Bool) (other : Start) → (here : Bool) → (here ≡ true → OpensDirective Directive fresh cs) → OpensDirective other fresh cs
-    → OpensDirective (cond here Directive (cond bad BadNumber (cond double (Token Quoted) (cond single (Token CharLit) other)))) fresh cs
-pick_hash fresh cs bad double single other true h o = h refl
-pick_hash fresh cs true double single other false h o = tt
-pick_hash fresh cs false true single other false h o = tt
-pick_hash fresh cs false false true other false h o = tt
-pick_hash fresh cs false false false other false h o = o
+plain_fresh : (fresh : Bool) (whole cs : List ℕ) → OpensDirective fresh whole (plain_start cs)
+plain_fresh fresh whole [] = tt
+plain_fresh fresh whole (c ∷ cs) = plain_by (OpensDirective fresh whole) c cs tt (λ e. tt) (λ e. tt) (λ e. tt) (λ e. tt) tt
 
-plain_pick_hash : (fresh : Bool) (cs : List ℕ) (space block line ident number : Bool) → OpensDirective (cond space Space (cond block Block (cond line Line (cond ident (Token Ident) (cond number (Token Number) (Token Punct)))))) fresh cs
-plain_pick_hash fresh cs true block line ident number = tt
-plain_pick_hash fresh cs false true line ident number = tt
-plain_pick_hash fresh cs false false true ident number = tt
-plain_pick_hash fresh cs false false false true number = tt
-plain_pick_hash fresh cs false false false false true = tt
-plain_pick_hash fresh cs false false false false false = tt
-
-plain_hash : (fresh : Bool) (whole cs : List ℕ) → OpensDirective (plain_start cs) fresh whole
-plain_hash fresh whole [] = tt
-plain_hash fresh whole (c ∷ cs) =
-    plain_pick_hash fresh whole (is_white_space_of c) ((c == slash) && first_is star cs) ((c == slash) && first_is slash cs) (starts_identifier_of c) (begins_number (c ∷ cs))
-
-pub directive_fresh : (fresh : Bool) (cs : List ℕ) → OpensDirective (text_start fresh cs) fresh cs
-directive_fresh fresh cs =
-    pick_hash fresh cs (is_bad_number cs) (first_is double_quote cs) (first_is single_quote cs) (plain_start cs) (fresh && first_is hash cs) (λ e. and_cases fresh (first_is hash cs) e) (plain_hash fresh cs cs)
+pub directive_fresh : (fresh : Bool) (cs : List ℕ) → OpensDirective fresh cs (text_start fresh cs)
+directive_fresh fresh cs = text_by (OpensDirective fresh cs) fresh cs (λ e. and_cases fresh (first_is hash cs) e) (λ e. tt) (λ e. tt) (λ e. tt) (plain_fresh fresh cs cs)

@@ -3,6 +3,7 @@ use Rattle.std.proofs.Common.{◌≡◌, ℕ, ◌+◌, Bool, true, false, cond, 
 use Rattle.std.specs.Prelude.{◌&&◌, ◌||◌, ◌==◌, IsTrue}
 use Rattle.std.proofs.lemmas.Bool.{false≢true, eqb-true}
 use Rattle.gt_text.specs.WhiteSpace.{is_white_space_of}
+use Rattle.gt_lex.specs.declared.starts.Start.{Start}
 use Rattle.gt_lex.specs.declared.starts.Start.TheVariants as start
 use Rattle.gt_lex.specs.declared.tokens.Kind.TheVariants.{Quoted, CharLit}
 use Rattle.gt_lex.specs.Characters.{double_quote, hash, single_quote, star, slash, first_is, EndsLine, byte_len}
@@ -53,26 +54,32 @@ bad_number_begins fresh cs bad = rw (zero_begins cs bad, and_false fresh, bad) r
 directive_begins : (fresh : Bool) (cs : List ℕ) → IsTrue fresh → text_start fresh (hash ∷ cs) ≡ start.Directive
 directive_begins fresh cs is_fresh = rw is_fresh refl
 
+-- a part begins with something, and with no directive and no bad number
+abbrev PartBegins : Start → Type 0
+PartBegins start.End = ⊥
+PartBegins start.Space = Unit {0}
+PartBegins start.Block = Unit {0}
+PartBegins start.Line = Unit {0}
+PartBegins start.Continuation = Unit {0}
+PartBegins start.Directive = ⊥
+PartBegins start.BadNumber = ⊥
+PartBegins (start.Token kind) = Unit {0}
+
+part_begins : (p : Part) → PartBegins (start_of p)
+part_begins (Space c) = tt
+part_begins (Block inside) = tt
+part_begins (Line inside) = tt
+part_begins (Continuation end) = tt
+part_begins (Item kind cs) = tt
+
 part_no_end : (p : Part) → start_of p ≡ start.End → ⊥
-part_no_end (Space c) e = absurd cc
-part_no_end (Block inside) e = absurd cc
-part_no_end (Line inside) e = absurd cc
-part_no_end (Continuation end) e = absurd cc
-part_no_end (Item kind cs) e = absurd cc
+part_no_end p e = subst PartBegins e (part_begins p)
 
 part_no_directive : (p : Part) → start_of p ≡ start.Directive → ⊥
-part_no_directive (Space c) e = absurd cc
-part_no_directive (Block inside) e = absurd cc
-part_no_directive (Line inside) e = absurd cc
-part_no_directive (Continuation end) e = absurd cc
-part_no_directive (Item kind cs) e = absurd cc
+part_no_directive p e = subst PartBegins e (part_begins p)
 
 part_no_bad_number : (p : Part) → start_of p ≡ start.BadNumber → ⊥
-part_no_bad_number (Space c) e = absurd cc
-part_no_bad_number (Block inside) e = absurd cc
-part_no_bad_number (Line inside) e = absurd cc
-part_no_bad_number (Continuation end) e = absurd cc
-part_no_bad_number (Item kind cs) e = absurd cc
+part_no_bad_number p e = subst PartBegins e (part_begins p)
 
 -- ---- a directive
 

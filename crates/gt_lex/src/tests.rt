@@ -172,7 +172,7 @@ const DIRECTIVES: [(&[u8], &str); 45] = [
 ];
 
 // Characters beyond ASCII, ill-formed sequences of each kind, and the first of two faults.
-const CHARACTERS: [(&[u8], &str); 25] = [
+const CHARACTERS: [(&[u8], &str); 26] = [
     (b"\xc3\xa9", "I0-2 "),
     (b"a\xc3\xa91 x", "I0-4 I5-6 "),
     (b"5\xc3\xa9", "N0-3 "),
@@ -191,6 +191,7 @@ const CHARACTERS: [(&[u8], &str); 25] = [
     (b"x\xed\xa0\x80", "F1@1 "),
     (b"\xf4\x90\x80\x80", "F1@0 "),
     (b"a\xc3", "F1@1 "),
+    (b"a\xc3(", "F1@1 "),
     (b"a\xe2\x82", "F1@1 "),
     (b"\xf0\x9f\x98", "F1@0 "),
     (b"\xff", "F1@0 "),

@@ -1,7 +1,8 @@
 use gt_types::List;
 
-/// What a token is: an identifier, a preprocessing number, a string literal, a character literal, or any other
-/// character.
+/// What a token is: an identifier (Unicode Standard Annex 31, and `_`), a preprocessing number (C11, 6.4.8), a string
+/// literal or a character literal with its quotes, or any other character, which is a token by itself. A prefix of a
+/// literal is an identifier of its own.
 #[derive(Clone, Copy, Debug, PartialEq, Eq)]
 pub enum Kind {
     Ident,
