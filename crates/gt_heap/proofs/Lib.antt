@@ -10,3 +10,4 @@ pub mod Goodness
 pub mod Writes
 pub mod Graphs
 pub mod PlainSpans
+pub mod PlainBytes

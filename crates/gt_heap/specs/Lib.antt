@@ -5,3 +5,4 @@ pub mod Graph
 pub mod Stands
 pub mod Heap
 pub mod Plain
+pub mod PlainBytes

@@ -5,12 +5,14 @@
 mod heap;
 mod laws;
 mod plain;
+mod plain_bytes;
 mod sizes;
 mod words;
 
 pub use heap::{Heap, Made, MakeFail};
 pub use laws::objects_stay;
 pub use plain::{Span, is_sound};
+pub use plain_bytes::{Pointers, stands};
 
 #[cfg(test)]
 mod tests;

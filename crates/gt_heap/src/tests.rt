@@ -1,10 +1,11 @@
 //! Objects of three fields lie in blocks of 32 bytes, 128 to a page; they are filled to the last place, and their pointers
 //! are read back.
 ghost use Rattle.std.specs.Prelude.{◌≡◌, ◌+◌, ◌*◌, ◌≤◌, All, IfOk, length};
+ghost use Rattle.gt_space.specs.Range.{IsInside};
 ghost use Rattle.gt_heap.specs.Heap.{IsFirst, IsHeap, IsPlain, fields_of};
 
 use super::*;
-use gt_space::{MIN_PAGES, Space};
+use gt_space::{HEAP_START, MIN_PAGES, Space};
 use gt_types::{Active, Field, List, Program, PtrKind, Root, Structure, Target, Ty, TypeId, Word};
 use std::alloc::Global;
 use std::test::Fail;
@@ -168,4 +169,81 @@ fn places_of_blocks(rt: HostRuntime) {
     // Two pages from a page's start, and from its middle.
     assert!(rt; is_sound(16, &[span(0x1000_1000, 8192)]));
     assert!(rt; !is_sound(16, &[span(0x1000_1800, 8192)]));
+}
+
+// Makes two objects: the first points to the second, the second to the first and to itself, and the root to the second.
+fn draw(program: &Program, heap: &mut Heap, space: &mut Space) -> Result<(), MakeFail>
+    requires heap { IsHeap program.now heap.old space.old }
+    requires fields { fields_of program.now ≡ 3 }
+    ensures { IsHeap program.now heap.new space.new }
+{
+    let first = heap.make(program, space)?;
+    let second = heap.make(program, space)?;
+    heap.set_field(program, space, first.addr, 1, Some(second.addr));
+    heap.set_field(program, space, second.addr, 0, Some(first.addr));
+    heap.set_field(program, space, second.addr, 2, Some(second.addr));
+    heap.set_root(program, space, 0, Some(second.addr));
+    Ok(())
+}
+
+// Whether the space stands for one root and two objects with these pointers.
+fn is_drawn(
+    space: &Space,
+    root: Option<u32>,
+    first: [Option<u32>; 3],
+    second: [Option<u32>; 3],
+) -> bool
+    requires root { IsInside space.now space.now.start 8 }
+    requires objects { IsInside space.now HEAP_START 64 }
+{
+    let objects = [
+        Pointers {
+            span: Span {
+                addr: 0x1000_0000,
+                size: 32,
+            },
+            fields: &first,
+        },
+        Pointers {
+            span: Span {
+                addr: 0x1000_0020,
+                size: 32,
+            },
+            fields: &second,
+        },
+    ];
+    stands(space, MIN_PAGES, &[root], &objects)
+}
+
+#[test]
+fn bytes_of_objects(rt: HostRuntime) -> Result<(), Fail> {
+    let program = three_pointers(rt.alloc())?;
+    let (mut heap, mut space) = fresh(rt.alloc(), &program)?;
+    assert_eq!(rt; draw(&program, &mut heap, &mut space), Ok(()));
+    let (first, second) = (Some(0x1000_0000), Some(0x1000_0020));
+    let (from_first, from_second) = ([None, second, None], [first, None, second]);
+    assert!(rt; is_drawn(&space, second, from_first, from_second));
+    // Another pointer, null for a pointer, and a pointer for null.
+    assert!(rt; !is_drawn(&space, second, [None, first, None], from_second));
+    assert!(rt; !is_drawn(&space, second, [None, None, None], from_second));
+    assert!(rt; !is_drawn(&space, second, from_first, [first, first, second]));
+    // Another root, and none.
+    assert!(rt; !is_drawn(&space, first, from_first, from_second));
+    assert!(rt; !is_drawn(&space, None, from_first, from_second));
+    // The last byte behind the fields of the second object.
+    space.write_u8(0x1000_003f, 1);
+    assert!(rt; !is_drawn(&space, second, from_first, from_second));
+    space.write_u8(0x1000_003f, 0);
+    assert!(rt; is_drawn(&space, second, from_first, from_second));
+    // A word that no object has as its address, though the picture says the same.
+    space.write_u64(0x1000_0000, 0x1000_0010);
+    assert!(rt;
+        !is_drawn(
+            &space,
+            second,
+            [Some(0x1000_0010), second, None],
+            from_second
+        )
+    );
+    Ok(())
 }
