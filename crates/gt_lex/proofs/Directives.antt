@@ -153,7 +153,7 @@ only_comments (start.Token CharLit) c cs begins not_end is = absurd begins
 only_comments (start.Token Punct) c cs begins not_end is = absurd is
 
 -- where something begins in a directive and is not read to its end, a comment is open
-directive_open : (cs : List ℕ) (s : Start) → directive_start cs ≡ s → s ≢ start.End → rest_of s cs ≡ None → IsOpenComment cs
+pub directive_open : (cs : List ℕ) (s : Start) → directive_start cs ≡ s → s ≢ start.End → rest_of s cs ≡ None → IsOpenComment cs
 directive_open [] s begins not_end none = absurd (not_end (sym begins))
 directive_open (c ∷ cs) s begins not_end none =
     only_comments s c cs (subst BeginsInDirective begins (directive_begins (c ∷ cs))) not_end

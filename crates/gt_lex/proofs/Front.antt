@@ -125,7 +125,7 @@ nothing_begins : (fresh : Bool) → text_start fresh [] ≡ start.End
 nothing_begins true = refl
 nothing_begins false = refl
 
-open_at_front : (fresh : Bool) (s : Start) (cs : List ℕ) → text_start fresh cs ≡ s → s ≢ start.End → s ≢ start.BadNumber → s ≢ start.Directive → rest_of s cs ≡ None → HasFault fresh cs (open_fault_of s) 0
+pub open_at_front : (fresh : Bool) (s : Start) (cs : List ℕ) → text_start fresh cs ≡ s → s ≢ start.End → s ≢ start.BadNumber → s ≢ start.Directive → rest_of s cs ≡ None → HasFault fresh cs (open_fault_of s) 0
 open_at_front fresh s [] begins not_end not_bad not_directive none = absurd (not_end (sym begins ∙ nothing_begins fresh))
 open_at_front fresh s (c ∷ cs) begins not_end not_bad not_directive none =
     open_fault fresh s (c ∷ cs) not_end not_bad not_directive (opened s c cs (subst (λ (b : Start). Opens b (c ∷ cs)) begins (text_opens fresh (c ∷ cs))) none)

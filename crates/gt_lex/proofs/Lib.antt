@@ -13,5 +13,6 @@ mod Front
 mod Scanning
 mod Unique
 mod Outcomes
+mod Total
 mod Slices
 mod Names

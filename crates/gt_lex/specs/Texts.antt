@@ -109,6 +109,11 @@ pub data IsFirstFault (text : List ℕ) : ℕ → ℕ → Type 0 where
   behind : (pieces : List Piece) (rest : List ℕ) (number offset : ℕ) → IsUtf8 text → chars text ≡ text_of pieces ++ rest
       → ArePieces true pieces rest → HasFault (fresh_behind true pieces) rest number offset → IsFirstFault text number (byte_len (text_of pieces) + offset)
 
+-- a text has tokens, or a first fault
+pub data HasAnswer (text : List ℕ) : Type 0 where
+  has_tokens : (tokens : List Token) (defines : List Define) → IsLexed text tokens defines → HasAnswer text
+  has_fault : (number at : ℕ) → IsFirstFault text number at → HasAnswer text
+
 -- what may be answered in place of tokens: want of memory, or the first fault
 abbrev pub IsStop : ℕ → List ℕ → Stop → Type 0
 IsStop file text Memory = Unit {0}

@@ -2,7 +2,7 @@
 ghost use Rattle.std.specs.Prelude.{◌≡◌, ℕ, List, length, All};
 ghost use Rattle.gt_lex.specs.declared.tokens.Token.{Token};
 ghost use Rattle.gt_lex.specs.declared.tokens.Define.{Define};
-ghost use Rattle.gt_lex.specs.Texts.{IsLexed, IsFirstFault};
+ghost use Rattle.gt_lex.specs.Texts.{IsLexed, IsFirstFault, HasAnswer};
 ghost use Rattle.gt_lex.specs.Spans.{AreSpans, token_spans, define_spans, IsSlice, IsNameSlice, AreApart};
 
 /// The tokens of a text are slices of it, each of its kind, in order and apart, and before, between and behind them are
@@ -24,8 +24,10 @@ pub fn constant_names()
         IsLexed text tokens defines → All (IsNameSlice text) defines }
 {}
 
-/// No text has two lists of tokens or constants, both tokens and a first fault, or two first faults.
+/// Each text has tokens or a first fault. None has two lists of tokens or constants, both tokens and a first fault, or
+/// two first faults.
 pub fn one_answer()
+    ensures some { (text : List ℕ) → HasAnswer text }
     ensures tokens { (text : List ℕ) (tokens others : List Token) (defines other_defines : List Define) →
         IsLexed text tokens defines → IsLexed text others other_defines → (tokens ≡ others) × (defines ≡ other_defines) }
     ensures not_both { (text : List ℕ) (tokens : List Token) (defines : List Define) (number at : ℕ) →
