@@ -21,7 +21,7 @@ width_at text = option_map_or len_utf8 (character_at text) 1
 abbrev pub begins_with : (ℕ → Bool) → List ℕ → Bool
 begins_with p text = option_map_or p (character_at text) false
 
--- how many bytes the characters at the front have that pass a test; the first n bytes are passed over
+-- how many bytes the first n bytes and the characters directly behind them that pass a test have together
 unfoldable pub run_behind : ℕ → (ℕ → Bool) → List ℕ → ℕ
 run_behind n p [] = 0
 run_behind (suc n) p (b ∷ bs) = 1 + run_behind n p bs
