@@ -1,5 +1,5 @@
 -- Which texts are expressions, and what reading answers.
-use Rattle.std.specs.Prelude.{◌≡◌, ℕ, ◌<◌, ◌⊎◌, List, length, Result, Err}
+use Rattle.std.specs.Prelude.{◌≡◌, ℕ, ◌<◌, ◌⊎◌, if◌then◌else◌, nat_lt, List, length, Option, Some, None, Result, Ok, Err}
 use Rattle.gt_types.specs.declared.faults.Fault.{Fault}
 use Rattle.gt_types.specs.declared.faults.Stop.{Stop}
 use Rattle.gt_types.specs.declared.faults.Stop.TheVariants.{Memory, At}
@@ -8,6 +8,7 @@ use Rattle.gt_expr.specs.declared.raw.RawExpr.{RawExpr}
 use Rattle.gt_expr.specs.declared.TheConstants.{MAX_PARTS, BAD_EXPR, EXPR_TOO_LARGE}
 use Rattle.gt_expr.specs.Grammar.{Derives}
 use Rattle.gt_expr.specs.Parts.{parts_of}
+use Rattle.gt_expr.specs.Reading.{tree_of}
 
 -- more parts than an expression may have
 abbrev pub IsTooLarge : List ℕ → Type 0
@@ -40,3 +41,12 @@ IsUnlessMemory result answer = (result ≡ Err Memory) ⊎ (result ≡ answer)
 abbrev pub IsStopped : List ℕ → ℕ → ℕ → Stop → Type 0
 IsStopped text file at Memory = Unit {0}
 IsStopped text file at (At fault) = IsRefused text file at fault
+
+-- a tree, or else the number of the fault of a text without one
+abbrev pub tree_or_fault : Option RawExpr → Result RawExpr ℕ
+tree_or_fault (Some tree) = Ok tree
+tree_or_fault None = Err BAD_EXPR
+
+-- the same as a function of the text: its tree, or the number of its fault
+abbrev pub expression_of : List ℕ → Result RawExpr ℕ
+expression_of text = if nat_lt MAX_PARTS (length (parts_of text)) then Err EXPR_TOO_LARGE else tree_or_fault (tree_of (parts_of text))
