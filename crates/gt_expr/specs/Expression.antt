@@ -47,6 +47,6 @@ abbrev pub tree_or_fault : Option RawExpr → Result RawExpr ℕ
 tree_or_fault (Some tree) = Ok tree
 tree_or_fault None = Err BAD_EXPR
 
--- the same as a function of the text: its tree, or the number of its fault
+-- which texts are expressions, as a function: the tree of the text, or the number of its fault
 abbrev pub expression_of : List ℕ → Result RawExpr ℕ
 expression_of text = if nat_lt MAX_PARTS (length (parts_of text)) then Err EXPR_TOO_LARGE else tree_or_fault (tree_of (parts_of text))
