@@ -1,0 +1,37 @@
+-- What stands in brackets, and what is passed over.
+use Rattle.std.specs.Prelude.{ℕ, zero, suc, List, [], ◌∷◌, ◌++◌}
+use Rattle.gt_parse.specs.declared.lexeme.Bracket.TheVariants.{Square}
+use Rattle.gt_parse.specs.declared.lexeme.Lexeme.{Lexeme}
+use Rattle.gt_parse.specs.declared.lexeme.Lexeme.TheVariants as lexeme
+use Rattle.gt_parse.specs.Lexemes.{kept_text}
+use Rattle.gt_parse.specs.Outcome.{Outcome, Read, Stops, Ends, ◌>>=◌}
+
+-- one more token at the front of what was read
+abbrev pub with_token : Lexeme → Outcome (List Lexeme) → Outcome (List Lexeme)
+with_token t o = o >>= λ read. Read (t ∷ read.0) read.1
+
+-- the tokens up to the bracket that closes the one before them, and those behind it; depth other brackets are open
+unfoldable pub inside_from : ℕ → List Lexeme → Outcome (List Lexeme)
+inside_from depth [] = Ends
+inside_from depth (lexeme.Open b s ∷ ts) = with_token (lexeme.Open b s) (inside_from (suc depth) ts)
+inside_from zero (lexeme.Close b s ∷ ts) = Read [] ts
+inside_from (suc depth) (lexeme.Close b s ∷ ts) = with_token (lexeme.Close b s) (inside_from depth ts)
+inside_from depth (t ∷ ts) = with_token t (inside_from depth ts)
+
+-- the tokens before the next comma, semicolon or closing bracket that stands in no brackets
+unfoldable pub before_end : ℕ → List Lexeme → Outcome (List Lexeme)
+before_end depth [] = Ends
+before_end depth (lexeme.Open b s ∷ ts) = with_token (lexeme.Open b s) (before_end (suc depth) ts)
+before_end zero (lexeme.Close b s ∷ ts) = Read [] (lexeme.Close b s ∷ ts)
+before_end (suc depth) (lexeme.Close b s ∷ ts) = with_token (lexeme.Close b s) (before_end depth ts)
+before_end zero (lexeme.Comma s ∷ ts) = Read [] (lexeme.Comma s ∷ ts)
+before_end zero (lexeme.Semicolon s ∷ ts) = Read [] (lexeme.Semicolon s ∷ ts)
+before_end depth (t ∷ ts) = with_token t (before_end depth ts)
+
+-- the texts of bounds, behind those that were read; at most count
+unfoldable pub bounds_from : ℕ → List (List ℕ) → List Lexeme → Outcome (List (List ℕ))
+bounds_from zero bounds ts = Read bounds ts
+bounds_from (suc count) bounds (lexeme.Open Square s ∷ ts) = do
+  inside ← inside_from 0 ts
+  bounds_from count (bounds ++ kept_text inside.0 ∷ []) inside.1
+bounds_from (suc count) bounds ts = Read bounds ts
