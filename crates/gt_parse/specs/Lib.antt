@@ -1,0 +1,11 @@
+pub mod Fields
+pub mod Groups
+pub mod Header
+pub mod Lexemes
+pub mod Marked
+pub mod Markers
+pub mod Outcome
+pub mod Reading
+pub mod Search
+pub mod Types
+pub mod Unmarked

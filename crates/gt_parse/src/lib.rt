@@ -1,0 +1,18 @@
+//! The items of a header: marked structures and globals, typedefs, enums and constants, as they are written. Items are searched
+//! for among the tokens, unmarked code is passed over, and a text that cannot be read is refused with its first fault.
+//! The layer above resolves names and types.
+#![tactic(auto)]
+
+mod faults;
+mod items;
+mod lexeme;
+mod parsing;
+mod unread;
+
+pub use faults::{BAD_MARKER_PLACE, UNCLOSED, UNEXPECTED, UNSUPPORTED};
+pub use items::{
+    Alias, Combination, Core, Declarator, Enumerator, Item, Items, Keyword, Meaning, Name, Parameter,
+    PointedType, RawCache, RawConstant, RawEnum, RawField, RawOption, RawRoot, RawStructure, RawType,
+    RawTypedef, Sign, Size, Stars,
+};
+pub use parsing::parse;
