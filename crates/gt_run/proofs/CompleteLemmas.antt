@@ -7,7 +7,9 @@ use Rattle.gt_io.specs.Held.{Held, contents}
 use Rattle.gt_script.specs.Script.{Parsed}
 use Rattle.gt_run.specs.Call.{Call}
 use Rattle.gt_run.specs.Texts.{File, files_in_order, AreTextsOf}
-use Rattle.gt_run.specs.Comes.{Comes, Declares, IsRefusedFor}
+use Rattle.gt_types.specs.declared.faults.Fault.{Fault as HeaderFault}
+use Rattle.gt_types.specs.declared.program.Program.{Program}
+use Rattle.gt_run.specs.Comes.{AreOther, Comes, Declares, FaultComes, IsRefusedFor}
 use Rattle.gt_run.specs.Complete.{AreHeld, IsWell}
 use Rattle.gt_run.specs.Ended.{Ended, Ends, status_of, refusal_of, is_refusal}
 use Rattle.gt_run.specs.declared.ending.Ending.{Ending}
@@ -68,29 +70,46 @@ no_refusal held told e file text at within TooLong h =
     absurd (omega arith)
 no_refusal held told e file text at within Fault h = refl
 
+-- headers that declare something are no others, and have no fault
+no_program : (texts : List (List ℕ)) → AreOther texts → (program : Program) → Declares texts program → ⊥
+no_program [] other program declares = declares
+no_program (text ∷ []) other program declares = other.no_program program declares
+no_program (text ∷ next ∷ texts) other program declares = declares
+
+no_fault : (texts : List (List ℕ)) (fault : HeaderFault) → FaultComes texts fault → (program : Program) → Declares texts program → ⊥
+no_fault [] fault comes program declares = declares
+no_fault (text ∷ []) fault comes program declares = comes.1.no_program program declares
+no_fault (text ∷ next ∷ texts) fault comes program declares = declares
+
 -- where all is well, a refusal is one for a fault of a file
-pub Comes-well : (words : List (List ℕ)) (held : Held) (told : Option Held) → told ≡ Some held → IsWell words held → (refusal : Refusal) → Comes words told refusal → (word : ℕ) × (refusal ≡ InFile word Fault)
-Comes-well words held told e well Words comes = let none : None ≡ Some well.call = sym comes ∙ well.called in absurd (cc)
-Comes-well words held told e well (InFile word why) comes =
+pub Comes-well : (words : List (List ℕ)) (held : Held) (told : Option Held) → told ≡ Some held → IsWell words held → (headers : List (List ℕ)) (refusal : Refusal) → Comes words told headers refusal → (word : ℕ) × (refusal ≡ InFile word Fault)
+Comes-well words held told e well headers Words comes = let none : None ≡ Some well.call = sym comes ∙ well.called in absurd (cc)
+Comes-well words held told e well headers (InFile word why) comes =
     let same : comes.0 ≡ well.call = same_call _ _ (sym comes.1 ∙ well.called) in
     let f = comes.2 in
     let order : files_in_order well.call ≡ f.0 ++ f.1 ∷ f.2 = ap files_in_order (sym same) ∙ f.3 in
     let H : List File → Type 0 = λ files. AreHeld held files (well.texts.headers ++ well.texts.script ∷ []) in
     let one = held_one held f.0 f.1 f.2 _ (subst H order well.there) in
     (word, ap (InFile word) (no_refusal held told e f.1 one.0 one.1 one.2 why f.6))
-Comes-well words held told e well (NotBuilt word) comes =
+Comes-well words held told e well headers (NotBuilt word) comes =
     let same : comes.0 ≡ well.call = same_call _ _ (sym comes.2 ∙ well.called) in
     let F : Call → Type 0 = λ call. AreTextsOf told (files_in_order call) (comes.1.headers ++ comes.1.script ∷ []) in
     let texts = held_texts held told e (files_in_order well.call) _ _ well.there (subst F same comes.3) in
     let both = parts comes.1.headers well.texts.headers comes.1.script well.texts.script texts in
     let D : List (List ℕ) → Type 0 = λ headers. Declares headers well.program in
     let P : List ℕ → Type 0 = λ script. Parsed script well.lines in
-    elim comes.4 [
-      | inl header ↦ absurd (header.1 well.program (subst D (sym both.0) well.declares))
+    elim comes.5 [
+      | inl header ↦ absurd (no_program comes.1.headers header.1 well.program (subst D (sym both.0) well.declares))
       | inr script ↦ absurd (script.2 well.lines (subst P (sym both.1) well.parsed))
     ]
-Comes-well words held told e well (Header fault) comes = absurd comes
-Comes-well words held told e well (Script number line) comes = absurd comes
+Comes-well words held told e well headers (Header fault) comes =
+    let same : comes.0 ≡ well.call = same_call _ _ (sym comes.2 ∙ well.called) in
+    let F : Call → Type 0 = λ call. AreTextsOf told (files_in_order call) (comes.1.headers ++ comes.1.script ∷ []) in
+    let texts = held_texts held told e (files_in_order well.call) _ _ well.there (subst F same comes.3) in
+    let both = parts comes.1.headers well.texts.headers comes.1.script well.texts.script texts in
+    let D : List (List ℕ) → Type 0 = λ texts. Declares texts well.program in
+    absurd (no_fault headers fault comes.5 well.program (subst D (sym both.0 ∙ comes.4) well.declares))
+Comes-well words held told e well headers (Script number line) comes = absurd comes
 
 one_or_none : (b : Bool) (n : ℕ) → n ≡ cond b 1 0 → (n ≡ 0) ⊎ (n ≡ 1) ⊎ (n ≡ 9)
 one_or_none true n e = inr (inl e)
@@ -107,7 +126,7 @@ Ends-well words held told old new outcome range FileRose SinkRose e well no_file
           → Ended words told old ending outcome.answers new range → (outcome.status ≡ 0) ⊎ (outcome.status ≡ 1) ⊎ (outcome.status ≡ 9)
       ends_well Finished s r h = one_or_none (list_any is_refusal outcome.answers) outcome.status s
       ends_well (Refused refusal) s r h =
-          let w = Comes-well words held told e well refusal h.1 in
+          let w = Comes-well words held told e well h.1 refusal h.2 in
           absurd (no_file (file_cause w.0 (r ∙ ap (λ x. Some x) w.1)))
       ends_well SinkFailed s r h = absurd (no_sink (sink_cause s))
       ends_well NoMemory s r h = inr (inr s)

@@ -1,5 +1,5 @@
 -- What the program comes to, from what its parts did.
-use Rattle.std.proofs.Common.{◌≡◌, ℕ, ◌*◌, ◌⊎◌, List, [], ◌∷◌, ◌++◌, length, map, All, Bool, true, false, cond, refl, sym, ap, subst, ◌∙◌, Some, None, Option, inl, inr, arith}
+use Rattle.std.proofs.Common.{◌≡◌, ℕ, ◌*◌, ◌<◌, ◌≤◌, ◌⊎◌, List, [], ◌∷◌, ◌++◌, length, map, All, Bool, true, false, cond, refl, sym, ap, subst, ◌∙◌, Some, None, Option, inl, inr, arith}
 use Rattle.std.specs.List.{AllByRecursion}
 use Rattle.std.proofs.lemmas.List.{length-map}
 use Rattle.std.proofs.lemmas.List.Elements.{All-nil, All-cons}
@@ -8,7 +8,17 @@ use Rattle.gt_space.specs.Range.{Range, IsSized}
 use Rattle.gt_io.specs.Held.{Held}
 use Rattle.gt_script.specs.declared.command.Line.{Line}
 use Rattle.gt_script.specs.Script.{AreLines}
-use Rattle.gt_first.specs.Header.{Form, IsForm, field_of, program_of, Declares as DeclaresAlone}
+use Rattle.std.specs.Prelude.{◌&&◌, not, nat_le}
+use Rattle.gt_types.specs.declared.faults.Fault.{Fault as HeaderFault}
+use Rattle.gt_parse.specs.declared.items.RawStructure.{RawStructure}
+use Rattle.gt_parse.specs.declared.items.RawRoot.{RawRoot}
+use Rattle.gt_parse.specs.declared.items.Item.{Item}
+use Rattle.gt_parse.specs.declared.items.Item.TheVariants as item
+use Rattle.gt_parse.specs.declared.items.RawConstant.{RawConstant}
+use Rattle.std.proofs.lemmas.Bool.{leb-true}
+use Rattle.gt_run.specs.FirstForm.{field_of, program_of, program_of_both, program_of_items, program_in, field_names, are_field_names, is_first_but_names, is_first_root}
+use Rattle.gt_run.specs.Headers.{Declares as DeclaresAlone}
+use Rattle.gt_run.specs.Halts.{HaltsFor, IsNoFault}
 use Rattle.gt_heap.specs.Heap.{IsFirst, IsPlain}
 use Rattle.gt_run.specs.Call.{Call, Settings, call_of, default_settings}
 use Rattle.gt_run.specs.Asks.{AsksFor, Runs}
@@ -45,22 +55,56 @@ all_plain : (names : List (List ℕ)) → All (λ f. IsPlain f.ty) (map field_of
 all_plain [] = All-nil (λ f. IsPlain f.ty)
 all_plain (name ∷ names) = All-cons (λ f. IsPlain f.ty) _ _ (false, refl) (all_plain names)
 
-form_first : (form : Form) → IsForm form → IsFirst (program_of form)
-form_first form is =
+-- what a choice gave is its first value, and its test was true
+when_some : (b : Bool) (x y : Program) → cond b (Some x) None ≡ Some y → (b ≡ true) × (x ≡ y)
+when_some true x y e = (refl, cc)
+when_some false x y e = absurd cc
+
+form_first : (tag : List ℕ) (names : List (List ℕ)) (root : List ℕ) → 1 ≤ length names → length names ≤ 32 → IsFirst (program_of tag names root)
+form_first tag names root least most =
     record {
-      node = record { name = form.structure; is_union = false; desc = None; fields = map field_of form.fields; chains = [] };
+      node = record { name = tag; is_union = false; desc = None; fields = map field_of names; chains = [] };
       structures = refl;
       no_union = refl;
-      some_field = rw length-map is.least;
-      few_fields = rw length-map is.most;
-      fields = all_plain form.fields;
+      some_field = rw length-map least;
+      few_fields = rw length-map most;
+      fields = all_plain names;
       some_root = omega arith;
       few_roots = omega arith;
       roots = All-cons (λ r. IsPlain r.ty) _ [] (false, refl) (All-nil (λ r. IsPlain r.ty));
     }
 
+-- what a test of two says
+both_true : (a b : Bool) → (a && b) ≡ true → (a ≡ true) × (b ≡ true)
+both_true true b e = (refl, e)
+both_true false b e = absurd cc
+
+-- names of fields are 1 to 32
+few_names : (names : List (List ℕ)) → are_field_names names ≡ true → (1 ≤ length names) × (length names ≤ 32)
+few_names names e =
+    let two = (both_true _ _ (both_true _ _ e).0).0 in
+    let sides = both_true (nat_le 1 (length names)) (nat_le (length names) 32) two in
+    (leb-true 1 (length names) sides.0, leb-true (length names) 32 sides.1)
+
+-- the program of items is one of the first form
+both_first : (s : RawStructure) (r : RawRoot) (p : Program) → program_of_both s r ≡ Some p → IsFirst p
+both_first s r p e =
+    let form = when_some (is_first_but_names s && are_field_names (field_names s.fields) && is_first_root s.tag.word r) (program_of s.tag.word (field_names s.fields) r.name.word) p e in
+    let named = (both_true (is_first_but_names s) (are_field_names (field_names s.fields)) (both_true _ _ form.0).0).1 in
+    let few = few_names (field_names s.fields) named in
+    subst IsFirst form.1 (form_first s.tag.word (field_names s.fields) r.name.word few.0 few.1)
+
+items_first : (items : List Item) (constants : List RawConstant) (p : Program) → program_of_items items constants ≡ Some p → IsFirst p
+items_first [] constants p e = absurd cc
+items_first (item.Structure s ∷ []) constants p e = absurd cc
+items_first (item.Structure s ∷ item.Root r ∷ []) [] p e = both_first s r p e
+items_first (item.Structure s ∷ item.Root r ∷ []) (c ∷ constants) p e = absurd cc
+items_first (item.Structure s ∷ item.Root r ∷ other ∷ items) constants p e = absurd cc
+items_first (item.Structure s ∷ other ∷ items) constants p e = absurd cc
+items_first (other ∷ items) constants p e = absurd cc
+
 pub Declares-IsFirst : (text : List ℕ) (p : Program) → DeclaresAlone text p → IsFirst p
-Declares-IsFirst text p declares = subst IsFirst (sym declares.3) (form_first declares.0 declares.1)
+Declares-IsFirst text p declares = items_first declares.items.items declares.items.constants p declares.form
 
 declares_first : (texts : List (List ℕ)) (p : Program) → Declares texts p → IsFirst p
 declares_first [] p h = absurd h
@@ -128,15 +172,15 @@ Ends-of words told old new ending answers range outcome status same refusal ende
     record { ending = ending; status = status ∙ ap (status_of ending) (sym same); refusal = refusal; ended = subst E (sym same) ended }
 
 -- and so is a refusal
-pub Ended-refused : (words : List (List ℕ)) (told : Option Held) (refusal : Refusal) → Comes words told refusal → (old new : Option (List ℕ)) (ending : Ending) (range : Range)
-    → Refuses words refusal old new ending → Ended words told old ending [] new range
-Ended-refused words told refusal comes old new (Refused other) range h =
-    let C : Refusal → Type 0 = λ r. Comes words told r in
-    let L : Refusal → Type 0 = λ r. IsRefusalLine words r h.1 in
-    (refl, subst C (sym h.0) comes, h.1, subst L (sym h.0) h.2, h.3)
-Ended-refused words told refusal comes old new SinkFailed range h = inl (refl, refusal, comes, h.0, h.1, h.2)
-Ended-refused words told refusal comes old new NoMemory range h = inl (refl, h)
-Ended-refused words told refusal comes old new Finished range h = absurd h
+pub Ended-refused : (words headers : List (List ℕ)) (told : Option Held) (refusal : Refusal) → Comes words told headers refusal → (old new : Option (List ℕ)) (ending : Ending) (range : Range)
+    → Refuses words headers refusal old new ending → Ended words told old ending [] new range
+Ended-refused words headers told refusal comes old new (Refused other) range h =
+    let C : Refusal → Type 0 = λ r. Comes words told headers r in
+    let L : Refusal → Type 0 = λ r. IsRefusalLine words headers r h.1 in
+    (refl, headers, subst C (sym h.0) comes, h.1, subst L (sym h.0) h.2, h.3)
+Ended-refused words headers told refusal comes old new SinkFailed range h = inl (refl, refusal, headers, comes, h.0, h.1, h.2)
+Ended-refused words headers told refusal comes old new NoMemory range h = inl (refl, h)
+Ended-refused words headers told refusal comes old new Finished range h = absurd h
 
 chosen : (b : Bool) (x y : Call) → cond b (Some x) None ≡ Some y → x ≡ y
 chosen true x y e = cc
@@ -163,9 +207,9 @@ of_two a b file (x ∷ []) after e = inr (cc)
 of_two a b file (x ∷ y ∷ before) after e = absurd (no_tail before file after (cc))
 
 -- a refusal that comes has a line
-pub Comes-HasLine : (words : List (List ℕ)) (told : Option Held) (refusal : Refusal) → Comes words told refusal → HasLine words refusal
-Comes-HasLine words told Words comes = tt
-Comes-HasLine words told (InFile word why) comes =
+pub Comes-HasLine : (words headers : List (List ℕ)) (told : Option Held) (refusal : Refusal) → IsNoFault refusal → Comes words told headers refusal → HasLine words refusal
+Comes-HasLine words headers told Words plain comes = tt
+Comes-HasLine words headers told (InFile word why) plain comes =
     let w = two_words words comes.0 comes.1 in
     let f = comes.2 in
     let place = of_two (header_file w.1.1) (script_file w.1.0) f.1 f.0 f.2 (sym w.1.2 ∙ f.3) in
@@ -173,8 +217,15 @@ Comes-HasLine words told (InFile word why) comes =
       | inl first ↦ (let at : f.1.word ≡ 1 = ap (λ x. x.word) first in omega (arith, w.0, f.5, at))
       | inr second ↦ (let at : f.1.word ≡ 0 = ap (λ x. x.word) second in omega (arith, w.0, f.5, at))
     ]
-Comes-HasLine words told (NotBuilt word) comes =
+Comes-HasLine words headers told (NotBuilt word) plain comes =
     let w = two_words words comes.0 comes.2 in
-    elim comes.4 [ inl header ↦ omega (arith, w.0, header.0) | inr script ↦ omega (arith, w.0, script.0) ]
-Comes-HasLine words told (Header fault) comes = absurd comes
-Comes-HasLine words told (Script number line) comes = absurd comes
+    elim comes.5 [ inl header ↦ omega (arith, w.0, header.0) | inr script ↦ omega (arith, w.0, script.0) ]
+Comes-HasLine words headers told (Header fault) plain comes = absurd plain
+Comes-HasLine words headers told (Script number line) plain comes = absurd comes
+
+-- the fault of a header is one of the first header, which is a word
+pub HaltsFor-word : (words : List (List ℕ)) (told : Option Held) (fault : HeaderFault) (line column : ℕ) → HaltsFor words told fault line column → (fault.file ≡ 1) × (fault.file < length words)
+HaltsFor-word words told fault line column halts =
+    let w = two_words words halts.comes.0 halts.comes.2 in
+    let first : fault.file ≡ 1 = halts.comes.5.0 in
+    (first, omega (arith, w.0, first))

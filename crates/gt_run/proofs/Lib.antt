@@ -1,7 +1,9 @@
 mod CompleteLemmas
 mod EndLemmas
 mod GoodLemmas
+mod HeaderLemmas
 mod InputLemmas
+mod RefuseLemmas
 mod RunLemmas
 mod ShowDigits
 mod ShowFields

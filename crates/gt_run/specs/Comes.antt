@@ -6,7 +6,8 @@ use Rattle.gt_io.specs.Reads.{Tells, TellsLonger}
 use Rattle.gt_types.specs.declared.program.Program.{Program}
 use Rattle.gt_script.specs.declared.command.Line.{Line}
 use Rattle.gt_script.specs.Script.{Parsed}
-use Rattle.gt_first.specs.Header.{Declares as DeclaresAlone}
+use Rattle.gt_types.specs.declared.faults.Fault.{Fault as HeaderFault}
+use Rattle.gt_run.specs.Headers.{Declares as DeclaresAlone, IsFaulty, IsOther}
 use Rattle.gt_run.specs.Call.{Call, call_of}
 use Rattle.gt_run.specs.Texts.{File, Texts, files_in_order, IsTextOf, AreTexts}
 use Rattle.gt_run.specs.declared.refusal.FileWhy.{FileWhy}
@@ -34,16 +35,26 @@ abbrev pub FileComes : Option Held → Call → ℕ → FileWhy → Type 0
 FileComes told call word why = (before : List File) × (file : File) × (after : List File) × (files_in_order call ≡ before ++ file ∷ after)
     × AllByRecursion (IsRead told) before × (file.word ≡ word) × IsRefusedFor told file why
 
+-- a header has a fault, of which this is the first: so far there is one header
+abbrev pub FaultComes : List (List ℕ) → HeaderFault → Type 0
+FaultComes (text ∷ []) fault = (fault.file ≡ 1) × IsFaulty text fault.number fault.at
+FaultComes texts fault = ⊥
+
+-- a header has no fault, and declares nothing that is built so far
+abbrev pub AreOther : List (List ℕ) → Type 0
+AreOther (text ∷ []) = IsOther text
+AreOther texts = ⊥
+
 -- a header declares nothing (its place is 1), or else the script has no lines (its place is 0)
 abbrev pub NotBuiltComes : Texts → ℕ → Type 0
 NotBuiltComes texts word =
-    ((word ≡ 1) × ((program : Program) → Declares texts.headers program → ⊥))
+    ((word ≡ 1) × AreOther texts.headers)
     ⊎ ((word ≡ 0) × ((program : Program) × Declares texts.headers program) × ((lines : List Line) → Parsed texts.script lines → ⊥))
 
--- what is refused first; faults of a header or of the script do not come yet
-abbrev pub Comes : List (List ℕ) → Option Held → Refusal → Type 0
-Comes words told Words = call_of words ≡ None
-Comes words told (InFile word why) = (call : Call) × (call_of words ≡ Some call) × FileComes told call word why
-Comes words told (NotBuilt word) = (call : Call) × (texts : Texts) × (call_of words ≡ Some call) × AreTexts told call texts × NotBuiltComes texts word
-Comes words told (Header fault) = ⊥
-Comes words told (Script number line) = ⊥
+-- what is refused first, where these are the texts of the headers if they were read; faults of the script do not come yet
+abbrev pub Comes : List (List ℕ) → Option Held → (headers : List (List ℕ)) → Refusal → Type 0
+Comes words told headers Words = call_of words ≡ None
+Comes words told headers (InFile word why) = (call : Call) × (call_of words ≡ Some call) × FileComes told call word why
+Comes words told headers (NotBuilt word) = (call : Call) × (texts : Texts) × (call_of words ≡ Some call) × AreTexts told call texts × (texts.headers ≡ headers) × NotBuiltComes texts word
+Comes words told headers (Header fault) = (call : Call) × (texts : Texts) × (call_of words ≡ Some call) × AreTexts told call texts × (texts.headers ≡ headers) × FaultComes headers fault
+Comes words told headers (Script number line) = ⊥

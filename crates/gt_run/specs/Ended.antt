@@ -32,10 +32,10 @@ IsNothing front text = front ≡ []
 -- want of memory: the text of the answers, or of all but the last
 abbrev pub Ended : List (List ℕ) → Option Held → Option (List ℕ) → Ending → List Answer → Option (List ℕ) → Range → Type 0
 Ended words told old Finished answers new range = (r : Runs words told answers range) × (r.left ≡ []) × Adds old (texts_of answers) new
-Ended words told old (Refused refusal) answers new range = (answers ≡ []) × Comes words told refusal
-    × (line : List ℕ) × IsRefusalLine words refusal line × Adds old line new
+Ended words told old (Refused refusal) answers new range = (answers ≡ []) × (headers : List (List ℕ)) × Comes words told headers refusal
+    × (line : List ℕ) × IsRefusalLine words headers refusal line × Adds old line new
 Ended words told old SinkFailed answers new range =
-    ((answers ≡ []) × (refusal : Refusal) × Comes words told refusal × (line : List ℕ) × IsRefusalLine words refusal line × AddsFront old line new)
+    ((answers ≡ []) × (refusal : Refusal) × (headers : List (List ℕ)) × Comes words told headers refusal × (line : List ℕ) × IsRefusalLine words headers refusal line × AddsFront old line new)
     ⊎ (Runs words told answers range × AddsAllBut old answers IsFrontOf new)
 Ended words told old NoMemory answers new range =
     ((answers ≡ []) × (new ≡ old))

@@ -1,5 +1,8 @@
 -- The one line that is written where no command is run.
-use Rattle.std.specs.Prelude.{◌≡◌, ℕ, List, [], ◌∷◌, ◌++◌, Some, codes, slice_get, encode_utf8_all}
+use Rattle.std.specs.Prelude.{◌≡◌, ℕ, ◌-◌, ◌==◌, if◌then◌else◌, List, [], ◌∷◌, ◌++◌, Some, codes, slice_get, encode_utf8_all}
+use Rattle.gt_types.specs.declared.faults.Fault.{Fault as HeaderFault}
+use Rattle.gt_run.specs.Places.{line_of, column_of}
+use Rattle.gt_run.specs.Text.{decimal}
 use Rattle.gt_run.specs.declared.refusal.FileWhy.{FileWhy}
 use Rattle.gt_run.specs.declared.refusal.FileWhy.TheVariants.{Missing, TooLong, Fault}
 use Rattle.gt_run.specs.declared.refusal.Refusal.{Refusal}
@@ -11,14 +14,52 @@ why_text Missing = codes "missing"
 why_text TooLong = codes "too long"
 why_text Fault = codes "read fault"
 
--- the line begins with the word of a file, and ends with what is said of it
-abbrev pub IsFileLine : List (List ℕ) → ℕ → List ℕ → List ℕ → Type 0
-IsFileLine words word said line = (name : List ℕ) × (slice_get words word ≡ Some name) × (line ≡ encode_utf8_all name ++ codes ": " ++ said ++ 10 ∷ [])
+-- the name of a fault of a header, by its number
+unfoldable pub fault_name : ℕ → List ℕ
+fault_name number =
+    if number == 1 then codes "BadUtf8"
+    else if number == 2 then codes "OpenComment"
+    else if number == 3 then codes "OpenString"
+    else if number == 4 then codes "BadNumber"
+    else if number == 5 then codes "BadExpr"
+    else if number == 6 then codes "ExprTooLarge"
+    else if number == 7 then codes "Unclosed"
+    else if number == 8 then codes "Unexpected"
+    else if number == 9 then codes "Unsupported"
+    else if number == 10 then codes "BadMarkerPlace"
+    else if number == 11 then codes "Redefined"
+    else if number == 12 then codes "Undefined"
+    else if number == 13 then codes "ByValueCycle"
+    else if number == 14 then codes "BadBound"
+    else if number == 15 then codes "TooMany"
+    else if number == 16 then codes "UnknownOption"
+    else if number == 17 then codes "WrongPlace"
+    else if number == 18 then codes "MissingDesc"
+    else if number == 19 then codes "DuplicateTag"
+    else if number == 20 then codes "BadPath"
+    else if number == 21 then codes "ChainNotOwnPointer"
+    else if number == 22 then codes "UnknownHook"
+    else if number == 23 then codes "CacheShape"
+    else if number == 24 then codes "TypeTooLarge"
+    else []
+
+-- the line begins with the word of a file, and this stands behind it
+abbrev pub IsLineOf : List (List ℕ) → ℕ → List ℕ → List ℕ → Type 0
+IsLineOf words word said line = (name : List ℕ) × (slice_get words word ≡ Some name) × (line ≡ encode_utf8_all name ++ said ++ 10 ∷ [])
+
+-- what is said of a fault: where it stands in its text, and its number and name
+abbrev pub fault_text : (line column number : ℕ) → List ℕ
+fault_text line column number = codes ":" ++ decimal line ++ codes ":" ++ decimal column ++ codes ": fault " ++ decimal number ++ codes " " ++ fault_name number
+
+-- the line of a header's fault, whose place is by the text of that header
+abbrev pub IsFaultLine : (words headers : List (List ℕ)) → HeaderFault → List ℕ → Type 0
+IsFaultLine words headers fault line = (text : List ℕ) × (slice_get headers (fault.file - 1) ≡ Some text)
+    × IsLineOf words fault.file (fault_text (line_of text fault.at) (column_of text fault.at) fault.number) line
 
 -- the line of a refusal: what it is of and why; each line ends with a newline (10). The script is the first of the words
-abbrev pub IsRefusalLine : List (List ℕ) → Refusal → List ℕ → Type 0
-IsRefusalLine words Words line = line ≡ codes "words: refused" ++ 10 ∷ []
-IsRefusalLine words (InFile word why) line = IsFileLine words word (why_text why) line
-IsRefusalLine words (NotBuilt word) line = IsFileLine words word (codes "not built") line
-IsRefusalLine words (Header fault) line = ⊥
-IsRefusalLine words (Script number at) line = ⊥
+abbrev pub IsRefusalLine : (words headers : List (List ℕ)) → Refusal → List ℕ → Type 0
+IsRefusalLine words headers Words line = line ≡ codes "words: refused" ++ 10 ∷ []
+IsRefusalLine words headers (InFile word why) line = IsLineOf words word (codes ": " ++ why_text why) line
+IsRefusalLine words headers (NotBuilt word) line = IsLineOf words word (codes ": not built") line
+IsRefusalLine words headers (Header fault) line = IsFaultLine words headers fault line
+IsRefusalLine words headers (Script number at) line = ⊥

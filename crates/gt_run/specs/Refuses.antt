@@ -16,8 +16,8 @@ HasLine words (Header fault) = ⊥
 HasLine words (Script number line) = ⊥
 
 -- the refusal's line is written; or a front of it, where the sink failed; or nothing, for want of memory
-abbrev pub Refuses : List (List ℕ) → Refusal → (taken takes : Option (List ℕ)) → Ending → Type 0
-Refuses words refusal taken takes (Refused told) = (told ≡ refusal) × (line : List ℕ) × IsRefusalLine words refusal line × Adds taken line takes
-Refuses words refusal taken takes SinkFailed = (line : List ℕ) × IsRefusalLine words refusal line × AddsFront taken line takes
-Refuses words refusal taken takes NoMemory = takes ≡ taken
-Refuses words refusal taken takes Finished = ⊥
+abbrev pub Refuses : (words headers : List (List ℕ)) → Refusal → (taken takes : Option (List ℕ)) → Ending → Type 0
+Refuses words headers refusal taken takes (Refused told) = (told ≡ refusal) × (line : List ℕ) × IsRefusalLine words headers refusal line × Adds taken line takes
+Refuses words headers refusal taken takes SinkFailed = (line : List ℕ) × IsRefusalLine words headers refusal line × AddsFront taken line takes
+Refuses words headers refusal taken takes NoMemory = takes ≡ taken
+Refuses words headers refusal taken takes Finished = ⊥

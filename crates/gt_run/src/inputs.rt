@@ -1,16 +1,18 @@
 // What a call needs before its first command: the words, the files, the header and the script.
-ghost use Rattle.std.specs.Prelude.{◌≡◌, ◌≤◌, ℕ, IfOk, IfErr, IsErrOf};
+ghost use Rattle.std.specs.Prelude.{◌≡◌, ◌≤◌, ℕ, length, IfOk, IfErr, IsErrOf};
 ghost use Rattle.gt_io.specs.Counts.{Rose};
 ghost use Rattle.gt_run.specs.Texts.{File, IsTextOf};
-ghost use Rattle.gt_run.specs.Halts.{Halts, HaltsAt};
+ghost use Rattle.gt_run.specs.Halts.{Halts, HaltsAt, HeaderHalts};
+ghost use Rattle.gt_run.specs.Headers.{Declares};
 ghost use Rattle.gt_run.specs.Asks.{AsksFor};
 
 use crate::call::read_words;
+use crate::headers::read_header;
+use crate::places::{Place, place_in};
 use crate::{FileWhy, MAX_HEADER_BYTES, MAX_SCRIPT_BYTES, Refusal};
-use gt_first::read_header;
 use gt_io::{Files, ReadFail};
 use gt_script::{Line, first_lines};
-use gt_types::{Bytes, List, Program, Word};
+use gt_types::{Bytes, Fault, List, Program, Stop, Word};
 use std::alloc::{AllocError, Global};
 
 /// A program and the lines that are to run under it.
@@ -24,7 +26,14 @@ pub struct Ready {
 #[derive(Clone, Copy, Debug, PartialEq, Eq)]
 pub enum Halt {
     Memory,
+    /// A refusal that is no fault of a header.
     Refused(Refusal),
+    /// A header has this fault, at a line and a column of its text.
+    Faulty {
+        fault: Fault,
+        line: u32,
+        column: u32,
+    },
 }
 
 impl From<AllocError> for Halt {
@@ -57,13 +66,36 @@ pub fn prepare<F: Files>(alloc: Global, words: &[Word], files: &mut F) -> Result
         Ok(bytes) => bytes,
         Err(halt) => return Err(halt),
     };
-    let Some(program) = read_header(alloc, header.as_slice())? else {
-        return Err(Halt::Refused(Refusal::NotBuilt { word: 1 }));
+    let program = match read_program(alloc, header.as_slice()) {
+        Ok(program) => program,
+        Err(halt) => return Err(halt),
     };
     let Some(lines) = first_lines(alloc, script.as_slice())? else {
         return Err(Halt::Refused(Refusal::NotBuilt { word: 0 }));
     };
     Ok(Ready { program, lines })
+}
+
+// The program of the one header.
+fn read_program(alloc: Global, header: &[u8]) -> Result<Program, Halt>
+    requires within { length header.now ≤ MAX_HEADER_BYTES }
+    ensures declared { IfOk result (λ program. Declares header.now program) }
+    ensures halted { IfErr result (HeaderHalts header.now) }
+    ensures no_file { (word : ℕ) → IsErrOf result (Halt.Refused (Refusal.File word FileWhy.Fault)) → ⊥ }
+{
+    match read_header(alloc, 1, header) {
+        Ok(Some(program)) => Ok(program),
+        Ok(None) => Err(Halt::Refused(Refusal::NotBuilt { word: 1 })),
+        Err(Stop::Memory) => Err(Halt::Memory),
+        Err(Stop::At(fault)) => {
+            let Place { line, column } = place_in(header, fault.at);
+            Err(Halt::Faulty {
+                fault,
+                line,
+                column,
+            })
+        }
+    }
 }
 
 // The bytes of a file, which is the word-th header or, where word is 0, the script.

@@ -5,10 +5,12 @@
 mod answer;
 mod call;
 mod ending;
+mod headers;
 mod inputs;
 mod lines;
 mod machine;
 mod outcome;
+mod places;
 mod refusal;
 mod refuse;
 mod running;

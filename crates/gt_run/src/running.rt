@@ -15,7 +15,7 @@ ghost use Rattle.gt_run.specs.Complete.{IsWell};
 use crate::ending::Ending;
 use crate::inputs::{Halt, Ready, prepare};
 use crate::lines::run_lines;
-use crate::refuse::refuse;
+use crate::refuse::{refuse, refuse_fault};
 use crate::{
     Answer, DEFAULT_MIN_EXPAND, DEFAULT_MIN_HEAPSIZE, DEFAULT_PAGES, FileWhy, Outcome, Refusal,
     Session, Vars,
@@ -61,6 +61,14 @@ pub fn top<F: Files, K: Sink>(
         Err(Halt::Memory) => Outcome::of(Ending::NoMemory, List::new(alloc)),
         Err(Halt::Refused(refusal)) => {
             let ending = refuse(alloc, words, refusal, out);
+            Outcome::of(ending, List::new(alloc))
+        }
+        Err(Halt::Faulty {
+            fault,
+            line,
+            column,
+        }) => {
+            let ending = refuse_fault(alloc, words, fault, line, column, out);
             Outcome::of(ending, List::new(alloc))
         }
     }

@@ -66,7 +66,7 @@ fn full_text(alloc: Global, need: u32) -> Result<Bytes, AllocError>
 }
 
 // A number in decimal.
-fn decimal_text(alloc: Global, n: u32) -> Result<String, AllocError>
+pub fn decimal_text(alloc: Global, n: u32) -> Result<String, AllocError>
     ensures { IfOk result (λ text. string_bytes text ≡ decimal n) }
 {
     format!(in alloc; "{n}")

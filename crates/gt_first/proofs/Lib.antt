@@ -1,5 +1,0 @@
-mod AsciiNames
-mod Distinct
-mod Fields
-mod Laws
-mod Runs

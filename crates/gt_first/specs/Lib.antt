@@ -1,4 +1,0 @@
-pub mod Header
-pub mod Names
-pub mod Reading
-pub mod Tokens
