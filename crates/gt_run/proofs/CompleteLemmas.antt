@@ -9,7 +9,8 @@ use Rattle.gt_run.specs.Call.{Call}
 use Rattle.gt_run.specs.Texts.{File, files_in_order, AreTextsOf}
 use Rattle.gt_run.specs.Comes.{Comes, Declares, IsRefusedFor}
 use Rattle.gt_run.specs.Complete.{AreHeld, IsWell}
-use Rattle.gt_run.specs.Ended.{Ended, Ends, status_of, refusal_of, is_refusal}
+use Rattle.gt_run.specs.Text.{is_refusal}
+use Rattle.gt_run.specs.Ended.{Ended, Ends, status_of, refusal_of}
 use Rattle.gt_run.specs.declared.ending.Ending.{Ending}
 use Rattle.gt_run.specs.declared.ending.Ending.TheVariants.{Finished, Refused, SinkFailed, NoMemory}
 use Rattle.gt_run.specs.declared.outcome.Outcome.{Outcome}

@@ -1,10 +1,16 @@
+mod Collecting
 mod CompleteLemmas
 mod EndLemmas
 mod GoodLemmas
 mod InputLemmas
+mod Edges
+mod Marks
+mod Members
+mod Waiting
 mod RunLemmas
 mod ShowDigits
 mod ShowFields
+mod ShowSizes
 mod ShowSpots
 mod StepMaking
 mod StepMoves

@@ -3,9 +3,9 @@ pub mod Texts
 pub mod Comes
 pub mod State
 pub mod Show
+pub mod Text
 pub mod Next
 pub mod Run
-pub mod Text
 pub mod Refused
 pub mod Refuses
 pub mod Good
@@ -13,6 +13,7 @@ pub mod Session
 pub mod Kept
 pub mod Paths
 pub mod Added
+pub mod Marking
 pub mod Lines
 pub mod Asks
 pub mod Halts
