@@ -51,15 +51,3 @@ pub still_objects :
 still_objects vars new name n P is here others q id bound =
     bound_cases (is_at (slice_cmp nat_cmp q) name) n id (meaning vars q) P
     (sym (meaning-with_variable vars name n q) ∙ sym (ap (λ (v : Variables). meaning v q) is) ∙ bound) here (others q id)
-
--- new refuses where there is no room: the block of the one structure has the size that the heap has
-pub new_refused :
-    (s : Session) (range : Range) (told : Option Held) (var name : List ℕ) → IsTypeNamed s.program name the_node → IsHeap s.program s.heap range
-    → (need : ℕ) → need ≡ s.heap.size → (Room (graph_of s.program s.heap range).ledger s.heap.size → ⊥)
-    → NextNew s.program (state_of s range told) var name (Refused (Full need)) (state_of s range told)
-new_refused s range told var name named stands need is no_room =
-    let st : State = state_of s range told in
-    let size : 8 * fields_of s.program ≡ 8 * length named.structure.fields = ap (λ n. 8 * n) (fields_of-there s.program named.structure named.there) in
-    let here : NextNew s.program st var name (Refused (Full s.heap.size)) st =
-    (the_node, named, (8 * fields_of s.program, (named.structure, named.there, size), stands.fits), no_room, refl) in
-    subst (λ n. NextNew s.program st var name (Refused (Full n)) st) (sym is) here

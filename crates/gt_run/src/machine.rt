@@ -49,7 +49,8 @@ pub fn step<F: Files>(
     }
 }
 
-// Makes a zero object of the named type and binds the variable to it. The variable is bound first, since that may want memory.
+// Makes a zero object of the named type and binds the variable to it. The variable is bound first, since that may want memory,
+// and it means again what it did, where no object is made.
 fn make(s: &mut Session, space: &mut Space, var: &Word, name: &Word) -> Result<Answer, AllocError>
     requires session { IsSession s.old space.old }
     ensures next { (told : Option Held) → IfOk result (λ answer. NextNew s.old.program (state_of s.old space.old told) var.now name.now answer (state_of s.new space.new told)) }
@@ -71,13 +72,12 @@ fn make(s: &mut Session, space: &mut Space, var: &Word, name: &Word) -> Result<A
                 size: made.size,
             })
         }
-        Err(MakeFail::Full { need }) => {
+        Err(fail) => {
             s.vars.take_back(var, before);
-            Ok(Answer::Refused(Why::Full { need }))
-        }
-        Err(MakeFail::Memory) => {
-            s.vars.take_back(var, before);
-            Err(AllocError)
+            match fail {
+                MakeFail::Full { need } => Ok(Answer::Refused(Why::Full { need })),
+                MakeFail::Memory => Err(AllocError),
+            }
         }
     }
 }

@@ -3,7 +3,7 @@ use Rattle.gt_heap.specs.Heap.{IsObject, graph_of, the_node}
 use Rattle.gt_run.specs.State.{Variables, meaning, with_variable}
 use Rattle.gt_run.specs.Session.{state_of, IsSession}
 use Rattle.gt_run.proofs.VarsEntries.{with_variable_twice, bound-with_variable}
-use Rattle.gt_run.proofs.StepMaking.{made_name, single_more, still_objects, new_refused}
+use Rattle.gt_run.proofs.StepMaking.{made_name, single_more, still_objects}
 use Rattle.gt_run.proofs.machine.make.Goals as goal
 
 pub rebind-requires : goal.rebind-requires
@@ -13,11 +13,6 @@ rebind-requires c = record {
 
 pub take_back-requires : goal.take_back-requires
 take_back-requires c = record {
-  bound = subst (λ v. IsSome (meaning v c.args.var.now)) (sym c.in_ok-bind.ensures.bound) (bound-with_variable c.args.s.now.vars c.args.var.now 0);
-}
-
-pub take_back-requires-in-Err-Memory : goal.take_back-requires-in-Err-Memory
-take_back-requires-in-Err-Memory c = record {
   bound = subst (λ v. IsSome (meaning v c.args.var.now)) (sym c.in_ok-bind.ensures.bound) (bound-with_variable c.args.s.now.vars c.args.var.now 0);
 }
 
