@@ -85,7 +85,7 @@ fn fresh(alloc: Global, program: &Program) -> Result<(Heap, Space), Fail>
 {
     let mut space = Space::empty(alloc);
     space.resize_fresh(MIN_PAGES, 8 * program.roots.len() as u32)?;
-    Ok((Heap::new(program, MIN_PAGES), space))
+    Ok((Heap::new(alloc, program, MIN_PAGES), space))
 }
 
 // An object that was made, what its last field and its second one point to then, and what the root does.
