@@ -1,5 +1,6 @@
 pub mod Quotients
-pub mod Each
+pub mod Items
+pub mod Queues
 pub mod FittingSize
 pub mod Blocks
 pub mod Leaves
