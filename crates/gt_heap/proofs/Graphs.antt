@@ -17,11 +17,11 @@ use Rattle.gt_heap.specs.Ledger.{Room}
 use Rattle.gt_heap.specs.Slots.{AreDifferent, IsNext, IsQueue}
 use Rattle.gt_heap.specs.Making.{Takes}
 use Rattle.gt_heap.specs.Graph.{Graph, Makes, SetsPart, leaf_of}
-use Rattle.gt_heap.specs.Heap.{IsFirst, IsFresh, IsHeap, IsPlain, IsObject, KeepsObjects, IsTarget, PartIs, SetsOnly, IsPointer, Places, the_node, per_page, address_of, block_of, fields_of, graph_of, ledger_of, leaves_at, object_at, pointer_of, word_of}
+use Rattle.gt_heap.specs.Heap.{IsFirst, IsFresh, IsHeap, IsPlain, IsObject, KeepsObjects, IsTarget, PartIs, SetsOnly, IsPointer, Places, the_node, per_page, address_of, block_at, block_of, fields_of, graph_of, ledger_of, leaves_at, object_at, pointer_of, word_of}
 use Rattle.gt_heap.proofs.Items.{All-each, Contains-each, contains_head, contains_tail, different_left, different_right, different_sides, each_same, first_item, split_at}
 use Rattle.gt_heap.proofs.Blocks.{TakesFirst, free_slot_below, next_place, no_room, one_more, room_left, slot_free, slot_not_live, slots_of, with_next}
 use Rattle.gt_heap.proofs.Leaves.{leaf_at, SameWords, part_of-leaves_at, leaves_at-same, leaves_at-with_part}
-use Rattle.gt_heap.proofs.Memory.{few_bytes, Kept, kept, size_fits, fields_of-first, inside_root, inside_field}
+use Rattle.gt_heap.proofs.Memory.{few_bytes, Kept, kept, size_fits, fields_of-first, inside_block, inside_root, inside_field}
 use Rattle.gt_heap.proofs.Goodness.{addresses_differ, object_of, objects_kept, single_of, number_of_object, target_of, pointer_of_target, block_of_object, node_is, heap_from}
 use Rattle.gt_heap.proofs.Writes.{fresh_root, root_spot, field_spot, roots_apart, words_apart, blocks_apart, root_apart_block, word_written, word_apart, written_kept, with_zeros, roots_stay_made, fields_stay_made, zero_fields_made, made_kept}
 
@@ -334,8 +334,8 @@ made_graph program places range old slot rest takes =
     }
 
 -- what making an object gives, in the words of the code: the places before and after, the address, and the space after
-pub record MadeOne (program : Program) (old : Places) (range : Range) (places : Places) (address : ℕ) (new : Range) : Type 0 where
-  pub made : Makes program the_node (graph_of program old range) address old.size (graph_of program places new)
+pub record MadeOne (program : Program) (old : Places) (range : Range) (places : Places) (address size : ℕ) (new : Range) : Type 0 where
+  pub made : Makes program the_node (graph_of program old range) address size (graph_of program places new)
   pub object : IsObject program places new address
   pub room : Room (ledger_of old) old.size
   pub heap : IsHeap program places new
@@ -343,7 +343,7 @@ pub record MadeOne (program : Program) (old : Places) (range : Range) (places : 
 
 made_here :
     (program : Program) (places : Places) (range : Range) → Kept program places range → (slot : ℕ) (rest : List ℕ) → TakesFirst places slot rest
-    → MadeOne program places range (one_more places slot rest) (address_of places slot) (with_zeros places slot range)
+    → MadeOne program places range (one_more places slot rest) (address_of places slot) places.size (with_zeros places slot range)
 made_here program places range heap slot rest takes =
     record {
       made = made_graph program places range heap slot rest takes;
@@ -372,17 +372,34 @@ taken_is old slot new takes =
     ap₂ (λ (size pages : ℕ). let p : Places = record { size = size; live = old.live ++ slot ∷ []; free = new.free; pages = pages } in p) (sym takes.size) (sym takes.pages)
     ∙ ap (λ (live : List ℕ). let p : Places = record { size = new.size; live = live; free = new.free; pages = new.pages } in p) (sym takes.live)
 
-pub made_one :
-    (program : Program) (old : Places) (range : Range) (slot : ℕ) (places : Places) (address : ℕ) (new : Range) → IsHeap program old range
-    → Takes old slot places → address ≡ address_of old slot → new ≡ with_bytes range address (replicate old.size 0)
-    → MadeOne program old range places address new
-made_one program old range slot places address new heap takes at written =
+made_at :
+    (program : Program) (old : Places) (range : Range) (slot : ℕ) (places : Places) → IsHeap program old range → Takes old slot places
+    → MadeOne program old range places (block_at old.size slot) old.size (with_bytes range (block_at old.size slot) (replicate old.size 0))
+made_at program old range slot places heap takes =
     let before = kept program old range heap in
-    let zeroed : with_zeros old slot range ≡ new = ap (λ a. with_bytes range a (replicate old.size 0)) (sym at) ∙ sym written in
-    subst (λ p. MadeOne program old range p address new) (taken_is old slot places takes)
-    (subst (λ r. MadeOne program old range (one_more old slot places.free) address r) zeroed
-    (subst (λ a. MadeOne program old range (one_more old slot places.free) a (with_zeros old slot range)) (sym at)
-    (made_here program old range before slot places.free (takes_first program old range before slot places.free takes.free))))
+    subst (λ p. MadeOne program old range p (address_of old slot) old.size (with_zeros old slot range)) (taken_is old slot places takes)
+    (made_here program old range before slot places.free (takes_first program old range before slot places.free takes.free))
+
+pub made_one :
+    (program : Program) (old : Places) (range : Range) (slot : ℕ) (places : Places) (size address : ℕ) (new : Range) → IsHeap program old range
+    → Takes old slot places → size ≡ places.size → address ≡ block_at size slot → new ≡ with_bytes range address (replicate size 0)
+    → MadeOne program old range places address size new
+made_one program old range slot places size address new heap takes sized at written =
+    subst (λ r. MadeOne program old range places address size r) (sym written)
+    (subst (λ a. MadeOne program old range places a size (with_bytes range a (replicate size 0))) (sym at)
+    (subst (λ n. MadeOne program old range places (block_at n slot) n (with_bytes range (block_at n slot) (replicate n 0))) (sym (sized ∙ takes.size))
+    (made_at program old range slot places heap takes)))
+
+-- the bytes of its block lie in the space
+pub inside_taken :
+    (program : Program) (old : Places) (range : Range) (slot : ℕ) (places : Places) (size address : ℕ) → IsHeap program old range
+    → Takes old slot places → size ≡ places.size → address ≡ block_at size slot → IsInside range address size
+inside_taken program old range slot places size address heap takes sized at =
+    let before = kept program old range heap in
+    let takes_it = takes_first program old range before slot places.free takes.free in
+    subst (λ a. IsInside range a size) (sym at)
+    (subst (λ n. IsInside range (block_at n slot) n) (sym (sized ∙ takes.size))
+    (inside_block program old range before slot (free_slot_below old slot places.free takes_it)))
 
 -- no room where no slot is free
 pub none_left :

@@ -10,5 +10,6 @@ pub mod Memory
 pub mod Goodness
 pub mod Writes
 pub mod Graphs
+pub mod Counting
 pub mod PlainSpans
 pub mod PlainBytes

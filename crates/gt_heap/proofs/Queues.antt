@@ -1,6 +1,7 @@
 -- Which lists of slots are queues, and all the slots that there are.
-use Rattle.std.proofs.Common.{◌≡◌, ◌≢◌, ℕ, zero, suc, ◌+◌, ◌-◌, ◌*◌, ◌/◌, ◌<◌, ◌≤◌, ◌⊎◌, inl, inr, List, [], ◌∷◌, ◌++◌, append_assoc, refl, ap, sym, subst, ◌∙◌, arith}
-use Rattle.std.specs.Prelude.{All, Contains}
+use Rattle.std.proofs.Common.{◌≡◌, ◌≢◌, ℕ, zero, suc, ◌+◌, ◌-◌, ◌*◌, ◌/◌, ◌<◌, ◌≤◌, ◌⊎◌, inl, inr, false, List, [], ◌∷◌, ◌++◌, length, drop, append_assoc, refl, ap, ap₂, sym, subst, ◌∙◌, arith}
+use Rattle.std.specs.Prelude.{All, Contains, Option, Some, None, is_some, slice_get}
+use Rattle.std.specs.Option.{option_to_list}
 use Rattle.std.proofs.lemmas.List.Elements.{All-head, All-tail, All-cons, All-nil, All-weaker, All-contains, Contains-append_left, Contains-append_right, Contains-append_cases, Contains-push, Contains-push_cases}
 use Rattle.std.proofs.lemmas.List.{append-nil}
 use Rattle.gt_heap.specs.Slots.{AreAllBelow, AreDifferent, InUse, IsNext, IsQueue, numbers}
@@ -26,6 +27,35 @@ within_numbers first (suc count) k from to =
           contains_tail first (numbers (first + 1) count) k
           (within_numbers (first + 1) count k (omega (arith, from, differ)) (omega (arith, to)))
     ]
+
+-- the first of the numbers up to a bound, and the rest
+pub first_number :
+    (first bound count : ℕ) (slot : ℕ) → count ≡ bound - first → slice_get (numbers first count) 0 ≡ Some slot
+    → numbers first count ≡ slot ∷ numbers (first + 1) (bound - (first + 1))
+first_number first bound zero slot counted some = absurd (cc)
+first_number first bound (suc count) slot counted some =
+    let is : first ≡ slot = cc in
+    let left : count ≡ bound - (first + 1) = omega (arith, counted) in
+    ap₂ (λ k n. k ∷ numbers (first + 1) n) is left
+
+-- nothing was popped from an empty list
+none_popped : (items new : List ℕ) → items ≡ new → new ≡ drop 1 items → items ≡ []
+none_popped [] new same rest = refl
+none_popped (k ∷ ks) new same rest = let longer : suc (length ks) ≡ length ks = ap length (same ∙ rest) in absurd (omega (arith, longer))
+
+-- the first of the numbers up to a bound is taken where no other free slot is left
+pub first_unopened :
+    (free items new : List ℕ) (touched slots slot : ℕ) (popped : Option ℕ) → items ++ numbers touched (slots - touched) ≡ free
+    → items ≡ option_to_list popped ++ new → new ≡ drop 1 items → is_some popped ≡ false → Some slot ≡ slice_get free 0
+    → free ≡ slot ∷ (new ++ numbers (touched + 1) (slots - (touched + 1)))
+first_unopened free items new touched slots slot (Some k) view pop rest none first = absurd (cc)
+first_unopened free items new touched slots slot None view pop rest none first =
+    let empty : items ≡ [] = none_popped items new pop rest in
+    let left : numbers touched (slots - touched) ≡ free = ap (λ ks. ks ++ numbers touched (slots - touched)) (sym empty) ∙ view in
+    let here : slice_get (numbers touched (slots - touched)) 0 ≡ Some slot = ap (λ ks. slice_get ks 0) left ∙ sym first in
+    sym left
+    ∙ first_number touched slots (slots - touched) slot refl here
+    ∙ ap (λ ks. slot ∷ (ks ++ numbers (touched + 1) (slots - (touched + 1)))) (sym empty ∙ pop)
 
 -- each number is below those behind it
 abbrev pub AreRising : List ℕ → Type 0

@@ -1,5 +1,5 @@
 -- A heap of single objects of one structure: which graph its slots and the bytes of a space mean, and what holds of it.
-use Rattle.std.specs.Prelude.{◌≡◌, ℕ, zero, suc, ◌+◌, ◌-◌, ◌*◌, ◌/◌, ◌%◌, ◌<◌, ◌≤◌, ◌⊎◌, Bool, false, List, [], ◌∷◌, ◌++◌, Option, Some, None, All, Contains, IfSome, length, map, refl, slice_get}
+use Rattle.std.specs.Prelude.{◌≡◌, ℕ, zero, suc, ◌+◌, ◌-◌, ◌*◌, ◌/◌, ◌%◌, ◌^◌, ◌<◌, ◌≤◌, ◌⊎◌, Bool, false, List, [], ◌∷◌, ◌++◌, Option, Some, None, All, Contains, IfSome, length, map, refl, slice_get}
 use Rattle.std.specs.Coded.{Coded, code_by, coded×, coded_list, coded_ℕ}
 use Rattle.gt_types.specs.declared.types.TypeId.{TypeId}
 use Rattle.gt_types.specs.declared.types.Target.TheVariants.{Node}
@@ -72,6 +72,15 @@ block_at size k = HEAP_START + PAGE_BYTES * (k / per_page size) + size * (k % pe
 
 abbrev pub address_of : Places → ℕ → ℕ
 address_of places k = block_at places.size k
+
+-- What holds of the numbers that places are kept in: a page has room for a block; these are all the slots of the pages, and
+-- those from `touched` on are a part of them; the objects can be counted in 32 bits.
+pub record IsLaidOut (size pages touched slots count : ℕ) : Type 0 where
+  pub some : 0 < size
+  pub within : size ≤ PAGE_BYTES
+  pub all : slots ≡ pages * per_page size
+  pub part : touched ≤ slots
+  pub few : count < 2 ^ 32
 
 -- ---- the graph
 

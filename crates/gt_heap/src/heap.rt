@@ -56,9 +56,9 @@ pub struct Heap {
 }
 
 impl Model for Heap {
-    ghost use Rattle.std.specs.Prelude.{◌≡◌, ◌-◌, ◌*◌, ◌^◌, ◌<◌, ◌≤◌, ◌++◌, length};
+    ghost use Rattle.std.specs.Prelude.{◌-◌, ◌++◌, length};
     ghost use Rattle.gt_heap.specs.Slots.{numbers};
-    ghost use Rattle.gt_heap.specs.Heap.{Places, places_code, per_page};
+    ghost use Rattle.gt_heap.specs.Heap.{Places, places_code, IsLaidOut};
 
     ghost Value = { Places };
 
@@ -66,7 +66,7 @@ impl Model for Heap {
 
     ghost view = { λ h. record { size = h.size; live = h.live.items; free = h.free.items ++ numbers h.touched (h.slots - h.touched); pages = h.pages } };
 
-    ghost invariant = { λ h. (h.slots ≡ h.pages * per_page h.size) × (h.touched ≤ h.slots) × (length h.live.items < 2 ^ 32) };
+    ghost invariant = { λ h. IsLaidOut h.size h.pages h.touched h.slots (length h.live.items) };
 }
 
 // The bytes of the block of an object.
