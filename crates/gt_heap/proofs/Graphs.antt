@@ -23,7 +23,7 @@ use Rattle.gt_heap.proofs.Blocks.{TakesFirst, free_slot_below, next_place, no_ro
 use Rattle.gt_heap.proofs.Leaves.{leaf_at, SameWords, part_of-leaves_at, leaves_at-same, leaves_at-with_part}
 use Rattle.gt_heap.proofs.Memory.{few_bytes, Kept, kept, size_fits, fields_of-first, inside_block, inside_root, inside_field}
 use Rattle.gt_heap.proofs.Goodness.{addresses_differ, object_of, objects_kept, single_of, number_of_object, target_of, pointer_of_target, block_of_object, node_is, heap_from}
-use Rattle.gt_heap.proofs.Writes.{fresh_root, root_spot, field_spot, roots_apart, words_apart, blocks_apart, root_apart_block, word_written, word_apart, written_kept, with_zeros, roots_stay_made, fields_stay_made, zero_fields_made, made_kept}
+use Rattle.gt_heap.proofs.Writes.{fresh_places, fresh_root, root_spot, field_spot, roots_apart, words_apart, blocks_apart, root_apart_block, word_written, word_apart, written_kept, with_zeros, roots_stay_made, fields_stay_made, zero_fields_made, made_kept}
 
 -- ---- reads
 
@@ -417,9 +417,9 @@ some_left program places range heap slot some =
 -- ---- a fresh heap
 
 pub fresh_graph :
-    (program : Program) (size pages : ℕ) (free : List ℕ) → IsFirst program
-    → IsFresh program (graph_of program (record { size = size; live = []; free = free; pages = pages }) (fresh_range pages (8 * length program.roots)))
-fresh_graph program size pages free first =
+    (program : Program) (size pages : ℕ) → IsFirst program
+    → IsFresh program (graph_of program (fresh_places size pages) (fresh_range pages (8 * length program.roots)))
+fresh_graph program size pages first =
     record {
       objects = refl;
       blocks = refl;

@@ -11,5 +11,6 @@ pub mod Goodness
 pub mod Writes
 pub mod Graphs
 pub mod Counting
+pub mod Scans
 pub mod PlainSpans
 pub mod PlainBytes

@@ -1,5 +1,5 @@
 -- A fresh space, a new block and a written pointer keep what a heap keeps.
-use Rattle.std.proofs.Common.{◌≡◌, ◌≢◌, ℕ, ◌+◌, ◌-◌, ◌*◌, ◌<◌, ◌≤◌, ◌⊎◌, inl, inr, List, [], ◌∷◌, length, take, drop, Some, refl, ap, sym, subst, ◌∙◌, arith}
+use Rattle.std.proofs.Common.{◌≡◌, ◌≢◌, ℕ, ◌+◌, ◌-◌, ◌*◌, ◌<◌, ◌≤◌, ◌⊎◌, inl, inr, List, [], ◌∷◌, ◌++◌, length, take, drop, Some, refl, ap, ap₂, sym, subst, ◌∙◌, arith}
 use Rattle.std.specs.Prelude.{Contains, replicate}
 use Rattle.std.specs.Int.{w64, to_le_bytes, from_le_bytes}
 use Rattle.std.proofs.lemmas.Bool.{cases_lt}
@@ -68,12 +68,25 @@ fresh_space pages statics few small =
       bytes = bytes-replicate (space_len pages statics);
     }
 
+-- the places of a heap without objects
+abbrev pub fresh_places : (size pages : ℕ) → Places
+fresh_places size pages = record { size = size; live = []; free = numbers 0 (pages * per_page size); pages = pages }
+
+-- as the code makes them
+pub fresh_places_are :
+    (size pages slots : ℕ) (live free : List ℕ) → slots ≡ pages * per_page size → live ≡ [] → free ≡ []
+    → fresh_places size pages ≡ record { size = size; live = live; free = free ++ numbers 0 (slots - 0); pages = pages }
+fresh_places_are size pages slots live free all no_live no_free =
+    let count : pages * per_page size ≡ slots - 0 = omega (arith, all) in
+    ap (λ (n : ℕ). let p : Places = record { size = size; live = []; free = numbers 0 n; pages = pages } in p) count
+    ∙ ap₂ (λ (ks js : List ℕ). let p : Places = record { size = size; live = ks; free = js ++ numbers 0 (slots - 0); pages = pages } in p) (sym no_live) (sym no_free)
+
 pub fresh_kept :
     (program : Program) (size pages : ℕ) → IsFirst program → rounded (8 * fields_of program) ≡ Some size → MIN_PAGES ≤ pages → pages ≤ MAX_PAGES
-    → Kept program (record { size = size; live = []; free = numbers 0 (pages * per_page size); pages = pages }) (fresh_range pages (8 * length program.roots))
+    → Kept program (fresh_places size pages) (fresh_range pages (8 * length program.roots))
 fresh_kept program size pages first fits at_least at_most =
     let n : ℕ = pages * per_page size in
-    let some = per_page_pos size (size_fits program (record { size = size; live = []; free = []; pages = pages }) first fits).small in
+    let some = per_page_pos size (size_fits program (fresh_places size pages) first fits).small in
     record {
       first = first;
       sized = fresh_sized pages (8 * length program.roots);

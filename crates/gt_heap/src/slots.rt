@@ -16,8 +16,8 @@ pub fn flagged_slots(
     ensures { IfOk result (λ some. some.items ≡ flagged slots.now flags.now) }
 {
     let mut some = Vec::new(alloc);
-    for (slot, flag) in slots.iter().zip(flags) {
-        if *flag {
+    for (i, slot) in slots.iter().enumerate() {
+        if flags[i] {
             some.push(*slot)?;
         }
     }
@@ -31,6 +31,7 @@ pub fn free_slots(
     per_page: u32,
     pages: u32,
 ) -> Result<VecDeque<u32>, AllocError>
+    requires some { 0 < per_page }
     requires few { pages * per_page < 2 ^ 32 }
     requires below { All (λ slot. slot < pages * per_page) live.now }
     ensures { IfOk result (λ free. free.items ≡ free_slots_of per_page live.now (pages * per_page)) }
@@ -61,6 +62,16 @@ fn groups_in_use(
     Ok(used)
 }
 
+// Whether a slot is not taken, of a page that is used.
+fn is_shared(taken: &[bool], used: &[bool], per_page: u32, slot: u32) -> bool
+    requires some { 0 < per_page }
+    requires count { length taken.now ≡ length used.now * per_page }
+    requires below { slot < length taken.now }
+    ensures { result ≡ (flag_at used.now (slot / per_page) && not (flag_at taken.now slot)) }
+{
+    used[(slot / per_page) as usize] && !taken[slot as usize]
+}
+
 // Pushes the slots that are not taken, of the pages that are used.
 fn push_shared(
     free: &mut VecDeque<u32>,
@@ -74,7 +85,7 @@ fn push_shared(
     ensures { IfOk result (λ _. free.new.items ≡ free.old.items ++ filter (λ slot. flag_at used.now (slot / per_page) && not (flag_at taken.now slot)) (numbers 0 (length taken.now))) }
 {
     for slot in 0..taken.len() as u32 {
-        if used[(slot / per_page) as usize] && !taken[slot as usize] {
+        if is_shared(taken, used, per_page, slot) {
             free.push_back(slot)?;
         }
     }
