@@ -51,7 +51,8 @@ page_bytes pages size =
     let turned : pages * per_page size * size ≡ pages * (size * per_page size) = grind (arith, mul_comm (per_page size) size) in
     omega (arith, fits, turned)
 
-slots_few : (pages size : ℕ) → 0 < size → pages ≤ MAX_PAGES → pages * per_page size < 2 ^ 32 - 1
+-- all slots can be counted
+pub slots_few : (pages size : ℕ) → 0 < size → pages ≤ MAX_PAGES → pages * per_page size < 2 ^ 32 - 1
 slots_few pages size some few =
     let one : pages * per_page size * 1 ≤ pages * per_page size * size = mul-le-mul_left (pages * per_page size) (omega (arith, some)) in
     omega (arith, one, page_bytes pages size, few)

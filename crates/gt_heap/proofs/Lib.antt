@@ -12,5 +12,7 @@ pub mod Writes
 pub mod Graphs
 pub mod Counting
 pub mod Scans
+pub mod FreeSlots
+pub mod Keeping
 pub mod PlainSpans
 pub mod PlainBytes
