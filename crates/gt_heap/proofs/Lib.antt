@@ -14,5 +14,6 @@ pub mod Counting
 pub mod Scans
 pub mod FreeSlots
 pub mod Keeping
+pub mod AfterFlags
 pub mod PlainSpans
 pub mod PlainBytes
