@@ -1,55 +1,63 @@
 -- What the code keeps makes a heap: the graph is good, and the bytes stand for it.
 use Rattle.std.proofs.Common.{◌≡◌, ◌≢◌, ℕ, zero, suc, ◌+◌, ◌-◌, ◌*◌, ◌<◌, ◌≤◌, inl, inr, Bool, List, [], ◌∷◌, length, Option, Some, None, refl, ap, sym, subst, ◌∙◌, arith}
-use Rattle.std.specs.Prelude.{All, map, slice_get}
-use Rattle.std.proofs.lemmas.List.Elements.{All-head, All-tail, All-map}
+use Rattle.std.specs.List.{AllZip}
+use Rattle.std.specs.Prelude.{All, Contains, map, slice_get}
+use Rattle.std.proofs.lemmas.List.Elements.{All-contains, All-head, All-tail, All-map}
 use Rattle.std.proofs.lemmas.List.{length-map}
 use Rattle.gt_types.specs.declared.types.Target.TheVariants.{Node}
 use Rattle.gt_types.specs.declared.types.PtrKind.TheVariants.{Plain}
 use Rattle.gt_types.specs.declared.types.Ty.{Ty}
 use Rattle.gt_types.specs.declared.types.Ty.TheVariants.{Ptr}
 use Rattle.gt_types.specs.declared.program.Structure.{Structure}
+use Rattle.gt_types.specs.declared.program.Cache.{Cache}
 use Rattle.gt_types.specs.declared.program.Program.{Program}
 use Rattle.gt_space.specs.Range.{Range}
 use Rattle.gt_space.specs.Numbers.{u64_at}
 use Rattle.gt_heap.specs.Tree.{Rec, Trees, End, And}
 use Rattle.gt_heap.specs.Values.{Object, Fits, AllFit, ObjectFits, StaticsFit, MayStand, types_of}
 use Rattle.gt_heap.specs.Ledger.{rounded}
-use Rattle.gt_heap.specs.Graph.{IsGood, AreDistinct, AreBlocksOf, IsBlockOf, KindStands, leaf_of}
+use Rattle.gt_heap.specs.Slots.{AreDifferent}
+use Rattle.gt_heap.specs.Graph.{ArePairsOf, IsGood, AreDistinct, AreBlocksOf, IsBlockOf, KindStands, leaf_of}
 use Rattle.gt_heap.specs.Stands.{Stands, LeafStands, BlockStands, BlocksStand, AreZero, count_of}
-use Rattle.gt_heap.specs.Heap.{IsFirst, IsHeap, IsPlain, IsObject, IsTarget, KeepsObjects, block_at, IsPointer, Places, the_node, address_of, block_of, each_from, fields_of, graph_of, ledger_of, leaves_at, object_at, pointer_of, word_of}
-use Rattle.gt_heap.proofs.Quotients.{IsSmall, ordered}
-use Rattle.gt_heap.proofs.Each.{All-each, All-each_from, Contains-each, contained_each}
-use Rattle.gt_heap.proofs.Blocks.{ledger_sound}
+use Rattle.gt_heap.specs.Heap.{IsFirst, IsHeap, IsPlain, IsObject, IsTarget, KeepsObjects, block_at, IsPointer, Places, the_node, address_of, block_of, fields_of, graph_of, ledger_of, leaves_at, object_at, pointer_of, word_of}
+use Rattle.gt_heap.proofs.Quotients.{IsSmall}
+use Rattle.gt_heap.proofs.Items.{All-each, Contains-each, contained_each, contains_head, contains_tail, different_left}
+use Rattle.gt_heap.proofs.Blocks.{slots_apart, slots_sound}
 use Rattle.gt_heap.proofs.Leaves.{count_of-leaves_at, LeavesStand-leaves_at}
 use Rattle.gt_heap.proofs.Memory.{Kept, fields_of-first, size_fits}
 
--- the object of a number
+-- the object in a slot
 abbrev pub object_of : Program → Places → Range → ℕ → Object
 object_of program places range k = object_at range (fields_of program) (address_of places k)
 
 -- ---- names
 
+-- two slots have blocks at two addresses
+pub addresses_differ : (places : Places) → IsSmall places.size → (k j : ℕ) → k ≢ j → address_of places k ≢ address_of places j
+addresses_differ places small k j differ same =
+    elim (slots_apart places small k j differ) [ inl before ↦ omega (arith, before, same, small.some) | inr after ↦ omega (arith, after, same, small.some) ]
+
 -- the address of each block is that of an object
-pub single_of : (program : Program) (places : Places) (range : Range) (k : ℕ) → k < places.made → IsObject program places range (address_of places k)
+pub single_of : (program : Program) (places : Places) (range : Range) (k : ℕ) → Contains places.live k → IsObject program places range (address_of places k)
 single_of program places range k h =
-    (object_of program places range k, Contains-each (object_of program places range) places.made k h, refl, refl, refl)
+    (object_of program places range k, Contains-each (object_of program places range) places.live k h, refl, refl, refl)
 
 -- and each object is in a block
 pub number_of_object :
     (program : Program) (places : Places) (range : Range) (address : ℕ) → IsObject program places range address
-    → (k : ℕ) × (k < places.made) × (address_of places k ≡ address)
+    → (k : ℕ) × Contains places.live k × (address_of places k ≡ address)
 number_of_object program places range address (o, there, named, kind, one) =
-    let found = contained_each (object_of program places range) places.made o there in
+    let found = contained_each (object_of program places range) places.live o there in
     (found.0, found.1, ap (λ (o : Object). o.id) found.2 ∙ named)
 
--- where no fewer blocks are made, each object stays one
+-- where each slot in use stays so, each object stays one
 pub objects_kept :
-    (program : Program) (old new : Places) (before after : Range) → old.size ≡ new.size → old.made ≤ new.made
-    → KeepsObjects program old before new after
-objects_kept program old new before after size more address is =
+    (program : Program) (old new : Places) (before after : Range) → old.size ≡ new.size
+    → ((k : ℕ) → Contains old.live k → Contains new.live k) → KeepsObjects program old before new after
+objects_kept program old new before after size stay address is =
     let k = number_of_object program old before address is in
     subst (IsObject program new after) (ap (λ n. block_at n k.0) (sym size) ∙ k.2)
-    (single_of program new after k.0 (omega (arith, k.1, more)))
+    (single_of program new after k.0 (stay k.0 k.1))
 
 -- ---- pointers
 
@@ -115,7 +123,7 @@ leaf_stands :
 leaf_stands places range address zero is pointer = is
 leaf_stands places range address (suc n) is (inl null) = absurd (omega (arith, null))
 leaf_stands places range address (suc n) is (inr (k, h, named)) =
-    (block_of places k, Contains-each (block_of places) places.made k h, sym named, is ∙ named)
+    (block_of places k, Contains-each (block_of places) places.live k h, sym named, is ∙ named)
 
 -- ---- the objects
 
@@ -127,7 +135,7 @@ node_stands : (program : Program) → IsFirst program → MayStand program the_n
 node_stands program first = (first.node, node_is program first, first.no_union)
 
 object_fits :
-    (program : Program) (places : Places) (range : Range) → Kept program places range → (k : ℕ) → k < places.made
+    (program : Program) (places : Places) (range : Range) → Kept program places range → (k : ℕ) → Contains places.live k
     → ObjectFits program (graph_of program places range).objects (object_of program places range k)
 object_fits program places range heap k h =
     let leaves : Trees = leaves_at range (address_of places k) (fields_of program) in
@@ -160,13 +168,13 @@ statics_fit program places range heap = (
 )
 
 distinct_each :
-    (program : Program) (places : Places) (range : Range) → IsSmall places.size → (first count : ℕ)
-    → AreDistinct (each_from (object_of program places range) first count)
-distinct_each program places range small first zero = tt
-distinct_each program places range small first (suc count) = (
-  All-each_from (λ p. address_of places first ≢ p.id) (object_of program places range) (first + 1) count
-      (λ k from to same. omega (arith, same, small.some, ordered places.size first k small (omega (arith, from)))),
-  distinct_each program places range small (first + 1) count,
+    (program : Program) (places : Places) (range : Range) → IsSmall places.size → (ks : List ℕ) → AreDifferent ks
+    → AreDistinct (map (object_of program places range) ks)
+distinct_each program places range small [] differ = tt
+distinct_each program places range small (k ∷ ks) differ = (
+  All-each (λ p. address_of places k ≢ p.id) (object_of program places range) ks
+      (λ j there. addresses_differ places small k j (All-contains (λ j. k ≢ j) ks j differ.0 there)),
+  distinct_each program places range small ks differ.1,
 )
 
 pub block_of_object :
@@ -184,31 +192,37 @@ block_of_object program places range heap k =
     }
 
 blocks_each :
-    (program : Program) (places : Places) (range : Range) → Kept program places range → (first count : ℕ)
-    → AreBlocksOf program (each_from (object_of program places range) first count) (each_from (block_of places) first count)
-blocks_each program places range heap first zero = tt
-blocks_each program places range heap first (suc count) =
-    (block_of_object program places range heap first, blocks_each program places range heap (first + 1) count)
+    (program : Program) (places : Places) (range : Range) → Kept program places range → (ks : List ℕ)
+    → AreBlocksOf program (map (object_of program places range) ks) (map (block_of places) ks)
+blocks_each program places range heap [] = tt
+blocks_each program places range heap (k ∷ ks) = (block_of_object program places range heap k, blocks_each program places range heap ks)
+
+-- there is no cache
+no_pairs : (program : Program) (objects : List Object) → IsFirst program → AllZip (ArePairsOf objects) program.caches []
+no_pairs program objects first =
+    let none : AllZip (ArePairsOf objects) [] [] = tt in
+    subst (λ (caches : List Cache). AllZip (ArePairsOf objects) caches []) (sym first.no_caches) none
 
 graph_good : (program : Program) (places : Places) (range : Range) → Kept program places range → IsGood program (graph_of program places range)
 graph_good program places range heap =
     let small : IsSmall places.size = (size_fits program places heap.first heap.fits).small in
     record {
-      kinds = All-each (λ o. KindStands program o.kind) (object_of program places range) places.made (λ k h. node_stands program heap.first);
-      no_tails = All-each (λ o. o.capacity ≡ 0) (object_of program places range) places.made (λ k h. refl);
-      distinct = distinct_each program places range small 0 places.made;
+      kinds = All-each (λ o. KindStands program o.kind) (object_of program places range) places.live (λ k h. node_stands program heap.first);
+      no_tails = All-each (λ o. o.capacity ≡ 0) (object_of program places range) places.live (λ k h. refl);
+      distinct = distinct_each program places range small places.live (different_left places.live places.free heap.slots.different);
       values =
-          All-each (ObjectFits program (graph_of program places range).objects) (object_of program places range) places.made
+          All-each (ObjectFits program (graph_of program places range).objects) (object_of program places range) places.live
           (object_fits program places range heap);
       statics = statics_fit program places range heap;
-      sound = ledger_sound places small heap.room;
-      blocks = blocks_each program places range heap 0 places.made;
+      pairs = no_pairs program (graph_of program places range).objects heap.first;
+      sound = slots_sound places small heap.slots;
+      blocks = blocks_each program places range heap places.live;
     }
 
 -- ---- the bytes
 
 block_stands :
-    (program : Program) (places : Places) (range : Range) → Kept program places range → (k : ℕ) → k < places.made
+    (program : Program) (places : Places) (range : Range) → Kept program places range → (k : ℕ) → Contains places.live k
     → BlockStands range (ledger_of places) (object_of program places range k) (block_of places k)
 block_stands program places range heap k h =
     let leaves : Trees = leaves_at range (address_of places k) (fields_of program) in
@@ -221,12 +235,13 @@ block_stands program places range heap k h =
     )
 
 blocks_stand :
-    (program : Program) (places : Places) (range : Range) → Kept program places range → (first count : ℕ) → first + count ≤ places.made
-    → BlocksStand range (ledger_of places) (each_from (object_of program places range) first count) (each_from (block_of places) first count)
-blocks_stand program places range heap first zero h = tt
-blocks_stand program places range heap first (suc count) h = (
-  block_stands program places range heap first (omega (arith, h)),
-  blocks_stand program places range heap (first + 1) count (omega (arith, h)),
+    (program : Program) (places : Places) (range : Range) → Kept program places range → (ks : List ℕ)
+    → ((k : ℕ) → Contains ks k → Contains places.live k)
+    → BlocksStand range (ledger_of places) (map (object_of program places range) ks) (map (block_of places) ks)
+blocks_stand program places range heap [] live = tt
+blocks_stand program places range heap (k ∷ ks) live = (
+  block_stands program places range heap k (live k (contains_head k ks)),
+  blocks_stand program places range heap ks (λ j there. live j (contains_tail k ks j there)),
 )
 
 graph_stands : (program : Program) (places : Places) (range : Range) → Kept program places range → Stands range (graph_of program places range)
@@ -238,7 +253,7 @@ graph_stands program places range heap =
         LeavesStand-leaves_at range (ledger_of places) range.start (length program.roots)
             (λ root below. leaf_stands places range (range.start + 8 * root) (u64_at range (range.start + 8 * root)) refl (heap.pointers.roots root below)),
       );
-      objects = blocks_stand program places range heap 0 places.made (omega arith);
+      objects = blocks_stand program places range heap places.live (λ k there. there);
     }
 
 pub heap_from : (program : Program) (places : Places) (range : Range) → Kept program places range → IsHeap program places range
@@ -250,7 +265,8 @@ heap_from program places range heap =
       sized = heap.sized;
       space = heap.space;
       fits = heap.fits;
-      room = heap.room;
+      slots = heap.slots;
+      queue = heap.queue;
       at_least = heap.at_least;
       at_most = heap.at_most;
       pointers = heap.pointers;

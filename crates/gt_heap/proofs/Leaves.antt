@@ -22,10 +22,10 @@ count_of-leaves_at range address (suc count) =
     let e : count + 1 ≡ suc count = omega arith in ap (λ n. n + 1) (count_of-leaves_at range (address + 8) count) ∙ e
 
 -- the word of the next leaf
-next_word : (address k : ℕ) → address + 8 + 8 * k ≡ address + 8 * suc k
+pub next_word : (address k : ℕ) → address + 8 + 8 * k ≡ address + 8 * suc k
 next_word address k = omega arith
 
-first_word : (address : ℕ) → address ≡ address + 8 * 0
+pub first_word : (address : ℕ) → address ≡ address + 8 * 0
 first_word address = omega arith
 
 pub part_of-leaves_at :

@@ -1,5 +1,6 @@
 pub mod Quotients
-pub mod Each
+pub mod Items
+pub mod Queues
 pub mod FittingSize
 pub mod Blocks
 pub mod Leaves
@@ -9,5 +10,10 @@ pub mod Memory
 pub mod Goodness
 pub mod Writes
 pub mod Graphs
+pub mod Counting
+pub mod Scans
+pub mod FreeSlots
+pub mod Keeping
+pub mod AfterFlags
 pub mod PlainSpans
 pub mod PlainBytes

@@ -1,15 +1,16 @@
 -- Where the static record and the blocks lie in the space of a heap, and what a write leaves.
 use Rattle.std.proofs.Common.{◌≡◌, ℕ, ◌+◌, ◌-◌, ◌*◌, ◌^◌, ◌<◌, ◌≤◌, inl, inr, List, ◌++◌, length, drop, take, Some, None, ap, ◌∙◌, arith}
-use Rattle.std.specs.Prelude.{slice_get}
+use Rattle.std.specs.Prelude.{Contains, slice_get}
 use Rattle.gt_types.specs.declared.program.Structure.{Structure}
 use Rattle.gt_types.specs.declared.program.Program.{Program}
 use Rattle.gt_space.specs.declared.TheConstants.{PAGE_BYTES, HEAP_START, MIN_PAGES, MAX_PAGES}
 use Rattle.gt_space.specs.Range.{Range, IsInside, IsSized, IsSpace, with_bytes, statics_start, space_len}
 use Rattle.gt_space.proofs.RangeLemmas.{length-with_bytes}
 use Rattle.gt_heap.specs.Ledger.{rounded, page_address}
+use Rattle.gt_heap.specs.Slots.{IsQueue}
 use Rattle.gt_heap.specs.Heap.{IsFirst, IsHeap, IsPointer, HoldsPointers, Places, per_page, address_of, fields_of}
 use Rattle.gt_heap.proofs.FittingSize.{Fitting, fitting}
-use Rattle.gt_heap.proofs.Blocks.{block_in_space}
+use Rattle.gt_heap.proofs.Blocks.{AreSlots, slots_of, block_in_space, live_below}
 use Rattle.gt_heap.proofs.SmallBytes.{AreBytes, bytes-append, bytes-take, bytes-drop}
 
 -- what the code keeps, from which all that holds of a heap follows
@@ -18,7 +19,8 @@ pub record Kept (program : Program) (places : Places) (range : Range) : Type 0 w
   pub sized : IsSized range places.pages (8 * length program.roots)
   pub space : IsSpace range
   pub fits : rounded (8 * fields_of program) ≡ Some places.size
-  pub room : places.made ≤ places.pages * per_page places.size
+  pub slots : AreSlots places
+  pub queue : IsQueue (per_page places.size) places.live places.free
   pub at_least : MIN_PAGES ≤ places.pages
   pub at_most : places.pages ≤ MAX_PAGES
   pub pointers : HoldsPointers program places range
@@ -30,7 +32,8 @@ kept program places range heap =
       sized = heap.sized;
       space = heap.space;
       fits = heap.fits;
-      room = heap.room;
+      slots = heap.slots;
+      queue = heap.queue;
       at_least = heap.at_least;
       at_most = heap.at_most;
       pointers = heap.pointers;
@@ -77,7 +80,7 @@ inside_root program places range heap root h =
 
 -- a block that has a place in the pages
 pub inside_block :
-    (program : Program) (places : Places) (range : Range) → Kept program places range → (k : ℕ) → k < places.pages * per_page places.size
+    (program : Program) (places : Places) (range : Range) → Kept program places range → (k : ℕ) → k < slots_of places
     → IsInside range (address_of places k) places.size
 inside_block program places range heap k h =
     let within = block_in_space places (size_fits program places heap.first heap.fits).small k h in
@@ -94,11 +97,11 @@ inside_part range address len skip part inside h =
     record { from_start = omega (arith, inside.from_start); to_end = omega (arith, inside.to_end, h) }
 
 pub inside_field :
-    (program : Program) (places : Places) (range : Range) → Kept program places range → (k field : ℕ) → k < places.made → field < fields_of program
+    (program : Program) (places : Places) (range : Range) → Kept program places range → (k field : ℕ) → Contains places.live k → field < fields_of program
     → IsInside range (address_of places k + 8 * field) 8
 inside_field program places range heap k field h below =
     inside_part range (address_of places k) places.size (8 * field) 8
-    (inside_block program places range heap k (omega (arith, h, heap.room)))
+    (inside_block program places range heap k (live_below places heap.slots k h))
     (omega (arith, (size_fits program places heap.first heap.fits).room, below))
 
 -- a pointer fits its word
@@ -106,7 +109,7 @@ pub pointer_fits :
     (program : Program) (places : Places) (range : Range) → Kept program places range → (word : ℕ) → IsPointer places word → word < 2 ^ 64
 pointer_fits program places range heap word (inl null) = omega (arith, null)
 pointer_fits program places range heap word (inr (k, h, is)) =
-    let within = block_in_space places (size_fits program places heap.first heap.fits).small k (omega (arith, h, heap.room)) in
+    let within = block_in_space places (size_fits program places heap.first heap.fits).small k (live_below places heap.slots k h) in
     omega (arith, is, within.1, heap.at_most)
 
 -- ---- a write

@@ -1,9 +1,10 @@
 -- A fresh space, a new block and a written pointer keep what a heap keeps.
-use Rattle.std.proofs.Common.{◌≡◌, ◌≢◌, ℕ, ◌+◌, ◌-◌, ◌*◌, ◌<◌, ◌≤◌, ◌⊎◌, inl, inr, List, length, take, drop, Some, refl, ap, sym, subst, ◌∙◌, arith}
-use Rattle.std.specs.Prelude.{replicate}
+use Rattle.std.proofs.Common.{◌≡◌, ◌≢◌, ℕ, ◌+◌, ◌-◌, ◌*◌, ◌<◌, ◌≤◌, ◌⊎◌, inl, inr, List, [], ◌∷◌, ◌++◌, length, take, drop, Some, refl, ap, ap₂, sym, subst, ◌∙◌, arith}
+use Rattle.std.specs.Prelude.{Contains, replicate}
 use Rattle.std.specs.Int.{w64, to_le_bytes, from_le_bytes}
 use Rattle.std.proofs.lemmas.Bool.{cases_lt}
 use Rattle.std.proofs.lemmas.List.{places, same_lists, length-replicate}
+use Rattle.std.proofs.lemmas.List.Elements.{Contains-append_left, Contains-push_cases}
 use Rattle.gt_types.specs.declared.program.Program.{Program}
 use Rattle.gt_space.specs.declared.TheConstants.{MIN_PAGES, MAX_PAGES}
 use Rattle.gt_space.specs.Range.{Range, IsInside, IsSized, IsSpace, bytes_at, with_bytes, fresh_range, statics_start, space_len}
@@ -13,9 +14,12 @@ use Rattle.gt_space.proofs.RangeLemmas.{bytes_at-with_bytes_within, bytes_at-wit
 use Rattle.gt_space.proofs.NumberLemmas.{u64_at-bytes_at, u64_at-with_u64, u64_at-with_bytes_apart}
 use Rattle.gt_heap.specs.Ledger.{rounded}
 use Rattle.gt_heap.specs.Stands.{AreZero}
-use Rattle.gt_heap.specs.Heap.{IsFirst, IsPointer, Places, per_page, address_of, fields_of}
-use Rattle.gt_heap.proofs.Quotients.{IsSmall, ordered}
-use Rattle.gt_heap.proofs.Blocks.{one_more}
+use Rattle.gt_heap.specs.Slots.{IsQueue, numbers}
+use Rattle.gt_heap.specs.Heap.{IsFirst, IsPointer, HoldsPointers, Places, per_page, address_of, fields_of}
+use Rattle.gt_heap.proofs.Quotients.{IsSmall, per_page_pos}
+use Rattle.gt_heap.proofs.Items.{cases_ne, contains_none}
+use Rattle.gt_heap.proofs.Queues.{all_numbers, queue_rising, rising_numbers}
+use Rattle.gt_heap.proofs.Blocks.{TakesFirst, free_slot_below, live_below, one_more, slot_not_live, slots_apart, slots_of, slots_stay}
 use Rattle.gt_heap.proofs.SmallBytes.{bytes-replicate, bytes-low_first}
 use Rattle.gt_heap.proofs.Memory.{Kept, size_fits, few_bytes, statics_below, statics_end, roots_below, inside_root, inside_block, inside_field, inside_part, pointer_fits, IsSized-with_bytes, IsSpace-with_bytes}
 
@@ -64,22 +68,38 @@ fresh_space pages statics few small =
       bytes = bytes-replicate (space_len pages statics);
     }
 
+-- the places of a heap without objects
+abbrev pub fresh_places : (size pages : ℕ) → Places
+fresh_places size pages = record { size = size; live = []; free = numbers 0 (pages * per_page size); pages = pages }
+
+-- as the code makes them
+pub fresh_places_are :
+    (size pages slots : ℕ) (live free : List ℕ) → slots ≡ pages * per_page size → live ≡ [] → free ≡ []
+    → fresh_places size pages ≡ record { size = size; live = live; free = free ++ numbers 0 (slots - 0); pages = pages }
+fresh_places_are size pages slots live free all no_live no_free =
+    let count : pages * per_page size ≡ slots - 0 = omega (arith, all) in
+    ap (λ (n : ℕ). let p : Places = record { size = size; live = []; free = numbers 0 n; pages = pages } in p) count
+    ∙ ap₂ (λ (ks js : List ℕ). let p : Places = record { size = size; live = ks; free = js ++ numbers 0 (slots - 0); pages = pages } in p) (sym no_live) (sym no_free)
+
 pub fresh_kept :
     (program : Program) (size pages : ℕ) → IsFirst program → rounded (8 * fields_of program) ≡ Some size → MIN_PAGES ≤ pages → pages ≤ MAX_PAGES
-    → Kept program (record { size = size; made = 0; pages = pages }) (fresh_range pages (8 * length program.roots))
+    → Kept program (fresh_places size pages) (fresh_range pages (8 * length program.roots))
 fresh_kept program size pages first fits at_least at_most =
+    let n : ℕ = pages * per_page size in
+    let some = per_page_pos size (size_fits program (fresh_places size pages) first fits).small in
     record {
       first = first;
       sized = fresh_sized pages (8 * length program.roots);
       space = fresh_space pages (8 * length program.roots) at_most (few_bytes program first);
       fits = fits;
-      room = omega arith;
+      slots = all_numbers n;
+      queue = queue_rising (per_page size) some [] (numbers 0 n) (rising_numbers 0 n) (λ slot other here there used. absurd (contains_none used.0 used.1));
       at_least = at_least;
       at_most = at_most;
       pointers = record {
         roots = λ root below. inl (fresh_word pages (8 * length program.roots) (8 * root) (omega (arith, below, few_bytes program first)));
-        fields = λ k field none below. absurd (omega (arith, none));
-        rest = λ k none. absurd (omega (arith, none));
+        fields = λ k field none below. absurd (contains_none k none);
+        rest = λ k none. absurd (contains_none k none);
       };
     }
 
@@ -106,14 +126,6 @@ pub root_apart_block :
     → range.start + 8 * root + 8 ≤ address_of places k
 root_apart_block program places range heap root k h = omega (arith, h, roots_below program places range heap.first heap.sized)
 
--- two numbers are one or differ
-pub cases_ne : (m n : ℕ) → (m ≡ n) ⊎ (m ≢ n)
-cases_ne m n =
-    elim (cases_lt m n) [
-      | inl less ↦ inr (λ e. omega (arith, less, e))
-      | inr no_less ↦ elim (cases_lt n m) [ inl more ↦ inr (λ e. omega (arith, more, e)) | inr no_more ↦ inl (omega (arith, no_less, no_more)) ]
-    ]
-
 -- two roots
 pub roots_apart : (start root other : ℕ) → other ≢ root → IsApart (start + 8 * root) 8 (start + 8 * other) 8
 roots_apart start root other differ =
@@ -131,116 +143,129 @@ pub blocks_apart :
     (places : Places) → IsSmall places.size → (k j skip len part n : ℕ) → j ≢ k → skip + len ≤ places.size → part + n ≤ places.size
     → IsApart (address_of places k + skip) len (address_of places j + part) n
 blocks_apart places small k j skip len part n differ within there =
-    elim (cases_lt j k) [
-      | inl less ↦ inr (omega (arith, there, ordered places.size j k small less))
-      | inr no_less ↦ inl (omega (arith, within, ordered places.size k j small (omega (arith, no_less, differ))))
-    ]
+    elim (slots_apart places small k j (λ e. differ (sym e))) [ inl before ↦ inl (omega (arith, within, before)) | inr after ↦ inr (omega (arith, there, after)) ]
 
 -- ---- a new block
 
--- the space with the bytes of the next block zero
-abbrev pub with_zeros : Places → Range → Range
-with_zeros places range = with_bytes range (address_of places places.made) (zeros places.size)
+-- the space with the bytes of a slot's block zero
+abbrev pub with_zeros : Places → (slot : ℕ) → Range → Range
+with_zeros places slot range = with_bytes range (address_of places slot) (zeros places.size)
 
-pointer_more : (places : Places) (word : ℕ) → IsPointer places word → IsPointer (one_more places) word
-pointer_more places word (inl null) = inl null
-pointer_more places word (inr (k, h, is)) = inr (k, omega (arith, h), is)
+pointer_more : (places : Places) (slot : ℕ) (rest : List ℕ) (word : ℕ) → IsPointer places word → IsPointer (one_more places slot rest) word
+pointer_more places slot rest word (inl null) = inl null
+pointer_more places slot rest word (inr (k, h, is)) = inr (k, Contains-append_left places.live (slot ∷ []) k h, is)
 
 zeros_in_block :
-    (places : Places) (range : Range) (skip len : ℕ) → IsInside range (address_of places places.made) places.size → skip + len ≤ places.size
-    → AreZero (with_zeros places range) (address_of places places.made + skip) len
-zeros_in_block places range skip len inside h =
+    (places : Places) (slot : ℕ) (range : Range) (skip len : ℕ) → IsInside range (address_of places slot) places.size → skip + len ≤ places.size
+    → AreZero (with_zeros places slot range) (address_of places slot + skip) len
+zeros_in_block places slot range skip len inside h =
     let is : length (zeros places.size) ≡ places.size = length-zeros places.size in
-    bytes_at-with_bytes_within range (address_of places places.made) (zeros places.size) skip len
-    (subst (IsInside range (address_of places places.made)) (sym is) inside) (omega (arith, is, h))
+    bytes_at-with_bytes_within range (address_of places slot) (zeros places.size) skip len
+    (subst (IsInside range (address_of places slot)) (sym is) inside) (omega (arith, is, h))
     ∙ part_of_zeros places.size skip len h
 
--- the words of the roots and of the blocks that were made are as before
+-- the words of the roots and of other blocks are as before
 pub roots_stay_made :
-    (program : Program) (places : Places) (range : Range) → Kept program places range → places.made < places.pages * per_page places.size
+    (program : Program) (places : Places) (range : Range) → Kept program places range → (slot : ℕ) → slot < slots_of places
     → (root : ℕ) → root < length program.roots
-    → u64_at (with_zeros places range) (range.start + 8 * root) ≡ u64_at range (range.start + 8 * root)
-roots_stay_made program places range heap room root below =
-    word_stays range (address_of places places.made) (zeros places.size) places.size (range.start + 8 * root) (length-zeros places.size)
-    (inside_block program places range heap places.made room) (inside_root program places range heap root below)
-    (inr (root_apart_block program places range heap root places.made below))
+    → u64_at (with_zeros places slot range) (range.start + 8 * root) ≡ u64_at range (range.start + 8 * root)
+roots_stay_made program places range heap slot room root below =
+    word_stays range (address_of places slot) (zeros places.size) places.size (range.start + 8 * root) (length-zeros places.size)
+    (inside_block program places range heap slot room) (inside_root program places range heap root below)
+    (inr (root_apart_block program places range heap root slot below))
 
-behind_part :
-    (places : Places) → IsSmall places.size → (k part n : ℕ) → k < places.made → part + n ≤ places.size
-    → IsApart (address_of places places.made) places.size (address_of places k + part) n
-behind_part places small k part n h there = inr (omega (arith, there, ordered places.size k places.made small h))
+-- a part of another block
+apart_part :
+    (places : Places) → IsSmall places.size → (slot k part n : ℕ) → k ≢ slot → part + n ≤ places.size
+    → IsApart (address_of places slot) places.size (address_of places k + part) n
+apart_part places small slot k part n differ there =
+    elim (slots_apart places small slot k (λ e. differ (sym e))) [
+      | inl before ↦ inl (omega (arith, before))
+      | inr after ↦ inr (omega (arith, after, there))
+    ]
 
 pub fields_stay_made :
-    (program : Program) (places : Places) (range : Range) → Kept program places range → places.made < places.pages * per_page places.size
-    → (k field : ℕ) → k < places.made → field < fields_of program
-    → u64_at (with_zeros places range) (address_of places k + 8 * field) ≡ u64_at range (address_of places k + 8 * field)
-fields_stay_made program places range heap room k field h below =
+    (program : Program) (places : Places) (range : Range) → Kept program places range → (slot : ℕ) → slot < slots_of places
+    → (k field : ℕ) → Contains places.live k → k ≢ slot → field < fields_of program
+    → u64_at (with_zeros places slot range) (address_of places k + 8 * field) ≡ u64_at range (address_of places k + 8 * field)
+fields_stay_made program places range heap slot room k field h differ below =
     let fit = size_fits program places heap.first heap.fits in
-    word_stays range (address_of places places.made) (zeros places.size) places.size (address_of places k + 8 * field) (length-zeros places.size)
-    (inside_block program places range heap places.made room) (inside_field program places range heap k field h below)
-    (behind_part places fit.small k (8 * field) 8 h (omega (arith, fit.room, below)))
+    word_stays range (address_of places slot) (zeros places.size) places.size (address_of places k + 8 * field) (length-zeros places.size)
+    (inside_block program places range heap slot room) (inside_field program places range heap k field h below)
+    (apart_part places fit.small slot k (8 * field) 8 differ (omega (arith, fit.room, below)))
 
 rest_stays_made :
-    (program : Program) (places : Places) (range : Range) → Kept program places range → places.made < places.pages * per_page places.size
-    → (k : ℕ) → k < places.made
-    → bytes_at (with_zeros places range) (address_of places k + 8 * fields_of program) (places.size - 8 * fields_of program)
+    (program : Program) (places : Places) (range : Range) → Kept program places range → (slot : ℕ) → slot < slots_of places
+    → (k : ℕ) → Contains places.live k → k ≢ slot
+    → bytes_at (with_zeros places slot range) (address_of places k + 8 * fields_of program) (places.size - 8 * fields_of program)
     ≡ bytes_at range (address_of places k + 8 * fields_of program) (places.size - 8 * fields_of program)
-rest_stays_made program places range heap room k h =
+rest_stays_made program places range heap slot room k h differ =
     let fit = size_fits program places heap.first heap.fits in
-    bytes_stay range (address_of places places.made) (zeros places.size) places.size (address_of places k + 8 * fields_of program)
+    bytes_stay range (address_of places slot) (zeros places.size) places.size (address_of places k + 8 * fields_of program)
     (places.size - 8 * fields_of program) (length-zeros places.size)
-    (inside_block program places range heap places.made room)
+    (inside_block program places range heap slot room)
     (inside_part range (address_of places k) places.size (8 * fields_of program) (places.size - 8 * fields_of program)
-    (inside_block program places range heap k (omega (arith, h, heap.room))) (omega (arith, fit.room)))
-    (behind_part places fit.small k (8 * fields_of program) (places.size - 8 * fields_of program) h (omega (arith, fit.room)))
+    (inside_block program places range heap k (live_below places heap.slots k h)) (omega (arith, fit.room)))
+    (apart_part places fit.small slot k (8 * fields_of program) (places.size - 8 * fields_of program) differ (omega (arith, fit.room)))
 
 pub zero_fields_made :
-    (program : Program) (places : Places) (range : Range) → Kept program places range → places.made < places.pages * per_page places.size
-    → (field : ℕ) → field < fields_of program → u64_at (with_zeros places range) (address_of places places.made + 8 * field) ≡ 0
-zero_fields_made program places range heap room field below =
+    (program : Program) (places : Places) (range : Range) → Kept program places range → (slot : ℕ) → slot < slots_of places
+    → (field : ℕ) → field < fields_of program → u64_at (with_zeros places slot range) (address_of places slot + 8 * field) ≡ 0
+zero_fields_made program places range heap slot room field below =
     let fit = size_fits program places heap.first heap.fits in
-    zero_word (with_zeros places range) (address_of places places.made + 8 * field)
-    (zeros_in_block places range (8 * field) 8 (inside_block program places range heap places.made room) (omega (arith, fit.room, below)))
+    zero_word (with_zeros places slot range) (address_of places slot + 8 * field)
+    (zeros_in_block places slot range (8 * field) 8 (inside_block program places range heap slot room) (omega (arith, fit.room, below)))
 
-pub made_kept :
-    (program : Program) (places : Places) (range : Range) → Kept program places range → places.made < places.pages * per_page places.size
-    → Kept program (one_more places) (with_zeros places range)
-made_kept program places range heap room =
-    let is : length (zeros places.size) ≡ places.size = length-zeros places.size in
-    let inside = inside_block program places range heap places.made room in
-    let inside_new : IsInside range (address_of places places.made) (length (zeros places.size)) = subst (IsInside range (address_of places places.made)) (sym is) inside in
+-- the words of one more object are pointers
+pointers_made :
+    (program : Program) (places : Places) (range : Range) → Kept program places range → (slot : ℕ) (rest : List ℕ) → TakesFirst places slot rest
+    → HoldsPointers program (one_more places slot rest) (with_zeros places slot range)
+pointers_made program places range heap slot rest takes =
+    let room = free_slot_below places slot rest takes in
+    let inside = inside_block program places range heap slot room in
     let fit = size_fits program places heap.first heap.fits in
     record {
+      roots = λ root below.
+          subst (IsPointer (one_more places slot rest)) (sym (roots_stay_made program places range heap slot room root below))
+          (pointer_more places slot rest (u64_at range (range.start + 8 * root)) (heap.pointers.roots root below));
+      fields = λ k field h below.
+          elim (Contains-push_cases places.live slot k h) [
+            | inl old ↦
+                subst (IsPointer (one_more places slot rest))
+                (sym (fields_stay_made program places range heap slot room k field old (slot_not_live places slot rest takes k old) below))
+                (pointer_more places slot rest (u64_at range (address_of places k + 8 * field)) (heap.pointers.fields k field old below))
+            | inr e ↦
+                inl (subst (λ n. u64_at (with_zeros places slot range) (address_of places n + 8 * field) ≡ 0) e
+                (zero_fields_made program places range heap slot room field below))
+          ];
+      rest = λ k h.
+          elim (Contains-push_cases places.live slot k h) [
+            | inl old ↦
+                rest_stays_made program places range heap slot room k old (slot_not_live places slot rest takes k old) ∙ heap.pointers.rest k old
+            | inr e ↦
+                subst (λ n. AreZero (with_zeros places slot range) (address_of places n + 8 * fields_of program) (places.size - 8 * fields_of program)) e
+                (zeros_in_block places slot range (8 * fields_of program) (places.size - 8 * fields_of program) inside (omega (arith, fit.room)))
+          ];
+    }
+
+pub made_kept :
+    (program : Program) (places : Places) (range : Range) → Kept program places range → (slot : ℕ) (rest : List ℕ) → TakesFirst places slot rest
+    → Kept program (one_more places slot rest) (with_zeros places slot range)
+made_kept program places range heap slot rest takes =
+    let is : length (zeros places.size) ≡ places.size = length-zeros places.size in
+    let inside = inside_block program places range heap slot (free_slot_below places slot rest takes) in
+    let inside_new : IsInside range (address_of places slot) (length (zeros places.size)) = subst (IsInside range (address_of places slot)) (sym is) inside in
+    let queue : IsQueue (per_page places.size) places.live (slot ∷ rest) = subst (IsQueue (per_page places.size) places.live) takes.free heap.queue in
+    record {
       first = heap.first;
-      sized = IsSized-with_bytes range places.pages (8 * length program.roots) (address_of places places.made) (zeros places.size) inside_new heap.sized;
-      space = IsSpace-with_bytes range (address_of places places.made) (zeros places.size) inside_new (bytes-replicate places.size) heap.space;
+      sized = IsSized-with_bytes range places.pages (8 * length program.roots) (address_of places slot) (zeros places.size) inside_new heap.sized;
+      space = IsSpace-with_bytes range (address_of places slot) (zeros places.size) inside_new (bytes-replicate places.size) heap.space;
       fits = heap.fits;
-      room = omega (arith, room);
+      slots = slots_stay places slot rest takes;
+      queue = queue.1;
       at_least = heap.at_least;
       at_most = heap.at_most;
-      pointers = record {
-        roots = λ root below.
-            subst (IsPointer (one_more places)) (sym (roots_stay_made program places range heap room root below))
-            (pointer_more places (u64_at range (range.start + 8 * root)) (heap.pointers.roots root below));
-        fields = λ k field h below.
-            elim (cases_lt k places.made) [
-              | inl old ↦
-                  subst (IsPointer (one_more places)) (sym (fields_stay_made program places range heap room k field old below))
-                  (pointer_more places (u64_at range (address_of places k + 8 * field)) (heap.pointers.fields k field old below))
-              | inr no_old ↦
-                  let e : places.made ≡ k = omega (arith, h, no_old) in
-                  inl (subst (λ n. u64_at (with_zeros places range) (address_of places n + 8 * field) ≡ 0) e
-                  (zero_fields_made program places range heap room field below))
-            ];
-        rest = λ k h.
-            elim (cases_lt k places.made) [
-              | inl old ↦ rest_stays_made program places range heap room k old ∙ heap.pointers.rest k old
-              | inr no_old ↦
-                  let e : places.made ≡ k = omega (arith, h, no_old) in
-                  subst (λ n. AreZero (with_zeros places range) (address_of places n + 8 * fields_of program) (places.size - 8 * fields_of program)) e
-                  (zeros_in_block places range (8 * fields_of program) (places.size - 8 * fields_of program) inside (omega (arith, fit.room)))
-            ];
-      };
+      pointers = pointers_made program places range heap slot rest takes;
     }
 
 -- ---- a written pointer
@@ -251,10 +276,10 @@ pub record IsSpot (program : Program) (places : Places) (range : Range) (address
   pub roots :
       (root : ℕ) → root < length program.roots → (address ≡ range.start + 8 * root) ⊎ IsApart address 8 (range.start + 8 * root) 8
   pub fields :
-      (k field : ℕ) → k < places.made → field < fields_of program
+      (k field : ℕ) → Contains places.live k → field < fields_of program
       → (address ≡ address_of places k + 8 * field) ⊎ IsApart address 8 (address_of places k + 8 * field) 8
   pub rest :
-      (k : ℕ) → k < places.made
+      (k : ℕ) → Contains places.live k
       → IsApart address 8 (address_of places k + 8 * fields_of program) (places.size - 8 * fields_of program)
 
 pub root_spot :
@@ -271,7 +296,7 @@ root_spot program places range heap root below =
 
 pub field_spot :
     (program : Program) (places : Places) (range : Range) → Kept program places range
-    → (k field : ℕ) → k < places.made → field < fields_of program → IsSpot program places range (address_of places k + 8 * field)
+    → (k field : ℕ) → Contains places.live k → field < fields_of program → IsSpot program places range (address_of places k + 8 * field)
 field_spot program places range heap k field h below =
     let fit = size_fits program places heap.first heap.fits in
     record {
@@ -335,7 +360,8 @@ written_kept program places range heap address word spot pointer =
       sized = IsSized-with_bytes range places.pages (8 * length program.roots) address (to_le_bytes w64 word) spot.inside heap.sized;
       space = IsSpace-with_bytes range address (to_le_bytes w64 word) spot.inside (bytes-low_first 0 8 word) heap.space;
       fits = heap.fits;
-      room = heap.room;
+      slots = heap.slots;
+      queue = heap.queue;
       at_least = heap.at_least;
       at_most = heap.at_most;
       pointers = record {
@@ -349,7 +375,7 @@ written_kept program places range heap address word spot pointer =
             bytes_stay range address (to_le_bytes w64 word) 8 (address_of places k + 8 * fields_of program) (places.size - 8 * fields_of program) refl
             spot.inside
             (inside_part range (address_of places k) places.size (8 * fields_of program) (places.size - 8 * fields_of program)
-            (inside_block program places range heap k (omega (arith, h, heap.room))) (omega (arith, fit.room)))
+            (inside_block program places range heap k (live_below places heap.slots k h)) (omega (arith, fit.room)))
             (spot.rest k h)
             ∙ heap.pointers.rest k h;
       };

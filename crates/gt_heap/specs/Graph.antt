@@ -1,15 +1,20 @@
 -- A heap without bytes: objects that point to one another, the values of the roots, and the ledger of places.
-use Rattle.std.specs.Prelude.{◌≡◌, ◌≢◌, ℕ, ◌*◌, List, [], ◌∷◌, ◌++◌, Option, Some, None, All}
+use Rattle.std.specs.Prelude.{◌≡◌, ◌≢◌, ℕ, ◌*◌, List, [], ◌∷◌, ◌++◌, Option, Some, None, All, map}
+use Rattle.std.specs.List.{AllZip}
 use Rattle.gt_types.specs.declared.types.TypeId.{TypeId}
+use Rattle.gt_types.specs.declared.program.Cache.{Cache}
 use Rattle.gt_types.specs.declared.program.Program.{Program}
 use Rattle.gt_heap.specs.Tree.{Tree, Null, To, with_part}
-use Rattle.gt_heap.specs.Values.{Kind, Nodes, Object, MayStand, ObjectFits, ObjectIsZero, StaticsFit, element_of, HasSize}
+use Rattle.gt_heap.specs.Values.{Kind, Nodes, Object, IsSingle, MayStand, ObjectFits, ObjectIsZero, StaticsFit, element_of, HasSize}
 use Rattle.gt_heap.specs.Ledger.{Block, Ledger, Sound, Place, with_block, rounded}
+use Rattle.gt_heap.specs.Slots.{AreDifferent}
 
--- the objects in the order in which they were made, the static value, and where each object lies
+-- the objects in the order in which they were made, the static value, for each cache the pairs of key and value in order, and
+-- where each object lies
 pub record Graph : Type 0 where
   pub objects : List Object
   pub statics : Tree
+  pub pairs : List (List (ℕ × ℕ))
   pub ledger : Ledger
 
 -- a block of this kind may be made
@@ -32,6 +37,11 @@ AreBlocksOf program [] [] = Unit {0}
 AreBlocksOf program (o ∷ os) (b ∷ bs) = IsBlockOf program o b × AreBlocksOf program os bs
 AreBlocksOf program os bs = ⊥
 
+-- the keys and the values of a cache's pairs are single objects of the cache's types, and no key stands twice
+pub record ArePairsOf (objects : List Object) (cache : Cache) (pairs : List (ℕ × ℕ)) : Type 0 where
+  pub singles : All (λ pair. IsSingle objects pair.0 cache.key × IsSingle objects pair.1 cache.value) pairs
+  pub distinct : AreDifferent (map (λ pair. pair.0) pairs)
+
 -- what holds of each heap that a program can reach
 pub record IsGood (program : Program) (g : Graph) : Type 0 where
   pub kinds : All (λ o. KindStands program o.kind) g.objects
@@ -39,6 +49,7 @@ pub record IsGood (program : Program) (g : Graph) : Type 0 where
   pub distinct : AreDistinct g.objects
   pub values : All (ObjectFits program g.objects) g.objects
   pub statics : StaticsFit program g.objects g.statics
+  pub pairs : AllZip (ArePairsOf g.objects) program.caches g.pairs
   pub sound : Sound g.ledger
   pub blocks : AreBlocksOf program g.objects g.ledger.blocks
 
@@ -56,6 +67,7 @@ pub record Makes (program : Program) (node : TypeId) (old : Graph) (address size
   pub place : Place old.ledger block
   pub objects : new.objects ≡ old.objects ++ object ∷ []
   pub statics : new.statics ≡ old.statics
+  pub pairs : new.pairs ≡ old.pairs
   pub ledger : new.ledger ≡ with_block old.ledger block
 
 -- a pointer's value: null, or to the object of this name

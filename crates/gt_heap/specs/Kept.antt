@@ -1,5 +1,5 @@
 -- What a collection keeps: the objects that the roots reach, and with the cache pairs that stay, what their values reach.
-use Rattle.std.specs.Prelude.{◌≡◌, ℕ, ◌+◌, ◌⊎◌, Bool, true, false, if◌then◌else◌, List, [], ◌∷◌, ◌++◌, Contains, sum, map}
+use Rattle.std.specs.Prelude.{◌≡◌, ℕ, ◌==◌, ◌⊎◌, if◌then◌else◌, List, [], ◌∷◌, ◌++◌, Contains, filter, length, sum, map}
 use Rattle.gt_types.specs.declared.program.Program.{Program}
 use Rattle.gt_types.specs.declared.program.Root.{Root}
 use Rattle.gt_heap.specs.Tree.{Tree, Num, Null, To, Raw, Rec, Alt, Row, Trees, End, And}
@@ -124,3 +124,7 @@ pub record After (program : Program) (g h : Graph) : Type 0 where
 -- the bytes of all blocks together
 abbrev pub allocated_of : Ledger → ℕ
 allocated_of ledger = sum (map (λ b. b.size) ledger.blocks)
+
+-- how many blocks have this size
+abbrev pub count_of_size : ℕ → List Block → ℕ
+count_of_size size blocks = length (filter (λ b. b.size == size) blocks)

@@ -44,7 +44,7 @@ bare_ledger objects = plain_ledger 0 (spans_of objects)
 -- the graph of roots and objects with these pointers, in so many pages
 abbrev pub plain_graph : ℕ → List (Option ℕ) → List Pointers → Graph
 plain_graph pages roots objects =
-    record { objects = plain_objects objects; statics = Rec (plain_leaves roots); ledger = plain_ledger pages (spans_of objects) }
+    record { objects = plain_objects objects; statics = Rec (plain_leaves roots); pairs = []; ledger = plain_ledger pages (spans_of objects) }
 
 -- some object has this address
 abbrev pub HasObject : List Pointers → ℕ → Type 0

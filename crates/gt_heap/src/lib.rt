@@ -7,12 +7,14 @@ mod laws;
 mod plain;
 mod plain_bytes;
 mod sizes;
+mod slots;
 mod words;
 
 pub use heap::{Heap, Made, MakeFail};
-pub use laws::objects_stay;
+pub use laws::{after_flags, objects_stay};
 pub use plain::{Span, is_sound};
 pub use plain_bytes::{Pointers, stands};
+pub use sizes::{SIZES, all_sizes};
 
 #[cfg(test)]
 mod tests;

@@ -1,8 +1,9 @@
-//! Objects of three fields lie in blocks of 32 bytes, 128 to a page; they are filled to the last place, and their pointers
-//! are read back.
+//! Objects of three fields lie in blocks of 32 bytes, 128 to a page; they are filled to the last place, their pointers
+//! are read back, and places that were freed are given out again.
 ghost use Rattle.std.specs.Prelude.{◌≡◌, ◌+◌, ◌*◌, ◌≤◌, All, IfOk, length};
 ghost use Rattle.gt_space.specs.Range.{IsInside};
-ghost use Rattle.gt_heap.specs.Heap.{IsFirst, IsHeap, IsPlain, fields_of};
+ghost use Rattle.gt_heap.specs.Heap.{IsFirst, IsHeap, IsPlain, fields_of, graph_of};
+ghost use Rattle.gt_heap.specs.Freed.{HasNoEdges};
 
 use super::*;
 use gt_space::{HEAP_START, MIN_PAGES, Space};
@@ -85,7 +86,7 @@ fn fresh(alloc: Global, program: &Program) -> Result<(Heap, Space), Fail>
 {
     let mut space = Space::empty(alloc);
     space.resize_fresh(MIN_PAGES, 8 * program.roots.len() as u32)?;
-    Ok((Heap::new(program, MIN_PAGES), space))
+    Ok((Heap::new(alloc, program, MIN_PAGES), space))
 }
 
 // An object that was made, what its last field and its second one point to then, and what the root does.
@@ -138,6 +139,84 @@ fn objects_fill_the_pages_in_order(rt: HostRuntime) -> Result<(), Fail> {
     }
     let full = MakeFail::Full { need: 32 };
     assert_eq!(rt; link(&program, &mut heap, &mut space), Err(full));
+    Ok(())
+}
+
+// Makes so many objects, and says where the last one lies.
+fn make_some(
+    program: &Program,
+    heap: &mut Heap,
+    space: &mut Space,
+    count: u32,
+) -> Result<u64, MakeFail>
+    requires heap { IsHeap program.now heap.old space.old }
+    requires unlinked { HasNoEdges program.now (graph_of program.now heap.old space.old) }
+    ensures heap { IsHeap program.now heap.new space.new }
+    ensures unlinked { HasNoEdges program.now (graph_of program.now heap.new space.new) }
+{
+    let mut last = 0;
+    for _number in 0..count {
+        last = heap.make(program, space)?.addr;
+    }
+    Ok(last)
+}
+
+// Keeps the objects from one on, so many of them, where no object points to another.
+fn keep_some(
+    alloc: Global,
+    program: &Program,
+    heap: &mut Heap,
+    space: &Space,
+    first: u32,
+    count: u32,
+) -> Result<(), Fail>
+    requires heap { IsHeap program.now heap.old space.now }
+    requires unlinked { HasNoEdges program.now (graph_of program.now heap.old space.now) }
+    ensures heap { IsHeap program.now heap.new space.now }
+    ensures unlinked { HasNoEdges program.now (graph_of program.now heap.new space.now) }
+{
+    let mut kept = vec![in alloc; false; heap.len() as usize]?;
+    for (i, flag) in kept.iter_mut().enumerate() {
+        *flag = first as usize <= i && i - (first as usize) < count as usize;
+    }
+    heap.keep(program, space, &kept)?;
+    Ok(())
+}
+
+#[test]
+fn a_freed_place_is_given_out_again(rt: HostRuntime) -> Result<(), Fail> {
+    let program = three_pointers(rt.alloc())?;
+    let (mut heap, mut space) = fresh(rt.alloc(), &program)?;
+    assert_eq!(rt; make_some(&program, &mut heap, &mut space, 3), Ok(0x1000_0040));
+    keep_some(rt.alloc(), &program, &mut heap, &space, 1, 1)?;
+    assert_eq!(rt; heap.len(), 1);
+    assert_eq!(rt; heap.object(0), 0x1000_0020);
+    assert_eq!(rt; heap.allocated(), 32);
+    assert_eq!(rt; heap.count(32), 1);
+    assert_eq!(rt; heap.count(16), 0);
+    assert_eq!(rt; make_some(&program, &mut heap, &mut space, 1), Ok(0x1000_0000));
+    assert_eq!(rt; make_some(&program, &mut heap, &mut space, 1), Ok(0x1000_0040));
+    assert_eq!(rt; make_some(&program, &mut heap, &mut space, 1), Ok(0x1000_0060));
+    Ok(())
+}
+
+#[test]
+fn a_page_in_use_comes_before_a_lower_one(rt: HostRuntime) -> Result<(), Fail> {
+    let program = three_pointers(rt.alloc())?;
+    let (mut heap, mut space) = fresh(rt.alloc(), &program)?;
+    // The second place of the page 2 is the last that is given out, and it alone is kept, so page 2 fills first.
+    assert_eq!(rt; make_some(&program, &mut heap, &mut space, 258), Ok(0x1000_2020));
+    keep_some(rt.alloc(), &program, &mut heap, &space, 257, 1)?;
+    assert_eq!(rt; make_some(&program, &mut heap, &mut space, 1), Ok(0x1000_2000));
+    assert_eq!(rt; make_some(&program, &mut heap, &mut space, 126), Ok(0x1000_2fe0));
+    // Then the lowest page without an object, and the next ones.
+    assert_eq!(rt; make_some(&program, &mut heap, &mut space, 1), Ok(0x1000_0000));
+    assert_eq!(rt; make_some(&program, &mut heap, &mut space, 128), Ok(0x1000_1000));
+    assert_eq!(rt; make_some(&program, &mut heap, &mut space, 128), Ok(0x1000_3000));
+    // All are freed.
+    keep_some(rt.alloc(), &program, &mut heap, &space, 0, 0)?;
+    assert_eq!(rt; make_some(&program, &mut heap, &mut space, 2048), Ok(0x1000_ffe0));
+    assert_eq!(rt; make_some(&program, &mut heap, &mut space, 1), Err(MakeFail::Full { need: 32 }));
     Ok(())
 }
 

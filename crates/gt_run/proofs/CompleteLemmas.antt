@@ -11,7 +11,8 @@ use Rattle.gt_types.specs.declared.faults.Fault.{Fault as HeaderFault}
 use Rattle.gt_types.specs.declared.program.Program.{Program}
 use Rattle.gt_run.specs.Comes.{AreOther, Comes, Declares, FaultComes, IsRefusedFor}
 use Rattle.gt_run.specs.Complete.{AreHeld, IsWell}
-use Rattle.gt_run.specs.Ended.{Ended, Ends, status_of, refusal_of, is_refusal}
+use Rattle.gt_run.specs.Text.{is_refusal}
+use Rattle.gt_run.specs.Ended.{Ended, Ends, status_of, refusal_of}
 use Rattle.gt_run.specs.declared.ending.Ending.{Ending}
 use Rattle.gt_run.specs.declared.ending.Ending.TheVariants.{Finished, Refused, SinkFailed, NoMemory}
 use Rattle.gt_run.specs.declared.outcome.Outcome.{Outcome}

@@ -23,16 +23,19 @@ use Rattle.gt_heap.specs.Heap.{IsFirst, IsPlain}
 use Rattle.gt_run.specs.Call.{Call, Settings, call_of, default_settings}
 use Rattle.gt_run.specs.Asks.{AsksFor, Runs}
 use Rattle.gt_run.specs.Comes.{Comes, Declares}
-use Rattle.gt_run.specs.Lines.{IsPlainLine, Opened, RanFirst, RunsLines, RunsScript}
+use Rattle.gt_run.specs.Lines.{IsFormed, Opened, RanFirst, RunsLines, RunsScript}
 use Rattle.gt_run.specs.Refuses.{HasLine, Refuses}
 use Rattle.gt_run.specs.Good.{IsGoodState}
 use Rattle.gt_heap.specs.Stands.{Stands}
-use Rattle.gt_run.specs.Ended.{Ended, Ends, status_of, refusal_of}
+use Rattle.gt_io.specs.Appends.{Adds, IsFrontOf}
+use Rattle.gt_run.specs.Run.{Run}
+use Rattle.gt_run.specs.Text.{texts_of}
+use Rattle.gt_run.specs.Ended.{AddsAllBut, IsNothing, Ended, Ends, status_of, refusal_of}
 use Rattle.gt_run.specs.declared.outcome.Outcome.{Outcome}
 use Rattle.gt_run.specs.Refused.{IsRefusalLine}
 use Rattle.gt_run.specs.State.{State, IsOpening}
 use Rattle.gt_run.specs.Texts.{File, files_in_order}
-use Rattle.gt_run.proofs.GoodLemmas.{InRange, Run-range}
+use Rattle.gt_run.proofs.GoodLemmas.{HasSettings, Run-settings}
 use Rattle.gt_run.proofs.InputLemmas.{one_call, header_file, script_file}
 use Rattle.gt_run.specs.declared.answer.Answer.{Answer}
 use Rattle.gt_run.specs.declared.ending.Ending.{Ending}
@@ -41,13 +44,13 @@ use Rattle.gt_run.specs.declared.refusal.Refusal.{Refusal}
 use Rattle.gt_run.specs.declared.refusal.Refusal.TheVariants.{Words, Header, Script, NotBuilt, File as InFile}
 
 -- each line of a script has a form
-forms_of : (texts : List (List ℕ)) (lines : List Line) → AreLines texts lines → AllByRecursion IsPlainLine lines
+forms_of : (texts : List (List ℕ)) (lines : List Line) → AreLines texts lines → AllByRecursion IsFormed lines
 forms_of [] [] h = tt
-forms_of (text ∷ texts) (line ∷ lines) h = ((h.0.0, h.0.1), forms_of texts lines h.1)
+forms_of (text ∷ texts) (line ∷ lines) h = (h.0.0, forms_of texts lines h.1)
 forms_of [] (line ∷ lines) h = absurd h
 forms_of (text ∷ texts) [] h = absurd h
 
-pub AsksFor-forms : (words : List (List ℕ)) (told : Option Held) (p : Program) (lines : List Line) → AsksFor words told p lines → AllByRecursion IsPlainLine lines
+pub AsksFor-forms : (words : List (List ℕ)) (told : Option Held) (p : Program) (lines : List Line) → AsksFor words told p lines → AllByRecursion IsFormed lines
 AsksFor-forms words told p lines asks = forms_of _ lines asks.1.parsed.1
 
 -- the program of a header is one structure of plain pointers to it, and a root of the same type
@@ -72,6 +75,8 @@ form_first tag names root least most =
       some_root = omega arith;
       few_roots = omega arith;
       roots = All-cons (λ r. IsPlain r.ty) _ [] (false, refl) (All-nil (λ r. IsPlain r.ty));
+      no_deletable = All-cons (λ r. r.deletable ≡ false) _ [] refl (All-nil (λ r. r.deletable ≡ false));
+      no_caches = refl;
     }
 
 -- what a test of two says
@@ -138,29 +143,46 @@ module _ (words : List (List ℕ)) (told : Option Held) (p : Program) (lines : L
   -- an ending of a script is one of the program
   pub Ended-script : (old new : Option (List ℕ)) (ending : Ending) → RunsScript p lines told answers old new range ending → Ended words told old ending answers new range
   Ended-script old new Finished h = (Runs-opened [] h.0, refl, h.1)
-  Ended-script old new SinkFailed h = inr (Runs-opened h.0.0 h.0.1, h.1)
-  Ended-script old new NoMemory h = elim h [ inl n ↦ inl n | inr r ↦ inr (Runs-opened r.0.0 r.0.1, r.1) ]
+  Ended-script old new SinkFailed h = inr (Runs-opened h.0 h.1, h.2)
+  Ended-script old new NoMemory h = elim h [ inl n ↦ inl n | inr r ↦ inr (Runs-opened r.0 r.1, r.2) ]
   Ended-script old new (Refused refusal) h = absurd h
+
+-- what the first lines left, where the opening state is that of the program
+opened : (p q : Program) (lines : List Line) (told : Option Held) (opening state : State) (answers : List Answer) (range : Range) (left : List Line)
+    → q ≡ p → IsOpening p default_settings told opening → (HasSettings state → IsGoodState q state) → Stands range state.graph → IsSized range state.graph.ledger.pages (8 * length q.roots)
+    → (r : RanFirst q opening state lines answers left) → (o : Opened p lines told answers left range) × (o.ran.0 ≡ r.0)
+opened p q lines told opening state answers range left e opens good stands sized r =
+    let G : Program → Type 0 = λ x. IsGoodState x state in
+    let Z : Program → Type 0 = λ x. IsSized range state.graph.ledger.pages (8 * length x.roots) in
+    let R : Program → Type 0 = λ x. Run x opening r.0 answers state in (
+      record {
+        opening = opening;
+        opens = opens;
+        state = state;
+        ran = (r.0, r.1, subst R e r.2);
+        good = subst G e (good (Run-settings p q told opening state r.0 answers opens r.2));
+        stands = stands;
+        sized = subst Z e sized;
+      },
+      refl,
+    )
 
 -- what the lines left is what the script leaves, where the opening state is that of the program
 pub RunsScript-lines : (p q : Program) (lines : List Line) (told : Option Held) (opening state : State) (answers : List Answer) (old new : Option (List ℕ)) (range : Range) (ending : Ending)
-    → q ≡ p → IsOpening p default_settings told opening → (InRange state → IsGoodState q state) → Stands range state.graph → IsSized range state.graph.ledger.pages (8 * length q.roots)
+    → q ≡ p → IsOpening p default_settings told opening → (HasSettings state → IsGoodState q state) → Stands range state.graph → IsSized range state.graph.ledger.pages (8 * length q.roots)
     → RunsLines q lines opening state answers old new ending → RunsScript p lines told answers old new range ending
 RunsScript-lines p q lines told opening state answers old new range Finished e opens good stands sized h =
-    let G : Program → Type 0 = λ x. IsGoodState x state in
-    let Z : Program → Type 0 = λ x. IsSized range state.graph.ledger.pages (8 * length x.roots) in
-    let R : Program → Type 0 = λ x. RanFirst x opening state lines answers [] in
-    (record { opening = opening; opens = opens; state = state; ran = subst R e h.0; good = subst G e (good (Run-range p q told opening state h.0.0 answers opens h.0.2)); stands = stands; sized = subst Z e sized }, h.1)
+    let w = opened p q lines told opening state answers range [] e opens good stands sized h.0 in
+    let A : List Line → Type 0 = λ done. Adds old (texts_of done answers) new in
+    (w.0, subst A (sym w.1) h.1)
 RunsScript-lines p q lines told opening state answers old new range SinkFailed e opens good stands sized h =
-    let G : Program → Type 0 = λ x. IsGoodState x state in
-    let Z : Program → Type 0 = λ x. IsSized range state.graph.ledger.pages (8 * length x.roots) in
-    let R : Program → Type 0 = λ x. RanFirst x opening state lines answers h.0.0 in
-    ((h.0.0, record { opening = opening; opens = opens; state = state; ran = subst R e h.0.1; good = subst G e (good (Run-range p q told opening state h.0.1.0 answers opens h.0.1.2)); stands = stands; sized = subst Z e sized }), h.1)
+    let w = opened p q lines told opening state answers range h.0 e opens good stands sized h.1 in
+    let A : List Line → Type 0 = λ done. AddsAllBut old done answers IsFrontOf new in
+    (h.0, w.0, subst A (sym w.1) h.2)
 RunsScript-lines p q lines told opening state answers old new range NoMemory e opens good stands sized h =
-    let G : Program → Type 0 = λ x. IsGoodState x state in
-    let Z : Program → Type 0 = λ x. IsSized range state.graph.ledger.pages (8 * length x.roots) in
-    let R : Program → Type 0 = λ x. RanFirst x opening state lines answers h.0.0 in
-    inr ((h.0.0, record { opening = opening; opens = opens; state = state; ran = subst R e h.0.1; good = subst G e (good (Run-range p q told opening state h.0.1.0 answers opens h.0.1.2)); stands = stands; sized = subst Z e sized }), h.1)
+    let w = opened p q lines told opening state answers range h.0 e opens good stands sized h.1 in
+    let A : List Line → Type 0 = λ done. Adds old (texts_of done answers) new ⊎ AddsAllBut old done answers IsNothing new in
+    inr (h.0, w.0, subst A (sym w.1) h.2)
 RunsScript-lines p q lines told opening state answers old new range (Refused refusal) e opens good stands sized h = absurd h
 
 -- an outcome of an ending

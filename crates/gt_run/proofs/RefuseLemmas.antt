@@ -9,7 +9,8 @@ use Rattle.gt_run.specs.Places.{line_of, column_of}
 use Rattle.gt_run.specs.Refused.{IsFaultLine, IsLineOf, fault_text}
 use Rattle.gt_run.specs.Refuses.{Refuses}
 use Rattle.gt_run.specs.Halts.{Halts, HaltsFor}
-use Rattle.gt_run.specs.Ended.{Ends, is_refusal, refusal_of, refusal_status, status_of}
+use Rattle.gt_run.specs.Text.{is_refusal}
+use Rattle.gt_run.specs.Ended.{Ends, refusal_of, refusal_status, status_of}
 use Rattle.gt_run.specs.declared.answer.Answer.{Answer}
 use Rattle.gt_run.specs.declared.ending.Ending.{Ending}
 use Rattle.gt_run.specs.declared.ending.Ending.TheVariants.{Finished, Refused, SinkFailed, NoMemory}

@@ -16,12 +16,11 @@ use Rattle.gt_run.specs.State.{State, Variables, meaning, with_variable}
 use Rattle.gt_run.specs.Session.{state_of}
 use Rattle.gt_run.specs.Next.{IsTypeNamed, NextNew}
 use Rattle.gt_run.specs.declared.answer.Answer.TheVariants.{Refused}
-use Rattle.gt_run.specs.declared.answer.Why.{Why}
 use Rattle.gt_run.specs.declared.answer.Why.TheVariants.{Full}
 use Rattle.gt_run.specs.declared.session.Session.{Session}
 use Rattle.gt_run.proofs.VarsEntries.{meaning-with_variable}
 use Rattle.gt_run.proofs.ShowSpots.{fields_of-there}
-use Rattle.gt_run.proofs.StepObjects.{each_contained}
+use Rattle.gt_run.proofs.Members.{map_contained}
 
 -- an object's name is the address of its block, of the new one too
 pub made_name :
@@ -30,7 +29,7 @@ pub made_name :
 made_name program places range old address size made =
     let there : Contains (graph_of program places range).ledger.blocks made.block =
     subst (λ blocks. Contains blocks made.block) (sym (ap (λ l. l.blocks) made.ledger)) (Contains-push old.ledger.blocks made.block) in
-    let at = each_contained (block_of places) places.made made.block there in
+    let at = map_contained (block_of places) places.live made.block there in
     sym made.named.named ∙ sym (ap (λ (b : Block). b.id) at.2) ∙ ap (λ (b : Block). b.address) at.2 ∙ made.told.0
 
 -- the objects that were there are there
@@ -52,16 +51,3 @@ pub still_objects :
 still_objects vars new name n P is here others q id bound =
     bound_cases (is_at (slice_cmp nat_cmp q) name) n id (meaning vars q) P
     (sym (meaning-with_variable vars name n q) ∙ sym (ap (λ (v : Variables). meaning v q) is) ∙ bound) here (others q id)
-
--- new refuses where there is no room: the block of the one structure has the size that the heap has
-pub new_refused :
-    (s : Session) (old : Range) (told : Option Held) (var name : List ℕ) → IsTypeNamed s.program name the_node → IsHeap s.program s.heap old
-    → (Room (graph_of s.program s.heap old).ledger s.heap.size → ⊥) → (why : Why) (heap : Places) (new : Range) → why ≡ Full s.heap.size → heap ≡ s.heap
-    → new ≡ old → NextNew s.program (state_of s old told) var name (Refused why) (state_of (record s { heap = heap }) new told)
-new_refused s old told var name named stands no_room why heap new is same_heap same =
-    let st : State = state_of s old told in
-    let P : Why → Places → Range → Type 0 = λ w h r. NextNew s.program st var name (Refused w) (state_of (record s { heap = h }) r told) in
-    let size : 8 * fields_of s.program ≡ 8 * length named.structure.fields = ap (λ n. 8 * n) (fields_of-there s.program named.structure named.there) in
-    let here : P (Full s.heap.size) s.heap old =
-    (the_node, named, (8 * fields_of s.program, (named.structure, named.there, size), stands.fits), no_room, refl) in
-    subst (λ w. P w heap new) (sym is) (subst (λ h. P (Full s.heap.size) h new) (sym same_heap) (subst (P (Full s.heap.size) s.heap) (sym same) here))

@@ -16,7 +16,7 @@ use Rattle.gt_run.specs.declared.answer.Answer.TheVariants.{Done, Refused}
 use Rattle.gt_run.specs.declared.answer.Why.{Why}
 use Rattle.gt_run.specs.declared.answer.Why.TheVariants.{Unbound, NoType, NoField, Full}
 use Rattle.gt_run.specs.declared.session.Session.{Session}
-use Rattle.gt_run.proofs.StepObjects.{each_contained, contains_each}
+use Rattle.gt_run.proofs.Members.{map_contained, contains_map}
 
 -- print refuses a path that leads nowhere
 pub print_refused : (program : Program) (s : State) (path : Route) (why : Why) → Finds program s path (Err why) → NextPrint program s path (Refused why) s
@@ -51,8 +51,8 @@ set_root s old new told path value target root gives leads written =
     (AtRoot root, leaf_of target, gives, leads, ap (λ (g : Graph). record (state_of s old told) { graph = g }) written)
 
 -- a graph whose objects alone are others
-same_but_objects : (g h : Graph) → h.statics ≡ g.statics → h.ledger ≡ g.ledger → h ≡ record g { objects = h.objects }
-same_but_objects g h statics ledger = λ i. record { objects = h.objects; statics = statics i; ledger = ledger i }
+same_but_objects : (g h : Graph) → h.statics ≡ g.statics → h.pairs ≡ g.pairs → h.ledger ≡ g.ledger → h ≡ record g { objects = h.objects }
+same_but_objects g h statics pairs ledger = λ i. record { objects = h.objects; statics = statics i; pairs = pairs i; ledger = ledger i }
 
 -- set replaces the leaf at a field
 pub set_field :
@@ -69,16 +69,16 @@ set_field s old new told path value target object field gives leads only = (
     (graph_of s.program s.heap new).objects,
     only.objects,
     ap (λ (g : Graph). record (state_of s old told) { graph = g })
-        (same_but_objects (graph_of s.program s.heap old) (graph_of s.program s.heap new) only.statics only.ledger),
+        (same_but_objects (graph_of s.program s.heap old) (graph_of s.program s.heap new) only.statics only.pairs only.ledger),
   ),
 )
 
 -- an object stays one whatever is written
 pub object_stays : (program : Program) (places : Places) (old new : Range) (id : ℕ) → IsObject program places old id → IsObject program places new id
 object_stays program places old new id (o, there, named, kind, one) =
-    let at = each_contained (λ k. object_at old (fields_of program) (address_of places k)) places.made o there in (
+    let at = map_contained (λ k. object_at old (fields_of program) (address_of places k)) places.live o there in (
       object_at new (fields_of program) (address_of places at.0),
-      contains_each (λ k. object_at new (fields_of program) (address_of places k)) places.made at.0 at.1,
+      contains_map (λ k. object_at new (fields_of program) (address_of places k)) places.live at.0 at.1,
       ap (λ p. p.id) at.2 ∙ named,
       refl,
       refl,

@@ -1,12 +1,19 @@
 -- What the variables that a list of entries makes mean.
-use Rattle.std.proofs.Common.{◌≡◌, ℕ, Bool, true, false, cond, List, [], ◌∷◌, refl, sym, ap, subst, ◌∙◌, Option, Some, IsSome}
-use Rattle.std.specs.Ordering.{nat_cmp}
+use Rattle.std.proofs.Common.{◌≡◌, ℕ, Bool, true, false, cond, List, [], ◌∷◌, refl, sym, ap, subst, ◌∙◌, Option, Some, None, IsSome}
+use Rattle.std.specs.Prelude.{◌↔◌, IsTrue}
+use Rattle.std.specs.Ordering.{eq_by_cmp, nat_cmp}
 use Rattle.std.specs.Cmp.{eq_by_cmp_equiv}
 use Rattle.std.specs.Cmp.Lexicographic.{slice_cmp, nat_list_cmp_total}
 use Rattle.std.specs.BTreeMap.{is_at}
 use Rattle.std.specs.Map.{lookup}
 use Rattle.std.specs.FinMap.{find, get-from_entries, get-insert, same_map, nat_cmp-IsAntisymmetric, slice_cmp-IsAntisymmetric}
+use Rattle.std.specs.List.{IsDistinct, filter}
+use Rattle.std.specs.Map.{keys_of}
+use Rattle.std.proofs.lemmas.Map.Entries.{lookup-filter-values, option_filter}
+use Rattle.std.proofs.lemmas.Map.Lookups.{exact_bytes}
+use Rattle.std.proofs.lemmas.Map.Views.{tells_apart}
 use Rattle.gt_run.specs.State.{Variables, variables_of, meaning, with_variable}
+use Rattle.gt_run.specs.Next.{KeepsBound}
 
 find-lookup : (es : List (List ℕ × ℕ)) (q : List ℕ) → find (slice_cmp nat_cmp) q es ≡ lookup (is_at (slice_cmp nat_cmp q)) es
 find-lookup [] q = refl
@@ -54,3 +61,59 @@ pub bound-with_variable : (v : Variables) (s : List ℕ) (n : ℕ) → IsSome (m
 bound-with_variable v s n =
     subst (λ o. IsSome o) (sym (meaning-with_variable v s n s))
     (some_here (is_at (slice_cmp nat_cmp s) s) n (meaning v s) ((eq_by_cmp_equiv nat_list_cmp_total).refl s))
+
+-- names that tie are the same
+same_name : (q s : List ℕ) → is_at (slice_cmp nat_cmp q) s ≡ true → q ≡ s
+same_name q s h = tells_apart exact_bytes q s h
+
+again : (b : Bool) (o m : Option ℕ) → (b ≡ true → m ≡ o) → cond b o m ≡ m
+again true o m f = sym (f refl)
+again false o m f = refl
+
+-- a variable that is bound to what it means is as before
+pub with_variable_same : (v : Variables) (s : List ℕ) (n : ℕ) → Some n ≡ meaning v s → with_variable v s n ≡ v
+with_variable_same v s n e = same_variables _ _ (λ q.
+    meaning-with_variable v s n q ∙ again (is_at (slice_cmp nat_cmp q) s) (Some n) (meaning v q) (λ h. ap (meaning v) (same_name q s h) ∙ sym e))
+
+taken : (b : Bool) (n : ℕ) (m : Option ℕ) → (b ≡ true → m ≡ None) → cond b None (cond b (Some n) m) ≡ m
+taken true n m f = sym (f refl)
+taken false n m f = refl
+
+-- a variable that was not bound, was bound, and is taken out
+pub variables_of-taken :
+    (es fs : List (List ℕ × ℕ)) (v : Variables) (s : List ℕ) (n : ℕ)
+    → ((q : List ℕ) → lookup (is_at (slice_cmp nat_cmp q)) fs ≡ cond (is_at (slice_cmp nat_cmp s) q) None (lookup (is_at (slice_cmp nat_cmp q)) es))
+    → variables_of es ≡ with_variable v s n → None ≡ meaning v s → variables_of fs ≡ v
+variables_of-taken es fs v s n h is e = same_variables _ _ (λ q.
+    let b : Bool = is_at (slice_cmp nat_cmp q) s in
+    let before : lookup (is_at (slice_cmp nat_cmp q)) es ≡ cond b (Some n) (meaning v q) =
+    sym (meaning-variables_of es q) ∙ ap (λ m. meaning m q) is ∙ meaning-with_variable v s n q in
+    meaning-variables_of fs q ∙ h q ∙ ap (λ b. cond b None (lookup (is_at (slice_cmp nat_cmp q)) es)) ((eq_by_cmp_equiv nat_list_cmp_total).symm s q)
+    ∙ ap (cond b None) before ∙ taken b n (meaning v q) (λ t. ap (meaning v) (same_name q s t) ∙ sym e))
+
+passed_some : (b : Bool) (n id : ℕ) → cond b (Some n) None ≡ Some id → (Some n ≡ Some id) × (b ≡ true)
+passed_some true n id e = (e, refl)
+passed_some false n id e = absurd (cc)
+
+some_passed : (b : Bool) (o m : Option ℕ) → b ≡ true → cond b o m ≡ o
+some_passed true o m e = refl
+some_passed false o m e = absurd (cc)
+
+filtered : (p : ℕ → Bool) (o : Option ℕ) (id : ℕ) → (option_filter p o ≡ Some id) ↔ ((o ≡ Some id) × IsTrue (p id))
+filtered p None id = (λ e. absurd (cc), λ (e, t). absurd (cc))
+filtered p (Some n) id = (
+  λ e. (let w = passed_some (p n) n id e in let same : n ≡ id = (let s = w.0 in cc) in (w.0, ap p (sym same) ∙ w.1)),
+  λ (e, t). (let same : n ≡ id = cc in some_passed (p n) (Some n) None (ap p same ∙ t) ∙ e),
+)
+
+-- the entries whose objects pass a test are the variables of those objects
+pub KeepsBound-filter :
+    (es fs : List (List ℕ × ℕ)) (p : ℕ → Bool) → IsDistinct (eq_by_cmp (slice_cmp nat_cmp)) (keys_of es) → fs ≡ filter (λ e. p e.1) es
+    → (old : Variables) → variables_of es ≡ old → KeepsBound (λ id. IsTrue (p id)) old (variables_of fs)
+KeepsBound-filter es fs p distinct is old was = λ name id.
+    let after : meaning (variables_of fs) name ≡ option_filter p (meaning old name) =
+    meaning-variables_of fs name ∙ ap (lookup (is_at (slice_cmp nat_cmp name))) is
+    ∙ lookup-filter-values (eq_by_cmp_equiv nat_list_cmp_total) p name es distinct
+    ∙ ap (option_filter p) (sym (meaning-variables_of es name) ∙ ap (λ v. meaning v name) was) in
+    let both = filtered p (meaning old name) id in
+    (λ e. both.0 (sym after ∙ e), λ h. after ∙ both.1 h)

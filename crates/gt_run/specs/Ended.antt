@@ -1,25 +1,26 @@
 -- How the program ends, and what it has then answered and written.
-use Rattle.std.specs.Prelude.{◌≡◌, ℕ, ◌⊎◌, Bool, true, false, List, [], ◌∷◌, ◌++◌, Option, Some, None, if◌then◌else◌}
+use Rattle.std.specs.Prelude.{◌≡◌, ℕ, ◌⊎◌, List, [], ◌∷◌, ◌++◌, Option, Some, None, if◌then◌else◌}
 use Rattle.std.specs.List.{list_any}
 use Rattle.gt_space.specs.Range.{Range}
 use Rattle.gt_io.specs.Held.{Held}
 use Rattle.gt_io.specs.Appends.{Adds, AddsFront, IsFrontOf}
 use Rattle.gt_run.specs.Comes.{Comes}
 use Rattle.gt_run.specs.Asks.{Runs}
-use Rattle.gt_run.specs.Text.{text_of, texts_of}
+use Rattle.gt_script.specs.declared.command.Line.{Line}
+use Rattle.gt_run.specs.Text.{is_refusal, text_of, texts_of}
 use Rattle.gt_run.specs.Refused.{IsRefusalLine}
 use Rattle.gt_run.specs.declared.answer.Answer.{Answer}
-use Rattle.gt_run.specs.declared.answer.Answer.TheVariants as answer
 use Rattle.gt_run.specs.declared.refusal.Refusal.{Refusal}
 use Rattle.gt_run.specs.declared.refusal.Refusal.TheVariants.{Words, Header, Script, NotBuilt, File as InFile}
 use Rattle.gt_run.specs.declared.ending.Ending.{Ending}
 use Rattle.gt_run.specs.declared.ending.Ending.TheVariants.{Finished, Refused, SinkFailed, NoMemory}
 use Rattle.gt_run.specs.declared.outcome.Outcome.{Outcome}
 
--- the sink has the whole text of every answer but the last, and of the last a front that is told
-abbrev pub AddsAllBut : Option (List ℕ) → List Answer → (List ℕ → List ℕ → Type 0) → Option (List ℕ) → Type 0
-AddsAllBut old answers Last new = (before : List Answer) × (last : Answer) × (answers ≡ before ++ last ∷ [])
-    × (front : List ℕ) × Last front (text_of last) × Adds old (texts_of before ++ front) new
+-- the sink has the whole texts of the answers to all lines but the last, and of the last a front that is told
+abbrev pub AddsAllBut : Option (List ℕ) → List Line → List Answer → (List ℕ → List ℕ → Type 0) → Option (List ℕ) → Type 0
+AddsAllBut old lines answers Last new = (first : List Line) × (line : Line) × (lines ≡ first ++ line ∷ [])
+    × (before : List Answer) × (answer : Answer) × (answers ≡ before ++ answer ∷ [])
+    × (front : List ℕ) × Last front (text_of line answer) × Adds old (texts_of first before ++ front) new
 
 -- nothing of a text
 abbrev pub IsNothing : List ℕ → List ℕ → Type 0
@@ -29,24 +30,17 @@ IsNothing front text = front ≡ []
 -- finished: a run of all lines, and the text of its answers
 -- refused: what comes first in the order of work, and its line
 -- the sink failed: a front of a refusal's line, or of the text of the answers with all but the last whole
--- want of memory: the text of the answers, or of all but the last
+-- want of memory: the text of the answers, or of all but the last; the answers are those to the lines that were run
 abbrev pub Ended : List (List ℕ) → Option Held → Option (List ℕ) → Ending → List Answer → Option (List ℕ) → Range → Type 0
-Ended words told old Finished answers new range = (r : Runs words told answers range) × (r.left ≡ []) × Adds old (texts_of answers) new
+Ended words told old Finished answers new range = (r : Runs words told answers range) × (r.left ≡ []) × Adds old (texts_of r.done answers) new
 Ended words told old (Refused refusal) answers new range = (answers ≡ []) × (headers : List (List ℕ)) × Comes words told headers refusal
     × (line : List ℕ) × IsRefusalLine words headers refusal line × Adds old line new
 Ended words told old SinkFailed answers new range =
     ((answers ≡ []) × (refusal : Refusal) × (headers : List (List ℕ)) × Comes words told headers refusal × (line : List ℕ) × IsRefusalLine words headers refusal line × AddsFront old line new)
-    ⊎ (Runs words told answers range × AddsAllBut old answers IsFrontOf new)
+    ⊎ ((r : Runs words told answers range) × AddsAllBut old r.done answers IsFrontOf new)
 Ended words told old NoMemory answers new range =
     ((answers ≡ []) × (new ≡ old))
-    ⊎ (Runs words told answers range × (Adds old (texts_of answers) new ⊎ AddsAllBut old answers IsNothing new))
-
--- an answer is a refusal
-abbrev pub is_refusal : Answer → Bool
-is_refusal (answer.Refused why) = true
-is_refusal (answer.Done) = false
-is_refusal (answer.Made address size) = false
-is_refusal (answer.Shown text) = false
+    ⊎ ((r : Runs words told answers range) × (Adds old (texts_of r.done answers) new ⊎ AddsAllBut old r.done answers IsNothing new))
 
 -- the status of a refusal: 3 for a file, else 2
 abbrev pub refusal_status : Refusal → ℕ

@@ -10,6 +10,7 @@ pub mod Halts
 pub mod Headers
 pub mod Kept
 pub mod Lines
+pub mod Marking
 pub mod Next
 pub mod Paths
 pub mod Places

@@ -1,5 +1,5 @@
 -- What one line, and several, leave.
-use Rattle.std.specs.Prelude.{◌≡◌, ℕ, ◌*◌, ◌⊎◌, false, List, [], ◌∷◌, ◌++◌, length, Option, Result, Ok, Err}
+use Rattle.std.specs.Prelude.{◌≡◌, ℕ, ◌*◌, ◌⊎◌, List, [], ◌∷◌, ◌++◌, length, Option, Result, Ok, Err}
 use Rattle.gt_types.specs.declared.program.Program.{Program}
 use Rattle.gt_io.specs.Appends.{Adds, AddsFront, IsFrontOf}
 use Rattle.gt_script.specs.declared.command.Line.{Line}
@@ -20,9 +20,9 @@ use Rattle.gt_run.specs.declared.ending.Ending.TheVariants.{Finished, Refused, S
 use Rattle.gt_run.specs.declared.lines.LineStop.{LineStop}
 use Rattle.gt_run.specs.declared.lines.LineStop.TheVariants.{NoAnswer, NoText, NotWritten}
 
--- a line of a script that has a form and is not quiet
-abbrev pub IsPlainLine : Line → Type 0
-IsPlainLine line = (line.quiet ≡ false) × HasForm line.command
+-- a line of a script, whose command has a form
+abbrev pub IsFormed : Line → Type 0
+IsFormed line = HasForm line.command
 
 -- a line was answered: one more answer, by the machine
 abbrev pub Answers : Program → Line → (old new : State) → (before now : List Answer) → Answer → Type 0
@@ -30,10 +30,10 @@ Answers program line old new before now answer = (now ≡ before ++ answer ∷ [
 
 -- what a line leaves: its answer and its text; or no answer and nothing changed; or its answer and nothing of its text, or a front
 abbrev pub RunsLine : Program → Line → (old new : State) → (before now : List Answer) → (taken takes : Option (List ℕ)) → Result (Unit {0}) LineStop → Type 0
-RunsLine program line old new before now taken takes (Ok done) = (answer : Answer) × Answers program line old new before now answer × Adds taken (text_of answer) takes
+RunsLine program line old new before now taken takes (Ok done) = (answer : Answer) × Answers program line old new before now answer × Adds taken (text_of line answer) takes
 RunsLine program line old new before now taken takes (Err NoAnswer) = (now ≡ before) × (new ≡ old) × (takes ≡ taken)
 RunsLine program line old new before now taken takes (Err NoText) = (answer : Answer) × Answers program line old new before now answer × (takes ≡ taken)
-RunsLine program line old new before now taken takes (Err NotWritten) = (answer : Answer) × Answers program line old new before now answer × AddsFront taken (text_of answer) takes
+RunsLine program line old new before now taken takes (Err NotWritten) = (answer : Answer) × Answers program line old new before now answer × AddsFront taken (text_of line answer) takes
 
 -- the machine ran the first of the lines
 abbrev pub RanFirst : Program → (old new : State) → List Line → List Answer → (left : List Line) → Type 0
@@ -41,10 +41,12 @@ RanFirst program old new lines answers left = (done : List Line) × (done ++ lef
 
 -- what lines leave: a run of all and their text; or a run of the first, and the text of all its answers but maybe the last
 abbrev pub RunsLines : Program → List Line → (old new : State) → List Answer → (taken takes : Option (List ℕ)) → Ending → Type 0
-RunsLines program lines old new answers taken takes Finished = RanFirst program old new lines answers [] × Adds taken (texts_of answers) takes
-RunsLines program lines old new answers taken takes SinkFailed = ((left : List Line) × RanFirst program old new lines answers left) × AddsAllBut taken answers IsFrontOf takes
-RunsLines program lines old new answers taken takes NoMemory = ((left : List Line) × RanFirst program old new lines answers left)
-    × (Adds taken (texts_of answers) takes ⊎ AddsAllBut taken answers IsNothing takes)
+RunsLines program lines old new answers taken takes Finished = (r : RanFirst program old new lines answers []) × Adds taken (texts_of r.0 answers) takes
+RunsLines program lines old new answers taken takes SinkFailed =
+    (left : List Line) × (r : RanFirst program old new lines answers left) × AddsAllBut taken r.0 answers IsFrontOf takes
+RunsLines program lines old new answers taken takes NoMemory =
+    (left : List Line) × (r : RanFirst program old new lines answers left)
+    × (Adds taken (texts_of r.0 answers) takes ⊎ AddsAllBut taken r.0 answers IsNothing takes)
 RunsLines program lines old new answers taken takes (Refused refusal) = ⊥
 
 -- the first of a script's lines were run from the opening state, and the bytes of the space stand for the state that came out
@@ -59,9 +61,12 @@ pub record Opened (program : Program) (lines : List Line) (told : Option Held) (
 
 -- what a script leaves: a run of all lines and their text; or of the first; or nothing, where there was no memory for the space
 abbrev pub RunsScript : Program → List Line → Option Held → List Answer → (taken takes : Option (List ℕ)) → Range → Ending → Type 0
-RunsScript program lines told answers taken takes range Finished = Opened program lines told answers [] range × Adds taken (texts_of answers) takes
-RunsScript program lines told answers taken takes range SinkFailed = ((left : List Line) × Opened program lines told answers left range) × AddsAllBut taken answers IsFrontOf takes
+RunsScript program lines told answers taken takes range Finished =
+    (o : Opened program lines told answers [] range) × Adds taken (texts_of o.ran.0 answers) takes
+RunsScript program lines told answers taken takes range SinkFailed =
+    (left : List Line) × (o : Opened program lines told answers left range) × AddsAllBut taken o.ran.0 answers IsFrontOf takes
 RunsScript program lines told answers taken takes range NoMemory =
     ((answers ≡ []) × (takes ≡ taken))
-    ⊎ (((left : List Line) × Opened program lines told answers left range) × (Adds taken (texts_of answers) takes ⊎ AddsAllBut taken answers IsNothing takes))
+    ⊎ ((left : List Line) × (o : Opened program lines told answers left range)
+    × (Adds taken (texts_of o.ran.0 answers) takes ⊎ AddsAllBut taken o.ran.0 answers IsNothing takes))
 RunsScript program lines told answers taken takes range (Refused refusal) = ⊥

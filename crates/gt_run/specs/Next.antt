@@ -1,12 +1,12 @@
 -- What a command may answer, and what it leaves. A refusal changes nothing.
-use Rattle.std.specs.Prelude.{◌≡◌, ℕ, ◌⊎◌, true, false, List, [], ◌∷◌, Some, None, Contains, slice_get}
+use Rattle.std.specs.Prelude.{◌≡◌, ◌↔◌, ℕ, ◌+◌, ◌⊎◌, true, false, List, [], ◌∷◌, Some, None, Contains, length, map, slice_get, sum}
 use Rattle.gt_types.specs.declared.types.TypeId.{TypeId}
 use Rattle.gt_types.specs.declared.program.Field.{Field}
 use Rattle.gt_types.specs.declared.program.Root.{Root}
 use Rattle.gt_types.specs.declared.program.Structure.{Structure}
 use Rattle.gt_types.specs.declared.program.Program.{Program}
 use Rattle.gt_script.specs.declared.command.Command.{Command}
-use Rattle.gt_script.specs.declared.command.Command.TheVariants.{New, Set, Print}
+use Rattle.gt_script.specs.declared.command.Command.TheVariants.{New, Set, Print, CollectForce, Heap as TheHeap}
 use Rattle.gt_script.specs.declared.command.Route.{Route}
 use Rattle.gt_script.specs.declared.command.Hop.TheVariants.{Name}
 use Rattle.gt_script.specs.declared.command.Given.{Given}
@@ -16,10 +16,13 @@ use Rattle.gt_heap.specs.Tree as tree
 use Rattle.gt_heap.specs.Values.{Nodes, Object, element_of, HasSize}
 use Rattle.gt_heap.specs.Ledger.{Room, rounded}
 use Rattle.gt_heap.specs.Graph.{Graph, Makes, SetsPart}
-use Rattle.gt_run.specs.State.{State, meaning, with_variable}
+use Rattle.gt_heap.specs.Kept.{After, allocated_of}
+use Rattle.gt_heap.specs.Freed.{IsNamed}
+use Rattle.gt_run.specs.State.{State, Variables, meaning, with_variable}
 use Rattle.gt_run.specs.Show.{IsShown}
+use Rattle.gt_run.specs.Text.{heap_text}
 use Rattle.gt_run.specs.declared.answer.Answer.{Answer}
-use Rattle.gt_run.specs.declared.answer.Answer.TheVariants.{Done, Made, Shown, Refused}
+use Rattle.gt_run.specs.declared.answer.Answer.TheVariants.{Done, Made, Shown, Collected, Heap, Refused}
 use Rattle.gt_run.specs.declared.answer.Why.TheVariants.{Unbound, NoType, NoField, Full}
 
 -- the word is the tag of this structure, which may be an object of its own
@@ -118,8 +121,42 @@ NextPrint program s path (Refused Unbound) t = IsUnboundPath s path × (t ≡ s)
 NextPrint program s path (Refused NoField) t = HasNoField program s path × (t ≡ s)
 NextPrint program s path answer t = ⊥
 
+-- variables of objects of which this holds stay bound to them, and the others are bound no more
+abbrev pub KeepsBound : (ℕ → Type 0) → (old new : Variables) → Type 0
+KeepsBound Holds old new = (name : List ℕ) (id : ℕ) → (meaning new name ≡ Some id) ↔ ((meaning old name ≡ Some id) × Holds id)
+
+-- how many pairs all caches have
+abbrev pub pairs_in : List (List (ℕ × ℕ)) → ℕ
+pairs_in caches = sum (map (λ pairs. length pairs) caches)
+
+-- What a collection leaves: the objects and the pairs that it keeps, which are counted, and those that go; the variables of
+-- kept objects; and as the last number the bytes of all blocks. All else is as before.
+pub record Collects (program : Program) (s : State) (kept freed dropped : ℕ) (t : State) : Type 0 where
+  pub graph : After program s.graph t.graph
+  pub kept_count : kept ≡ length t.graph.objects
+  pub freed_count : kept + freed ≡ length s.graph.objects
+  pub dropped_count : pairs_in t.graph.pairs + dropped ≡ pairs_in s.graph.pairs
+  pub variables : KeepsBound (IsNamed t.graph.objects) s.variables t.variables
+  pub last : t.last ≡ allocated_of t.graph.ledger
+  pub min_expand : t.min_expand ≡ s.min_expand
+  pub min_heapsize : t.min_heapsize ≡ s.min_heapsize
+  pub rounds : t.rounds ≡ s.rounds
+  pub files : t.files ≡ s.files
+
+-- collect force: what it keeps, in numbers
+abbrev pub NextCollect : Program → State → Answer → State → Type 0
+NextCollect program s (Collected kept freed dropped) t = Collects program s kept freed dropped t
+NextCollect program s answer t = ⊥
+
+-- heap: the numbers of objects by their sizes
+abbrev pub NextHeap : State → Answer → State → Type 0
+NextHeap s (Heap text) t = (text ≡ heap_text s.graph.ledger) × (t ≡ s)
+NextHeap s answer t = ⊥
+
 -- from s, the machine may give this answer to the command and go on to t
 abbrev pub Next : Program → State → Command → Answer → State → Type 0
 Next program s (New var type n) answer t = NextNew program s var type.name answer t
 Next program s (Set path value) answer t = NextSet program s path value answer t
 Next program s (Print path) answer t = NextPrint program s path answer t
+Next program s CollectForce answer t = NextCollect program s answer t
+Next program s TheHeap answer t = NextHeap s answer t

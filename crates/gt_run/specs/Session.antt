@@ -1,9 +1,10 @@
 -- The state that a session and the bytes of its space are.
-use Rattle.std.specs.Prelude.{◌≡◌, ℕ, List, Option, Some}
+use Rattle.std.specs.Prelude.{◌≡◌, ℕ, ◌≤◌, List, Option, Some}
 use Rattle.gt_space.specs.Range.{Range}
 use Rattle.gt_io.specs.Held.{Held}
 use Rattle.gt_heap.specs.Heap.{graph_of, IsHeap, IsObject}
 use Rattle.gt_run.specs.State.{State, meaning}
+use Rattle.gt_run.specs.declared.TheConstants.{MAX_ALLOCATED}
 use Rattle.gt_run.specs.declared.session.Session.{Session}
 
 -- the state of a session over these bytes and these files
@@ -19,7 +20,9 @@ state_of s range told =
       files = told;
     }
 
--- what holds of a session between two commands: the bytes stand for its heap, and each variable means an object
+-- what holds of a session between two commands: the bytes stand for its heap, each variable means an object, and the last
+-- collection left no more bytes than a space can have
 pub record IsSession (s : Session) (range : Range) : Type 0 where
   pub heap : IsHeap s.program s.heap range
   pub variables : (name : List ℕ) (id : ℕ) → meaning s.vars name ≡ Some id → IsObject s.program s.heap range id
+  pub last : s.last ≤ MAX_ALLOCATED

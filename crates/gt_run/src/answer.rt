@@ -9,8 +9,31 @@ pub enum Answer {
     Made { addr: u64, size: u32 },
     /// The text of a value.
     Shown(Bytes),
+    /// A collection kept so many objects, freed so many, and dropped so many pairs of caches.
+    Collected { kept: u32, freed: u32, dropped: u32 },
+    /// How many objects there are of each size, and the bytes of all.
+    Heap(Bytes),
     /// The command was refused, and changed nothing.
     Refused(Why),
+}
+
+impl Answer {
+    ghost use Rattle.std.specs.Prelude.{◌≡◌};
+    ghost use Rattle.gt_run.specs.Text.{is_refusal as is_refusal_of};
+
+    /// Whether the command was refused.
+    pub fn is_refusal(&self) -> bool
+        ensures { result ≡ is_refusal_of self.now }
+    {
+        match self {
+            Answer::Refused(_) => true,
+            Answer::Done => false,
+            Answer::Made { .. } => false,
+            Answer::Shown(_) => false,
+            Answer::Collected { .. } => false,
+            Answer::Heap(_) => false,
+        }
+    }
 }
 
 /// Why a command is refused.

@@ -3,7 +3,7 @@ ghost use Rattle.std.specs.Prelude.{◌≡◌, ◌≤◌, [], IsErrOf, List};
 ghost use Rattle.std.specs.List.{AllByRecursion};
 ghost use Rattle.gt_io.specs.Counts.{Rose};
 ghost use Rattle.gt_run.specs.Session.{state_of, IsSession};
-ghost use Rattle.gt_run.specs.Lines.{IsPlainLine, RunsLine, RunsLines};
+ghost use Rattle.gt_run.specs.Lines.{IsFormed, RunsLine, RunsLines};
 
 use crate::ending::Ending;
 use crate::{Answer, Session, step, text};
@@ -23,7 +23,7 @@ pub enum LineStop {
     NotWritten,
 }
 
-/// Answers one line and writes its text.
+/// Answers one line and writes its text, where it has one.
 pub fn run_line<F: Files, K: Sink>(
     alloc: Global,
     s: &mut Session,
@@ -34,7 +34,7 @@ pub fn run_line<F: Files, K: Sink>(
     line: &Line,
 ) -> Result<(), LineStop>
     requires session { IsSession s.old space.old }
-    requires plain { IsPlainLine line.now }
+    requires form { IsFormed line.now }
     ensures ran { RunsLine s.old.program line.now (state_of s.old space.old (F.told files.old)) (state_of s.new space.new (F.told files.new)) answers.old.items answers.new.items (K.written out.old) (K.written out.new) result }
     ensures session { IsSession s.new space.new }
     ensures program { s.new.program ≡ s.old.program }
@@ -53,6 +53,9 @@ pub fn run_line<F: Files, K: Sink>(
     let Ok(text) = text else {
         return Err(LineStop::NoText);
     };
+    if text.is_empty() {
+        return Ok(());
+    }
     match out.write_all(text.as_slice()) {
         Ok(()) => Ok(()),
         Err(WriteFail::Failed) => Err(LineStop::NotWritten),
@@ -71,7 +74,7 @@ pub fn run_lines<F: Files, K: Sink>(
     lines: &[Line],
 ) -> Ending
     requires session { IsSession s.old space.old }
-    requires forms { AllByRecursion IsPlainLine lines.now }
+    requires forms { AllByRecursion IsFormed lines.now }
     requires none_yet { answers.old.items ≡ [] }
     ensures ran { RunsLines s.old.program lines.now (state_of s.old space.old (F.told files.old)) (state_of s.new space.new (F.told files.new)) answers.new.items (K.written out.old) (K.written out.new) result }
     ensures session { IsSession s.new space.new }

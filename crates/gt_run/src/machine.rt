@@ -2,9 +2,7 @@
 ghost use Rattle.std.specs.Prelude.{◌≡◌, ◌⊎◌, Option, IfOk, OnErr};
 ghost use Rattle.gt_script.specs.Spelling.{HasForm, IsField, IsRoot, IsValue};
 ghost use Rattle.gt_io.specs.Held.{Held};
-ghost use Rattle.gt_heap.specs.Ledger.{Room};
-ghost use Rattle.gt_heap.specs.Heap.{IsHeap, graph_of};
-ghost use Rattle.gt_run.specs.Next.{Next, NextNew, NextPrint, NextSet};
+ghost use Rattle.gt_run.specs.Next.{Next, NextCollect, NextNew, NextPrint, NextSet};
 ghost use Rattle.gt_run.specs.Session.{state_of, IsSession};
 ghost use Rattle.gt_run.specs.Kept.{KeepsBytes};
 ghost use Rattle.gt_run.specs.Paths.{HasPathForm};
@@ -12,13 +10,15 @@ ghost use Rattle.gt_run.specs.Paths.{HasPathForm};
 pub mod paths;
 
 use crate::machine::paths::{Place, is_type, place_of, target_of};
+use crate::marking::{flags, reached};
+use crate::report::report;
 use crate::show::show;
 use crate::{Answer, Session, Why};
-use gt_heap::{Heap, MakeFail};
+use gt_heap::{MakeFail, after_flags};
 use gt_io::Files;
 use gt_script::{Command, Given, Line, Route};
 use gt_space::Space;
-use gt_types::{Program, Word};
+use gt_types::Word;
 use std::alloc::{AllocError, Global};
 
 /// Answers one command. For want of memory nothing changed.
@@ -44,10 +44,13 @@ pub fn step<F: Files>(
         Command::New { var, ty, .. } => make(s, space, var, &ty.name),
         Command::Set { path, value } => Ok(set(s, space, path, value)),
         Command::Print { path } => print(alloc, s, space, path),
+        Command::CollectForce => collect(alloc, s, space),
+        Command::Heap => Ok(Answer::Heap(report(alloc, s, space)?)),
     }
 }
 
-// Makes a zero object of the named type and binds the variable to it. The variable is bound first, since that may want memory.
+// Makes a zero object of the named type and binds the variable to it. The variable is bound first, since that may want memory,
+// and it means again what it did, where no object is made.
 fn make(s: &mut Session, space: &mut Space, var: &Word, name: &Word) -> Result<Answer, AllocError>
     requires session { IsSession s.old space.old }
     ensures next { (told : Option Held) → IfOk result (λ answer. NextNew s.old.program (state_of s.old space.old told) var.now name.now answer (state_of s.new space.new told)) }
@@ -59,9 +62,7 @@ fn make(s: &mut Session, space: &mut Space, var: &Word, name: &Word) -> Result<A
     if !is_type(&s.program, name) {
         return Ok(Answer::Refused(Why::NoType));
     }
-    if !s.heap.has_room(&s.program, space) {
-        return Ok(Answer::Refused(no_room(&mut s.heap, &s.program, space)));
-    }
+    let before = s.vars.get(var);
     s.vars.bind(var, 0)?;
     match s.heap.make(&s.program, space) {
         Ok(made) => {
@@ -71,20 +72,13 @@ fn make(s: &mut Session, space: &mut Space, var: &Word, name: &Word) -> Result<A
                 size: made.size,
             })
         }
-        Err(_) => unreachable!(),
-    }
-}
-
-// Why no object is made where there is no place for one: the heap tells the size.
-fn no_room(heap: &mut Heap, program: &Program, space: &mut Space) -> Why
-    requires heap { IsHeap program.now heap.old space.old }
-    requires full { Room (graph_of program.now heap.old space.old).ledger heap.old.size → ⊥ }
-    ensures full { result ≡ Why.Full heap.old.size }
-    ensures unchanged { (heap.new ≡ heap.old) × (space.new ≡ space.old) }
-{
-    match heap.make(program, space) {
-        Err(MakeFail::Full { need }) => Why::Full { need },
-        Ok(_) => unreachable!(),
+        Err(fail) => {
+            s.vars.take_back(var, before);
+            match fail {
+                MakeFail::Full { need } => Ok(Answer::Refused(Why::Full { need })),
+                MakeFail::Memory => Err(AllocError),
+            }
+        }
     }
 }
 
@@ -125,4 +119,26 @@ fn print(alloc: Global, s: &Session, space: &Space, path: &Route) -> Result<Answ
         Ok(place) => Ok(Answer::Shown(show(alloc, s, space, place)?)),
         Err(why) => Ok(Answer::Refused(why)),
     }
+}
+
+// Frees the objects that no root reaches, and unbinds their variables. What may want memory comes first.
+fn collect(alloc: Global, s: &mut Session, space: &Space) -> Result<Answer, AllocError>
+    requires session { IsSession s.old space.now }
+    ensures next { (told : Option Held) → IfOk result (λ answer. NextCollect s.old.program (state_of s.old space.now told) answer (state_of s.new space.now told)) }
+    ensures unchanged { OnErr result (s.new ≡ s.old) }
+    ensures session { IsSession s.new space.now }
+    ensures program { s.new.program ≡ s.old.program }
+{
+    after_flags();
+    let found = reached(alloc, s, space)?;
+    let kept = flags(alloc, &s.heap, &found)?;
+    let before = s.heap.len();
+    s.heap.keep(&s.program, space, &kept)?;
+    s.vars.keep(&found);
+    s.last = s.heap.allocated();
+    Ok(Answer::Collected {
+        kept: s.heap.len(),
+        freed: before - s.heap.len(),
+        dropped: 0,
+    })
 }

@@ -1,7 +1,8 @@
 // What the program tells at its end.
 ghost use Rattle.std.specs.Prelude.{◌≡◌, if◌then◌else◌};
 ghost use Rattle.std.specs.List.{list_any};
-ghost use Rattle.gt_run.specs.Ended.{is_refusal as is_refusal_of, refusal_status as refusal_status_of};
+ghost use Rattle.gt_run.specs.Text.{is_refusal as is_refusal_of};
+ghost use Rattle.gt_run.specs.Ended.{refusal_status as refusal_status_of};
 
 use crate::ending::Ending;
 use crate::{Answer, Refusal};
@@ -63,18 +64,7 @@ fn finished_status(answers: &List<Answer>) -> u8
 fn any_refusal(answers: &[Answer]) -> bool
     ensures { result ≡ list_any is_refusal_of answers.now }
 {
-    answers.iter().any(|answer| is_refusal(answer))
-}
-
-fn is_refusal(answer: &Answer) -> bool
-    ensures { result ≡ is_refusal_of answer.now }
-{
-    match answer {
-        Answer::Refused(_) => true,
-        Answer::Done => false,
-        Answer::Made { .. } => false,
-        Answer::Shown(_) => false,
-    }
+    answers.iter().any(|answer| answer.is_refusal())
 }
 
 // 3 for a file, else 2.

@@ -6,7 +6,7 @@ ghost use Rattle.gt_run.specs.Refused.{IsRefusalLine, IsLineOf, fault_name, faul
 ghost use Rattle.gt_run.specs.Refuses.{HasLine, Refuses};
 
 use crate::ending::Ending;
-use crate::texts::decimal_text;
+use crate::texts::push_decimal;
 use crate::{FileWhy, Refusal};
 use gt_io::{Sink, WriteFail};
 use gt_types::{Bytes, Fault, Word};
@@ -92,15 +92,12 @@ fn fault_line(
 fn fault_text(alloc: Global, line: u32, column: u32, number: u8) -> Result<Bytes, AllocError>
     ensures { IfOk result (λ bytes. bytes ≡ fault_text line column number) }
 {
-    let line = decimal_text(alloc, line)?;
-    let column = decimal_text(alloc, column)?;
-    let digits = decimal_text(alloc, number as u32)?;
     let mut said = Bytes::of(alloc, b":")?;
-    said.append(line.as_bytes())?;
+    push_decimal(alloc, &mut said, line as u64)?;
     said.append(b":")?;
-    said.append(column.as_bytes())?;
+    push_decimal(alloc, &mut said, column as u64)?;
     said.append(b": fault ")?;
-    said.append(digits.as_bytes())?;
+    push_decimal(alloc, &mut said, number as u64)?;
     said.append(b" ")?;
     said.append(fault_name(number))?;
     Ok(said)

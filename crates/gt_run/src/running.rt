@@ -8,7 +8,7 @@ ghost use Rattle.gt_heap.specs.Heap.{IsFirst};
 ghost use Rattle.gt_run.specs.Call.{default_settings};
 ghost use Rattle.gt_run.specs.State.{IsOpening};
 ghost use Rattle.gt_run.specs.Session.{state_of, IsSession};
-ghost use Rattle.gt_run.specs.Lines.{IsPlainLine, RunsScript};
+ghost use Rattle.gt_run.specs.Lines.{IsFormed, RunsScript};
 ghost use Rattle.gt_run.specs.Ended.{Ends};
 ghost use Rattle.gt_run.specs.Complete.{IsWell};
 
@@ -84,7 +84,7 @@ fn run<F: Files, K: Sink>(
     answers: &mut Vec<Answer>,
 ) -> Ending
     requires first { IsFirst ready.program }
-    requires forms { AllByRecursion IsPlainLine ready.lines }
+    requires forms { AllByRecursion IsFormed ready.lines }
     requires none_yet { answers.old.items ≡ [] }
     ensures ran { RunsScript ready.program ready.lines (F.told files.old) answers.new.items (K.written out.old) (K.written out.new) space.new result }
     ensures files { files.new ≡ files.old }
@@ -115,7 +115,7 @@ fn opening(alloc: Global, program: Program) -> Session
     ensures program { result.program ≡ program }
     ensures opens { (told : Option Held) → IsOpening program default_settings told (state_of result (fresh_range DEFAULT_PAGES (8 * length program.roots)) told) }
 {
-    let heap = Heap::new(&program, DEFAULT_PAGES);
+    let heap = Heap::new(alloc, &program, DEFAULT_PAGES);
     Session {
         program,
         heap,

@@ -15,6 +15,13 @@ const LIST: &str =
 const LISTED: &str =
     "made 0x10000000 16\nmade 0x10000010 16\nok\nok\n{next=&node, other=null}\n&node\nerror F1 Unbound\nerror F3 NoField\n";
 
+// The first of three objects loses its pointer to the second, which points to the third.
+const LOST: &str =
+    "@new $a node\n@new $b node\n@new $c node\n@set $a.next $b\n@set $b.next $c\n@set head $a\nset $a.next null\ncollect force\nprint $c\nheap\n";
+
+const LOST_TEXT: &str =
+    "ok\ncollected kept 1 freed 2 dropped 0\nerror F1 Unbound\nsize 16 objects 1\nobjects 1 bytes 16\n";
+
 // A file that is there with these bytes, or is not there.
 type File<'a> = Option<&'a [u8]>;
 
@@ -85,6 +92,85 @@ fn scripts_are_answered_line_by_line(rt: HostRuntime) -> Result<(), Fail> {
         assert_eq!(rt; got.0, status, "{script}");
         assert_eq!(rt; got.1.as_slice(), output.as_bytes(), "{script}");
     }
+    Ok(())
+}
+
+#[test]
+fn a_collection_keeps_what_the_roots_reach(rt: HostRuntime) -> Result<(), Fail> {
+    let alloc = rt.alloc();
+    let cases = [
+        (LOST, LOST_TEXT, 1),
+        // Two objects that point to each other, which no root reaches.
+        (
+            "@new $a node\n@new $b node\n@set $a.next $b\n@set $b.next $a\ncollect force\n",
+            "collected kept 0 freed 2 dropped 0\n",
+            0,
+        ),
+        // The same two, and a third that points to itself, reached by the second's other field.
+        (
+            "@new $a node\n@new $b node\n@new $c node\n@set $a.next $b\n@set $b.next $a\n@set $b.other $c\n@set $c.next $c\n@set head $a\ncollect force\nprint $c\n",
+            "collected kept 3 freed 0 dropped 0\n{next=&node, other=null}\n",
+            0,
+        ),
+        // A place of a lost object is given out again, and the kept objects keep their variables.
+        (
+            "@new $a node\n@new $b node\n@set head $b\n@collect force\n@new $c node\nheap\nprint $b\nprint $c\nprint $a\n",
+            "size 16 objects 2\nobjects 2 bytes 32\n{next=null, other=null}\n{next=null, other=null}\nerror F1 Unbound\n",
+            1,
+        ),
+        (
+            "heap\ncollect force\nheap\n",
+            "objects 0 bytes 0\ncollected kept 0 freed 0 dropped 0\nobjects 0 bytes 0\n",
+            0,
+        ),
+        // Of a quiet line a refusal alone is printed.
+        ("@print $x\n@print head\n@heap\n", "error F1 Unbound\n", 1),
+    ];
+    for (script, output, status) in cases {
+        let got = run(
+            alloc,
+            &["s", "h.h"],
+            Some(HEADER.as_bytes()),
+            Some(script.as_bytes()),
+            &[],
+            &[],
+        )?;
+        assert_eq!(rt; got.0, status, "{script}");
+        assert_eq!(rt; got.1.as_slice(), output.as_bytes(), "{script}");
+    }
+    Ok(())
+}
+
+// A script that makes a list of 30,000 objects, all of which the root reaches, and collects; and then once more, without the
+// root's pointer.
+fn long_list(alloc: Global) -> Result<Vec<u8>, AllocError> {
+    let mut script = Vec::from_slice(alloc, b"@new $b node\n")?;
+    for _ in 0..14_999u32 {
+        script.extend_from_slice(
+            b"@new $a node\n@set $a.next $b\n@new $b node\n@set $b.next $a\n",
+        )?;
+    }
+    script.extend_from_slice(b"@new $a node\n@set $a.next $b\n@set head $a\ncollect force\n")?;
+    script.extend_from_slice(b"set head null\ncollect force\n")?;
+    Ok(script)
+}
+
+#[test]
+fn a_long_list_is_kept_and_then_freed(rt: HostRuntime) -> Result<(), Fail> {
+    let alloc = rt.alloc();
+    let script = long_list(alloc)?;
+    let got = run(
+        alloc,
+        &["s", "h.h"],
+        Some(HEADER.as_bytes()),
+        Some(&script),
+        &[],
+        &[],
+    )?;
+    let output: &[u8] =
+        b"collected kept 30000 freed 0 dropped 0\nok\ncollected kept 0 freed 30000 dropped 0\n";
+    assert_eq!(rt; got.0, 0);
+    assert_eq!(rt; got.1.as_slice(), output);
     Ok(())
 }
 
@@ -189,6 +275,17 @@ fn each_read_and_each_write_may_fail(rt: HostRuntime) -> Result<(), Fail> {
             got.1.as_slice(),
             LISTED.as_bytes().get(..before).ok_or("short")?
         );
+    }
+    // A quiet line that is done takes no write.
+    let quiet: File = Some(b"@print head\nprint head\n@print $x\n");
+    for (call, output, status) in [
+        (1, "", 4),
+        (2, "null\n", 4),
+        (3, "null\nerror F1 Unbound\n", 1),
+    ] {
+        let got = run(alloc, &["s", "h.h"], good, quiet, &[], &[call])?;
+        assert_eq!(rt; got.0, status);
+        assert_eq!(rt; got.1.as_slice(), output.as_bytes());
     }
     let got = run(alloc, &[], good, script, &[], &[1])?;
     assert_eq!(rt; got.0, 4);

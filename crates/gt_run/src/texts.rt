@@ -1,5 +1,5 @@
-// The text of an answer.
-ghost use Rattle.std.specs.Prelude.{◌≡◌, false, IfOk};
+// The text of a line's answer.
+ghost use Rattle.std.specs.Prelude.{◌≡◌, ◌++◌, IfOk, OnOk};
 ghost use Rattle.std.specs.String.{string_bytes};
 ghost use Rattle.gt_run.specs.Text.{answer_text as answer_text_of, decimal, hexadecimal, text_of, why_text as why_text_of};
 
@@ -8,11 +8,13 @@ use gt_script::Line;
 use gt_types::{Bytes, Copied};
 use std::alloc::{AllocError, Global};
 
-/// The text of a line's answer, which ends with a newline. No line is quiet yet.
-pub fn text(alloc: Global, _line: &Line, answer: &Answer) -> Result<Bytes, AllocError>
-    requires plain { _line.now.quiet ≡ false }
-    ensures text { IfOk result (λ bytes. bytes ≡ text_of answer.now) }
+/// The text of a line's answer, which ends with a newline. Where the line is quiet, there is no text but of a refusal.
+pub fn text(alloc: Global, line: &Line, answer: &Answer) -> Result<Bytes, AllocError>
+    ensures text { IfOk result (λ bytes. bytes ≡ text_of line.now answer.now) }
 {
+    if line.quiet && !answer.is_refusal() {
+        return Ok(Bytes::new(alloc));
+    }
     let mut text = answer_text(alloc, answer)?;
     text.push(b'\n')?;
     Ok(text)
@@ -26,6 +28,12 @@ fn answer_text(alloc: Global, answer: &Answer) -> Result<Bytes, AllocError>
         Answer::Done => Bytes::of(alloc, b"ok"),
         Answer::Made { addr, size } => made_text(alloc, *addr, *size),
         Answer::Shown(text) => text.copy(alloc),
+        Answer::Collected {
+            kept,
+            freed,
+            dropped,
+        } => collected_text(alloc, *kept, *freed, *dropped),
+        Answer::Heap(text) => text.copy(alloc),
         Answer::Refused(why) => refused_text(alloc, *why),
     }
 }
@@ -35,11 +43,23 @@ fn made_text(alloc: Global, addr: u64, size: u32) -> Result<Bytes, AllocError>
     ensures { IfOk result (λ bytes. bytes ≡ answer_text_of (Answer.Made addr size)) }
 {
     let addr = hexadecimal_text(alloc, addr)?;
-    let size = decimal_text(alloc, size)?;
     let mut text = Bytes::of(alloc, b"made 0x")?;
     text.append(addr.as_bytes())?;
     text.append(b" ")?;
-    text.append(size.as_bytes())?;
+    push_decimal(alloc, &mut text, size as u64)?;
+    Ok(text)
+}
+
+// The line of a collection: how many objects it kept and freed, and how many pairs of caches it dropped.
+fn collected_text(alloc: Global, kept: u32, freed: u32, dropped: u32) -> Result<Bytes, AllocError>
+    ensures { IfOk result (λ bytes. bytes ≡ answer_text_of (Answer.Collected kept freed dropped)) }
+{
+    let mut text = Bytes::of(alloc, b"collected kept ")?;
+    push_decimal(alloc, &mut text, kept as u64)?;
+    text.append(b" freed ")?;
+    push_decimal(alloc, &mut text, freed as u64)?;
+    text.append(b" dropped ")?;
+    push_decimal(alloc, &mut text, dropped as u64)?;
     Ok(text)
 }
 
@@ -59,14 +79,21 @@ fn refused_text(alloc: Global, why: Why) -> Result<Bytes, AllocError>
 fn full_text(alloc: Global, need: u32) -> Result<Bytes, AllocError>
     ensures { IfOk result (λ bytes. bytes ≡ answer_text_of (Answer.Refused (Why.Full need))) }
 {
-    let need = decimal_text(alloc, need)?;
     let mut text = Bytes::of(alloc, b"error F10 Full ")?;
-    text.append(need.as_bytes())?;
+    push_decimal(alloc, &mut text, need as u64)?;
     Ok(text)
 }
 
+/// Adds a number in decimal.
+pub fn push_decimal(alloc: Global, text: &mut Bytes, n: u64) -> Result<(), AllocError>
+    ensures { OnOk result (text.new ≡ text.old ++ decimal n) }
+{
+    let digits = decimal_text(alloc, n)?;
+    text.append(digits.as_bytes())
+}
+
 // A number in decimal.
-pub fn decimal_text(alloc: Global, n: u32) -> Result<String, AllocError>
+fn decimal_text(alloc: Global, n: u64) -> Result<String, AllocError>
     ensures { IfOk result (λ text. string_bytes text ≡ decimal n) }
 {
     format!(in alloc; "{n}")

@@ -1,10 +1,13 @@
 // The variables of a script.
-ghost use Rattle.std.specs.Prelude.{◌≡◌, OnOk, OnErr, IsSome};
-ghost use Rattle.gt_run.specs.State.{no_variables, meaning, with_variable};
+ghost use Rattle.std.specs.Prelude.{◌≡◌, ℕ, Option, OnOk, OnErr, IsSome, IsTrue};
+ghost use Rattle.std.specs.Ordering.{nat_cmp};
+ghost use Rattle.std.specs.BTreeSet.{contains};
+ghost use Rattle.gt_run.specs.State.{Variables, no_variables, meaning, with_variable};
+ghost use Rattle.gt_run.specs.Next.{KeepsBound};
 
 use gt_types::{Copied, Word};
 use std::alloc::{AllocError, Global};
-use std::collections::BTreeMap;
+use std::collections::{BTreeMap, BTreeSet};
 use std::marker::Model;
 
 /// Variables, which contracts see as a finite map from names to the addresses of objects.
@@ -62,5 +65,26 @@ impl Vars {
         if let Some(place) = self.addresses.get_mut(name) {
             *place = address;
         }
+    }
+
+    /// Takes back the binding of a variable that had this meaning, or none, before. It takes no memory.
+    pub fn take_back(&mut self, name: &Word, before: Option<u64>)
+        requires bound { IsSome (meaning self.old name.now) }
+        ensures as_before { (v : Variables) (address : ℕ) → self.old ≡ with_variable v name.now address → before ≡ meaning v name.now → self.new ≡ v }
+    {
+        match before {
+            Some(address) => self.rebind(name, address),
+            None => {
+                let _ = self.addresses.remove(name);
+            }
+        }
+    }
+
+    /// Keeps the variables of these objects, and unbinds the others. It takes no memory.
+    pub fn keep(&mut self, addresses: &BTreeSet<u64>)
+        ensures kept { KeepsBound (λ id. IsTrue (contains nat_cmp addresses.now id)) self.old self.new }
+    {
+        self.addresses
+            .retain(|_, address| addresses.contains(&*address));
     }
 }

@@ -1,13 +1,13 @@
 -- What is spelled so is read.
-use Rattle.std.proofs.Common.{◌≡◌, ℕ, Bool, true, false, not, eqb, leb, List, [], ◌∷◌, ◌++◌, length, Some, None, refl, sym, ap, subst, ◌∙◌, append_assoc, arith, inl, inr}
+use Rattle.std.proofs.Common.{◌≡◌, ℕ, Bool, true, false, cond, not, eqb, leb, List, [], ◌∷◌, ◌++◌, length, Option, Some, None, refl, sym, ap, subst, ◌∙◌, append_assoc, arith, inl, inr}
 use Rattle.std.specs.Prelude.{◌⊎◌, ◌&&◌, codes}
-use Rattle.std.specs.Str.Lines.{strip_carriage_return}
+use Rattle.std.specs.Option.{option_map_or}
 use Rattle.std.proofs.lemmas.Bool.Decides.{nat_tests}
 use Rattle.std.proofs.lemmas.List.{append-nil}
 use Rattle.std.proofs.lemmas.List.Folds.{list_all-append}
 use Rattle.gt_script.specs.declared.command.Line.{Line}
 use Rattle.gt_script.specs.declared.command.Command.{Command}
-use Rattle.gt_script.specs.declared.command.Command.TheVariants.{New, Set, Print}
+use Rattle.gt_script.specs.declared.command.Command.TheVariants.{New, Set, Print, CollectForce, Heap}
 use Rattle.gt_script.specs.declared.command.TypeName.{TypeName}
 use Rattle.gt_script.specs.declared.command.Route.{Route}
 use Rattle.gt_script.specs.declared.command.Hop.{Hop}
@@ -17,7 +17,7 @@ use Rattle.gt_script.specs.declared.command.Given.TheVariants.{Integer, Null, Va
 use Rattle.gt_script.specs.Name.{is_name_of, starts_name_of, IsName}
 use Rattle.gt_script.specs.Spelling.{path_text, value_text, spelling, IsRoot, IsField, IsValue, HasForm}
 use Rattle.gt_script.specs.Script.{IsLine, AreLines, Parsed, lines_of}
-use Rattle.gt_script.specs.Reading.{behind, route_at, field_at, reference_at, path_at, value_at, new_at, set_at, print_at, command_at, line_at, lines_at, script_at}
+use Rattle.gt_script.specs.Reading.{behind, route_at, field_at, reference_at, path_at, value_at, new_at, set_at, print_at, worded_at, command_at, said_at, line_at, lines_at, script_at}
 use Rattle.gt_script.proofs.Options.{both}
 use Rattle.gt_script.proofs.Splits.{lacks, parts_again, parts_none}
 use Rattle.gt_script.proofs.Identifiers.{named_again, name_lacks}
@@ -114,20 +114,42 @@ unfolding print_at
 print_again path h = let read = read_again path h in rw read.again refl
 
 command_again : (command : Command) → HasForm command → command_at (spelling command) ≡ Some command
-unfolding command_at behind
+unfolding command_at behind worded_at
 command_again (New var ty n) h =
     ap new_at (append_assoc var (codes " ") ty.name) ∙ new_again var ty.name h.0 h.1
     ∙ ap (λ (t : TypeName). Some (New var t None)) (type_is ty h.2) ∙ ap (λ m. Some (New var ty m)) (sym h.3)
 command_again (Set path value) h = ap set_at (append_assoc (path_text path) (codes " ") (value_text value)) ∙ set_again path value h.0 h.1
 command_again (Print path) h = print_again path h
+command_again CollectForce h = refl
+command_again Heap h = refl
 
 -- ---- lines
 
+-- no command begins with @
+unmarked : (command : Command) → behind (codes "@") (spelling command) ≡ None
+unfolding behind
+unmarked (New var ty n) = refl
+unmarked (Set path value) = refl
+unmarked (Print path) = refl
+unmarked CollectForce = refl
+unmarked Heap = refl
+
+said_again : (quiet : Bool) (command : Command) → HasForm command → said_at quiet (spelling command) ≡ Some (record { quiet = quiet; command = command })
+unfolding said_at
+said_again quiet command h = rw (command_again command h) refl
+
+-- what the text of a line says, behind the mark of a quiet one
+abbrev line_from : List ℕ → Option Line
+line_from text = option_map_or (said_at true) (behind (codes "@") text) (said_at false text)
+
+marked_again : (quiet : Bool) (command : Command) → HasForm command → line_from (cond quiet (codes "@") [] ++ spelling command) ≡ Some (record { quiet = quiet; command = command })
+unfolding behind
+marked_again true command h = said_again true command h
+marked_again false command h = rw (unmarked command) (said_again false command h)
+
 line_again : (text : List ℕ) (line : Line) → IsLine text line → line_at text ≡ Some line
 unfolding line_at
-line_again text line h =
-    let command : command_at (strip_carriage_return text) ≡ Some line.command = ap command_at h.2 ∙ command_again line.command h.1 in
-    rw command (ap (λ (q : Bool). Some (record { quiet = q; command = line.command })) (sym h.0))
+line_again text line h = ap line_from h.1 ∙ marked_again line.quiet line.command h.0
 
 lines_again : (texts : List (List ℕ)) (lines : List Line) → AreLines texts lines → lines_at texts ≡ Some lines
 unfolding lines_at

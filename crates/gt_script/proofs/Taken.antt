@@ -10,16 +10,16 @@ use Rattle.std.proofs.lemmas.List.{append-nil, take-append-drop}
 use Rattle.std.proofs.lemmas.Slice.Eq.{bytes_eq-Decides}
 use Rattle.gt_script.specs.declared.command.Line.{Line}
 use Rattle.gt_script.specs.declared.command.Command.{Command}
-use Rattle.gt_script.specs.declared.command.Command.TheVariants.{New, Set, Print}
+use Rattle.gt_script.specs.declared.command.Command.TheVariants.{New, Set, Print, CollectForce, Heap}
 use Rattle.gt_script.specs.declared.command.Route.{Route}
 use Rattle.gt_script.specs.declared.command.Hop.{Hop}
 use Rattle.gt_script.specs.declared.command.Hop.TheVariants.{Name}
 use Rattle.gt_script.specs.declared.command.Given.{Given}
 use Rattle.gt_script.specs.declared.command.Given.TheVariants.{Null, Var}
 use Rattle.gt_script.specs.Name.{IsName}
-use Rattle.gt_script.specs.Spelling.{path_text, value_text, spelling, IsRoot, IsVariable, IsField, IsValue, HasForm}
+use Rattle.gt_script.specs.Spelling.{path_text, value_text, spelling, line_text, IsRoot, IsVariable, IsField, IsValue, HasForm}
 use Rattle.gt_script.specs.Script.{IsLine, AreLines, Parsed, lines_of}
-use Rattle.gt_script.specs.Reading.{◌>>=◌, behind, parts_at, named_at, route_at, field_at, reference_at, path_at, value_at, new_at, set_at, print_at, command_at, line_at, lines_at, script_at}
+use Rattle.gt_script.specs.Reading.{◌>>=◌, behind, parts_at, named_at, route_at, field_at, reference_at, path_at, value_at, new_at, set_at, print_at, worded_at, command_at, said_at, line_at, lines_at, script_at}
 use Rattle.gt_script.proofs.Options.{bind_some, map_or_some, passed, chosen}
 use Rattle.gt_script.proofs.Splits.{parts_taken}
 use Rattle.gt_script.proofs.Identifiers.{named_taken}
@@ -156,29 +156,50 @@ print_taken text command e =
     subst (λ (c : Command). HasForm c × (codes "print " ++ text ≡ spelling c)) (same_Some (Print path.0) command path.2)
     (is_path.0, ap (λ (t : List ℕ). codes "print " ++ t) is_path.1)
 
+worded_taken : (text : List ℕ) (command : Command) → worded_at text ≡ Some command → HasForm command × (text ≡ spelling command)
+unfolding worded_at
+worded_taken text command e =
+    let P : Command → Type 0 = λ c. HasForm c × (text ≡ spelling c) in
+    elim (chosen (bytes_eq text (codes "collect force")) (Some CollectForce) (cond (bytes_eq text (codes "heap")) (Some Heap) None) command e) [
+      | inl g ↦ subst P (same_Some CollectForce command g.1) (tt, (bytes_eq-Decides text (codes "collect force")).0 g.0)
+      | inr g ↦
+          let h = cond_some (bytes_eq text (codes "heap")) Heap command g.1 in
+          subst P h.1 (tt, (bytes_eq-Decides text (codes "heap")).0 h.0)
+    ]
+
 pub command_taken : (text : List ℕ) (command : Command) → command_at text ≡ Some command → HasForm command × (text ≡ spelling command)
 unfolding command_at
 command_taken text command e =
     let P : List ℕ → Type 0 = λ t. HasForm command × (t ≡ spelling command) in
-    elim (map_or_some (behind (codes "new $") text) new_at (option_map_or set_at (behind (codes "set ") text) (option_map_or print_at (behind (codes "print ") text) None)) command e) [
+    elim (map_or_some (behind (codes "new $") text) new_at (option_map_or set_at (behind (codes "set ") text) (option_map_or print_at (behind (codes "print ") text) (worded_at text))) command e) [
       | inl n ↦ subst P (sym (behind_taken (codes "new $") text n.0 n.1)) (new_taken n.0 command n.2)
-      | inr m ↦ elim (map_or_some (behind (codes "set ") text) set_at (option_map_or print_at (behind (codes "print ") text) None) command m.1) [
+      | inr m ↦ elim (map_or_some (behind (codes "set ") text) set_at (option_map_or print_at (behind (codes "print ") text) (worded_at text)) command m.1) [
         | inl s ↦ subst P (sym (behind_taken (codes "set ") text s.0 s.1)) (set_taken s.0 command s.2)
-        | inr o ↦ elim (map_or_some (behind (codes "print ") text) print_at None command o.1) [
+        | inr o ↦ elim (map_or_some (behind (codes "print ") text) print_at (worded_at text) command o.1) [
           | inl p ↦ subst P (sym (behind_taken (codes "print ") text p.0 p.1)) (print_taken p.0 command p.2)
-          | inr none ↦ absurd cc
+          | inr w ↦ worded_taken text command w.1
         ]
       ]
     ]
 
 -- ---- lines
 
+said_taken : (quiet : Bool) (text : List ℕ) (line : Line) → said_at quiet text ≡ Some line → HasForm line.command × (cond quiet (codes "@") [] ++ text ≡ line_text line)
+unfolding said_at
+said_taken quiet text line e =
+    let command = bind_some (command_at text) (λ command. Some (record { quiet = quiet; command = command })) line e in
+    let g = command_taken text command.0 command.1 in
+    subst (λ (l : Line). HasForm l.command × (cond quiet (codes "@") [] ++ text ≡ line_text l)) (same_Some (record { quiet = quiet; command = command.0 }) line command.2)
+    (g.0, ap (λ (t : List ℕ). cond quiet (codes "@") [] ++ t) g.1)
+
 line_taken : (text : List ℕ) (line : Line) → line_at text ≡ Some line → IsLine text line
 unfolding line_at
 line_taken text line e =
-    let command = bind_some (command_at (strip_carriage_return text)) (λ command. Some (record { quiet = false; command = command })) line e in
-    let g = command_taken (strip_carriage_return text) command.0 command.1 in
-    subst (λ (l : Line). IsLine text l) (same_Some (record { quiet = false; command = command.0 }) line command.2) (refl, g.0, g.1)
+    let said = strip_carriage_return text in
+    elim (map_or_some (behind (codes "@") said) (said_at true) (said_at false said) line e) [
+      | inl q ↦ let g = said_taken true q.0 line q.2 in (g.0, behind_taken (codes "@") said q.0 q.1 ∙ g.1)
+      | inr s ↦ said_taken false said line s.1
+    ]
 
 lines_taken : (texts : List (List ℕ)) (lines : List Line) → lines_at texts ≡ Some lines → AreLines texts lines
 unfolding lines_at

@@ -5,7 +5,7 @@ use Rattle.std.specs.Str.{bytes_eq}
 use Rattle.std.specs.Str.Lines.{strip_carriage_return}
 use Rattle.gt_script.specs.declared.command.Line.{Line}
 use Rattle.gt_script.specs.declared.command.Command.{Command}
-use Rattle.gt_script.specs.declared.command.Command.TheVariants.{New, Set, Print}
+use Rattle.gt_script.specs.declared.command.Command.TheVariants.{New, Set, Print, CollectForce, Heap}
 use Rattle.gt_script.specs.declared.command.Route.{Route}
 use Rattle.gt_script.specs.declared.command.Hop.{Hop}
 use Rattle.gt_script.specs.declared.command.Hop.TheVariants.{Name}
@@ -84,18 +84,28 @@ print_at text = do
   path ← path_at text
   Some (Print path)
 
+-- a command whose words are always the same
+unfoldable pub worded_at : List ℕ → Option Command
+worded_at text =
+    if bytes_eq text (codes "collect force") then Some CollectForce else (
+    if bytes_eq text (codes "heap") then Some Heap else None)
+
 -- the word in front says which command it is
 unfoldable pub command_at : List ℕ → Option Command
 command_at text =
     option_map_or new_at (behind (codes "new $") text) (
     option_map_or set_at (behind (codes "set ") text) (
-    option_map_or print_at (behind (codes "print ") text) None))
+    option_map_or print_at (behind (codes "print ") text) (worded_at text)))
 
--- one carriage return at the end is dropped
+-- the line of a command, quiet or not
+unfoldable pub said_at : Bool → List ℕ → Option Line
+said_at quiet text = do
+  command ← command_at text
+  Some (record { quiet = quiet; command = command })
+
+-- one carriage return at the end is dropped, and with @ in front the line is quiet
 unfoldable pub line_at : List ℕ → Option Line
-line_at text = do
-  command ← command_at (strip_carriage_return text)
-  Some (record { quiet = false; command = command })
+line_at text = option_map_or (said_at true) (behind (codes "@") (strip_carriage_return text)) (said_at false (strip_carriage_return text))
 
 -- each text is a line
 unfoldable pub lines_at : List (List ℕ) → Option (List Line)

@@ -1,9 +1,9 @@
 -- A script is the lines of its text.
-use Rattle.std.specs.Prelude.{◌≡◌, ℕ, ◌≤◌, ◌==◌, false, List, [], ◌∷◌, length, if◌then◌else◌}
+use Rattle.std.specs.Prelude.{◌≡◌, ℕ, ◌≤◌, ◌==◌, List, [], ◌∷◌, length, if◌then◌else◌}
 use Rattle.std.specs.List.{slice_split}
 use Rattle.std.specs.Str.Lines.{strip_carriage_return}
 use Rattle.gt_script.specs.declared.command.Line.{Line}
-use Rattle.gt_script.specs.Spelling.{spelling, HasForm}
+use Rattle.gt_script.specs.Spelling.{line_text, HasForm}
 
 -- of the parts between newlines the last is a line only where it has a byte, since a newline ends a line
 abbrev pub without_empty_last : List (List ℕ) → List (List ℕ)
@@ -15,9 +15,9 @@ without_empty_last (part ∷ next ∷ parts) = part ∷ without_empty_last (next
 abbrev pub lines_of : List ℕ → List (List ℕ)
 lines_of text = without_empty_last (slice_split (λ c. c == 10) text)
 
--- a line is the spelling of a command that has a form, but for one carriage return at its end
+-- a line is the text of a command that has a form, but for one carriage return at its end
 abbrev pub IsLine : List ℕ → Line → Type 0
-IsLine text line = (line.quiet ≡ false) × HasForm line.command × (strip_carriage_return text ≡ spelling line.command)
+IsLine text line = HasForm line.command × (strip_carriage_return text ≡ line_text line)
 
 -- each text is its line
 abbrev pub AreLines : List (List ℕ) → List Line → Type 0

@@ -1,8 +1,9 @@
 -- Which commands have a form, and the one text of each.
 use Rattle.std.specs.Prelude.{◌≡◌, ℕ, true, false, ◌⊎◌, List, [], ◌∷◌, ◌++◌, None, codes, cond}
 use Rattle.std.specs.List.{flat_map}
+use Rattle.gt_script.specs.declared.command.Line.{Line}
 use Rattle.gt_script.specs.declared.command.Command.{Command}
-use Rattle.gt_script.specs.declared.command.Command.TheVariants.{New, Set, Print}
+use Rattle.gt_script.specs.declared.command.Command.TheVariants.{New, Set, Print, CollectForce, Heap}
 use Rattle.gt_script.specs.declared.command.Route.{Route}
 use Rattle.gt_script.specs.declared.command.Hop.{Hop}
 use Rattle.gt_script.specs.declared.command.Hop.TheVariants.{Name, Index}
@@ -30,6 +31,12 @@ abbrev pub spelling : Command → List ℕ
 spelling (New var ty n) = codes "new $" ++ var ++ codes " " ++ ty.name
 spelling (Set path value) = codes "set " ++ path_text path ++ codes " " ++ value_text value
 spelling (Print path) = codes "print " ++ path_text path
+spelling CollectForce = codes "collect force"
+spelling Heap = codes "heap"
+
+-- a quiet line has @ directly in front of its command
+abbrev pub line_text : Line → List ℕ
+line_text line = cond line.quiet (codes "@") [] ++ spelling line.command
 
 -- a root alone
 abbrev pub IsRoot : Route → Type 0
@@ -49,8 +56,10 @@ IsValue (Var name) = IsName name
 IsValue Null = Unit {0}
 IsValue (Integer number) = ⊥
 
--- new $v T, set R V, set $v.F V, print $v, print R, print $v.F
+-- new $v T, set R V, set $v.F V, print $v, print R, print $v.F, collect force, heap
 abbrev pub HasForm : Command → Type 0
 HasForm (New var ty n) = IsName var × IsName ty.name × (ty.star ≡ false) × (n ≡ None)
 HasForm (Set path value) = (IsRoot path ⊎ IsField path) × IsValue value
 HasForm (Print path) = IsVariable path ⊎ IsRoot path ⊎ IsField path
+HasForm CollectForce = Unit {0}
+HasForm Heap = Unit {0}

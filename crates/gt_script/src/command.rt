@@ -25,6 +25,10 @@ pub enum Command {
     Print {
         path: Route,
     },
+    /// `collect force`: free the objects that no root reaches.
+    CollectForce,
+    /// `heap`: print how many objects there are of each size, and their bytes.
+    Heap,
 }
 
 /// A type by its name; with `star`, a pointer to it.

@@ -1,5 +1,5 @@
 ghost use Rattle.std.specs.Prelude.{◌≡◌, IfOk};
-ghost use Rattle.gt_script.specs.Reading.{command_at, new_at, set_at, print_at, value_at};
+ghost use Rattle.gt_script.specs.Reading.{command_at, worded_at, new_at, set_at, print_at, value_at};
 
 use crate::names::named;
 use crate::parts::split_once;
@@ -21,7 +21,21 @@ pub fn command_of(alloc: Global, text: &[u8]) -> Result<Option<Command>, AllocEr
     if let Some(rest) = text.strip_prefix(b"print ") {
         return print_of(alloc, rest);
     }
-    Ok(None)
+    Ok(worded(text))
+}
+
+// The command that the text is, where its words are always the same.
+#[tactic(auto, unfolding(crate::specs::Reading::worded_at))]
+fn worded(text: &[u8]) -> Option<Command>
+    ensures { result ≡ worded_at text.now }
+{
+    if text == b"collect force".as_slice() {
+        return Some(Command::CollectForce);
+    }
+    if text == b"heap".as_slice() {
+        return Some(Command::Heap);
+    }
+    None
 }
 
 #[tactic(auto, unfolding(crate::specs::Reading::new_at))]

@@ -14,9 +14,10 @@ use std::alloc::{AllocError, Global};
 const MAX_LINES: usize = 65_536;
 
 /// The lines of a script, or None where a line is none of these forms, or there are more than 65,536 lines:
-/// `new $v T`, `set R V`, `set $v.F V`, `print $v`, `print R` and `print $v.F`. V is `$w` or `null`, and v, w, T, R and F
-/// are names: a letter of ASCII or `_`, then letters, digits and `_`. One space stands between words. A newline ends a
-/// line, which the last line may lack; a carriage return at the end of a line is dropped. It answers want of memory alone.
+/// `new $v T`, `set R V`, `set $v.F V`, `print $v`, `print R`, `print $v.F`, `collect force` and `heap`, each with `@` in
+/// front where the line is quiet. V is `$w` or `null`, and v, w, T, R and F are names: a letter of ASCII or `_`, then
+/// letters, digits and `_`. One space stands between words. A newline ends a line, which the last line may lack; a carriage
+/// return at the end of a line is dropped. It answers want of memory alone.
 pub fn first_lines(alloc: Global, text: &[u8]) -> Result<Option<List<Line>>, AllocError>
     ensures lines { IfOk result (λ found. MatchOption found ((lines : List TheLine) → Parsed text.now lines → ⊥) (λ lines. Parsed text.now lines)) }
 {

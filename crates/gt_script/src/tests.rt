@@ -6,7 +6,7 @@ use std::test::Fail;
 
 #[test]
 fn each_form_says_its_line_and_other_texts_say_none(rt: HostRuntime) -> Result<(), Fail> {
-    let table: [(&[u8], Option<&str>); 40] = [
+    let table: [(&[u8], Option<&str>); 53] = [
         // each form
         (b"new $v T", Some("new v: T\n")),
         (b"set R $w", Some("set root R to w\n")),
@@ -16,6 +16,14 @@ fn each_form_says_its_line_and_other_texts_say_none(rt: HostRuntime) -> Result<(
         (b"print $v", Some("print variable v\n")),
         (b"print R", Some("print root R\n")),
         (b"print $v.F", Some("print variable v, F\n")),
+        (b"collect force", Some("collect by force\n")),
+        (b"heap", Some("show the heap\n")),
+        // quiet lines
+        (b"@new $a node", Some("quietly new a: node\n")),
+        (b"@set R null", Some("quietly set root R to nothing\n")),
+        (b"@print R\r\n", Some("quietly print root R\n")),
+        (b"@collect force", Some("quietly collect by force\n")),
+        (b"@heap", Some("quietly show the heap\n")),
         // null is a name like any other
         (b"new $null null", Some("new null: null\n")),
         (b"set null $null", Some("set root null to null\n")),
@@ -55,7 +63,14 @@ fn each_form_says_its_line_and_other_texts_say_none(rt: HostRuntime) -> Result<(
         (b"set R.F $v", None),
         (b"print $v.F.G", None),
         (b"set $v $w", None),
-        (b"@print R", None),
+        (b"collect", None),
+        (b"collect  force", None),
+        (b"heap ", None),
+        // a mark that is not directly in front of one command
+        (b"@", None),
+        (b"@ heap", None),
+        (b"@@heap", None),
+        (b" @heap", None),
     ];
     for (text, said) in table {
         let lines = first_lines(rt.alloc(), text)?;
@@ -90,7 +105,7 @@ fn told(alloc: Global, lines: &List<Line>) -> Result<String, Fail> {
     let mut told = String::new(alloc);
     for line in lines.as_slice() {
         if line.quiet {
-            return Err("a quiet line")?;
+            told.push_str("quietly ")?;
         }
         match &line.command {
             Command::New {
@@ -118,6 +133,8 @@ fn told(alloc: Global, lines: &List<Line>) -> Result<String, Fail> {
                 tell_path(&mut told, path)?;
                 told.push_str("\n")?;
             }
+            Command::CollectForce => told.push_str("collect by force\n")?,
+            Command::Heap => told.push_str("show the heap\n")?,
         }
     }
     Ok(told)

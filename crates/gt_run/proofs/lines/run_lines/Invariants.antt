@@ -1,7 +1,7 @@
 use Rattle.std.proofs.Common.{◌≡◌, ◌≤◌, take, drop}
 use Rattle.std.specs.List.{AllByRecursion}
 use Rattle.gt_io.specs.Appends.{Adds}
-use Rattle.gt_run.specs.Lines.{IsPlainLine}
+use Rattle.gt_run.specs.Lines.{IsFormed}
 use Rattle.gt_run.specs.Session.{state_of, IsSession}
 use Rattle.gt_run.specs.Run.{Run}
 use Rattle.gt_run.specs.Text.{texts_of}
@@ -12,10 +12,10 @@ abbrev pub invariant-loop-line : goal.invariant-loop-line
 invariant-loop-line g l =
     record {
       ran : Run l.fn.s.program (state_of l.fn.s l.fn.space (g.F.Files.told l.fn.files)) (take l.line-index l.lines) l.answers.items (state_of l.s l.space (g.F.Files.told l.files));
-      written : Adds (g.K.Sink.written l.fn.out) (texts_of l.answers.items) (g.K.Sink.written l.out);
+      written : Adds (g.K.Sink.written l.fn.out) (texts_of (take l.line-index l.lines) l.answers.items) (g.K.Sink.written l.out);
       session : IsSession l.s l.space;
       program : l.s.program ≡ l.fn.s.program;
       files : l.files ≡ l.fn.files;
       later : g.K.Sink.faults l.fn.out ≤ g.K.Sink.faults l.out;
-      forms : AllByRecursion IsPlainLine (drop l.line-index l.lines);
+      forms : AllByRecursion IsFormed (drop l.line-index l.lines);
     }

@@ -3,7 +3,7 @@ use Rattle.gt_heap.specs.Heap.{IsObject, graph_of, the_node}
 use Rattle.gt_run.specs.State.{Variables, meaning, with_variable}
 use Rattle.gt_run.specs.Session.{state_of, IsSession}
 use Rattle.gt_run.proofs.VarsEntries.{with_variable_twice, bound-with_variable}
-use Rattle.gt_run.proofs.StepMaking.{made_name, single_more, still_objects, new_refused}
+use Rattle.gt_run.proofs.StepMaking.{made_name, single_more, still_objects}
 use Rattle.gt_run.proofs.machine.make.Goals as goal
 
 pub rebind-requires : goal.rebind-requires
@@ -11,19 +11,13 @@ rebind-requires c = record {
   bound = subst (λ v. IsSome (meaning v c.args.var.now)) (sym c.in_ok-bind.ensures.bound) (bound-with_variable c.args.s.now.vars c.args.var.now 0);
 }
 
-pub returns-then-not-has_room-clause-next : goal.returns-then-not-has_room-clause-next
-returns-then-not-has_room-clause-next c = λ told.
-    new_refused c.args.s.now c.args.space.now told c.args.var.now c.args.name.now c.if-not-is_type.ensures c.requires.session.heap
-    (λ room. let never = c.if-not-has_room.ensures.room.1 room in cc) c.no_room.result c.no_room.new.heap c.no_room.new.space c.no_room.ensures.full
-    c.no_room.ensures.unchanged.0 c.no_room.ensures.unchanged.1
+pub take_back-requires : goal.take_back-requires
+take_back-requires c = record {
+  bound = subst (λ v. IsSome (meaning v c.args.var.now)) (sym c.in_ok-bind.ensures.bound) (bound-with_variable c.args.s.now.vars c.args.var.now 0);
+}
 
-pub returns-then-not-has_room-clause-session : goal.returns-then-not-has_room-clause-session
-returns-then-not-has_room-clause-session c =
-    subst (λ h. IsSession (record c.args.s.now { heap = h }) c.no_room.new.space) (sym c.no_room.ensures.unchanged.0)
-    (subst (IsSession c.args.s.now) (sym c.no_room.ensures.unchanged.1) c.requires.session)
-
-pub returns-clause-next : goal.returns-clause-next
-returns-clause-next c = λ told.
+pub returns-in-Ok-clause-next : goal.returns-in-Ok-clause-next
+returns-in-Ok-clause-next c = λ told.
     let made = c.in-Ok.ensures.made in
     let name : made.object.id ≡ c.in-Ok.made.addr =
     made_name c.args.s.now.program c.make.new.self c.make.new.space (graph_of c.args.s.now.program c.args.s.now.heap c.args.space.now) c.in-Ok.made.addr
@@ -39,8 +33,8 @@ returns-clause-next c = λ told.
           (renamed ∙ ap (with_variable c.args.s.now.vars c.args.var.now) (sym name)),
     )
 
-pub returns-clause-session : goal.returns-clause-session
-returns-clause-session c =
+pub returns-in-Ok-clause-session : goal.returns-in-Ok-clause-session
+returns-in-Ok-clause-session c =
     let renamed = c.rebind.ensures.bound ∙ ap (λ v. with_variable v c.args.var.now c.in-Ok.made.addr) c.in_ok-bind.ensures.bound
     ∙ with_variable_twice c.args.s.now.vars c.args.var.now 0 c.in-Ok.made.addr in
     record {
@@ -51,4 +45,5 @@ returns-clause-session c =
           (λ name id bound.
           single_more c.args.s.now.program (graph_of c.args.s.now.program c.args.s.now.heap c.args.space.now) c.in-Ok.made.addr c.in-Ok.made.size
           (graph_of c.args.s.now.program c.make.new.self c.make.new.space) c.in-Ok.ensures.made id (c.requires.session.variables name id bound));
+      last = c.requires.session.last;
     }

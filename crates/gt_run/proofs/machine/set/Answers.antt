@@ -30,6 +30,7 @@ returns-in-Ok-Root-clause-session c = record {
   heap = c.set_root.ensures.heap;
   variables = λ name id bound.
       object_stays c.args.s.now.program c.args.s.now.heap c.args.space.now c.set_root.new.space id (c.requires.session.variables name id bound);
+  last = c.requires.session.last;
 }
 
 -- a field is written
@@ -44,6 +45,7 @@ returns-in-Ok-Field-clause-session c = record {
   heap = c.set_field.ensures.heap;
   variables = λ name id bound.
       object_stays c.args.s.now.program c.args.s.now.heap c.args.space.now c.set_field.new.space id (c.requires.session.variables name id bound);
+  last = c.requires.session.last;
 }
 
 -- the path is refused

@@ -19,3 +19,11 @@ returns-in-Print-clause-next g c =
     (λ (command : Command). IfOk c.print.result (λ answer.
     Next c.args.s.now.program (state_of c.args.s.now c.args.space.now told) command answer (state_of c.args.s.now c.args.space.now told)))
     (sym c.in-Print.is) (c.print.ensures.next told)
+
+pub returns-in-CollectForce-clause-next : goal.returns-in-CollectForce-clause-next
+returns-in-CollectForce-clause-next g c =
+    let told = g.F.Files.told c.args.files.now in
+    subst
+    (λ (command : Command). IfOk c.collect.result (λ answer.
+    Next c.args.s.now.program (state_of c.args.s.now c.args.space.now told) command answer (state_of c.collect.new.s c.args.space.now told)))
+    (sym c.in-CollectForce.is) (c.collect.ensures.next told)

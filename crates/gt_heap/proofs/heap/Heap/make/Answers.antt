@@ -1,25 +1,32 @@
-use Rattle.std.proofs.Common.{◌+◌, ap, sym, arith}
-use Rattle.gt_heap.specs.declared.heap.MakeFail.TheVariants.{Full}
+use Rattle.std.proofs.Common.{◌∙◌, ap}
 use Rattle.gt_heap.specs.Heap.{Places}
-use Rattle.gt_heap.proofs.Goodness.{objects_kept}
-use Rattle.gt_heap.proofs.Graphs.{MadeOne, made_one, none_left}
+use Rattle.gt_heap.specs.Making.{Takes}
+use Rattle.gt_heap.proofs.Counting.{room_to_count}
+use Rattle.gt_heap.proofs.Graphs.{MadeOne, inside_taken, made_one, none_left}
 use Rattle.gt_heap.proofs.heap.Heap.make.Goals as goal
 
--- what is made, from what the code did
-made : (c : goal.After-self-1) → MadeOne c.args.program.now c.args.self.now c.args.space.now
-    (record { size = c.self.inside.size; made = c.self.inside.made; pages = c.self.inside.pages }) c.block_address-addr.result c.fill.new.self
-made c =
-    made_one c.args.program.now c.args.self.now c.args.space.now
-    (record { size = c.self.inside.size; made = c.self.inside.made; pages = c.self.inside.pages }) c.block_address-addr.result c.fill.new.self
-    c.self.view_is c.requires.heap c.if-self-per_page.false c.block_address-addr.ensures c.fill.ensures.bytes
+pub take-requires : goal.take-requires
+take-requires c = record { few = room_to_count c.args.program.now c.args.self.now c.args.space.now c.requires.heap }
 
-pub returns-then-self-per_page-clause-full : goal.returns-then-self-per_page-clause-full
-returns-then-self-per_page-clause-full c = (
-  ap (λ (p : Places). Full p.size) c.self.view_is,
-  none_left c.args.program.now c.args.self.now c.args.space.now
-      (record { size = c.self.inside.size; made = c.self.inside.made; pages = c.self.inside.pages }) c.self.view_is c.requires.heap
-      c.if-self-per_page.true,
-)
+pub returns-in-Ok-None-clause-full : goal.returns-in-Ok-None-clause-full
+returns-in-Ok-None-clause-full c =
+    let none = rw c.in-Ok-None.field-0-is at c.in-Ok-None.ensures in (
+      ap (λ (p : Places). p.size) (c.self.view_is ∙ none.taken.1),
+      none_left c.args.program.now c.args.self.now c.args.space.now c.requires.heap none.taken.0,
+    )
+
+-- what is made, from what the code did
+made : (c : goal.After-fill) → MadeOne c.args.program.now c.args.self.now c.args.space.now c.take.new.self c.block_address-addr.result c.self.inside.size c.fill.new.self
+made c =
+    let takes = rw c.in-Ok-Some.field-0-is at c.in-Ok-Some.ensures in
+    made_one c.args.program.now c.args.self.now c.args.space.now c.in-Ok-Some.slot c.take.new.self c.self.inside.size c.block_address-addr.result
+    c.fill.new.self c.requires.heap takes.taken (ap (λ (p : Places). p.size) c.self.view_is) c.block_address-addr.ensures c.fill.ensures.bytes
+
+pub fill-requires : goal.fill-requires
+fill-requires c =
+    let takes = rw c.in-Ok-Some.field-0-is at c.in-Ok-Some.ensures in
+    inside_taken c.args.program.now c.args.self.now c.args.space.now c.in-Ok-Some.slot c.take.new.self c.self.inside.size c.block_address-addr.result
+    c.requires.heap takes.taken (ap (λ (p : Places). p.size) c.self.view_is) c.block_address-addr.ensures
 
 pub returns-clause-made : goal.returns-clause-made
 returns-clause-made c = (made c).made
@@ -34,7 +41,4 @@ pub returns-clause-heap : goal.returns-clause-heap
 returns-clause-heap c = (made c).heap
 
 pub returns-clause-objects : goal.returns-clause-objects
-returns-clause-objects c =
-    objects_kept c.args.program.now c.args.self.now
-    (record { size = c.self.inside.size; made = c.self.inside.made + 1; pages = c.self.inside.pages }) c.args.space.now c.fill.new.self
-    (ap (λ (p : Places). p.size) (sym c.self.view_is)) (omega (arith, ap (λ (p : Places). p.made) c.self.view_is))
+returns-clause-objects c = (made c).objects

@@ -1,4 +1,4 @@
-use Rattle.std.proofs.Common.{refl, arith, ◌∷◌, [], sym, subst, rules}
+use Rattle.std.proofs.Common.{refl, ◌∷◌, [], sym, subst, rules}
 use Rattle.gt_heap.specs.Graph.{leaf_of}
 use Rattle.gt_heap.specs.Heap.{IsHeap, SetsOnly, graph_of}
 use Rattle.gt_heap.proofs.Goodness.{objects_kept}
@@ -31,4 +31,4 @@ returns-clause-heap c =
 
 pub returns-clause-objects : goal.returns-clause-objects
 returns-clause-objects c =
-    objects_kept c.args.program.now c.args.self.now c.args.self.now c.args.space.now c.write_pointer.new.space refl (omega arith)
+    objects_kept c.args.program.now c.args.self.now c.args.self.now c.args.space.now c.write_pointer.new.space refl (λ k there. there)

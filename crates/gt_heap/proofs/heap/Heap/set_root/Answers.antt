@@ -1,4 +1,4 @@
-use Rattle.std.proofs.Common.{refl, arith, ◌+◌, ◌*◌, ap, sym, subst, ◌∙◌}
+use Rattle.std.proofs.Common.{refl, ◌+◌, ◌*◌, ap, sym, subst, ◌∙◌}
 use Rattle.gt_space.specs.Numbers.{with_u64}
 use Rattle.gt_heap.specs.Heap.{IsHeap, graph_of, word_of}
 use Rattle.gt_heap.proofs.Goodness.{objects_kept}
@@ -19,4 +19,4 @@ returns-clause-heap c =
 
 pub returns-clause-objects : goal.returns-clause-objects
 returns-clause-objects c =
-    objects_kept c.args.program.now c.args.self.now c.args.self.now c.args.space.now c.write_pointer.new.space refl (omega arith)
+    objects_kept c.args.program.now c.args.self.now c.args.self.now c.args.space.now c.write_pointer.new.space refl (λ k there. there)
