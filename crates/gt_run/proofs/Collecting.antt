@@ -1,5 +1,5 @@
 -- A collection keeps the objects that were found, which are those that the roots reach.
-use Rattle.std.proofs.Common.{◌≡◌, ℕ, ◌+◌, ◌≤◌, Bool, true, List, [], length, map, Option, Some, refl, sym, ap, subst, ◌∙◌, arith}
+use Rattle.std.proofs.Common.{◌≡◌, ℕ, ◌+◌, ◌≤◌, Bool, List, [], length, map, Option, Some, refl, sym, ap, subst, ◌∙◌, arith}
 use Rattle.std.proofs.lemmas.List.{length-map}
 use Rattle.std.specs.Prelude.{Contains, IsTrue, ◌↔◌, filter}
 use Rattle.std.specs.List.{slice_get}
@@ -9,7 +9,7 @@ use Rattle.std.proofs.lemmas.Option.{slice_get-map}
 use Rattle.gt_types.specs.declared.program.Program.{Program}
 use Rattle.gt_heap.specs.Values.{Object}
 use Rattle.gt_heap.specs.Graph.{Graph}
-use Rattle.gt_heap.specs.Kept.{After, Reached, allocated_of, edges}
+use Rattle.gt_heap.specs.Kept.{After, Reached, allocated_of}
 use Rattle.gt_heap.specs.Freed.{AreMarks, IsClosed, IsNamed, flagged, flagged_graph}
 use Rattle.gt_heap.specs.Heap.{Places, IsObject, graph_of}
 use Rattle.gt_space.specs.Range.{Range}

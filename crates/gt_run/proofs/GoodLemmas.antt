@@ -17,7 +17,6 @@ use Rattle.gt_io.specs.Held.{Held}
 use Rattle.gt_run.specs.declared.TheConstants.{MAX_MIN_EXPAND, MAX_MIN_HEAPSIZE}
 use Rattle.gt_run.specs.declared.answer.Answer.{Answer}
 use Rattle.gt_run.specs.declared.answer.Answer.TheVariants.{Done, Made, Shown, Collected, Heap, Refused}
-use Rattle.gt_run.specs.declared.answer.Why.{Why}
 use Rattle.gt_run.specs.declared.answer.Why.TheVariants.{Unbound, NoType, NoField, Full}
 
 same : (s t : State) → t ≡ s → HasSameSettings s t

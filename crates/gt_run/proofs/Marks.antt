@@ -12,7 +12,7 @@ use Rattle.gt_space.specs.Numbers.{u64_at}
 use Rattle.gt_heap.specs.Kept.{IsWay, Reached}
 use Rattle.gt_heap.specs.Freed.{IsNamed}
 use Rattle.gt_heap.specs.Heap.{Places, IsFirst, IsObject, IsTarget, fields_of, graph_of, pointer_of}
-use Rattle.gt_run.specs.Marking.{FindsOne, FindsTarget, FollowsNone, FollowsOne, IsFollowed, IsMarking, PointsAmong, is_found}
+use Rattle.gt_run.specs.Marking.{FindsOne, FindsTarget, FollowsNone, FollowsOne, IsFollowed, IsMarking, is_found}
 use Rattle.gt_run.specs.declared.marking.Marks.{Marks}
 use Rattle.gt_run.proofs.Edges.{PointsTo-among, static_edges-among, Reached-root, Reached-field}
 

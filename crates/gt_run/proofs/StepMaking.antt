@@ -1,5 +1,5 @@
 -- The making of an object, and the binding of a variable to it.
-use Rattle.std.proofs.Common.{◌≡◌, ℕ, ◌*◌, Bool, true, false, cond, List, [], ◌∷◌, length, refl, sym, ap, subst, ◌∙◌, Option, Some}
+use Rattle.std.proofs.Common.{◌≡◌, ℕ, Bool, true, false, cond, List, [], ◌∷◌, sym, ap, subst, ◌∙◌, Option, Some}
 use Rattle.std.specs.Prelude.{Contains}
 use Rattle.std.specs.Ordering.{nat_cmp}
 use Rattle.std.specs.Cmp.Lexicographic.{slice_cmp}
@@ -8,18 +8,11 @@ use Rattle.std.proofs.lemmas.List.Elements.{Contains-append_left, Contains-push}
 use Rattle.gt_types.specs.declared.program.Program.{Program}
 use Rattle.gt_space.specs.Range.{Range}
 use Rattle.gt_heap.specs.Values.{IsSingle}
-use Rattle.gt_io.specs.Held.{Held}
-use Rattle.gt_heap.specs.Ledger.{Block, Room}
+use Rattle.gt_heap.specs.Ledger.{Block}
 use Rattle.gt_heap.specs.Graph.{Graph, Makes}
-use Rattle.gt_heap.specs.Heap.{Places, IsHeap, block_of, fields_of, graph_of, the_node}
-use Rattle.gt_run.specs.State.{State, Variables, meaning, with_variable}
-use Rattle.gt_run.specs.Session.{state_of}
-use Rattle.gt_run.specs.Next.{IsTypeNamed, NextNew}
-use Rattle.gt_run.specs.declared.answer.Answer.TheVariants.{Refused}
-use Rattle.gt_run.specs.declared.answer.Why.TheVariants.{Full}
-use Rattle.gt_run.specs.declared.session.Session.{Session}
+use Rattle.gt_heap.specs.Heap.{Places, block_of, graph_of, the_node}
+use Rattle.gt_run.specs.State.{Variables, meaning, with_variable}
 use Rattle.gt_run.proofs.VarsEntries.{meaning-with_variable}
-use Rattle.gt_run.proofs.ShowSpots.{fields_of-there}
 use Rattle.gt_run.proofs.Members.{map_contained}
 
 -- an object's name is the address of its block, of the new one too

@@ -1,4 +1,4 @@
-use Rattle.std.proofs.Common.{◌≡◌, ◌+◌, ◌≤◌, [], List, length, take, drop, subst, sym, ap, ◌∙◌, arith, append-nil, rules, inl, inr}
+use Rattle.std.proofs.Common.{◌≡◌, ◌+◌, take, drop, ◌∙◌, arith, append-nil, rules, inl, inr}
 use Rattle.std.proofs.lemmas.List.{take-append-drop, take_all}
 use Rattle.gt_run.proofs.RunLemmas.{Run-more, Run-unchanged, Adds-same, Adds-texts, AddsAllBut-front, AddsAllBut-nothing, forms-drop}
 use Rattle.gt_run.proofs.lines.run_lines.Goals as goal

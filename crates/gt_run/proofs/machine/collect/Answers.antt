@@ -1,10 +1,8 @@
-use Rattle.std.proofs.Common.{◌≡◌, ◌+◌, ◌-◌, ◌≤◌, ◌∙◌, length, ap, refl, arith}
+use Rattle.std.proofs.Common.{◌≡◌, ◌-◌, ◌≤◌, ◌∙◌, length, ap, refl, arith}
 use Rattle.std.specs.Ordering.{nat_cmp}
 use Rattle.std.specs.BTreeSet.{contains}
-use Rattle.gt_space.specs.declared.TheConstants.{PAGE_BYTES, MAX_PAGES}
 use Rattle.gt_heap.specs.Freed.{flagged}
 use Rattle.gt_heap.specs.Heap.{graph_of}
-use Rattle.gt_run.specs.declared.TheConstants.{MAX_ALLOCATED}
 use Rattle.gt_run.proofs.Collecting.{IsCollected, AreMarks-found, IsClosed-found, Collects-found, kept_few, names_object, variables_left}
 use Rattle.gt_run.proofs.machine.collect.Goals as goal
 

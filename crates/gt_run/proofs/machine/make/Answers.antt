@@ -1,7 +1,7 @@
 use Rattle.std.proofs.Common.{◌≡◌, ◌∙◌, sym, ap, subst, IsSome}
 use Rattle.gt_heap.specs.Heap.{IsObject, graph_of, the_node}
 use Rattle.gt_run.specs.State.{Variables, meaning, with_variable}
-use Rattle.gt_run.specs.Session.{state_of, IsSession}
+use Rattle.gt_run.specs.Session.{state_of}
 use Rattle.gt_run.proofs.VarsEntries.{with_variable_twice, bound-with_variable}
 use Rattle.gt_run.proofs.StepMaking.{made_name, single_more, still_objects}
 use Rattle.gt_run.proofs.machine.make.Goals as goal
