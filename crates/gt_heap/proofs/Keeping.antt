@@ -35,7 +35,7 @@ flagged-map f (x ∷ xs) [] = refl
 flagged-map f (x ∷ xs) (true ∷ flags) = ap (λ ys. f x ∷ ys) (flagged-map f xs flags)
 flagged-map f (x ∷ xs) (false ∷ flags) = flagged-map f xs flags
 
-flagged_within : {A : Type 0} (xs : List A) (flags : List Bool) (y : A) → Contains (flagged xs flags) y → Contains xs y
+pub flagged_within : {A : Type 0} (xs : List A) (flags : List Bool) (y : A) → Contains (flagged xs flags) y → Contains xs y
 flagged_within [] flags y there = there
 flagged_within (x ∷ xs) [] y there = absurd (contains_none y there)
 flagged_within (x ∷ xs) (true ∷ flags) y there =

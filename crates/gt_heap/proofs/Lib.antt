@@ -15,5 +15,6 @@ pub mod Scans
 pub mod FreeSlots
 pub mod Keeping
 pub mod AfterFlags
+pub mod Unlinking
 pub mod PlainSpans
 pub mod PlainBytes

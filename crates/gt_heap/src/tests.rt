@@ -3,7 +3,7 @@
 ghost use Rattle.std.specs.Prelude.{◌≡◌, ◌+◌, ◌*◌, ◌≤◌, All, IfOk, length};
 ghost use Rattle.gt_space.specs.Range.{IsInside};
 ghost use Rattle.gt_heap.specs.Heap.{IsFirst, IsHeap, IsPlain, fields_of, graph_of};
-ghost use Rattle.gt_heap.specs.Freed.{HasNoEdges};
+ghost use Rattle.gt_heap.specs.Unlinked.{IsUnlinked};
 
 use super::*;
 use gt_space::{HEAP_START, MIN_PAGES, Space};
@@ -82,7 +82,8 @@ fn three_pointers(alloc: Global) -> Result<Program, Fail>
 // A heap of the fewest pages, in a fresh space.
 fn fresh(alloc: Global, program: &Program) -> Result<(Heap, Space), Fail>
     requires { IsFirst program.now }
-    ensures { IfOk result (λ made. IsHeap program.now made.0 made.1) }
+    ensures heap { IfOk result (λ made. IsHeap program.now made.0 made.1) }
+    ensures unlinked { IfOk result (λ made. IsUnlinked program.now (graph_of program.now made.0 made.1)) }
 {
     let mut space = Space::empty(alloc);
     space.resize_fresh(MIN_PAGES, 8 * program.roots.len() as u32)?;
@@ -150,9 +151,9 @@ fn make_some(
     count: u32,
 ) -> Result<u64, MakeFail>
     requires heap { IsHeap program.now heap.old space.old }
-    requires unlinked { HasNoEdges program.now (graph_of program.now heap.old space.old) }
+    requires unlinked { IsUnlinked program.now (graph_of program.now heap.old space.old) }
     ensures heap { IsHeap program.now heap.new space.new }
-    ensures unlinked { HasNoEdges program.now (graph_of program.now heap.new space.new) }
+    ensures unlinked { IsUnlinked program.now (graph_of program.now heap.new space.new) }
 {
     let mut last = 0;
     for _number in 0..count {
@@ -171,9 +172,9 @@ fn keep_some(
     count: u32,
 ) -> Result<(), Fail>
     requires heap { IsHeap program.now heap.old space.now }
-    requires unlinked { HasNoEdges program.now (graph_of program.now heap.old space.now) }
+    requires unlinked { IsUnlinked program.now (graph_of program.now heap.old space.now) }
     ensures heap { IsHeap program.now heap.new space.now }
-    ensures unlinked { HasNoEdges program.now (graph_of program.now heap.new space.now) }
+    ensures unlinked { IsUnlinked program.now (graph_of program.now heap.new space.now) }
 {
     let mut kept = vec![in alloc; false; heap.len() as usize]?;
     for (i, flag) in kept.iter_mut().enumerate() {
