@@ -1,6 +1,6 @@
 -- A graph without pointers stays so where an object is made, and where some are freed.
 use Rattle.std.proofs.Common.{◌≡◌, ℕ, Bool, true, false, cond, List, [], ◌∷◌, ◌++◌, Some, refl, ap, ap₂, sym, subst, ◌∙◌}
-use Rattle.std.specs.Prelude.{All, Contains, map, replicate, slice_get}
+use Rattle.std.specs.Prelude.{All, Contains, map, replicate}
 use Rattle.std.proofs.lemmas.List.Elements.{All-append, All-contains, All-cons, All-head, All-map, All-nil, All-tail}
 use Rattle.gt_types.specs.declared.types.Target.TheVariants.{Node}
 use Rattle.gt_types.specs.declared.types.PtrKind.TheVariants.{Plain}

@@ -2,7 +2,6 @@
 use Rattle.std.specs.Prelude.{◌≡◌, ℕ, Bool, true, false, List, [], ◌∷◌, Contains, length, slice_get, Some, IsTrue, ◌↔◌}
 use Rattle.gt_types.specs.declared.program.Program.{Program}
 use Rattle.gt_heap.specs.Values.{Object}
-use Rattle.gt_heap.specs.Ledger.{Block, Ledger}
 use Rattle.gt_heap.specs.Graph.{Graph}
 use Rattle.gt_heap.specs.Kept.{edges, static_edges, Reached}
 

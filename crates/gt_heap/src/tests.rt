@@ -188,16 +188,28 @@ fn keep_some(
 fn a_freed_place_is_given_out_again(rt: HostRuntime) -> Result<(), Fail> {
     let program = three_pointers(rt.alloc())?;
     let (mut heap, mut space) = fresh(rt.alloc(), &program)?;
-    assert_eq!(rt; make_some(&program, &mut heap, &mut space, 3), Ok(0x1000_0040));
+    assert_eq!(rt;
+        make_some(&program, &mut heap, &mut space, 3),
+        Ok(0x1000_0040)
+    );
     keep_some(rt.alloc(), &program, &mut heap, &space, 1, 1)?;
     assert_eq!(rt; heap.len(), 1);
     assert_eq!(rt; heap.object(0), 0x1000_0020);
     assert_eq!(rt; heap.allocated(), 32);
     assert_eq!(rt; heap.count(32), 1);
     assert_eq!(rt; heap.count(16), 0);
-    assert_eq!(rt; make_some(&program, &mut heap, &mut space, 1), Ok(0x1000_0000));
-    assert_eq!(rt; make_some(&program, &mut heap, &mut space, 1), Ok(0x1000_0040));
-    assert_eq!(rt; make_some(&program, &mut heap, &mut space, 1), Ok(0x1000_0060));
+    assert_eq!(rt;
+        make_some(&program, &mut heap, &mut space, 1),
+        Ok(0x1000_0000)
+    );
+    assert_eq!(rt;
+        make_some(&program, &mut heap, &mut space, 1),
+        Ok(0x1000_0040)
+    );
+    assert_eq!(rt;
+        make_some(&program, &mut heap, &mut space, 1),
+        Ok(0x1000_0060)
+    );
     Ok(())
 }
 
@@ -206,18 +218,42 @@ fn a_page_in_use_comes_before_a_lower_one(rt: HostRuntime) -> Result<(), Fail> {
     let program = three_pointers(rt.alloc())?;
     let (mut heap, mut space) = fresh(rt.alloc(), &program)?;
     // The second place of the page 2 is the last that is given out, and it alone is kept, so page 2 fills first.
-    assert_eq!(rt; make_some(&program, &mut heap, &mut space, 258), Ok(0x1000_2020));
+    assert_eq!(rt;
+        make_some(&program, &mut heap, &mut space, 258),
+        Ok(0x1000_2020)
+    );
     keep_some(rt.alloc(), &program, &mut heap, &space, 257, 1)?;
-    assert_eq!(rt; make_some(&program, &mut heap, &mut space, 1), Ok(0x1000_2000));
-    assert_eq!(rt; make_some(&program, &mut heap, &mut space, 126), Ok(0x1000_2fe0));
+    assert_eq!(rt;
+        make_some(&program, &mut heap, &mut space, 1),
+        Ok(0x1000_2000)
+    );
+    assert_eq!(rt;
+        make_some(&program, &mut heap, &mut space, 126),
+        Ok(0x1000_2fe0)
+    );
     // Then the lowest page without an object, and the next ones.
-    assert_eq!(rt; make_some(&program, &mut heap, &mut space, 1), Ok(0x1000_0000));
-    assert_eq!(rt; make_some(&program, &mut heap, &mut space, 128), Ok(0x1000_1000));
-    assert_eq!(rt; make_some(&program, &mut heap, &mut space, 128), Ok(0x1000_3000));
+    assert_eq!(rt;
+        make_some(&program, &mut heap, &mut space, 1),
+        Ok(0x1000_0000)
+    );
+    assert_eq!(rt;
+        make_some(&program, &mut heap, &mut space, 128),
+        Ok(0x1000_1000)
+    );
+    assert_eq!(rt;
+        make_some(&program, &mut heap, &mut space, 128),
+        Ok(0x1000_3000)
+    );
     // All are freed.
     keep_some(rt.alloc(), &program, &mut heap, &space, 0, 0)?;
-    assert_eq!(rt; make_some(&program, &mut heap, &mut space, 2048), Ok(0x1000_ffe0));
-    assert_eq!(rt; make_some(&program, &mut heap, &mut space, 1), Err(MakeFail::Full { need: 32 }));
+    assert_eq!(rt;
+        make_some(&program, &mut heap, &mut space, 2048),
+        Ok(0x1000_ffe0)
+    );
+    assert_eq!(rt;
+        make_some(&program, &mut heap, &mut space, 1),
+        Err(MakeFail::Full { need: 32 })
+    );
     Ok(())
 }
 
