@@ -179,7 +179,7 @@ fn what_comes_first_is_refused(rt: HostRuntime) -> Result<(), Fail> {
     let alloc = rt.alloc();
     let good: File = Some(HEADER.as_bytes());
     let script: File = Some(b"print head\n");
-    let files: [(&[&str], File, File, &str, u8); 14] = [
+    let files: [(&[&str], File, File, &str, u8); 15] = [
         (&[], good, script, "words: refused\n", 2),
         (&["s"], good, script, "words: refused\n", 2),
         (&["s", "h.h", "h.h"], good, script, "words: refused\n", 2),
@@ -190,7 +190,21 @@ fn what_comes_first_is_refused(rt: HostRuntime) -> Result<(), Fail> {
         (&["s", "h.h"], good, None, "s: missing\n", 3),
         (&["s", "h.h"], Some(b""), None, "s: missing\n", 3),
         (&["s", "h.h"], Some(b""), script, "h.h: not built\n", 2),
-        (&["s", "h.h"], Some(b"\xff"), script, "h.h: not built\n", 2),
+        (
+            &["s", "h.h"],
+            Some(b"\xff"),
+            script,
+            "h.h:1:1: fault 1 BadUtf8\n",
+            2,
+        ),
+        // A fault of the header comes before what is wrong with the script.
+        (
+            &["s", "h.h"],
+            Some(b"int x"),
+            Some(b"print head \n"),
+            "h.h:1:1: fault 7 Unclosed\n",
+            2,
+        ),
         (
             &["s", "h.h"],
             Some(b"struct GTY(()) s { int a; };"),
@@ -217,6 +231,76 @@ fn what_comes_first_is_refused(rt: HostRuntime) -> Result<(), Fail> {
         let got = run(alloc, words, header, script, &[], &[])?;
         assert_eq!(rt; got.0, status, "{output}");
         assert_eq!(rt; got.1.as_slice(), output.as_bytes(), "{output}");
+    }
+    Ok(())
+}
+
+// The same header in other spellings: comments, directives and code that is not marked between, the struct by its tag alone,
+// one list of names, qualifiers, the marker behind the tag, empty markers, an initialiser.
+const SPELLED: &str =
+    "/* x */ struct GTY(()) node { struct node *next; struct node *other; }; static GTY(()) struct node *head; class pass_data; inline int twice (int x) { return x + x; }";
+
+const SPELLED_SHORT: &str =
+    "#if 0\nstruct node GTY(()) { const node volatile *const GTY(()) next, *other; };\n#endif\nnamespace n { extern GTY(()) node *head = 0; }";
+
+#[test]
+fn a_header_may_be_spelled_in_other_ways(rt: HostRuntime) -> Result<(), Fail> {
+    let alloc = rt.alloc();
+    for header in [SPELLED, SPELLED_SHORT] {
+        let got = run(
+            alloc,
+            &["s", "h.h"],
+            Some(header.as_bytes()),
+            Some(LIST.as_bytes()),
+            &[],
+            &[],
+        )?;
+        assert_eq!(rt; got.0, 1, "{header}");
+        assert_eq!(rt; got.1.as_slice(), LISTED.as_bytes(), "{header}");
+    }
+    Ok(())
+}
+
+#[test]
+fn a_header_that_is_no_such_program_is_refused(rt: HostRuntime) -> Result<(), Fail> {
+    let alloc = rt.alloc();
+    let node = "struct GTY(()) node { struct node *next; };";
+    let cases = [
+        ("/* x", "", "1:1: fault 2 OpenComment"),
+        ("struct GTY(()) s {", "", "1:1: fault 7 Unclosed"),
+        ("GTY(()) int x;", "", "1:1: fault 10 BadMarkerPlace"),
+        ("int x;\n\n  int y[3);", "", "3:10: fault 8 Unexpected"),
+        ("char *s = \"x\n\";", "", "1:11: fault 3 OpenString"),
+        ("int \u{f6} = 0x;", "", "1:10: fault 4 BadNumber"),
+        ("struct GTY((tag(\"+\"))) s { int x; };", "", "1:13: fault 5 BadExpr"),
+        ("class GTY(()) c { };", "", "1:1: fault 9 Unsupported"),
+        // Forms that are not built.
+        (node, "", " not built"),
+        (node, "static GTY(()) struct node **head;", " not built"),
+        (node, "static GTY((deletable)) struct node *head;", " not built"),
+        (node, "static GTY(()) struct other *head;", " not built"),
+        (node, "static GTY(()) struct node *size_t;", " not built"),
+        (node, "static GTY(()) struct node *head; enum e { A };", " not built"),
+        (node, "static GTY(()) struct node *head;\n#define N 3\n", " not built"),
+        (
+            "struct GTY(()) node { struct node *next, *next; };",
+            "static GTY(()) struct node *head;",
+            " not built",
+        ),
+    ];
+    for (first, second, said) in cases {
+        let header = format!(in alloc; "{first}{second}")?;
+        let output = format!(in alloc; "h.h:{said}\n")?;
+        let got = run(
+            alloc,
+            &["s", "h.h"],
+            Some(header.as_str().as_bytes()),
+            Some(b"print head\n"),
+            &[],
+            &[],
+        )?;
+        assert_eq!(rt; got.0, 2, "{header}");
+        assert_eq!(rt; got.1.as_slice(), output.as_str().as_bytes(), "{header}");
     }
     Ok(())
 }
