@@ -3,14 +3,20 @@
 //! The layer above resolves names and types.
 #![tactic(auto)]
 
+mod caches;
 mod combinations;
+mod declarators;
 mod faults;
+mod fields;
+mod globals;
+mod groups;
 mod items;
 mod lexeme;
 mod markers;
 mod options;
 mod parsing;
 mod strings;
+mod structures;
 mod types;
 mod unread;
 mod words;
