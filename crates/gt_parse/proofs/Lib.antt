@@ -1,6 +1,7 @@
 mod AliasLists
 mod BoundLists
 mod DeclaratorLists
+mod Depths
 mod Escapes
 mod FieldLists
 mod Insides

@@ -13,7 +13,14 @@ depth_behind zero (lexeme.Close b s) = None
 depth_behind (suc depth) (lexeme.Close b s) = Some depth
 depth_behind depth t = Some depth
 
--- the same, or none where a comma or a semicolon stands in no brackets
+-- how many brackets are open behind a token, where one that closes none of them counts for nothing
+abbrev pub depth_after : ℕ → Lexeme → ℕ
+depth_after depth (lexeme.Open b s) = suc depth
+depth_after zero (lexeme.Close b s) = zero
+depth_after (suc depth) (lexeme.Close b s) = depth
+depth_after depth t = depth
+
+-- how many are open behind a token as above, or none where a comma or a semicolon stands in no brackets
 abbrev pub depth_in_part : ℕ → Lexeme → Option ℕ
 depth_in_part zero (lexeme.Comma s) = None
 depth_in_part zero (lexeme.Semicolon s) = None

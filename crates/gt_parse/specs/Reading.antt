@@ -7,6 +7,11 @@ use Rattle.gt_parse.specs.Outcome.{Outcome, Read, Stops, Ends, ◌>>=◌}
 use Rattle.gt_parse.specs.Marked.{marked_at}
 use Rattle.gt_parse.specs.Unmarked.{unmarked_at}
 
+-- whether a token is the word of a marker
+abbrev pub is_marker : Lexeme → Bool
+is_marker (lexeme.Gty s) = true
+is_marker t = false
+
 -- whether a marker stands in no brackets; depth brackets are open
 unfoldable pub is_marked : ℕ → List Lexeme → Bool
 is_marked depth [] = false

@@ -3,7 +3,7 @@ ghost use Rattle.std.specs.Prelude.{◌≡◌, ℕ, ◌+◌, ◌<◌, ◌^◌, [
 ghost use Rattle.std.specs.Option.{option_map};
 ghost use Rattle.gt_parse.specs.Lexemes.{kept_text, text_behind};
 ghost use Rattle.gt_parse.specs.Outcome.{Gives};
-ghost use Rattle.gt_parse.specs.Groups.{depth_behind, depth_in_part, inside_from, before_end, square_behind, bounds_from};
+ghost use Rattle.gt_parse.specs.Groups.{depth_behind, depth_after, depth_in_part, inside_from, before_end, square_behind, bounds_from};
 
 use crate::lexeme::{Bracket, Lexeme};
 use crate::unread::Unread;
@@ -50,7 +50,19 @@ pub fn depth_behind(depth: usize, token: &Lexeme) -> Option<usize>
     }
 }
 
-// The same, or None where a comma or a semicolon stands in no brackets.
+/// How many brackets are open behind a token, where one that closes none of them counts for nothing.
+pub fn depth_after(depth: usize, token: &Lexeme) -> usize
+    requires { depth + 1 < 2 ^ 64 }
+    ensures { result ≡ depth_after depth token.now }
+{
+    match token {
+        Lexeme::Open(..) => depth + 1,
+        Lexeme::Close(..) => depth.saturating_sub(1),
+        _ => depth,
+    }
+}
+
+// As `depth_behind`, or None where a comma or a semicolon stands in no brackets.
 fn depth_in_part(depth: usize, token: &Lexeme) -> Option<usize>
     requires { depth + 1 < 2 ^ 64 }
     ensures { result ≡ depth_in_part depth token.now }

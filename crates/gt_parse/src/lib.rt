@@ -6,6 +6,7 @@
 mod caches;
 mod combinations;
 mod declarators;
+mod enums;
 mod faults;
 mod fields;
 mod globals;
@@ -15,8 +16,10 @@ mod lexeme;
 mod markers;
 mod options;
 mod parsing;
+mod reading;
 mod strings;
 mod structures;
+mod typedefs;
 mod types;
 mod unread;
 mod words;
