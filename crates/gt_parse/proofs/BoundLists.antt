@@ -1,12 +1,12 @@
 -- The texts of bounds, one bound at a time.
-use Rattle.std.proofs.Common.{◌≡◌, ℕ, zero, suc, ◌+◌, ◌-◌, ◌<◌, ◌≤◌, List, [], ◌∷◌, ◌++◌, Option, Some, None, refl, sym, ◌∙◌, arith}
+use Rattle.std.proofs.Common.{◌≡◌, ℕ, zero, suc, ◌+◌, ◌-◌, ◌<◌, ◌≤◌, List, [], ◌∷◌, ◌++◌, Some, None, refl, sym, ◌∙◌, arith}
 use Rattle.gt_parse.specs.declared.lexeme.Bracket.TheVariants.{Square}
 use Rattle.gt_parse.specs.declared.lexeme.Lexeme.{Lexeme}
 use Rattle.gt_parse.specs.declared.lexeme.Lexeme.TheVariants as lexeme
 use Rattle.gt_parse.specs.declared.unread.Unread.{Unread}
 use Rattle.gt_parse.specs.declared.unread.Unread.TheVariants.{Memory, Ended, Fault}
 use Rattle.gt_parse.specs.Lexemes.{kept_text}
-use Rattle.gt_parse.specs.Outcome.{Outcome, Read, Ends, Fails, ◌>>=◌}
+use Rattle.gt_parse.specs.Outcome.{Outcome, Read, Fails, ◌>>=◌}
 use Rattle.gt_parse.specs.Groups.{inside_from, square_behind, bounds_from}
 
 begins : (count : ℕ) (bounds : List (List ℕ)) (ts next : List Lexeme) → square_behind ts ≡ Some next → bounds_from (suc count) bounds ts ≡ (inside_from 0 next >>= λ inside. bounds_from count (bounds ++ kept_text inside.0 ∷ []) inside.1)

@@ -1,11 +1,11 @@
 -- Declarators with commas between them and a semicolon behind them, one at a time.
-use Rattle.std.proofs.Common.{◌≡◌, ℕ, zero, suc, ◌+◌, ◌-◌, ◌<◌, ◌≤◌, Bool, true, false, List, [], ◌∷◌, ◌++◌, Option, Some, None, refl, sym, ◌∙◌, arith}
+use Rattle.std.proofs.Common.{◌≡◌, ℕ, suc, ◌+◌, ◌-◌, ◌<◌, ◌≤◌, true, false, List, [], ◌∷◌, ◌++◌, refl, sym, ◌∙◌, arith}
 use Rattle.gt_parse.specs.declared.items.Declarator.{Declarator}
 use Rattle.gt_parse.specs.declared.lexeme.Lexeme.{Lexeme}
 use Rattle.gt_parse.specs.declared.lexeme.Lexeme.TheVariants as lexeme
 use Rattle.gt_parse.specs.declared.unread.Unread.{Unread}
 use Rattle.gt_parse.specs.declared.unread.Unread.TheVariants.{Memory, Ended, Fault}
-use Rattle.gt_parse.specs.Outcome.{Outcome, Read, Stops, Ends, Fails, ◌>>=◌}
+use Rattle.gt_parse.specs.Outcome.{Outcome, Read, Ends, Fails, ◌>>=◌}
 use Rattle.gt_parse.specs.Fields.{goes_on_at}
 use Rattle.gt_parse.specs.Fields.{behind_declarator, declarator_at, declarators_from}
 

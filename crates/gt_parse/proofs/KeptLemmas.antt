@@ -1,5 +1,5 @@
 -- The kept text of tokens, one token at a time.
-use Rattle.std.proofs.Common.{◌≡◌, ◌≢◌, ℕ, ◌+◌, ◌<◌, ◌≤◌, Bool, true, false, List, [], ◌∷◌, ◌++◌, length, get_or, drop, refl, sym, ap, ◌∙◌, append_assoc, arith}
+use Rattle.std.proofs.Common.{◌≡◌, ◌≢◌, ℕ, ◌+◌, ◌<◌, ◌≤◌, true, false, List, [], ◌∷◌, ◌++◌, length, get_or, drop, sym, ap, ◌∙◌, append_assoc, arith}
 use Rattle.std.specs.Prelude.{◌==◌, encode_utf8_all}
 use Rattle.std.proofs.lemmas.List.{append-nil, drop_all}
 use Rattle.gt_parse.specs.declared.lexeme.Lexeme.{Lexeme}

@@ -5,7 +5,6 @@ use Rattle.gt_parse.specs.declared.faults.TheConstants.{UNSUPPORTED}
 use Rattle.gt_parse.specs.declared.items.Declarator.{Declarator}
 use Rattle.gt_parse.specs.declared.items.RawField.{RawField}
 use Rattle.gt_parse.specs.declared.items.Stars.TheVariants.{Zero}
-use Rattle.gt_parse.specs.declared.lexeme.Spot.{Spot}
 use Rattle.gt_parse.specs.declared.lexeme.Bracket.TheVariants.{Round, Brace}
 use Rattle.gt_parse.specs.declared.lexeme.Lexeme.{Lexeme}
 use Rattle.gt_parse.specs.declared.lexeme.Lexeme.TheVariants as lexeme

@@ -4,7 +4,7 @@ use Rattle.gt_parse.specs.declared.lexeme.Bracket.TheVariants.{Square}
 use Rattle.gt_parse.specs.declared.lexeme.Lexeme.{Lexeme}
 use Rattle.gt_parse.specs.declared.lexeme.Lexeme.TheVariants as lexeme
 use Rattle.gt_parse.specs.Lexemes.{kept_text}
-use Rattle.gt_parse.specs.Outcome.{Outcome, Read, Stops, Ends, ◌>>=◌}
+use Rattle.gt_parse.specs.Outcome.{Outcome, Read, Ends, ◌>>=◌}
 
 -- how many brackets are open behind a token, or none where it closes one that opens before
 abbrev pub depth_behind : ℕ → Lexeme → Option ℕ

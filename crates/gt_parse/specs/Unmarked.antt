@@ -19,7 +19,7 @@ use Rattle.gt_parse.specs.declared.lexeme.Lexeme.{Lexeme}
 use Rattle.gt_parse.specs.declared.lexeme.Lexeme.TheVariants as lexeme
 use Rattle.gt_parse.specs.Lexemes.{name_of, kept_text}
 use Rattle.gt_parse.specs.Outcome.{Outcome, Read, Stops, Ends, ◌>>=◌, unexpected}
-use Rattle.gt_parse.specs.Types.{without_qualifiers, name_at, type_at}
+use Rattle.gt_parse.specs.Types.{without_qualifiers, type_at}
 use Rattle.gt_parse.specs.Groups.{inside_from}
 use Rattle.gt_parse.specs.Marked.{alias_at}
 

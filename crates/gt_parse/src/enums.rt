@@ -17,9 +17,11 @@ pub fn enum_item(alloc: Global, tokens: &[Lexeme]) -> Result<Option<Item>, Alloc
 {
     match tokens {
         [Lexeme::Open(Bracket::Brace, _), body @ ..] => enum_definition(alloc, None, body),
-        [Lexeme::Name(spot), Lexeme::Open(Bracket::Brace, _), body @ ..] => {
-            enum_definition(alloc, Some(spot.name(alloc)?), body)
-        }
+        [
+            Lexeme::Name(spot),
+            Lexeme::Open(Bracket::Brace, _),
+            body @ ..,
+        ] => { enum_definition(alloc, Some(spot.name(alloc)?), body) }
         _ => Ok(None),
     }
 }

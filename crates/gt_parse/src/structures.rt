@@ -40,10 +40,7 @@ pub fn structure(
 
 // The tag of a structure, and the options of the marker before or behind it.
 #[tactic(auto, unfolding(crate::specs::Marked::tag_at))]
-fn tag(
-    alloc: Global,
-    tokens: &[Lexeme],
-) -> Result<((Name, List<RawOption>), &[Lexeme]), Unread>
+fn tag(alloc: Global, tokens: &[Lexeme]) -> Result<((Name, List<RawOption>), &[Lexeme]), Unread>
     ensures { Gives (λ x. ((x.0.0, x.0.1), x.1.now)) result (tag_at tokens.now) }
 {
     match tokens {

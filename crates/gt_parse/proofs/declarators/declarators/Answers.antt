@@ -1,4 +1,4 @@
-use Rattle.std.proofs.Common.{◌≡◌, sym, arith}
+use Rattle.std.proofs.Common.{arith}
 use Rattle.std.proofs.lemmas.Result.{err_from_is_err_and}
 use Rattle.gt_parse.proofs.DeclaratorLists.{declarators_fail, declarators_break, declarators_go_on, declarators_stop, declarators_end}
 use Rattle.gt_parse.proofs.declarators.declarators.Goals as goal

@@ -1,4 +1,4 @@
-use Rattle.std.proofs.Common.{◌≡◌, ◌-◌, length, sym, ap, ◌∙◌, arith}
+use Rattle.std.proofs.Common.{◌≡◌, length, sym, arith}
 use Rattle.gt_parse.proofs.Depths.{depth_after-le, enumerators_here, enumerators_behind, enumerators_end}
 use Rattle.gt_parse.proofs.enums.enumerators.Goals as goal
 use Rattle.gt_parse.proofs.enums.enumerators.Goals.{else-depth-eq0-via-then-depth-eq0+else-is_comma, else-depth-eq0-via-else-depth-eq0}
@@ -23,9 +23,9 @@ loop-at-preserved c =
       so_far =
           enumerators_behind c.args.body.now c.loop-at.depth c.loop-at.at c.index-body-at.result (omega arith) c.index-body-at.is c.loop-at.start c.loop-at.found _ c.loop-at.invariant.begun c.loop-at.invariant.so_far
           (elim c.else-depth-eq0.branch [
-             | else-depth-eq0-via-then-depth-eq0+else-is_comma w ↦ λ z. sym w.if-is_comma.ensures
-             | else-depth-eq0-via-else-depth-eq0 w ↦ λ z. absurd (w.if-depth-eq0.false z)
-           ]);
+            | else-depth-eq0-via-then-depth-eq0+else-is_comma w ↦ λ z. sym w.if-is_comma.ensures
+            | else-depth-eq0-via-else-depth-eq0 w ↦ λ z. absurd (w.if-depth-eq0.false z)
+          ]);
     }
 
 pub returns : goal.returns

@@ -1,4 +1,4 @@
-use Rattle.std.proofs.Common.{◌≡◌, sym, arith}
+use Rattle.std.proofs.Common.{sym, arith}
 use Rattle.std.proofs.lemmas.Result.{err_from_is_err_and}
 use Rattle.gt_parse.proofs.FieldLists.{fields_fail, fields_go_on, fields_stop, fields_end}
 use Rattle.gt_parse.proofs.fields.fields.Goals as goal

@@ -1,4 +1,4 @@
-use Rattle.std.proofs.Common.{◌≡◌, sym, arith}
+use Rattle.std.proofs.Common.{sym, arith}
 use Rattle.gt_parse.proofs.Insides.{depth_in_part-le, part_more, part_read, part_end}
 use Rattle.gt_parse.proofs.groups.before_end.Goals as goal
 

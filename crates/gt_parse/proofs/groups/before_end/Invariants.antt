@@ -1,4 +1,4 @@
-use Rattle.std.proofs.Common.{◌≡◌, ◌≤◌, take, drop, length}
+use Rattle.std.proofs.Common.{◌≡◌, ◌≤◌, take, drop}
 use Rattle.gt_parse.specs.Groups.{before_end}
 use Rattle.gt_parse.proofs.Insides.{behind_tokens}
 use Rattle.gt_parse.proofs.groups.before_end.Given as goal

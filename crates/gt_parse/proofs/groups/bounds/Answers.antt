@@ -1,4 +1,4 @@
-use Rattle.std.proofs.Common.{◌≡◌, sym, arith}
+use Rattle.std.proofs.Common.{sym, arith}
 use Rattle.std.proofs.lemmas.Result.{err_from_is_err_and}
 use Rattle.gt_parse.proofs.BoundLists.{bounds_fail, bounds_go_on, bounds_stop, bounds_end}
 use Rattle.gt_parse.proofs.groups.bounds.Goals as goal

@@ -1,4 +1,4 @@
-use Rattle.std.proofs.Common.{◌≡◌, sym, arith}
+use Rattle.std.proofs.Common.{sym, arith}
 use Rattle.gt_parse.proofs.Insides.{depth_behind-le, inside_more, inside_read, inside_end}
 use Rattle.gt_parse.proofs.groups.inside.Goals as goal
 

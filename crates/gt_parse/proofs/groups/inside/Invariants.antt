@@ -1,4 +1,4 @@
-use Rattle.std.proofs.Common.{◌≡◌, ◌≤◌, take, drop, length}
+use Rattle.std.proofs.Common.{◌≡◌, ◌≤◌, take, drop}
 use Rattle.gt_parse.specs.Groups.{inside_from}
 use Rattle.gt_parse.proofs.Insides.{behind_tokens}
 use Rattle.gt_parse.proofs.groups.inside.Given as goal

@@ -1,4 +1,4 @@
-use Rattle.std.proofs.Common.{◌≡◌, ◌++◌, ℕ, List, ap, ◌∙◌, arith}
+use Rattle.std.proofs.Common.{◌++◌, ℕ, List, ap, ◌∙◌, arith}
 use Rattle.std.specs.Prelude.{encode_utf8_all}
 use Rattle.gt_parse.proofs.KeptLemmas.{text_joined, text_apart, text_end}
 use Rattle.gt_parse.proofs.groups.text_behind.Goals as goal

@@ -1,5 +1,4 @@
-use Rattle.std.proofs.Common.{◌≡◌, sym, ap, ◌∙◌, arith}
-use Rattle.gt_parse.specs.Reading.{is_marked}
+use Rattle.std.proofs.Common.{sym, arith}
 use Rattle.gt_parse.proofs.Depths.{depth_after-le, is_marked_here, is_marked_behind, is_marked_end}
 use Rattle.gt_parse.proofs.reading.is_marked.Goals as goal
 use Rattle.gt_parse.proofs.reading.is_marked.Goals.{else-depth-eq0-via-then-depth-eq0+else-is_marker, else-depth-eq0-via-else-depth-eq0}
@@ -16,9 +15,9 @@ loop-token-preserved c =
       so_far =
           is_marked_behind c.args.tokens.now c.loop-token.depth c.loop-token.token-index c.token-item.result (omega arith) c.token-item.is _ c.loop-token.invariant.so_far
           (elim c.else-depth-eq0.branch [
-             | else-depth-eq0-via-then-depth-eq0+else-is_marker w ↦ λ z. sym w.if-is_marker.ensures
-             | else-depth-eq0-via-else-depth-eq0 w ↦ λ z. absurd (w.if-depth-eq0.false z)
-           ]);
+            | else-depth-eq0-via-then-depth-eq0+else-is_marker w ↦ λ z. sym w.if-is_marker.ensures
+            | else-depth-eq0-via-else-depth-eq0 w ↦ λ z. absurd (w.if-depth-eq0.false z)
+          ]);
     }
 
 pub returns : goal.returns

@@ -1,4 +1,4 @@
-use Rattle.std.proofs.Common.{◌≡◌, refl, sym}
+use Rattle.std.proofs.Common.{refl, sym}
 use Rattle.gt_parse.specs.Reading.{item_at}
 use Rattle.gt_parse.proofs.reading.item.Goals as goal
 

@@ -1,4 +1,4 @@
-use Rattle.std.proofs.Common.{◌≡◌, sym, arith}
+use Rattle.std.proofs.Common.{arith}
 use Rattle.std.proofs.lemmas.Result.{err_from_is_err_and}
 use Rattle.gt_parse.proofs.AliasLists.{aliases_fail, aliases_break, aliases_go_on, aliases_stop, aliases_end}
 use Rattle.gt_parse.proofs.typedefs.aliases.Goals as goal

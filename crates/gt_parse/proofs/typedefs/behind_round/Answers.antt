@@ -1,4 +1,4 @@
-use Rattle.std.proofs.Common.{◌≡◌, sym, ap, ◌∙◌, arith}
+use Rattle.std.proofs.Common.{sym, arith}
 use Rattle.gt_parse.proofs.Depths.{depth_after-le, behind_round_here, behind_round_behind, behind_round_end}
 use Rattle.gt_parse.proofs.typedefs.behind_round.Goals as goal
 use Rattle.gt_parse.proofs.typedefs.behind_round.Goals.{else-depth-eq0-via-then-depth-eq0+else-opens_round, else-depth-eq0-via-else-depth-eq0}
@@ -15,9 +15,9 @@ loop-at-preserved c =
       so_far =
           behind_round_behind c.args.tokens.now c.loop-at.depth c.loop-at.at c.index-tokens-at.result (omega arith) c.index-tokens-at.is _ c.loop-at.invariant.so_far
           (elim c.else-depth-eq0.branch [
-             | else-depth-eq0-via-then-depth-eq0+else-opens_round w ↦ λ z. sym w.if-opens_round.ensures
-             | else-depth-eq0-via-else-depth-eq0 w ↦ λ z. absurd (w.if-depth-eq0.false z)
-           ]);
+            | else-depth-eq0-via-then-depth-eq0+else-opens_round w ↦ λ z. sym w.if-opens_round.ensures
+            | else-depth-eq0-via-else-depth-eq0 w ↦ λ z. absurd (w.if-depth-eq0.false z)
+          ]);
     }
 
 pub returns : goal.returns
