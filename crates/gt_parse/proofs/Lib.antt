@@ -1,0 +1,9 @@
+mod AliasLists
+mod BoundLists
+mod DeclaratorLists
+mod Depths
+mod Escapes
+mod FieldLists
+mod Insides
+mod KeptLemmas
+mod OptionLists

@@ -5,7 +5,6 @@ use Rattle.gt_parse.specs.declared.faults.TheConstants.{UNSUPPORTED}
 use Rattle.gt_parse.specs.declared.items.Declarator.{Declarator}
 use Rattle.gt_parse.specs.declared.items.RawField.{RawField}
 use Rattle.gt_parse.specs.declared.items.Stars.TheVariants.{Zero}
-use Rattle.gt_parse.specs.declared.lexeme.Spot.{Spot}
 use Rattle.gt_parse.specs.declared.lexeme.Bracket.TheVariants.{Round, Brace}
 use Rattle.gt_parse.specs.declared.lexeme.Lexeme.{Lexeme}
 use Rattle.gt_parse.specs.declared.lexeme.Lexeme.TheVariants as lexeme
@@ -56,6 +55,12 @@ unfoldable pub declarator_at : List Lexeme → Outcome Declarator
 declarator_at (lexeme.Open Round s ∷ ts) = function_declarator_at ts
 declarator_at ts = plain_declarator_at ts
 
+-- whether a list goes on behind a comma, or a semicolon ends it
+abbrev pub goes_on_at : List Lexeme → Outcome Bool
+goes_on_at (lexeme.Comma s ∷ ts) = Read true ts
+goes_on_at (lexeme.Semicolon s ∷ ts) = Read false ts
+goes_on_at ts = unexpected ts
+
 -- what goes on behind a comma, and what was read where a semicolon ends it
 abbrev pub behind_declarator : {A : Type 0} → (List Lexeme → Outcome A) → A → List Lexeme → Outcome A
 behind_declarator go declarators (lexeme.Comma s ∷ ts) = go ts
@@ -85,6 +90,11 @@ field_at ts = do
   type ← type_at UNSUPPORTED no_label.1
   declarators ← declarators_from (length type.1) [] type.1
   Read (record { ty = type.0; declarators = declarators.0 }) declarators.1
+
+-- the tokens behind a brace that closes at the front
+abbrev pub brace_behind : List Lexeme → Option (List Lexeme)
+brace_behind (lexeme.Close Brace s ∷ ts) = Some ts
+brace_behind ts = None
 
 -- what was read where a brace ends it, or else what goes on
 abbrev pub until_brace : {A : Type 0} → (List Lexeme → Outcome A) → A → List Lexeme → Outcome A

@@ -1,10 +1,30 @@
 -- What stands in brackets, and what is passed over.
-use Rattle.std.specs.Prelude.{ℕ, zero, suc, List, [], ◌∷◌, ◌++◌}
+use Rattle.std.specs.Prelude.{ℕ, zero, suc, List, [], ◌∷◌, ◌++◌, Option, Some, None}
 use Rattle.gt_parse.specs.declared.lexeme.Bracket.TheVariants.{Square}
 use Rattle.gt_parse.specs.declared.lexeme.Lexeme.{Lexeme}
 use Rattle.gt_parse.specs.declared.lexeme.Lexeme.TheVariants as lexeme
 use Rattle.gt_parse.specs.Lexemes.{kept_text}
-use Rattle.gt_parse.specs.Outcome.{Outcome, Read, Stops, Ends, ◌>>=◌}
+use Rattle.gt_parse.specs.Outcome.{Outcome, Read, Ends, ◌>>=◌}
+
+-- how many brackets are open behind a token, or none where it closes one that opens before
+abbrev pub depth_behind : ℕ → Lexeme → Option ℕ
+depth_behind depth (lexeme.Open b s) = Some (suc depth)
+depth_behind zero (lexeme.Close b s) = None
+depth_behind (suc depth) (lexeme.Close b s) = Some depth
+depth_behind depth t = Some depth
+
+-- how many brackets are open behind a token, where one that closes none of them counts for nothing
+abbrev pub depth_after : ℕ → Lexeme → ℕ
+depth_after depth (lexeme.Open b s) = suc depth
+depth_after zero (lexeme.Close b s) = zero
+depth_after (suc depth) (lexeme.Close b s) = depth
+depth_after depth t = depth
+
+-- how many are open behind a token as above, or none where a comma or a semicolon stands in no brackets
+abbrev pub depth_in_part : ℕ → Lexeme → Option ℕ
+depth_in_part zero (lexeme.Comma s) = None
+depth_in_part zero (lexeme.Semicolon s) = None
+depth_in_part depth t = depth_behind depth t
 
 -- one more token at the front of what was read
 abbrev pub with_token : Lexeme → Outcome (List Lexeme) → Outcome (List Lexeme)
@@ -27,6 +47,11 @@ before_end (suc depth) (lexeme.Close b s ∷ ts) = with_token (lexeme.Close b s)
 before_end zero (lexeme.Comma s ∷ ts) = Read [] (lexeme.Comma s ∷ ts)
 before_end zero (lexeme.Semicolon s ∷ ts) = Read [] (lexeme.Semicolon s ∷ ts)
 before_end depth (t ∷ ts) = with_token t (before_end depth ts)
+
+-- the tokens behind a square bracket that opens at the front
+abbrev pub square_behind : List Lexeme → Option (List Lexeme)
+square_behind (lexeme.Open Square s ∷ ts) = Some ts
+square_behind ts = None
 
 -- the texts of bounds, behind those that were read; at most count
 unfoldable pub bounds_from : ℕ → List (List ℕ) → List Lexeme → Outcome (List (List ℕ))

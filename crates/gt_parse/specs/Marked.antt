@@ -1,5 +1,5 @@
 -- How marked structures and globals are read.
-use Rattle.std.specs.Prelude.{ℕ, Bool, true, false, if◌then◌else◌, List, [], ◌∷◌, ◌++◌, length, codes, Option, Some, None}
+use Rattle.std.specs.Prelude.{Bool, true, false, if◌then◌else◌, List, [], ◌∷◌, length, codes, Option, Some, None}
 use Rattle.std.specs.List.{list_any}
 use Rattle.std.specs.Str.{bytes_eq}
 use Rattle.gt_parse.specs.declared.faults.TheConstants.{UNEXPECTED, UNSUPPORTED, BAD_MARKER_PLACE}
@@ -8,17 +8,14 @@ use Rattle.gt_parse.specs.declared.items.Item.{Item}
 use Rattle.gt_parse.specs.declared.items.Item.TheVariants.{Structure, Root, Cache}
 use Rattle.gt_parse.specs.declared.items.Alias.{Alias}
 use Rattle.gt_parse.specs.declared.items.RawOption.{RawOption}
-use Rattle.gt_parse.specs.declared.items.RawStructure.{RawStructure}
-use Rattle.gt_parse.specs.declared.items.RawRoot.{RawRoot}
-use Rattle.gt_parse.specs.declared.items.RawCache.{RawCache}
 use Rattle.gt_parse.specs.declared.items.PointedType.{PointedType}
-use Rattle.gt_parse.specs.declared.items.Keyword.TheVariants.{Struct, Union, Enum}
+use Rattle.gt_parse.specs.declared.items.Keyword.TheVariants.{Struct, Union}
 use Rattle.gt_parse.specs.declared.lexeme.Spot.{Spot}
-use Rattle.gt_parse.specs.declared.lexeme.Bracket.TheVariants.{Round, Brace}
+use Rattle.gt_parse.specs.declared.lexeme.Bracket.TheVariants.{Brace}
 use Rattle.gt_parse.specs.declared.lexeme.Lexeme.{Lexeme}
 use Rattle.gt_parse.specs.declared.lexeme.Lexeme.TheVariants as lexeme
-use Rattle.gt_parse.specs.Lexemes.{spot_of, name_of}
-use Rattle.gt_parse.specs.Outcome.{Outcome, Read, Stops, Ends, ◌>>=◌, unexpected}
+use Rattle.gt_parse.specs.Lexemes.{name_of}
+use Rattle.gt_parse.specs.Outcome.{Outcome, Read, Stops, ◌>>=◌, unexpected}
 use Rattle.gt_parse.specs.Markers.{marker_at}
 use Rattle.gt_parse.specs.Types.{without_qualifiers, stars_at, name_at, type_at}
 use Rattle.gt_parse.specs.Groups.{bounds_from}

@@ -84,8 +84,13 @@ unfoldable pub option_at : List Lexeme → Outcome RawOption
 option_at [] = Ends
 option_at (t ∷ ts) =
     if is_identifier t
-        then (parameters_at (spot_of t) ts >>= λ parameter. Read (record { name = name_of (spot_of t); parameter = parameter.0 }) parameter.1)
-        else unexpected (t ∷ ts)
+    then (parameters_at (spot_of t) ts >>= λ parameter. Read (record { name = name_of (spot_of t); parameter = parameter.0 }) parameter.1)
+    else unexpected (t ∷ ts)
+
+-- the tokens behind a comma at the front
+abbrev pub comma_behind : List Lexeme → Option (List Lexeme)
+comma_behind (lexeme.Comma s ∷ ts) = Some ts
+comma_behind ts = None
 
 -- what goes on behind a comma, or else what was read so far
 abbrev pub behind_comma : {A : Type 0} → (List Lexeme → Outcome A) → Outcome A → List Lexeme → Outcome A

@@ -1,11 +1,16 @@
 -- How one whole item is read.
-use Rattle.std.specs.Prelude.{ℕ, zero, suc, Bool, true, false, if◌then◌else◌, List, [], ◌∷◌, Option, Some, None}
+use Rattle.std.specs.Prelude.{ℕ, zero, suc, Bool, true, false, if◌then◌else◌, List, [], ◌∷◌, Option, Some}
 use Rattle.gt_parse.specs.declared.items.Item.{Item}
 use Rattle.gt_parse.specs.declared.lexeme.Lexeme.{Lexeme}
 use Rattle.gt_parse.specs.declared.lexeme.Lexeme.TheVariants as lexeme
-use Rattle.gt_parse.specs.Outcome.{Outcome, Read, Stops, Ends, ◌>>=◌}
+use Rattle.gt_parse.specs.Outcome.{Outcome, Read, ◌>>=◌}
 use Rattle.gt_parse.specs.Marked.{marked_at}
 use Rattle.gt_parse.specs.Unmarked.{unmarked_at}
+
+-- whether a token is the word of a marker
+abbrev pub is_marker : Lexeme → Bool
+is_marker (lexeme.Gty s) = true
+is_marker t = false
 
 -- whether a marker stands in no brackets; depth brackets are open
 unfoldable pub is_marked : ℕ → List Lexeme → Bool

@@ -1,5 +1,5 @@
 -- How types are read.
-use Rattle.std.specs.Prelude.{ℕ, Bool, true, false, ◌&&◌, if◌then◌else◌, List, [], ◌∷◌, codes, Option, Some, None}
+use Rattle.std.specs.Prelude.{ℕ, Bool, true, false, ◌&&◌, if◌then◌else◌, List, ◌∷◌, codes, Option, Some, None}
 use Rattle.std.specs.Str.{bytes_eq}
 use Rattle.gt_parse.specs.declared.faults.TheConstants.{UNEXPECTED}
 use Rattle.gt_parse.specs.declared.items.Name.{Name}
@@ -23,7 +23,7 @@ use Rattle.gt_parse.specs.declared.lexeme.TypeWord.TheVariants as word
 use Rattle.gt_parse.specs.declared.lexeme.Lexeme.{Lexeme}
 use Rattle.gt_parse.specs.declared.lexeme.Lexeme.TheVariants as lexeme
 use Rattle.gt_parse.specs.Lexemes.{name_of}
-use Rattle.gt_parse.specs.Outcome.{Outcome, Read, Stops, Ends, ◌>>=◌, unexpected}
+use Rattle.gt_parse.specs.Outcome.{Outcome, Read, Stops, ◌>>=◌, unexpected}
 use Rattle.gt_parse.specs.Markers.{close_round_at}
 
 -- no word yet

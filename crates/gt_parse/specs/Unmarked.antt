@@ -19,7 +19,7 @@ use Rattle.gt_parse.specs.declared.lexeme.Lexeme.{Lexeme}
 use Rattle.gt_parse.specs.declared.lexeme.Lexeme.TheVariants as lexeme
 use Rattle.gt_parse.specs.Lexemes.{name_of, kept_text}
 use Rattle.gt_parse.specs.Outcome.{Outcome, Read, Stops, Ends, ◌>>=◌, unexpected}
-use Rattle.gt_parse.specs.Types.{without_qualifiers, name_at, type_at}
+use Rattle.gt_parse.specs.Types.{without_qualifiers, type_at}
 use Rattle.gt_parse.specs.Groups.{inside_from}
 use Rattle.gt_parse.specs.Marked.{alias_at}
 
@@ -31,6 +31,11 @@ enumerator_of (lexeme.Name s ∷ []) = Counted (name_of s)
 enumerator_of (lexeme.Name s ∷ lexeme.Equals e ∷ ts) = Valued (name_of s) (kept_text ts)
 enumerator_of (lexeme.Name s ∷ ts) = Undefined (name_of s)
 enumerator_of ts = Passed
+
+-- whether a token is a comma
+abbrev pub is_comma : Lexeme → Bool
+is_comma (lexeme.Comma s) = true
+is_comma t = false
 
 -- the pieces of a body, which commas that stand in no brackets part; depth brackets are open, and piece is what stands before in
 -- the first piece
@@ -122,6 +127,11 @@ last_name zero last (lexeme.Close b s ∷ ts) = last_name zero last ts
 last_name (suc depth) last (lexeme.Close b s ∷ ts) = last_name depth last ts
 last_name zero last (lexeme.Name s ∷ ts) = last_name zero (Some (name_of s)) ts
 last_name depth last (t ∷ ts) = last_name depth last ts
+
+-- whether a token is a round bracket that opens
+abbrev pub opens_round : Lexeme → Bool
+opens_round (lexeme.Open Round s) = true
+opens_round t = false
 
 -- the tokens behind the first round bracket that opens in no other bracket; none where there is no such bracket
 unfoldable pub behind_round : ℕ → List Lexeme → List Lexeme

@@ -3,16 +3,31 @@
 //! The layer above resolves names and types.
 #![tactic(auto)]
 
+mod caches;
+mod combinations;
+mod declarators;
+mod enums;
 mod faults;
+mod fields;
+mod globals;
+mod groups;
 mod items;
 mod lexeme;
+mod markers;
+mod options;
 mod parsing;
+mod reading;
+mod strings;
+mod structures;
+mod typedefs;
+mod types;
 mod unread;
+mod words;
 
 pub use faults::{BAD_MARKER_PLACE, UNCLOSED, UNEXPECTED, UNSUPPORTED};
 pub use items::{
-    Alias, Combination, Core, Declarator, Enumerator, Item, Items, Keyword, Meaning, Name, Parameter,
-    PointedType, RawCache, RawConstant, RawEnum, RawField, RawOption, RawRoot, RawStructure, RawType,
-    RawTypedef, Sign, Size, Stars,
+    Alias, Combination, Core, Declarator, Enumerator, Item, Items, Keyword, Meaning, Name,
+    Parameter, PointedType, RawCache, RawConstant, RawEnum, RawField, RawOption, RawRoot,
+    RawStructure, RawType, RawTypedef, Sign, Size, Stars,
 };
 pub use parsing::parse;

@@ -1,0 +1,75 @@
+// The fields of a structure.
+ghost use Rattle.std.specs.Prelude.{◌≡◌, [], length};
+ghost use Rattle.std.specs.Option.{option_map};
+ghost use Rattle.gt_parse.specs.Outcome.{Gives};
+ghost use Rattle.gt_parse.specs.Fields.{is_access, no_label_at, field_at, brace_behind, fields_from};
+
+use crate::declarators::declarators;
+use crate::faults::UNSUPPORTED;
+use crate::items::RawField;
+use crate::lexeme::{Bracket, Lexeme};
+use crate::types::base_type;
+use crate::unread::Unread;
+use crate::words::is_word;
+use gt_types::{List, Word};
+use std::alloc::Global;
+
+/// Fields up to a closing brace, one or more.
+pub fn fields(alloc: Global, tokens: &[Lexeme]) -> Result<(List<RawField>, &[Lexeme]), Unread>
+    ensures { Gives (λ x. (x.0, x.1.now)) result (fields_from (length tokens.now) [] tokens.now) }
+{
+    let mut fields = List::new(alloc);
+    let mut rest = tokens;
+    for _ in 0..tokens.len() {
+        let (one, after) = field(alloc, rest)?;
+        fields.push(one)?;
+        if let Some(behind) = behind_brace(after) {
+            return Ok((fields, behind));
+        }
+        rest = after;
+    }
+    Err(Unread::Ended)
+}
+
+// The tokens behind a brace that closes at the front.
+fn behind_brace(tokens: &[Lexeme]) -> Option<&[Lexeme]>
+    ensures { option_map (λ rest. rest.now) result ≡ brace_behind tokens.now }
+{
+    match tokens {
+        [Lexeme::Close(Bracket::Brace, _), rest @ ..] => Some(rest),
+        _ => None,
+    }
+}
+
+#[tactic(auto, unfolding(crate::specs::Fields::field_at))]
+fn field(alloc: Global, tokens: &[Lexeme]) -> Result<(RawField, &[Lexeme]), Unread>
+    ensures { Gives (λ x. (x.0, x.1.now)) result (field_at tokens.now) }
+{
+    let rest = no_label(tokens)?;
+    let (ty, rest) = base_type(alloc, UNSUPPORTED, rest)?;
+    let (declarators, rest) = declarators(alloc, rest)?;
+    Ok((RawField { ty, declarators }, rest))
+}
+
+// No access label may stand at the front.
+#[tactic(auto, unfolding(crate::specs::Fields::no_label_at))]
+fn no_label(tokens: &[Lexeme]) -> Result<&[Lexeme], Unread>
+    ensures { Gives (λ rest. (tt, rest.now)) result (no_label_at tokens.now) }
+{
+    let [Lexeme::Name(spot), Lexeme::Colon(_), ..] = tokens else {
+        return Ok(tokens);
+    };
+    if is_access(&spot.word) {
+        return Err(Unread::Fault {
+            number: UNSUPPORTED,
+            at: spot.start,
+        });
+    }
+    Ok(tokens)
+}
+
+fn is_access(word: &Word) -> bool
+    ensures { result ≡ is_access word.now }
+{
+    is_word(word, "public") || is_word(word, "private") || is_word(word, "protected")
+}

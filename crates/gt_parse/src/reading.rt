@@ -1,0 +1,123 @@
+// One item.
+ghost use Rattle.std.specs.Prelude.{◌≡◌, IfOk};
+ghost use Rattle.gt_parse.specs.Outcome.{Fails, Gives, ItemGives};
+ghost use Rattle.gt_parse.specs.Marked.{typedef_structure_at, reserved_at, marked_at};
+ghost use Rattle.gt_parse.specs.Unmarked.{unmarked_of, unmarked_at};
+ghost use Rattle.gt_parse.specs.Reading.{is_marker, is_marked, item_at};
+
+use crate::enums::enum_item;
+use crate::faults::{BAD_MARKER_PLACE, UNEXPECTED, UNSUPPORTED};
+use crate::globals::global;
+use crate::groups::depth_after;
+use crate::items::{Item, Keyword};
+use crate::lexeme::{Lexeme, Spot};
+use crate::structures::structure;
+use crate::typedefs::typedef_item;
+use crate::unread::{Unread, unexpected};
+use crate::words::is_word;
+use std::alloc::{AllocError, Global};
+
+/// What the tokens of one item declare, or why they are refused.
+#[tactic(auto, unfolding(crate::specs::Reading::item_at))]
+pub fn item(alloc: Global, one: &[Lexeme]) -> Result<Option<Item>, Unread>
+    ensures { ItemGives result (item_at one.now) }
+{
+    if !is_marked(one) {
+        return unmarked(alloc, one);
+    }
+    let (item, _) = marked(alloc, one)?;
+    Ok(Some(item))
+}
+
+// Whether a marker stands in no brackets.
+fn is_marked(tokens: &[Lexeme]) -> bool
+    ensures { result ≡ is_marked 0 tokens.now }
+{
+    let mut depth = 0;
+    for token in tokens {
+        if depth == 0 && is_marker(token) {
+            return true;
+        }
+        depth = depth_after(depth, token);
+    }
+    false
+}
+
+fn is_marker(token: &Lexeme) -> bool
+    ensures { result ≡ is_marker token.now }
+{
+    matches!(token, Lexeme::Gty(_))
+}
+
+// A marked item.
+#[tactic(auto, unfolding(crate::specs::Marked::marked_at))]
+fn marked(alloc: Global, tokens: &[Lexeme]) -> Result<(Item, &[Lexeme]), Unread>
+    ensures { Gives (λ x. (x.0, x.1.now)) result (marked_at tokens.now) }
+{
+    match tokens {
+        [Lexeme::Typedef(_), rest @ ..] => typedef_structure(alloc, rest),
+        [Lexeme::Tag(Keyword::Struct, _), rest @ ..] => structure(alloc, false, false, rest),
+        [Lexeme::Tag(Keyword::Union, _), rest @ ..] => structure(alloc, false, true, rest),
+        [Lexeme::Static(_) | Lexeme::Extern(_), rest @ ..] => global(alloc, rest),
+        [Lexeme::Reserved(spot), ..] => Err(reserved(spot)),
+        [Lexeme::Gty(spot), ..] => Err(Unread::Fault {
+            number: BAD_MARKER_PLACE,
+            at: spot.start,
+        }),
+        _ => Err(unexpected(tokens)),
+    }
+}
+
+// A structure behind the word `typedef`.
+#[tactic(auto, unfolding(crate::specs::Marked::typedef_structure_at))]
+fn typedef_structure(alloc: Global, tokens: &[Lexeme]) -> Result<(Item, &[Lexeme]), Unread>
+    ensures { Gives (λ x. (x.0, x.1.now)) result (typedef_structure_at tokens.now) }
+{
+    match tokens {
+        [Lexeme::Tag(Keyword::Struct, _), rest @ ..] => structure(alloc, true, false, rest),
+        [Lexeme::Tag(Keyword::Union, _), rest @ ..] => structure(alloc, true, true, rest),
+        _ => Err(unexpected(tokens)),
+    }
+}
+
+// `class` and `template` are not supported; `namespace` may not stand here.
+fn reserved(spot: &Spot) -> Unread
+    ensures { Fails result (reserved_at spot.now) }
+{
+    let number = if is_word(&spot.word, "namespace") {
+        UNEXPECTED
+    } else {
+        UNSUPPORTED
+    };
+    Unread::Fault {
+        number,
+        at: spot.start,
+    }
+}
+
+// An item without a marker in no brackets. No marker may stand in it at all.
+fn unmarked(alloc: Global, tokens: &[Lexeme]) -> Result<Option<Item>, Unread>
+    ensures { ItemGives result (unmarked_at tokens.now tokens.now) }
+{
+    for token in tokens {
+        if let Lexeme::Gty(spot) = token {
+            return Err(Unread::Fault {
+                number: BAD_MARKER_PLACE,
+                at: spot.start,
+            });
+        }
+    }
+    Ok(unmarked_item(alloc, tokens)?)
+}
+
+// What an unmarked item declares.
+#[tactic(auto, unfolding(crate::specs::Unmarked::unmarked_of))]
+fn unmarked_item(alloc: Global, tokens: &[Lexeme]) -> Result<Option<Item>, AllocError>
+    ensures { IfOk result (λ found. found ≡ unmarked_of tokens.now) }
+{
+    match tokens {
+        [Lexeme::Typedef(_), rest @ ..] => typedef_item(alloc, rest),
+        [Lexeme::Tag(Keyword::Enum, _), rest @ ..] => enum_item(alloc, rest),
+        _ => Ok(None),
+    }
+}

@@ -1,0 +1,172 @@
+// Types, and the stars and names behind them.
+ghost use Rattle.std.specs.Prelude.{◌≡◌};
+ghost use Rattle.gt_parse.specs.Outcome.{Gives};
+ghost use Rattle.gt_parse.specs.Types.{without_qualifiers, one_more, stars_from, stars_at, name_at, tagged_at, bitfield_at, behind_bitfield, named_at, bare_type_at, type_at};
+
+use crate::combinations::words;
+use crate::items::{Keyword, Name, RawType, Stars};
+use crate::lexeme::{Bracket, Lexeme, Spot};
+use crate::markers::close_round;
+use crate::unread::{Unread, unexpected};
+use crate::words::is_word;
+use std::alloc::Global;
+
+/// A type at the front, with the qualifiers before and behind it. `body` is the number of the fault of a type that is defined
+/// there.
+#[tactic(auto, unfolding(crate::specs::Types::type_at, crate::specs::Types::bare_type_at))]
+pub fn base_type(alloc: Global, body: u8, tokens: &[Lexeme]) -> Result<(RawType, &[Lexeme]), Unread>
+    ensures { Gives (λ x. (x.0, x.1.now)) result (type_at body tokens.now) }
+{
+    bare_type(alloc, body, without_qualifiers(tokens))
+}
+
+#[tactic(auto, unfolding(crate::specs::Types::bare_type_at, crate::specs::Types::words_from))]
+fn bare_type(alloc: Global, body: u8, tokens: &[Lexeme]) -> Result<(RawType, &[Lexeme]), Unread>
+    ensures { Gives (λ x. (x.0, x.1.now)) result (bare_type_at body tokens.now) }
+{
+    match tokens {
+        [Lexeme::Type(..), ..] => words(tokens),
+        [Lexeme::Tag(keyword, _), after @ ..] => {
+            tagged(alloc, body, *keyword, without_qualifiers(after))
+        }
+        [Lexeme::Name(spot), after @ ..] => named(alloc, spot, after),
+        _ => Err(unexpected(tokens)),
+    }
+}
+
+// The tag behind a keyword.
+#[tactic(auto, unfolding(crate::specs::Types::tagged_at))]
+fn tagged(
+    alloc: Global,
+    body: u8,
+    keyword: Keyword,
+    tokens: &[Lexeme],
+) -> Result<(RawType, &[Lexeme]), Unread>
+    ensures { Gives (λ x. (x.0, x.1.now)) result (tagged_at body keyword tokens.now) }
+{
+    match tokens {
+        [Lexeme::Name(spot), after @ ..] => {
+            let rest = without_qualifiers(after);
+            if let [Lexeme::Open(Bracket::Brace, brace), ..] = rest {
+                return Err(Unread::Fault {
+                    number: body,
+                    at: brace.start,
+                });
+            }
+            let tag = spot.name(alloc)?;
+            Ok((RawType::Tagged { keyword, tag }, rest))
+        }
+        [Lexeme::Open(Bracket::Brace, brace), ..] => Err(Unread::Fault {
+            number: body,
+            at: brace.start,
+        }),
+        _ => Err(unexpected(tokens)),
+    }
+}
+
+// A type that begins with a name.
+fn named<'a>(
+    alloc: Global,
+    spot: &Spot,
+    tokens: &'a [Lexeme],
+) -> Result<(RawType, &'a [Lexeme]), Unread>
+    ensures { Gives (λ x. (x.0, x.1.now)) result (named_at spot.now tokens.now) }
+{
+    let rest = without_qualifiers(tokens);
+    if is_word(&spot.word, "ENUM_BITFIELD") {
+        return behind_bitfield(alloc, spot, rest);
+    }
+    Ok((RawType::Named(spot.name(alloc)?), rest))
+}
+
+// What stands behind the word `ENUM_BITFIELD`: an enum in brackets, but for `(*`, which declares a pointer to a function.
+fn behind_bitfield<'a>(
+    alloc: Global,
+    spot: &Spot,
+    tokens: &'a [Lexeme],
+) -> Result<(RawType, &'a [Lexeme]), Unread>
+    ensures { Gives (λ x. (x.0, x.1.now)) result (behind_bitfield spot.now tokens.now) }
+{
+    match tokens {
+        [Lexeme::Open(Bracket::Round, _), Lexeme::Star(_), ..] => {
+            Ok((RawType::Named(spot.name(alloc)?), tokens))
+        }
+        [Lexeme::Open(Bracket::Round, _), after @ ..] => bitfield(alloc, after),
+        _ => Ok((RawType::Named(spot.name(alloc)?), tokens)),
+    }
+}
+
+// The enum in the brackets of `ENUM_BITFIELD`.
+#[tactic(auto, unfolding(crate::specs::Types::bitfield_at))]
+fn bitfield(alloc: Global, tokens: &[Lexeme]) -> Result<(RawType, &[Lexeme]), Unread>
+    ensures { Gives (λ x. (x.0, x.1.now)) result (bitfield_at tokens.now) }
+{
+    let (tag, rest) = name(alloc, without_qualifiers(tokens))?;
+    let rest = close_round(without_qualifiers(rest))?;
+    let keyword = Keyword::Enum;
+    Ok((RawType::Tagged { keyword, tag }, without_qualifiers(rest)))
+}
+
+/// A name, which has to stand at the front.
+#[tactic(auto, unfolding(crate::specs::Types::name_at))]
+pub fn name(alloc: Global, tokens: &[Lexeme]) -> Result<(Name, &[Lexeme]), Unread>
+    ensures { Gives (λ x. (x.0, x.1.now)) result (name_at tokens.now) }
+{
+    match tokens {
+        [Lexeme::Name(spot), rest @ ..] => Ok((spot.name(alloc)?, rest)),
+        _ => Err(unexpected(tokens)),
+    }
+}
+
+/// How many stars stand at the front, with `const` and `volatile` behind each, and the tokens behind them.
+#[tactic(auto, unfolding(crate::specs::Types::stars_at))]
+pub fn stars(tokens: &[Lexeme]) -> (Stars, &[Lexeme])
+    ensures stars { result.0 ≡ (stars_at tokens.now).0 }
+    ensures rest { result.1.now ≡ (stars_at tokens.now).1 }
+{
+    match tokens {
+        [Lexeme::Star(_), rest @ ..] => more_stars(Stars::One, rest),
+        _ => (Stars::Zero, tokens),
+    }
+}
+
+#[tactic(auto, unfolding(crate::specs::Types::stars_from))]
+fn more_stars(stars: Stars, tokens: &[Lexeme]) -> (Stars, &[Lexeme])
+    ensures stars { result.0 ≡ (stars_from stars tokens.now).0 }
+    ensures rest { result.1.now ≡ (stars_from stars tokens.now).1 }
+{
+    let mut stars = stars;
+    let mut rest = tokens;
+    loop {
+        match rest {
+            [Lexeme::Star(_), after @ ..] => {
+                stars = one_more(stars);
+                rest = after;
+            }
+            [Lexeme::Qualifier(_), after @ ..] => rest = after,
+            _ => return (stars, rest),
+        }
+    }
+}
+
+fn one_more(stars: Stars) -> Stars
+    ensures { result ≡ one_more stars }
+{
+    match stars {
+        Stars::Zero => Stars::One,
+        Stars::One => Stars::Two,
+        Stars::Two | Stars::More => Stars::More,
+    }
+}
+
+/// The tokens behind `const` and `volatile` at the front, which mean nothing.
+#[tactic(auto, unfolding(crate::specs::Types::without_qualifiers))]
+pub fn without_qualifiers(tokens: &[Lexeme]) -> &[Lexeme]
+    ensures { result.now ≡ without_qualifiers tokens.now }
+{
+    let mut rest = tokens;
+    while let [Lexeme::Qualifier(_), after @ ..] = rest {
+        rest = after;
+    }
+    rest
+}
