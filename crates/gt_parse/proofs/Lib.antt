@@ -1,0 +1,4 @@
+mod Stacks
+mod ItemEnds
+mod Sound
+mod Turns

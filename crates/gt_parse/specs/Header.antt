@@ -12,10 +12,12 @@ use Rattle.gt_parse.specs.declared.items.Item.{Item}
 use Rattle.gt_parse.specs.declared.items.Items.{Items}
 use Rattle.gt_parse.specs.declared.items.RawConstant.{RawConstant}
 use Rattle.gt_parse.specs.declared.lexeme.Lexeme.{Lexeme}
+use Rattle.gt_parse.specs.declared.search.End.{End}
+use Rattle.gt_parse.specs.declared.search.End.TheVariants.{Complete, Fails}
 use Rattle.gt_parse.specs.Lexemes.{spot_of, lexemes_of}
 use Rattle.gt_parse.specs.Outcome.{Outcome, Read, Stops, Ends}
 use Rattle.gt_parse.specs.Reading.{item_at}
-use Rattle.gt_parse.specs.Search.{Searches, End, Complete, Fails}
+use Rattle.gt_parse.specs.Search.{Searches}
 
 -- the constant of a text that a definition names
 abbrev pub constant_in : List ℕ → Define → RawConstant

@@ -7,5 +7,6 @@ pub mod Markers
 pub mod Outcome
 pub mod Reading
 pub mod Search
+pub mod Searching
 pub mod Types
 pub mod Unmarked

@@ -34,3 +34,17 @@ Fails (Fault number at) o = o ≡ Stops number at
 abbrev pub Gives : {X A : Type 0} → (X → A × List Lexeme) → Result X Unread → Outcome A → Type 0
 Gives view (Ok x) o = o ≡ Read (view x).0 (view x).1
 Gives view (Err e) o = Fails e o
+
+-- what a function returned is what reading gives, whatever stands behind, unless memory ran out
+abbrev pub GivesBefore : {A : Type 0} → Result A Unread → (List Lexeme → Outcome A) → Type 0
+GivesBefore result reading = (ts : List Lexeme) → Gives (λ x. (x, ts)) result (reading ts)
+
+-- the error of a token that may not stand at its place, the first of these
+abbrev pub unexpected_as : List Lexeme → Unread
+unexpected_as [] = Ended
+unexpected_as (t ∷ ts) = Fault UNEXPECTED (spot_of t).start
+
+-- what the reading of an item returned is the outcome, whatever stands behind the item, unless memory ran out
+abbrev pub ItemGives : {A : Type 0} → Result A Unread → Outcome A → Type 0
+ItemGives (Ok found) o = (behind : List Lexeme) × (o ≡ Read found behind)
+ItemGives (Err e) o = Fails e o

@@ -1,5 +1,6 @@
-use crate::items::Keyword;
-use gt_types::Word;
+use crate::items::{Keyword, Name};
+use gt_types::{Copied, Word};
+use std::alloc::{AllocError, Global};
 
 /// Where a token stands, and its characters.
 #[derive(Debug, Drop)]
@@ -56,4 +57,70 @@ pub enum TypeWord {
     Float,
     Double,
     Void,
+}
+
+impl Spot {
+    ghost use Rattle.std.specs.Prelude.{◌≡◌, IfOk};
+    ghost use Rattle.gt_parse.specs.Lexemes.{name_of};
+
+    /// The name that the token is.
+    pub fn name(&self, alloc: Global) -> Result<Name, AllocError>
+        ensures { IfOk result (λ name. name ≡ name_of self.now) }
+    {
+        Ok(Name {
+            word: self.word.copy(alloc)?,
+            at: self.start,
+        })
+    }
+}
+
+impl Lexeme {
+    ghost use Rattle.std.specs.Prelude.{◌≡◌};
+    ghost use Rattle.gt_parse.specs.Lexemes.{spot_of, is_identifier};
+
+    /// Where the token stands, and its characters.
+    pub fn spot(&self) -> &Spot
+        ensures { result.now ≡ spot_of self.now }
+    {
+        match self {
+            Lexeme::Name(spot)
+            | Lexeme::Type(_, spot)
+            | Lexeme::Tag(_, spot)
+            | Lexeme::Gty(spot)
+            | Lexeme::Typedef(spot)
+            | Lexeme::Static(spot)
+            | Lexeme::Extern(spot)
+            | Lexeme::Qualifier(spot)
+            | Lexeme::Reserved(spot)
+            | Lexeme::Quoted(spot)
+            | Lexeme::Open(_, spot)
+            | Lexeme::Close(_, spot)
+            | Lexeme::Semicolon(spot)
+            | Lexeme::Comma(spot)
+            | Lexeme::Colon(spot)
+            | Lexeme::Star(spot)
+            | Lexeme::Equals(spot)
+            | Lexeme::Less(spot)
+            | Lexeme::Greater(spot)
+            | Lexeme::Other(spot) => spot,
+        }
+    }
+
+    /// Whether the token is an identifier, with a meaning of its own or without.
+    pub fn is_identifier(&self) -> bool
+        ensures { result ≡ is_identifier self.now }
+    {
+        matches!(
+            self,
+            Lexeme::Name(_)
+                | Lexeme::Type(..)
+                | Lexeme::Tag(..)
+                | Lexeme::Gty(_)
+                | Lexeme::Typedef(_)
+                | Lexeme::Static(_)
+                | Lexeme::Extern(_)
+                | Lexeme::Qualifier(_)
+                | Lexeme::Reserved(_)
+        )
+    }
 }

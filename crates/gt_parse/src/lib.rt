@@ -5,9 +5,15 @@
 
 mod faults;
 mod items;
+mod laws;
 mod lexeme;
+mod lexemes;
 mod parsing;
+mod reading;
+mod search;
+mod stack;
 mod unread;
+mod words;
 
 pub use faults::{BAD_MARKER_PLACE, UNCLOSED, UNEXPECTED, UNSUPPORTED};
 pub use items::{
@@ -16,3 +22,6 @@ pub use items::{
     RawTypedef, Sign, Size, Stars,
 };
 pub use parsing::parse;
+
+#[cfg(test)]
+mod search_tests;
