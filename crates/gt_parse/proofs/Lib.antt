@@ -2,3 +2,5 @@ mod Stacks
 mod ItemEnds
 mod Sound
 mod Turns
+mod Determined
+mod Searched

@@ -137,7 +137,7 @@ plain_tells (w ∷ ws) (lexeme.Close Brace s ∷ ts) none = record {
 plain_tells [] (t ∷ ts) none = item_tells [] t ts (item_end none_begun (t ∷ ts)) none (inl refl) (tells [] false false (t ∷ ts))
 plain_tells (w ∷ ws) (t ∷ ts) none = item_tells (w ∷ ws) t ts (item_end none_begun (t ∷ ts)) none (inr refl) (tells [] false false (t ∷ ts))
 
-IsWrapper-some : {front : List Lexeme} {brace : ℕ} → IsWrapper front brace → 0 < length front
+pub IsWrapper-some : {front : List Lexeme} {brace : ℕ} → IsWrapper front brace → 0 < length front
 IsWrapper-some (IsWrapper.extern_c e q b) = omega arith
 IsWrapper-some (IsWrapper.namespace r b) = omega arith
 IsWrapper-some (IsWrapper.named_namespace r n b) = omega arith
