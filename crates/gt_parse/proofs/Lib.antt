@@ -4,3 +4,4 @@ mod Sound
 mod Turns
 mod Determined
 mod Searched
+mod Cuts

@@ -1,14 +1,13 @@
 // What each token may be in an item.
-ghost use Rattle.std.specs.Prelude.{◌≡◌, ◌<◌, ◌≤◌, length, slice_range, IfOk};
-ghost use Rattle.std.specs.Str.{IsCharBoundary};
+ghost use Rattle.std.specs.Prelude.{◌≡◌, IfOk};
 ghost use Rattle.gt_lex.specs.Texts.{IsLexed};
-ghost use Rattle.gt_parse.specs.Lexemes.{identifier_lexeme, type_lexeme, mark_lexeme, lexeme_of, spot_in, lexemes_of};
+ghost use Rattle.gt_parse.specs.Lexemes.{identifier_lexeme, type_lexeme, mark_lexeme, lexeme_of, lexemes_of};
 
 use crate::items::Keyword;
 use crate::lexeme::{Bracket, Lexeme, Spot, TypeWord};
+use crate::slices::word_in;
 use crate::words::is_word;
 use gt_lex::{Kind, Lexed, Token, token_slices};
-use gt_types::Word;
 use std::alloc::{AllocError, Global};
 use std::str;
 
@@ -23,22 +22,11 @@ pub fn lexemes(alloc: Global, text: &[u8], lexed: &Lexed) -> Result<Vec<Lexeme>,
     };
     let mut made = Vec::new(alloc);
     for token in lexed.tokens.as_slice() {
-        let spot = spot(alloc, text, *token)?;
-        made.push(lexeme(token.kind, spot))?;
+        let Token { kind, start, end } = *token;
+        let word = word_in(alloc, text, start, end)?;
+        made.push(lexeme(kind, Spot { word, start, end }))?;
     }
     Ok(made)
-}
-
-// Where a token of a text stands, and its characters.
-fn spot(alloc: Global, text: &str, token: Token) -> Result<Spot, AllocError>
-    requires order { token.start ≤ token.end }
-    requires start { IsCharBoundary text.now token.start }
-    requires end { IsCharBoundary text.now token.end }
-    ensures { IfOk result (λ spot. spot ≡ spot_in text.now token) }
-{
-    let Token { start, end, .. } = token;
-    let word = Word::of(alloc, &text[start as usize..end as usize])?;
-    Ok(Spot { word, start, end })
 }
 
 // A token of a kind.

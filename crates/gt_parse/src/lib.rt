@@ -3,6 +3,7 @@
 //! The layer above resolves names and types.
 #![tactic(auto)]
 
+mod constants;
 mod faults;
 mod items;
 mod laws;
@@ -11,6 +12,7 @@ mod lexemes;
 mod parsing;
 mod reading;
 mod search;
+mod slices;
 mod stack;
 mod unread;
 mod words;
@@ -21,6 +23,7 @@ pub use items::{
     PointedType, RawCache, RawConstant, RawEnum, RawField, RawOption, RawRoot, RawStructure, RawType,
     RawTypedef, Sign, Size, Stars,
 };
+pub use laws::{one_search, some_search};
 pub use parsing::parse;
 
 #[cfg(test)]
