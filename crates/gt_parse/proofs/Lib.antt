@@ -5,3 +5,5 @@ mod Turns
 mod Determined
 mod Searched
 mod Cuts
+mod First
+mod Parsed

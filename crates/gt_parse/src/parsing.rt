@@ -17,7 +17,7 @@ use crate::search::{End, search};
 use crate::unread::Unread;
 use gt_lex::Lexed;
 use gt_types::{Fault, List, Stop};
-use std::alloc::Global;
+use std::alloc::{AllocError, Global};
 
 /// The items of a text of fewer than 2 to the 32 bytes, from what `gt_lex::lex` made of it. Otherwise want of memory, or the
 /// first fault, at its byte offset in the file that the caller names: `UNCLOSED`, `UNEXPECTED`, `UNSUPPORTED`,
@@ -56,7 +56,7 @@ fn read(alloc: Global, file: u32, text: &[u8], lexed: &Lexed) -> Result<Items, S
 }
 
 // What the items declare, and the first of their faults.
-fn read_items(alloc: Global, cut: &[&[Lexeme]]) -> Result<(Vec<Item>, End), Stop>
+fn read_items(alloc: Global, cut: &[&[Lexeme]]) -> Result<(Vec<Item>, End), AllocError>
     ensures items { IfOk result (λ found. found.0.items ≡ flat_map item_items (map (λ one. one.now) cut.now)) }
     ensures first { IfOk result (λ found. found.1 ≡ first_of (flat_map item_faults (map (λ one. one.now) cut.now))) }
 {
@@ -69,7 +69,7 @@ fn read_items(alloc: Global, cut: &[&[Lexeme]]) -> Result<(Vec<Item>, End), Stop
 }
 
 // Adds what an item declares, or gives its fault.
-fn read_item(alloc: Global, one: &[Lexeme], items: &mut Vec<Item>) -> Result<End, Stop>
+fn read_item(alloc: Global, one: &[Lexeme], items: &mut Vec<Item>) -> Result<End, AllocError>
     ensures items { OnOk result (items.new.items ≡ items.old.items ++ item_items one.now) }
     ensures fault { IfOk result (λ end. end ≡ first_of (item_faults one.now)) }
 {
@@ -79,7 +79,7 @@ fn read_item(alloc: Global, one: &[Lexeme], items: &mut Vec<Item>) -> Result<End
             items.push(found)?;
             Ok(End::Complete)
         }
-        Err(Unread::Memory) => Err(Stop::Memory),
+        Err(Unread::Memory) => Err(AllocError),
         Err(Unread::Ended) => Ok(unclosed(one)),
         Err(Unread::Fault { number, at }) => Ok(End::Fails { number, at }),
     }
