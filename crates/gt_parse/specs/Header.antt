@@ -1,5 +1,5 @@
 -- The items of a header, and its first fault.
-use Rattle.std.specs.Prelude.{◌≡◌, ℕ, ◌≤◌, ◌⊎◌, List, [], ◌∷◌, ◌++◌, map, All, Contains, slice_range, Option, Some, None, Result, Ok, Err}
+use Rattle.std.specs.Prelude.{◌≡◌, ℕ, ◌<◌, ◌≤◌, ◌⊎◌, List, [], ◌∷◌, ◌++◌, map, All, slice_range, Option, Some, None, Result, Ok, Err}
 use Rattle.std.specs.List.{flat_map}
 use Rattle.std.specs.Str.{chars}
 use Rattle.gt_types.specs.declared.faults.Fault.{Fault}
@@ -12,10 +12,12 @@ use Rattle.gt_parse.specs.declared.items.Item.{Item}
 use Rattle.gt_parse.specs.declared.items.Items.{Items}
 use Rattle.gt_parse.specs.declared.items.RawConstant.{RawConstant}
 use Rattle.gt_parse.specs.declared.lexeme.Lexeme.{Lexeme}
+use Rattle.gt_parse.specs.declared.search.End.{End}
+use Rattle.gt_parse.specs.declared.search.End.TheVariants.{Complete, Fails}
 use Rattle.gt_parse.specs.Lexemes.{spot_of, lexemes_of}
 use Rattle.gt_parse.specs.Outcome.{Outcome, Read, Stops, Ends}
 use Rattle.gt_parse.specs.Reading.{item_at}
-use Rattle.gt_parse.specs.Search.{Searches, End, Complete, Fails}
+use Rattle.gt_parse.specs.Search.{Searches}
 
 -- the constant of a text that a definition names
 abbrev pub constant_in : List ℕ → Define → RawConstant
@@ -35,12 +37,16 @@ pub record AreItems (text : List ℕ) (tokens : List Token) (defines : List Defi
   pub declared : Declare cut items.items
   pub constants : items.constants ≡ map (constant_in text) defines
 
--- the fault of a whole item, its number and place, if it has one; tokens that end too early cannot come in a whole item
+-- the fault of an item whose tokens end too early, which cannot come in a whole item
+abbrev pub unclosed_faults : List Lexeme → List (ℕ × ℕ)
+unclosed_faults [] = []
+unclosed_faults (t ∷ ts) = (UNCLOSED, (spot_of t).start) ∷ []
+
+-- the fault of a whole item, its number and place, if it has one
 abbrev pub faults_by : {A : Type 0} → List Lexeme → Outcome A → List (ℕ × ℕ)
 faults_by one (Read found behind) = []
 faults_by one (Stops number at) = (number, at) ∷ []
-faults_by [] Ends = []
-faults_by (t ∷ ts) Ends = (UNCLOSED, (spot_of t).start) ∷ []
+faults_by one Ends = unclosed_faults one
 
 abbrev pub item_faults : List Lexeme → List (ℕ × ℕ)
 item_faults one = faults_by one (item_at one)
@@ -50,13 +56,17 @@ abbrev pub end_faults : End → List (ℕ × ℕ)
 end_faults Complete = []
 end_faults (Fails number at) = (number, at) ∷ []
 
--- all faults of the text: those of its whole items, and that of the search; the first of them is the one with the earliest place
+-- The first of all faults of the text, those of its whole items and that of the search: the one with the earliest place, and of
+-- those that stand there the first in the order of the items.
 pub record IsFirstFault (text : List ℕ) (tokens : List Token) (number at : ℕ) : Type 0 where
   pub cut : List (List Lexeme)
   pub end : End
+  pub before : List (ℕ × ℕ)
+  pub after : List (ℕ × ℕ)
   pub searched : Searches [] (lexemes_of text tokens) cut end
-  pub among : Contains (flat_map item_faults cut ++ end_faults end) (number, at)
-  pub first : All (λ fault. at ≤ fault.1) (flat_map item_faults cut ++ end_faults end)
+  pub among : flat_map item_faults cut ++ end_faults end ≡ before ++ (number, at) ∷ after
+  pub earlier : All (λ fault. at < fault.1) before
+  pub later : All (λ fault. at ≤ fault.1) after
 
 -- what may be answered in place of items: want of memory, or the first fault
 abbrev pub IsStop : ℕ → List ℕ → List Token → Stop → Type 0

@@ -12,6 +12,22 @@ use Rattle.gt_parse.specs.declared.lexeme.TypeWord.TheVariants as word
 use Rattle.gt_parse.specs.declared.lexeme.Lexeme.{Lexeme}
 use Rattle.gt_parse.specs.declared.lexeme.Lexeme.TheVariants as lexeme
 
+-- an identifier without another meaning is a word of a combination, or else a name
+unfoldable pub type_lexeme : Spot → Lexeme
+type_lexeme s =
+    if bytes_eq s.word (codes "unsigned") then lexeme.Type word.Unsigned s
+    else if bytes_eq s.word (codes "signed") then lexeme.Type word.Signed s
+    else if bytes_eq s.word (codes "short") then lexeme.Type word.Short s
+    else if bytes_eq s.word (codes "long") then lexeme.Type word.Long s
+    else if bytes_eq s.word (codes "int") then lexeme.Type word.Int s
+    else if bytes_eq s.word (codes "char") then lexeme.Type word.Char s
+    else if bytes_eq s.word (codes "bool") then lexeme.Type word.Bool s
+    else if bytes_eq s.word (codes "_Bool") then lexeme.Type word.Bool s
+    else if bytes_eq s.word (codes "float") then lexeme.Type word.Float s
+    else if bytes_eq s.word (codes "double") then lexeme.Type word.Double s
+    else if bytes_eq s.word (codes "void") then lexeme.Type word.Void s
+    else lexeme.Name s
+
 -- an identifier is one of the words with a meaning of their own, or else a name
 unfoldable pub identifier_lexeme : Spot → Lexeme
 identifier_lexeme s =
@@ -27,18 +43,7 @@ identifier_lexeme s =
     else if bytes_eq s.word (codes "class") then lexeme.Reserved s
     else if bytes_eq s.word (codes "template") then lexeme.Reserved s
     else if bytes_eq s.word (codes "namespace") then lexeme.Reserved s
-    else if bytes_eq s.word (codes "unsigned") then lexeme.Type word.Unsigned s
-    else if bytes_eq s.word (codes "signed") then lexeme.Type word.Signed s
-    else if bytes_eq s.word (codes "short") then lexeme.Type word.Short s
-    else if bytes_eq s.word (codes "long") then lexeme.Type word.Long s
-    else if bytes_eq s.word (codes "int") then lexeme.Type word.Int s
-    else if bytes_eq s.word (codes "char") then lexeme.Type word.Char s
-    else if bytes_eq s.word (codes "bool") then lexeme.Type word.Bool s
-    else if bytes_eq s.word (codes "_Bool") then lexeme.Type word.Bool s
-    else if bytes_eq s.word (codes "float") then lexeme.Type word.Float s
-    else if bytes_eq s.word (codes "double") then lexeme.Type word.Double s
-    else if bytes_eq s.word (codes "void") then lexeme.Type word.Void s
-    else lexeme.Name s
+    else type_lexeme s
 
 -- a character that is a token by itself
 unfoldable pub mark_lexeme : Spot → Lexeme

@@ -1,3 +1,4 @@
+pub mod Answers
 pub mod Fields
 pub mod Groups
 pub mod Header
@@ -7,5 +8,6 @@ pub mod Markers
 pub mod Outcome
 pub mod Reading
 pub mod Search
+pub mod Searching
 pub mod Types
 pub mod Unmarked

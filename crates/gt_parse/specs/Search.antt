@@ -7,6 +7,8 @@ use Rattle.gt_parse.specs.declared.lexeme.Bracket.{Bracket}
 use Rattle.gt_parse.specs.declared.lexeme.Bracket.TheVariants.{Round, Square, Brace}
 use Rattle.gt_parse.specs.declared.lexeme.Lexeme.{Lexeme}
 use Rattle.gt_parse.specs.declared.lexeme.Lexeme.TheVariants as lexeme
+use Rattle.gt_parse.specs.declared.search.End.{End}
+use Rattle.gt_parse.specs.declared.search.End.TheVariants.{Complete, Fails}
 use Rattle.gt_parse.specs.Lexemes.{spot_of}
 
 -- a token that is no bracket; and one that is neither a bracket nor a semicolon
@@ -79,16 +81,11 @@ begins_wrapper (lexeme.Reserved r ∷ lexeme.Open Brace b ∷ ts) = bytes_eq r.w
 begins_wrapper (lexeme.Reserved r ∷ lexeme.Name n ∷ lexeme.Open Brace b ∷ ts) = bytes_eq r.word (codes "namespace")
 begins_wrapper ts = false
 
--- the tokens of a wrapper, and its brace
-pub data IsWrapper : List Lexeme → Spot → Type 0 where
-  extern_c : (e q b : Spot) → IsWrapper (lexeme.Extern e ∷ lexeme.Quoted q ∷ lexeme.Open Brace b ∷ []) b
-  namespace : (r b : Spot) → IsWrapper (lexeme.Reserved r ∷ lexeme.Open Brace b ∷ []) b
-  named_namespace : (r n b : Spot) → IsWrapper (lexeme.Reserved r ∷ lexeme.Name n ∷ lexeme.Open Brace b ∷ []) b
-
--- how the search ends: at the end of the text, or with a fault
-pub data End : Type 0 where
-  Complete : End
-  Fails : (number at : ℕ) → End
+-- the tokens of a wrapper, and the place of its brace
+pub data IsWrapper : List Lexeme → ℕ → Type 0 where
+  extern_c : (e q b : Spot) → IsWrapper (lexeme.Extern e ∷ lexeme.Quoted q ∷ lexeme.Open Brace b ∷ []) b.start
+  namespace : (r b : Spot) → IsWrapper (lexeme.Reserved r ∷ lexeme.Open Brace b ∷ []) b.start
+  named_namespace : (r n b : Spot) → IsWrapper (lexeme.Reserved r ∷ lexeme.Name n ∷ lexeme.Open Brace b ∷ []) b.start
 
 -- a closing bracket that does not match the last one that is open, if one is
 abbrev pub IsUnmatched : Bracket → List Bracket → Type 0
@@ -96,36 +93,37 @@ IsUnmatched b [] = Unit {0}
 IsUnmatched b (last ∷ others) = b ≢ last
 
 -- the brace of the outermost of some wrappers, which stand from the inside out
-abbrev pub outermost : Spot → List Spot → Spot
+abbrev pub outermost : ℕ → List ℕ → ℕ
 outermost w [] = w
 outermost w (v ∷ ws) = outermost v ws
 
 -- where what the text does not close stands: the outermost open wrapper, or else the first token of the item
-abbrev pub unclosed_place : List Spot → Lexeme → ℕ
+abbrev pub unclosed_place : List ℕ → Lexeme → ℕ
 unclosed_place [] t = (spot_of t).start
-unclosed_place (w ∷ ws) t = (outermost w ws).start
+unclosed_place (w ∷ ws) t = outermost w ws
 
 -- the closing brace is that of the innermost wrapper: no item has begun, and a wrapper is open
-abbrev pub ClosesWrapper : List Spot → List Lexeme → Bracket → Type 0
+abbrev pub ClosesWrapper : List ℕ → List Lexeme → Bracket → Type 0
 ClosesWrapper wrappers front b = (front ≡ []) × (b ≡ Brace) × (wrappers ≢ [])
 
--- the items of the tokens, where these wrappers are open, and how the search ends
-pub data Searches : List Spot → List Lexeme → List (List Lexeme) → End → Type 0 where
+-- The items of the tokens, where some wrappers are open, and how the search ends: at the end of the text, or with a fault. The
+-- wrappers are given by the places of their braces, the innermost first.
+pub data Searches : List ℕ → List Lexeme → List (List Lexeme) → End → Type 0 where
   -- all is closed
   complete : Searches [] [] [] Complete
   -- a wrapper is passed over, and so is its closing brace
-  wrapper : {wrappers : List Spot} {front ts : List Lexeme} {items : List (List Lexeme)} {end : End} (brace : Spot)
+  wrapper : {wrappers : List ℕ} {front ts : List Lexeme} {items : List (List Lexeme)} {end : End} (brace : ℕ)
       → IsWrapper front brace → begins_wrapper (front ++ ts) ≡ true → Searches (brace ∷ wrappers) ts items end → Searches wrappers (front ++ ts) items end
-  closed_wrapper : {wrappers : List Spot} {ts : List Lexeme} {items : List (List Lexeme)} {end : End} (w s : Spot)
+  closed_wrapper : {wrappers : List ℕ} {ts : List Lexeme} {items : List (List Lexeme)} {end : End} (w : ℕ) (s : Spot)
       → Searches wrappers ts items end → Searches (w ∷ wrappers) (lexeme.Close Brace s ∷ ts) items end
   -- an item
-  item : {wrappers : List Spot} {one ts : List Lexeme} {items : List (List Lexeme)} {end : End}
+  item : {wrappers : List ℕ} {one ts : List Lexeme} {items : List (List Lexeme)} {end : End}
       → begins_wrapper (one ++ ts) ≡ false → EndsItem false false one → Searches wrappers ts items end → Searches wrappers (one ++ ts) (one ∷ items) end
   -- 8: a closing bracket that does not match, at the bracket
-  unmatched : {wrappers : List Spot} {front : List Lexeme} {opened : List Bracket} (b : Bracket) (s : Spot) (ts : List Lexeme)
+  unmatched : {wrappers : List ℕ} {front : List Lexeme} {opened : List Bracket} (b : Bracket) (s : Spot) (ts : List Lexeme)
       → begins_wrapper (front ++ lexeme.Close b s ∷ ts) ≡ false → BeginsItem false false front opened → IsUnmatched b opened
       → (ClosesWrapper wrappers front b → ⊥) → Searches wrappers (front ++ lexeme.Close b s ∷ ts) [] (Fails UNEXPECTED s.start)
   -- 7: the text ends in an item, or in a wrapper
-  unclosed_item : {wrappers : List Spot} {ts : List Lexeme} {opened : List Bracket} (t : Lexeme)
+  unclosed_item : {wrappers : List ℕ} {ts : List Lexeme} {opened : List Bracket} (t : Lexeme)
       → begins_wrapper (t ∷ ts) ≡ false → BeginsItem false false (t ∷ ts) opened → Searches wrappers (t ∷ ts) [] (Fails UNCLOSED (unclosed_place wrappers t))
-  unclosed_wrapper : {wrappers : List Spot} (w : Spot) → Searches (w ∷ wrappers) [] [] (Fails UNCLOSED (outermost w wrappers).start)
+  unclosed_wrapper : {wrappers : List ℕ} (w : ℕ) → Searches (w ∷ wrappers) [] [] (Fails UNCLOSED (outermost w wrappers))

@@ -3,26 +3,32 @@
 //! The layer above resolves names and types.
 #![tactic(auto)]
 
-mod caches;
-mod combinations;
-mod declarators;
-mod enums;
-mod faults;
-mod fields;
-mod globals;
-mod groups;
 mod items;
+mod faults;
 mod lexeme;
-mod markers;
-mod options;
-mod parsing;
-mod reading;
-mod strings;
-mod structures;
-mod typedefs;
-mod types;
-mod unread;
 mod words;
+mod lexemes;
+mod slices;
+mod stack;
+mod search;
+mod unread;
+mod strings;
+mod options;
+mod markers;
+mod combinations;
+mod types;
+mod groups;
+mod declarators;
+mod fields;
+mod structures;
+mod globals;
+mod caches;
+mod enums;
+mod typedefs;
+mod reading;
+mod constants;
+mod parsing;
+mod laws;
 
 pub use faults::{BAD_MARKER_PLACE, UNCLOSED, UNEXPECTED, UNSUPPORTED};
 pub use items::{
@@ -30,4 +36,8 @@ pub use items::{
     Parameter, PointedType, RawCache, RawConstant, RawEnum, RawField, RawOption, RawRoot,
     RawStructure, RawType, RawTypedef, Sign, Size, Stars,
 };
+pub use laws::{one_search, some_search};
 pub use parsing::parse;
+
+#[cfg(test)]
+mod search_tests;
