@@ -1,0 +1,2 @@
+mod MarkersLemmas
+mod Words

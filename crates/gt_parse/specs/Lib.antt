@@ -2,6 +2,7 @@ pub mod Fields
 pub mod Groups
 pub mod Header
 pub mod Lexemes
+pub mod MarkerGrammar
 pub mod Marked
 pub mod Markers
 pub mod Outcome

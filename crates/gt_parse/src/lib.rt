@@ -5,6 +5,7 @@
 
 mod faults;
 mod items;
+mod laws;
 mod lexeme;
 mod parsing;
 mod unread;
@@ -15,4 +16,5 @@ pub use items::{
     PointedType, RawCache, RawConstant, RawEnum, RawField, RawOption, RawRoot, RawStructure, RawType,
     RawTypedef, Sign, Size, Stars,
 };
+pub use laws::marker_rules;
 pub use parsing::parse;
