@@ -1,2 +1,3 @@
 mod MarkersLemmas
+mod TypesLemmas
 mod Words

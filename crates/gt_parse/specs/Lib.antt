@@ -8,5 +8,6 @@ pub mod Markers
 pub mod Outcome
 pub mod Reading
 pub mod Search
+pub mod TypeGrammar
 pub mod Types
 pub mod Unmarked

@@ -1,13 +1,22 @@
 // Laws of the definitions, for all tokens. The functions do nothing.
-ghost use Rattle.std.specs.Prelude.{◌≡◌, List};
+ghost use Rattle.std.specs.Prelude.{◌≡◌, ℕ, List};
 ghost use Rattle.gt_parse.specs.declared.items.RawOption.{RawOption as TheOption};
+ghost use Rattle.gt_parse.specs.declared.items.RawType.{RawType as TheType};
 ghost use Rattle.gt_parse.specs.declared.lexeme.Lexeme.{Lexeme as TheLexeme};
 ghost use Rattle.gt_parse.specs.MarkerGrammar.{Marker};
 ghost use Rattle.gt_parse.specs.Markers.{marker_at};
 ghost use Rattle.gt_parse.specs.Outcome.{Outcome};
+ghost use Rattle.gt_parse.specs.TypeGrammar.{AType};
+ghost use Rattle.gt_parse.specs.Types.{type_at};
 
 /// How a marker is read is what its rules allow, and they allow nothing else.
 pub fn marker_rules()
     ensures allowed { (tokens : List TheLexeme) → Marker tokens (marker_at tokens) }
     ensures alone { (tokens : List TheLexeme) (outcome : Outcome (List TheOption)) → Marker tokens outcome → outcome ≡ marker_at tokens }
+{}
+
+/// How a type is read is what its rules allow, and they allow nothing else.
+pub fn type_rules()
+    ensures allowed { (body : ℕ) (tokens : List TheLexeme) → AType body tokens (type_at body tokens) }
+    ensures alone { (body : ℕ) (tokens : List TheLexeme) (outcome : Outcome TheType) → AType body tokens outcome → outcome ≡ type_at body tokens }
 {}
