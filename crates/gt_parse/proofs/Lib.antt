@@ -1,3 +1,5 @@
+mod FieldsLemmas
+mod GroupsLemmas
 mod MarkersLemmas
 mod TypesLemmas
 mod Words

@@ -13,10 +13,11 @@ use Rattle.gt_parse.specs.declared.lexeme.Bracket.TheVariants.{Round}
 use Rattle.gt_parse.specs.declared.lexeme.Lexeme.{Lexeme}
 use Rattle.gt_parse.specs.declared.lexeme.Lexeme.TheVariants as lexeme
 use Rattle.gt_parse.specs.Lexemes.{spot_of, is_identifier, name_of}
-use Rattle.gt_parse.specs.MarkerGrammar.{Failure, Early, failed, begins, is_gty, is_comma, is_quoted, opens_round, closes_round, Unescapes, nothing, byte, quote, backslash, other, alone, IsParameter, empty, text, expression, no_expression, bad_backslash}
+use Rattle.gt_parse.specs.MarkerGrammar.{Failure, Early, failed, begins, is_comma, is_quoted, opens_round, closes_round, Unescapes, nothing, byte, quote, backslash, other, alone, IsParameter, empty, text, expression, no_expression, bad_backslash}
 use Rattle.gt_parse.specs.MarkerGrammar.{Joins, AnOption, Options, MaybeOptions, Marker, MaybeMarker}
 use Rattle.gt_parse.specs.Markers.{inside_quotes, unescaped, takes_expression, parameter_at, more_strings, strings_at, parameters_at, option_at, behind_comma, options_from, options_at, marker_at, maybe_marker}
 use Rattle.gt_parse.specs.Outcome.{Outcome, Read, Stops, Ends, ◌>>=◌, unexpected}
+use Rattle.gt_parse.specs.Search.{is_gty}
 use Rattle.gt_parse.proofs.Words.{Has, allowed, Comes, read, unread, comes, failed_step, unexpected_step, Leaves, failed_leaves, unexpected_leaves, prefixed, prefixed_nothing, prefixed_twice, no_gty, no_open_round, no_close_round, no_comma}
 
 -- ---- the bytes of literals
@@ -253,7 +254,7 @@ maybe_options_has (t ∷ ts) = maybe_options_some (t ∷ ts) refl
 
 -- ---- markers
 
-marker-one : {ts : List Lexeme} {o : Outcome (List RawOption)} → Marker ts o → o ≡ marker_at ts
+pub marker-one : {ts : List Lexeme} {o : Outcome (List RawOption)} → Marker ts o → o ≡ marker_at ts
 unfolding marker_at
 marker-one (Marker.marker a b c d e m) = rw (← maybe_options-one m) refl
 marker-one (Marker.in_options a b c why m) = rw (← maybe_options-one m) (sym (failed_step why _))
@@ -263,7 +264,7 @@ marker-one (Marker.not_opened_twice {ts} a b h) = rw (no_open_round ts h) (sym (
 marker-one (Marker.not_closed {rest} a b c m h) = rw (← maybe_options-one m, no_close_round rest h) (sym (unexpected_step rest _))
 marker-one (Marker.not_closed_twice {rest} a b c d m h) = rw (← maybe_options-one m, no_close_round rest h) (sym (unexpected_step rest _))
 
-marker-leaves : {ts : List Lexeme} {o : Outcome (List RawOption)} → Marker ts o → Leaves (length ts) o
+pub marker-leaves : {ts : List Lexeme} {o : Outcome (List RawOption)} → Marker ts o → Leaves (length ts) o
 marker-leaves (Marker.marker a b c d e m) = omega (arith, maybe_options-leaves m)
 marker-leaves (Marker.in_options a b c why m) = failed_leaves (List RawOption) why _
 marker-leaves (Marker.no_word {ts} h) = unexpected_leaves (List RawOption) ts _
@@ -280,7 +281,7 @@ marker_behind a b c ts m (read options (lexeme.Close Round d ∷ u ∷ us)) = re
 marker_behind a b c ts m (read options []) = record { outcome = unexpected []; holds = Marker.not_closed a b c m refl }
 marker_behind a b c ts m (read options (u ∷ us)) = record { outcome = unexpected (u ∷ us); holds = Marker.not_closed a b c m refl }
 
-marker_has : (ts : List Lexeme) → Has Marker ts
+pub marker_has : (ts : List Lexeme) → Has Marker ts
 marker_has (lexeme.Gty a ∷ lexeme.Open Round b ∷ lexeme.Open Round c ∷ ts) = marker_behind a b c ts (maybe_options_has ts).holds (comes (maybe_options_has ts).outcome)
 marker_has (lexeme.Gty a ∷ lexeme.Open Round b ∷ []) = record { outcome = unexpected []; holds = Marker.not_opened_twice a b refl }
 marker_has (lexeme.Gty a ∷ lexeme.Open Round b ∷ t ∷ ts) = record { outcome = unexpected (t ∷ ts); holds = Marker.not_opened_twice a b refl }
@@ -294,3 +295,25 @@ marker-alone ts o d = marker-one d
 
 pub marker-allowed : (ts : List Lexeme) → Marker ts (marker_at ts)
 marker-allowed = allowed Marker marker_at marker-alone marker_has
+
+-- ---- markers that may be absent
+
+pub no_marker : (ts : List Lexeme) → begins is_gty ts ≡ false → maybe_marker ts ≡ Read [] ts
+unfolding maybe_marker
+no_marker [] h = refl
+no_marker (lexeme.Gty s ∷ ts) h = absurd cc
+no_marker (t ∷ ts) h = refl
+
+pub maybe_marker-one : {ts : List Lexeme} {o : Outcome (List RawOption)} → MaybeMarker ts o → o ≡ maybe_marker ts
+unfolding maybe_marker
+maybe_marker-one (MaybeMarker.marked a m) = marker-one m
+maybe_marker-one (MaybeMarker.unmarked {ts} h) = sym (no_marker ts h)
+
+pub maybe_marker-leaves : {ts : List Lexeme} {o : Outcome (List RawOption)} → MaybeMarker ts o → Leaves (length ts) o
+maybe_marker-leaves (MaybeMarker.marked a m) = marker-leaves m
+maybe_marker-leaves (MaybeMarker.unmarked h) = omega arith
+
+pub maybe_marker_has : (ts : List Lexeme) → Has MaybeMarker ts
+maybe_marker_has (lexeme.Gty s ∷ ts) = record { outcome = (marker_has (lexeme.Gty s ∷ ts)).outcome; holds = MaybeMarker.marked s (marker_has (lexeme.Gty s ∷ ts)).holds }
+maybe_marker_has [] = record { outcome = _; holds = MaybeMarker.unmarked refl }
+maybe_marker_has (t ∷ ts) = record { outcome = _; holds = MaybeMarker.unmarked refl }

@@ -4,9 +4,10 @@ use Rattle.std.proofs.lemmas.List.{append-nil}
 use Rattle.gt_parse.specs.declared.lexeme.Bracket.TheVariants.{Round}
 use Rattle.gt_parse.specs.declared.lexeme.Lexeme.{Lexeme}
 use Rattle.gt_parse.specs.declared.lexeme.Lexeme.TheVariants as lexeme
-use Rattle.gt_parse.specs.MarkerGrammar.{Failure, Fault, Early, failed, begins, is_gty, is_comma, opens_round, closes_round}
+use Rattle.gt_parse.specs.MarkerGrammar.{Failure, Fault, Early, failed, begins, is_comma, opens_round, closes_round}
 use Rattle.gt_parse.specs.Markers.{gty_at, open_round_at, close_round_at, behind_comma}
 use Rattle.gt_parse.specs.Outcome.{Outcome, Read, Stops, Ends, ◌>>=◌, unexpected}
+use Rattle.gt_parse.specs.Search.{is_gty}
 
 -- the tokens have an outcome by these rules
 pub record Has {A : Type 0} (rules : List Lexeme → Outcome A → Type 0) (ts : List Lexeme) : Type 0 where

@@ -1,3 +1,4 @@
+pub mod FieldGrammar
 pub mod Fields
 pub mod Groups
 pub mod Header

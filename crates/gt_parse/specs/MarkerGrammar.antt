@@ -16,6 +16,7 @@ use Rattle.gt_parse.specs.declared.lexeme.Lexeme.TheVariants as lexeme
 use Rattle.gt_parse.specs.Lexemes.{spot_of, is_identifier, name_of}
 use Rattle.gt_parse.specs.Markers.{inside_quotes, takes_expression}
 use Rattle.gt_parse.specs.Outcome.{Outcome, Read, Stops, Ends, unexpected}
+use Rattle.gt_parse.specs.Search.{is_gty}
 
 -- ---- the words of the rules
 
@@ -32,10 +33,6 @@ failed Early = Ends
 abbrev pub begins : (Lexeme → Bool) → List Lexeme → Bool
 begins test [] = false
 begins test (t ∷ ts) = test t
-
-abbrev pub is_gty : Lexeme → Bool
-is_gty (lexeme.Gty s) = true
-is_gty t = false
 
 abbrev pub is_quoted : Lexeme → Bool
 is_quoted (lexeme.Quoted s) = true

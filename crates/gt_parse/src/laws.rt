@@ -1,8 +1,11 @@
 // Laws of the definitions, for all tokens. The functions do nothing.
 ghost use Rattle.std.specs.Prelude.{◌≡◌, ℕ, List};
+ghost use Rattle.gt_parse.specs.declared.items.RawField.{RawField as TheField};
 ghost use Rattle.gt_parse.specs.declared.items.RawOption.{RawOption as TheOption};
 ghost use Rattle.gt_parse.specs.declared.items.RawType.{RawType as TheType};
 ghost use Rattle.gt_parse.specs.declared.lexeme.Lexeme.{Lexeme as TheLexeme};
+ghost use Rattle.gt_parse.specs.FieldGrammar.{Field};
+ghost use Rattle.gt_parse.specs.Fields.{field_at};
 ghost use Rattle.gt_parse.specs.MarkerGrammar.{Marker};
 ghost use Rattle.gt_parse.specs.Markers.{marker_at};
 ghost use Rattle.gt_parse.specs.Outcome.{Outcome};
@@ -19,4 +22,10 @@ pub fn marker_rules()
 pub fn type_rules()
     ensures allowed { (body : ℕ) (tokens : List TheLexeme) → AType body tokens (type_at body tokens) }
     ensures alone { (body : ℕ) (tokens : List TheLexeme) (outcome : Outcome TheType) → AType body tokens outcome → outcome ≡ type_at body tokens }
+{}
+
+/// How a field is read is what its rules allow, and they allow nothing else.
+pub fn field_rules()
+    ensures allowed { (tokens : List TheLexeme) → Field tokens (field_at tokens) }
+    ensures alone { (tokens : List TheLexeme) (outcome : Outcome TheField) → Field tokens outcome → outcome ≡ field_at tokens }
 {}
