@@ -162,7 +162,7 @@ plain_has ts =
 
 -- ---- declarators
 
-no_stars : (ts : List Lexeme) → begins is_star ts ≡ false → star_at ts ≡ unexpected ts
+pub no_stars : (ts : List Lexeme) → begins is_star ts ≡ false → star_at ts ≡ unexpected ts
 no_stars [] h = refl
 no_stars (lexeme.Star s ∷ ts) h = absurd cc
 no_stars (t ∷ ts) h = refl

@@ -1,5 +1,6 @@
 mod FieldsLemmas
 mod GroupsLemmas
+mod MarkedLemmas
 mod MarkersLemmas
 mod TypesLemmas
 mod Words

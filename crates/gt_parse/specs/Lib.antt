@@ -3,6 +3,7 @@ pub mod Fields
 pub mod Groups
 pub mod Header
 pub mod Lexemes
+pub mod MarkedGrammar
 pub mod MarkerGrammar
 pub mod Marked
 pub mod Markers

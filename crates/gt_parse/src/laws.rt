@@ -1,11 +1,14 @@
 // Laws of the definitions, for all tokens. The functions do nothing.
 ghost use Rattle.std.specs.Prelude.{◌≡◌, ℕ, List};
+ghost use Rattle.gt_parse.specs.declared.items.Item.{Item as TheItem};
 ghost use Rattle.gt_parse.specs.declared.items.RawField.{RawField as TheField};
 ghost use Rattle.gt_parse.specs.declared.items.RawOption.{RawOption as TheOption};
 ghost use Rattle.gt_parse.specs.declared.items.RawType.{RawType as TheType};
 ghost use Rattle.gt_parse.specs.declared.lexeme.Lexeme.{Lexeme as TheLexeme};
 ghost use Rattle.gt_parse.specs.FieldGrammar.{Field};
 ghost use Rattle.gt_parse.specs.Fields.{field_at};
+ghost use Rattle.gt_parse.specs.Marked.{marked_at};
+ghost use Rattle.gt_parse.specs.MarkedGrammar.{MarkedItem};
 ghost use Rattle.gt_parse.specs.MarkerGrammar.{Marker};
 ghost use Rattle.gt_parse.specs.Markers.{marker_at};
 ghost use Rattle.gt_parse.specs.Outcome.{Outcome};
@@ -28,4 +31,10 @@ pub fn type_rules()
 pub fn field_rules()
     ensures allowed { (tokens : List TheLexeme) → Field tokens (field_at tokens) }
     ensures alone { (tokens : List TheLexeme) (outcome : Outcome TheField) → Field tokens outcome → outcome ≡ field_at tokens }
+{}
+
+/// How a marked item is read is what its rules allow, and they allow nothing else.
+pub fn marked_rules()
+    ensures allowed { (tokens : List TheLexeme) → MarkedItem tokens (marked_at tokens) }
+    ensures alone { (tokens : List TheLexeme) (outcome : Outcome TheItem) → MarkedItem tokens outcome → outcome ≡ marked_at tokens }
 {}
