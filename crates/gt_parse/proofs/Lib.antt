@@ -1,6 +1,9 @@
 mod FieldsLemmas
 mod GroupsLemmas
+mod ItemsLemmas
 mod MarkedLemmas
 mod MarkersLemmas
+mod PlacesLemmas
 mod TypesLemmas
+mod UnmarkedLemmas
 mod Words

@@ -33,7 +33,7 @@ a_name s ts = refl
 
 -- ---- qualifiers
 
-no_qualifiers : (ts : List Lexeme) → begins is_qualifier ts ≡ false → without_qualifiers ts ≡ ts
+pub no_qualifiers : (ts : List Lexeme) → begins is_qualifier ts ≡ false → without_qualifiers ts ≡ ts
 unfolding without_qualifiers
 no_qualifiers [] h = refl
 no_qualifiers (lexeme.Qualifier s ∷ ts) h = absurd cc
@@ -57,7 +57,7 @@ qualifiers_has (lexeme.Qualifier s ∷ ts) = record { behind = (qualifiers_has t
 qualifiers_has [] = record { behind = []; qualifiers = Qualifiers.no_qualifier refl }
 qualifiers_has (t ∷ ts) = record { behind = t ∷ ts; qualifiers = Qualifiers.no_qualifier refl }
 
-qualifiers-done : {ts us : List Lexeme} → Qualifiers ts us → begins is_qualifier us ≡ false
+pub qualifiers-done : {ts us : List Lexeme} → Qualifiers ts us → begins is_qualifier us ≡ false
 qualifiers-done (Qualifiers.no_qualifier h) = h
 qualifiers-done (Qualifiers.qualifier s q) = qualifiers-done q
 
@@ -221,7 +221,7 @@ no_types body (lexeme.Tag k s ∷ ts) h = absurd cc
 no_types body (lexeme.Name s ∷ ts) h = absurd cc
 no_types body (t ∷ ts) h = refl
 
-bare_type-one : {body : ℕ} {ts : List Lexeme} {o : Outcome RawType} → BareType body ts o → o ≡ bare_type_at body ts
+pub bare_type-one : {body : ℕ} {ts : List Lexeme} {o : Outcome RawType} → BareType body ts o → o ≡ bare_type_at body ts
 unfolding bare_type_at tagged_at bitfield_at words_from
 bare_type-one (BareType.words w s m) = words-one m
 bare_type-one {body} (BareType.tagged {rest} k t s q r h) = rw (qualifiers-one q, qualifiers-one r) (sym (no_body body _ rest h))

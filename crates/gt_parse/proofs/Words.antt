@@ -10,12 +10,12 @@ use Rattle.gt_parse.specs.Outcome.{Outcome, Read, Stops, Ends, ◌>>=◌, unexpe
 use Rattle.gt_parse.specs.Search.{is_gty}
 
 -- the tokens have an outcome by these rules
-pub record Has {A : Type 0} (rules : List Lexeme → Outcome A → Type 0) (ts : List Lexeme) : Type 0 where
-  pub outcome : Outcome A
+pub record Has {A : Type 0} (rules : List Lexeme → A → Type 0) (ts : List Lexeme) : Type 0 where
+  pub outcome : A
   pub holds : rules ts outcome
 
 -- the outcome of reading is allowed, where each outcome that is allowed is that of reading, and there is one
-pub allowed : {A : Type 0} (rules : List Lexeme → Outcome A → Type 0) (reader : List Lexeme → Outcome A) → ((ts : List Lexeme) (o : Outcome A) → rules ts o → o ≡ reader ts)
+pub allowed : {A : Type 0} (rules : List Lexeme → A → Type 0) (reader : List Lexeme → A) → ((ts : List Lexeme) (o : A) → rules ts o → o ≡ reader ts)
     → ((ts : List Lexeme) → Has rules ts) → (ts : List Lexeme) → rules ts (reader ts)
 allowed rules reader one has ts = rw (← one ts (has ts).outcome (has ts).holds) (has ts).holds
 

@@ -2,6 +2,7 @@ pub mod FieldGrammar
 pub mod Fields
 pub mod Groups
 pub mod Header
+pub mod ItemGrammar
 pub mod Lexemes
 pub mod MarkedGrammar
 pub mod MarkerGrammar

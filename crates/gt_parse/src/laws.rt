@@ -1,5 +1,5 @@
 // Laws of the definitions, for all tokens. The functions do nothing.
-ghost use Rattle.std.specs.Prelude.{◌≡◌, ℕ, List};
+ghost use Rattle.std.specs.Prelude.{◌≡◌, ℕ, List, Option};
 ghost use Rattle.gt_parse.specs.declared.items.Item.{Item as TheItem};
 ghost use Rattle.gt_parse.specs.declared.items.RawField.{RawField as TheField};
 ghost use Rattle.gt_parse.specs.declared.items.RawOption.{RawOption as TheOption};
@@ -7,11 +7,13 @@ ghost use Rattle.gt_parse.specs.declared.items.RawType.{RawType as TheType};
 ghost use Rattle.gt_parse.specs.declared.lexeme.Lexeme.{Lexeme as TheLexeme};
 ghost use Rattle.gt_parse.specs.FieldGrammar.{Field};
 ghost use Rattle.gt_parse.specs.Fields.{field_at};
+ghost use Rattle.gt_parse.specs.ItemGrammar.{AnItem};
 ghost use Rattle.gt_parse.specs.Marked.{marked_at};
 ghost use Rattle.gt_parse.specs.MarkedGrammar.{MarkedItem};
 ghost use Rattle.gt_parse.specs.MarkerGrammar.{Marker};
 ghost use Rattle.gt_parse.specs.Markers.{marker_at};
 ghost use Rattle.gt_parse.specs.Outcome.{Outcome};
+ghost use Rattle.gt_parse.specs.Reading.{item_at};
 ghost use Rattle.gt_parse.specs.TypeGrammar.{AType};
 ghost use Rattle.gt_parse.specs.Types.{type_at};
 
@@ -37,4 +39,14 @@ pub fn field_rules()
 pub fn marked_rules()
     ensures allowed { (tokens : List TheLexeme) → MarkedItem tokens (marked_at tokens) }
     ensures alone { (tokens : List TheLexeme) (outcome : Outcome TheItem) → MarkedItem tokens outcome → outcome ≡ marked_at tokens }
+{}
+
+/// How a whole item is read is what its rules allow.
+pub fn each_rule()
+    ensures { (tokens : List TheLexeme) → AnItem tokens (item_at tokens) }
+{}
+
+/// The rules of a whole item allow nothing else: no tokens have two outcomes.
+pub fn one_outcome()
+    ensures { (tokens : List TheLexeme) (outcome : Outcome (Option TheItem)) → AnItem tokens outcome → outcome ≡ item_at tokens }
 {}

@@ -16,5 +16,5 @@ pub use items::{
     PointedType, RawCache, RawConstant, RawEnum, RawField, RawOption, RawRoot, RawStructure, RawType,
     RawTypedef, Sign, Size, Stars,
 };
-pub use laws::{field_rules, marked_rules, marker_rules, type_rules};
+pub use laws::{each_rule, field_rules, marked_rules, marker_rules, one_outcome, type_rules};
 pub use parsing::parse;
