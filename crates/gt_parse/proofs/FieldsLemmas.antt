@@ -1,5 +1,5 @@
 -- Fields are read as their rules say.
-use Rattle.std.proofs.Common.{◌≡◌, ℕ, zero, suc, ◌-◌, ◌≤◌, Bool, true, false, List, [], ◌∷◌, ◌++◌, length, Option, Some, None, refl, sym, ap, ◌∙◌, append_assoc, length-append, arith}
+use Rattle.std.proofs.Common.{◌≡◌, ℕ, zero, suc, ◌-◌, ◌≤◌, Bool, true, false, List, [], ◌∷◌, ◌++◌, length, Option, None, refl, sym, ◌∙◌, length-append, arith}
 use Rattle.std.proofs.lemmas.List.{append-nil}
 use Rattle.gt_parse.specs.declared.faults.TheConstants.{UNSUPPORTED}
 use Rattle.gt_parse.specs.declared.items.Declarator.{Declarator}
@@ -12,19 +12,19 @@ use Rattle.gt_parse.specs.declared.lexeme.Bracket.{Bracket}
 use Rattle.gt_parse.specs.declared.lexeme.Bracket.TheVariants.{Round, Square, Brace}
 use Rattle.gt_parse.specs.declared.lexeme.Lexeme.{Lexeme}
 use Rattle.gt_parse.specs.declared.lexeme.Lexeme.TheVariants as lexeme
-use Rattle.gt_parse.specs.FieldGrammar.{is_semicolon, is_colon, opens_square, closes_brace, ends_text, begins_label, Nested, Unclosed, IsText, IsEndless, Bounds, Bits, PlainDeclarator, ADeclarator, Declarators, Field, FieldsToBrace}
+use Rattle.gt_parse.specs.FieldGrammar.{is_semicolon, is_colon, opens_square, closes_brace, begins_label, Nested, Bounds, Bits, PlainDeclarator, ADeclarator, Declarators, Field, FieldsToBrace}
 use Rattle.gt_parse.specs.Fields.{bits_at, no_function_at, plain_declarator_at, star_at, function_declarator_at, declarator_at, behind_declarator, declarators_from, is_access, no_label_at, field_at, until_brace, fields_from}
-use Rattle.gt_parse.specs.Groups.{inside_from, bounds_from, before_end}
-use Rattle.gt_parse.specs.Lexemes.{kept_text, name_of}
-use Rattle.gt_parse.specs.MarkerGrammar.{Failure, Early, failed, begins, is_comma, opens_round, closes_round, MaybeMarker}
-use Rattle.gt_parse.specs.Markers.{maybe_marker, open_round_at, close_round_at}
-use Rattle.gt_parse.specs.Outcome.{Outcome, Read, Stops, Ends, ◌>>=◌, unexpected}
-use Rattle.gt_parse.specs.TypeGrammar.{is_name, is_star, Qualifiers, AreStars, AType}
+use Rattle.gt_parse.specs.Groups.{bounds_from}
+use Rattle.gt_parse.specs.Lexemes.{kept_text}
+use Rattle.gt_parse.specs.MarkerGrammar.{Early, failed, begins, is_comma, opens_round, MaybeMarker}
+use Rattle.gt_parse.specs.Markers.{maybe_marker}
+use Rattle.gt_parse.specs.Outcome.{Outcome, Read, Ends, ◌>>=◌, unexpected}
+use Rattle.gt_parse.specs.TypeGrammar.{is_star, Qualifiers, AreStars, AType}
 use Rattle.gt_parse.specs.Types.{stars_at, name_at, without_qualifiers, bare_type_at, type_at}
 use Rattle.gt_parse.proofs.GroupsLemmas.{inside-closed, inside-unclosed, Closes, closed, unclosed, closes, before-ended, before-endless, EndsText, ended, endless, ends}
 use Rattle.gt_parse.proofs.MarkersLemmas.{maybe_marker-one, maybe_marker-leaves, maybe_marker_has}
 use Rattle.gt_parse.proofs.TypesLemmas.{no_name, qualifiers-one, qualifiers-leaves, qualifiers_has, stars-one, stars-leaves, stars_has, type-alone, type-leaves, type_has}
-use Rattle.gt_parse.proofs.Words.{Has, allowed, Comes, read, unread, comes, failed_step, unexpected_step, Leaves, failed_leaves, unexpected_leaves, prefixed, prefixed_nothing, prefixed_twice, no_open_round, no_close_round}
+use Rattle.gt_parse.proofs.Words.{Has, allowed, Comes, read, unread, comes, failed_step, unexpected_step, Leaves, failed_leaves, unexpected_leaves, prefixed, prefixed_twice, no_open_round, no_close_round}
 
 -- ---- bounds
 

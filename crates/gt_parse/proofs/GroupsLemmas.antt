@@ -1,14 +1,13 @@
 -- What stands in brackets, and texts that are kept, are read as their rules say.
-use Rattle.std.proofs.Common.{◌≡◌, ℕ, zero, suc, ◌≤◌, Bool, true, false, List, [], ◌∷◌, ◌++◌, length, refl, sym, ap, ◌∙◌, append_assoc, length-append, arith}
+use Rattle.std.proofs.Common.{◌≡◌, ℕ, zero, suc, ◌≤◌, true, false, List, [], ◌∷◌, ◌++◌, length, refl, sym, ap, ◌∙◌, append_assoc, length-append, arith}
 use Rattle.std.proofs.lemmas.List.{append-nil}
 use Rattle.gt_parse.specs.declared.lexeme.Spot.{Spot}
 use Rattle.gt_parse.specs.declared.lexeme.Bracket.{Bracket}
-use Rattle.gt_parse.specs.declared.lexeme.Bracket.TheVariants.{Square}
 use Rattle.gt_parse.specs.declared.lexeme.Lexeme.{Lexeme}
 use Rattle.gt_parse.specs.declared.lexeme.Lexeme.TheVariants as lexeme
 use Rattle.gt_parse.specs.FieldGrammar.{ends_text, Nested, Unclosed, IsText, IsEndless}
 use Rattle.gt_parse.specs.Groups.{with_token, inside_from, before_end}
-use Rattle.gt_parse.specs.Outcome.{Outcome, Read, Stops, Ends, ◌>>=◌}
+use Rattle.gt_parse.specs.Outcome.{Outcome, Read, Stops, Ends}
 use Rattle.gt_parse.specs.Search.{is_no_bracket}
 use Rattle.gt_parse.proofs.Words.{prefixed, prefixed_nothing}
 

@@ -1,5 +1,5 @@
 -- Items are read as their rules say.
-use Rattle.std.proofs.Common.{◌≡◌, ℕ, zero, suc, Bool, true, false, ◌||◌, List, [], ◌∷◌, ◌++◌, Option, Some, None, refl, sym, ap, ◌∙◌, arith}
+use Rattle.std.proofs.Common.{◌≡◌, ℕ, zero, suc, Bool, true, false, List, [], ◌∷◌, ◌++◌, Option, Some, None, refl, sym, ap, ◌∙◌}
 use Rattle.std.specs.List.{list_any}
 use Rattle.gt_parse.specs.declared.faults.TheConstants.{BAD_MARKER_PLACE}
 use Rattle.gt_parse.specs.declared.items.Item.{Item}
@@ -7,12 +7,12 @@ use Rattle.gt_parse.specs.declared.items.Keyword.TheVariants as keyword
 use Rattle.gt_parse.specs.declared.lexeme.Spot.{Spot}
 use Rattle.gt_parse.specs.declared.lexeme.Lexeme.{Lexeme}
 use Rattle.gt_parse.specs.declared.lexeme.Lexeme.TheVariants as lexeme
-use Rattle.gt_parse.specs.ItemGrammar.{Stands, begins_unmarked, UnmarkedTypedef, UnmarkedEnum, UnmarkedItem, AnItem}
+use Rattle.gt_parse.specs.ItemGrammar.{Stands, begins_unmarked, UnmarkedItem, AnItem}
 use Rattle.gt_parse.specs.Marked.{marked_at}
 use Rattle.gt_parse.specs.MarkedGrammar.{MarkedItem}
-use Rattle.gt_parse.specs.MarkerGrammar.{Failure, failed, begins}
-use Rattle.gt_parse.specs.Outcome.{Outcome, Read, Stops, Ends, ◌>>=◌}
-use Rattle.gt_parse.specs.Reading.{is_marked, item_at}
+use Rattle.gt_parse.specs.MarkerGrammar.{failed, begins}
+use Rattle.gt_parse.specs.Outcome.{Outcome, Read, Stops, ◌>>=◌}
+use Rattle.gt_parse.specs.Reading.{item_at}
 use Rattle.gt_parse.specs.Search.{is_gty}
 use Rattle.gt_parse.specs.Unmarked.{unmarked_of, unmarked_at}
 use Rattle.gt_parse.proofs.MarkedLemmas.{marked_has, marked-alone}

@@ -1,7 +1,7 @@
 -- Marked items are read as their rules say.
-use Rattle.std.proofs.Common.{◌≡◌, ℕ, zero, suc, ◌≤◌, Bool, true, false, List, [], ◌∷◌, ◌++◌, length, codes, Option, Some, None, refl, sym, ap, ◌∙◌, arith}
+use Rattle.std.proofs.Common.{◌≡◌, ℕ, Bool, true, false, List, [], ◌∷◌, length, codes, refl, sym, ◌∙◌, arith}
 use Rattle.std.specs.Str.{bytes_eq}
-use Rattle.gt_parse.specs.declared.faults.TheConstants.{UNEXPECTED, UNSUPPORTED, BAD_MARKER_PLACE}
+use Rattle.gt_parse.specs.declared.faults.TheConstants.{UNEXPECTED}
 use Rattle.gt_parse.specs.declared.items.Name.{Name}
 use Rattle.gt_parse.specs.declared.items.Alias.{Alias}
 use Rattle.gt_parse.specs.declared.items.Item.{Item}
@@ -16,21 +16,20 @@ use Rattle.gt_parse.specs.declared.lexeme.Bracket.TheVariants.{Brace}
 use Rattle.gt_parse.specs.declared.lexeme.Lexeme.{Lexeme}
 use Rattle.gt_parse.specs.declared.lexeme.Lexeme.TheVariants as lexeme
 use Rattle.gt_parse.specs.FieldGrammar.{is_semicolon, is_colon, Bounds, FieldsToBrace}
-use Rattle.gt_parse.specs.Fields.{star_at, fields_from}
+use Rattle.gt_parse.specs.Fields.{fields_from}
 use Rattle.gt_parse.specs.Groups.{bounds_from}
-use Rattle.gt_parse.specs.Lexemes.{name_of}
-use Rattle.gt_parse.specs.Marked.{semicolon_at, comma_at, greater_at, open_brace_at, marker_behind_tag, tag_at, alias_at, maybe_alias, structure_at, initialiser_at, root_at, pointed_at, traits_at, is_cache, cache_name_at, cache_at, behind_marker_at, global_at, typedef_structure_at, reserved_at, marked_at}
+use Rattle.gt_parse.specs.Marked.{semicolon_at, comma_at, greater_at, open_brace_at, marker_behind_tag, tag_at, alias_at, maybe_alias, structure_at, initialiser_at, root_at, pointed_at, traits_at, is_cache, cache_name_at, cache_at, behind_marker_at, global_at, typedef_structure_at, marked_at}
 use Rattle.gt_parse.specs.MarkedGrammar.{is_greater, is_structure, begins_marked, begins_map, TagAndMarker, AnAlias, AStructure, ARoot, APointed, Traits, ACache, AGlobal, MarkedItem}
-use Rattle.gt_parse.specs.MarkerGrammar.{Failure, failed, begins, is_comma, Marker}
+use Rattle.gt_parse.specs.MarkerGrammar.{failed, begins, is_comma, Marker}
 use Rattle.gt_parse.specs.Markers.{marker_at}
-use Rattle.gt_parse.specs.Outcome.{Outcome, Read, Stops, Ends, ◌>>=◌, unexpected}
+use Rattle.gt_parse.specs.Outcome.{Outcome, Read, ◌>>=◌, unexpected}
 use Rattle.gt_parse.specs.Search.{is_gty, is_equals}
-use Rattle.gt_parse.specs.TypeGrammar.{is_name, is_star, opens_brace, Qualifiers, AreStars, AType}
-use Rattle.gt_parse.specs.Types.{without_qualifiers, stars_at, name_at, type_at}
+use Rattle.gt_parse.specs.TypeGrammar.{is_name, opens_brace, Qualifiers, AreStars, AType}
+use Rattle.gt_parse.specs.Types.{name_at, type_at}
 use Rattle.gt_parse.proofs.FieldsLemmas.{bounds-from, bounds_has, fields-from, fields_has, no_stars}
 use Rattle.gt_parse.proofs.MarkersLemmas.{marker-one, marker_has}
-use Rattle.gt_parse.proofs.TypesLemmas.{no_name, a_name, qualifiers-one, qualifiers_has, stars-one, stars-leaves, stars_has, type-alone, type_has}
-use Rattle.gt_parse.proofs.Words.{Has, allowed, Comes, read, unread, comes, failed_step, unexpected_step, Leaves, failed_leaves, unexpected_leaves, prefixed_nothing}
+use Rattle.gt_parse.proofs.TypesLemmas.{no_name, qualifiers-one, qualifiers_has, stars-one, stars-leaves, stars_has, type-alone, type_has}
+use Rattle.gt_parse.proofs.Words.{Has, allowed, Comes, read, unread, comes, failed_step, unexpected_step, Leaves, unexpected_leaves, prefixed_nothing}
 
 -- ---- tokens that have to stand
 

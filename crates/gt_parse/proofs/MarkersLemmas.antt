@@ -1,5 +1,5 @@
 -- Markers are read as their rules say.
-use Rattle.std.proofs.Common.{◌≡◌, ℕ, zero, suc, ◌+◌, ◌-◌, ◌≤◌, ◌==◌, Bool, true, false, List, [], ◌∷◌, ◌++◌, length, encode_utf8_all, Option, Some, None, Result, Ok, Err, refl, sym, ap, ◌∙◌, append_assoc, arith}
+use Rattle.std.proofs.Common.{◌≡◌, ℕ, zero, suc, ◌-◌, ◌≤◌, ◌==◌, Bool, true, false, List, [], ◌∷◌, ◌++◌, length, encode_utf8_all, Option, Some, None, Result, Ok, Err, refl, sym, ap, ◌∙◌, append_assoc, arith}
 use Rattle.std.proofs.lemmas.Bool.{eqb-true}
 use Rattle.std.proofs.lemmas.List.{append-nil}
 use Rattle.gt_expr.specs.declared.raw.RawExpr.{RawExpr}
@@ -12,11 +12,11 @@ use Rattle.gt_parse.specs.declared.lexeme.Spot.{Spot}
 use Rattle.gt_parse.specs.declared.lexeme.Bracket.TheVariants.{Round}
 use Rattle.gt_parse.specs.declared.lexeme.Lexeme.{Lexeme}
 use Rattle.gt_parse.specs.declared.lexeme.Lexeme.TheVariants as lexeme
-use Rattle.gt_parse.specs.Lexemes.{spot_of, is_identifier, name_of}
-use Rattle.gt_parse.specs.MarkerGrammar.{Failure, Early, failed, begins, is_comma, is_quoted, opens_round, closes_round, Unescapes, nothing, byte, quote, backslash, other, alone, IsParameter, empty, text, expression, no_expression, bad_backslash}
+use Rattle.gt_parse.specs.Lexemes.{spot_of, is_identifier}
+use Rattle.gt_parse.specs.MarkerGrammar.{Early, failed, begins, is_quoted, opens_round, closes_round, Unescapes, nothing, byte, quote, backslash, other, alone, IsParameter, empty, text, expression, no_expression, bad_backslash}
 use Rattle.gt_parse.specs.MarkerGrammar.{Joins, AnOption, Options, MaybeOptions, Marker, MaybeMarker}
 use Rattle.gt_parse.specs.Markers.{inside_quotes, unescaped, takes_expression, parameter_at, more_strings, strings_at, parameters_at, option_at, behind_comma, options_from, options_at, marker_at, maybe_marker}
-use Rattle.gt_parse.specs.Outcome.{Outcome, Read, Stops, Ends, ◌>>=◌, unexpected}
+use Rattle.gt_parse.specs.Outcome.{Outcome, Read, Stops, ◌>>=◌, unexpected}
 use Rattle.gt_parse.specs.Search.{is_gty}
 use Rattle.gt_parse.proofs.Words.{Has, allowed, Comes, read, unread, comes, failed_step, unexpected_step, Leaves, failed_leaves, unexpected_leaves, prefixed, prefixed_nothing, prefixed_twice, no_gty, no_open_round, no_close_round, no_comma}
 
@@ -204,7 +204,7 @@ options-from (Options.last {ts} {rest} {option} d k) count before h =
 options-from (Options.more {ts} {us} {rest} {option} {options} c d m) count before h =
     rw (one_turn count before ts h, ← option-one d) (options-from m (count - 1) (before ++ option ∷ []) (omega (arith, option-leaves d)) ∙ prefixed_twice before option (Read options rest))
 options-from (Options.in_option {ts} why d) count before h =
-    rw (one_turn count before ts h, ← option-one d, failed_step why) (sym (failed_step why _))
+    rw (one_turn count before ts h, ← option-one d) (failed_step why _ ∙ sym (failed_step why _))
 options-from (Options.in_more {ts} {us} {option} c why d m) count before h =
     rw (one_turn count before ts h, ← option-one d) (options-from m (count - 1) (before ++ option ∷ []) (omega (arith, option-leaves d)) ∙ failed_step why _ ∙ sym (failed_step why _))
 

@@ -48,7 +48,7 @@ stands-from : (is : Lexeme → Bool) (ts : List Lexeme) (depth : ℕ) → stands
 stands-from is [] depth e = absurd cc
 stands-from is (t ∷ ts) zero e =
     elim (or_cases (is t) (stands is (depth_after zero t) ts) e) [
-      inl p ↦ record { front = []; token = t; behind = ts; parts = refl; outside = refl; passes = p }
+      | inl p ↦ record { front = []; token = t; behind = ts; parts = refl; outside = refl; passes = p }
       | inr q ↦ further is zero t ts (stands-from is ts (depth_after zero t) q)
     ]
 stands-from is (t ∷ ts) (suc depth) e = further is (suc depth) t ts (stands-from is ts (depth_after (suc depth) t) e)
@@ -208,7 +208,7 @@ last_place (t ∷ ts) zero e = cases (stands is_name (depth_after zero t) ts) re
     cases true k again = last_further zero t ts (again k)
     cases false k again =
         elim (or_cases (is_name t) (stands is_name (depth_after zero t) ts) e) [
-          inl p ↦ last_here t ts p k
+          | inl p ↦ last_here t ts p k
           | inr q ↦ last_further zero t ts (again q)
         ]
 last_place (t ∷ ts) (suc depth) e = last_further (suc depth) t ts (last_place ts (depth_after (suc depth) t) e)

@@ -1,24 +1,22 @@
 -- Types are read as their rules say.
-use Rattle.std.proofs.Common.{◌≡◌, ℕ, zero, suc, ◌≤◌, Bool, true, false, ◌&&◌, List, [], ◌∷◌, ◌++◌, length, codes, Option, Some, None, refl, sym, ap, ◌∙◌, arith}
+use Rattle.std.proofs.Common.{◌≡◌, ℕ, zero, suc, ◌≤◌, Bool, true, false, List, [], ◌∷◌, length, codes, Option, Some, None, refl, sym, ap, ◌∙◌, arith}
 use Rattle.std.specs.Str.{bytes_eq}
-use Rattle.gt_parse.specs.declared.faults.TheConstants.{UNEXPECTED}
-use Rattle.gt_parse.specs.declared.items.Name.{Name}
 use Rattle.gt_parse.specs.declared.items.Stars.{Stars}
 use Rattle.gt_parse.specs.declared.items.Stars.TheVariants.{Zero, One, Two, More}
 use Rattle.gt_parse.specs.declared.items.Combination.{Combination}
 use Rattle.gt_parse.specs.declared.items.Keyword.{Keyword}
 use Rattle.gt_parse.specs.declared.items.RawType.{RawType}
-use Rattle.gt_parse.specs.declared.items.RawType.TheVariants.{Words, UnsignedHostWide, Tagged, Named}
+use Rattle.gt_parse.specs.declared.items.RawType.TheVariants.{Words, Named}
 use Rattle.gt_parse.specs.declared.lexeme.Spot.{Spot}
 use Rattle.gt_parse.specs.declared.lexeme.Bracket.TheVariants.{Round, Brace}
 use Rattle.gt_parse.specs.declared.lexeme.TypeWord.{TypeWord}
 use Rattle.gt_parse.specs.declared.lexeme.Lexeme.{Lexeme}
 use Rattle.gt_parse.specs.declared.lexeme.Lexeme.TheVariants as lexeme
 use Rattle.gt_parse.specs.Lexemes.{name_of}
-use Rattle.gt_parse.specs.MarkerGrammar.{begins, opens_round, closes_round}
-use Rattle.gt_parse.specs.Outcome.{Outcome, Read, Stops, Ends, ◌>>=◌, unexpected}
+use Rattle.gt_parse.specs.MarkerGrammar.{begins, opens_round}
+use Rattle.gt_parse.specs.Outcome.{Outcome, Read, Stops, Ends, unexpected}
 use Rattle.gt_parse.specs.TypeGrammar.{is_name, is_star, is_qualifier, opens_brace, begins_type, goes_on, Qualifiers, AreStars, MoreWords, BareType, AType}
-use Rattle.gt_parse.specs.Types.{no_words, with_word, is_unsigned_alone, one_more, without_qualifiers, stars_from, stars_at, name_at, words_with, words_before, words_from, without_body, tagged_at, bitfield_at, behind_bitfield, named_at, bare_type_at, type_at}
+use Rattle.gt_parse.specs.Types.{no_words, with_word, is_unsigned_alone, one_more, without_qualifiers, stars_from, stars_at, name_at, words_from, without_body, tagged_at, bitfield_at, behind_bitfield, bare_type_at, type_at}
 use Rattle.gt_parse.proofs.Words.{Has, allowed, unexpected_step, Leaves, unexpected_leaves, no_close_round}
 
 pub no_name : (ts : List Lexeme) → begins is_name ts ≡ false → name_at ts ≡ unexpected ts

@@ -1,5 +1,5 @@
 -- Unmarked enums and typedefs are read as their rules say.
-use Rattle.std.proofs.Common.{◌≡◌, ℕ, zero, suc, ◌-◌, ◌≤◌, Bool, true, false, List, [], ◌∷◌, ◌++◌, length, Option, Some, None, refl, sym, ap, ◌∙◌, append_assoc, length-append, arith}
+use Rattle.std.proofs.Common.{◌≡◌, ℕ, zero, suc, ◌≤◌, Bool, true, false, List, [], ◌∷◌, ◌++◌, length, Option, Some, None, refl, sym, ap, ◌∙◌, append_assoc, arith}
 use Rattle.std.proofs.lemmas.List.{append-nil}
 use Rattle.gt_parse.specs.declared.faults.TheConstants.{UNEXPECTED}
 use Rattle.gt_parse.specs.declared.items.Name.{Name}
@@ -7,37 +7,35 @@ use Rattle.gt_parse.specs.declared.items.Alias.{Alias}
 use Rattle.gt_parse.specs.declared.items.Keyword.{Keyword}
 use Rattle.gt_parse.specs.declared.items.Keyword.TheVariants as keyword
 use Rattle.gt_parse.specs.declared.items.Item.{Item}
-use Rattle.gt_parse.specs.declared.items.Item.TheVariants.{Typedef, Enum}
+use Rattle.gt_parse.specs.declared.items.Item.TheVariants.{Typedef}
 use Rattle.gt_parse.specs.declared.items.Meaning.{Meaning}
 use Rattle.gt_parse.specs.declared.items.Meaning.TheVariants as meaning
 use Rattle.gt_parse.specs.declared.items.RawEnum.{RawEnum}
 use Rattle.gt_parse.specs.declared.items.RawType.{RawType}
 use Rattle.gt_parse.specs.declared.items.RawTypedef.{RawTypedef}
 use Rattle.gt_parse.specs.declared.items.Enumerator.{Enumerator}
-use Rattle.gt_parse.specs.declared.items.Enumerator.TheVariants.{Counted, Valued, Undefined, Passed}
+use Rattle.gt_parse.specs.declared.items.Enumerator.TheVariants.{Undefined, Passed}
 use Rattle.gt_parse.specs.declared.items.Stars.{Stars}
 use Rattle.gt_parse.specs.declared.lexeme.Spot.{Spot}
-use Rattle.gt_parse.specs.declared.lexeme.Bracket.{Bracket}
-use Rattle.gt_parse.specs.declared.lexeme.Bracket.TheVariants.{Round, Brace}
+use Rattle.gt_parse.specs.declared.lexeme.Bracket.TheVariants.{Brace}
 use Rattle.gt_parse.specs.declared.lexeme.Lexeme.{Lexeme}
 use Rattle.gt_parse.specs.declared.lexeme.Lexeme.TheVariants as lexeme
-use Rattle.gt_parse.specs.FieldGrammar.{Nested, Unclosed}
-use Rattle.gt_parse.specs.Groups.{inside_from}
-use Rattle.gt_parse.specs.ItemGrammar.{depth_after, depth_behind, Stands, is_enum, begins_body, is_starred, IsEnumerator, Enumerators, EnumBody, UnmarkedEnum, HasBody, HasMeaning, Aliases, FirstForm, HasPointer, StarredName, LastName, UnmarkedTypedef}
-use Rattle.gt_parse.specs.Lexemes.{name_of, kept_text}
+use Rattle.gt_parse.specs.FieldGrammar.{Unclosed}
+use Rattle.gt_parse.specs.ItemGrammar.{depth_after, depth_behind, is_enum, begins_body, is_starred, IsEnumerator, Enumerators, EnumBody, UnmarkedEnum, HasBody, HasMeaning, Aliases, FirstForm, HasPointer, StarredName, LastName, UnmarkedTypedef}
+use Rattle.gt_parse.specs.Lexemes.{name_of}
 use Rattle.gt_parse.specs.Marked.{alias_at}
 use Rattle.gt_parse.specs.MarkedGrammar.{AnAlias}
-use Rattle.gt_parse.specs.MarkerGrammar.{Failure, failed, begins, is_comma}
+use Rattle.gt_parse.specs.MarkerGrammar.{begins, is_comma}
 use Rattle.gt_parse.specs.Outcome.{Outcome, Read, Stops, Ends, ◌>>=◌, unexpected}
 use Rattle.gt_parse.specs.Search.{is_equals}
 use Rattle.gt_parse.specs.TypeGrammar.{is_name, is_qualifier, opens_brace, Qualifiers, AreStars, BareType, AType}
-use Rattle.gt_parse.specs.Types.{without_qualifiers, type_at, bare_type_at}
-use Rattle.gt_parse.specs.Unmarked.{enumerator_of, pieces_from, enumerators_of, enum_body_at, enum_of, enum_at, body_at, plain_meaning_at, tagged_meaning_at, keyword_meaning_at, bare_meaning_at, meaning_at, behind_alias, aliases_from, first_form_at, last_name, behind_round, starred_name, opaque_name, opaque_typedef, typedef_of, typedef_at}
+use Rattle.gt_parse.specs.Types.{type_at, bare_type_at}
+use Rattle.gt_parse.specs.Unmarked.{enumerator_of, pieces_from, enumerators_of, enum_body_at, enum_at, body_at, plain_meaning_at, tagged_meaning_at, keyword_meaning_at, bare_meaning_at, meaning_at, behind_alias, aliases_from, first_form_at, last_name, behind_round, starred_name, opaque_name, opaque_typedef, typedef_of, typedef_at}
 use Rattle.gt_parse.proofs.GroupsLemmas.{inside-closed, inside-unclosed, Closes, closed, unclosed, closes}
 use Rattle.gt_parse.proofs.MarkedLemmas.{alias-one, alias_has}
-use Rattle.gt_parse.proofs.PlacesLemmas.{stands, Stands-stands, stands-not, not-stands, depth_one_more, stands_one_more, pieces_pass, last_stays, last_found, HasLast, last_place, pointer-round, round-pointer, no-pointer}
-use Rattle.gt_parse.proofs.TypesLemmas.{no_qualifiers, qualifiers-one, qualifiers-done, qualifiers-leaves, qualifiers_has, stars-one, stars-leaves, stars_has, bare_type-one, type-alone, type-allowed}
-use Rattle.gt_parse.proofs.Words.{Has, Comes, read, unread, comes}
+use Rattle.gt_parse.proofs.PlacesLemmas.{stands, stands-not, not-stands, depth_one_more, stands_one_more, pieces_pass, last_stays, last_found, HasLast, last_place, pointer-round, round-pointer, no-pointer}
+use Rattle.gt_parse.proofs.TypesLemmas.{no_qualifiers, qualifiers-one, qualifiers-done, qualifiers_has, stars-leaves, bare_type-one, type-allowed}
+use Rattle.gt_parse.proofs.Words.{Has}
 
 -- ---- steps that read
 
@@ -415,6 +413,7 @@ last_has ts = cases (stands is_name 0 ts) refl
   where
     named : HasLast 0 ts → Has LastName ts
     named l = record { outcome = Some (name_of l.name); holds = rw (l.parts) (LastName.name l.front l.name l.outside (stands-not is_name l.behind l.none)) }
+
     cases : (b : Bool) → stands is_name 0 ts ≡ b → Has LastName ts
     cases true e = named (last_place ts 0 e)
     cases false e = record { outcome = None; holds = LastName.no_name (stands-not is_name ts e) }
@@ -442,6 +441,7 @@ other_has ts h = cases (behind_round 0 ts) refl
   where
     pointed : HasPointer ts → Has UnmarkedTypedef ts
     pointed p = record { outcome = _; holds = UnmarkedTypedef.pointer h p (starred_has p.behind).holds }
+
     cases : (us : List Lexeme) → behind_round 0 ts ≡ us → Has UnmarkedTypedef ts
     cases (lexeme.Star s ∷ us) e = pointed (round-pointer ts s us e)
     cases [] e = record { outcome = _; holds = UnmarkedTypedef.other h (λ p. let apart : lexeme.Star p.star ∷ p.behind ≡ [] = sym (pointer-round p) ∙ e in cc) (last_has ts).holds }

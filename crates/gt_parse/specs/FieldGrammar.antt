@@ -123,7 +123,7 @@ pub data ADeclarator : List Lexeme → Outcome Declarator → Type 0 where
   function : {ts us inside rest : List Lexeme} {options : List RawOption} (a s n c d e : Spot) (b : Bracket) → Qualifiers ts us
       → MaybeMarker us (Read options (lexeme.Name n ∷ lexeme.Close Round c ∷ lexeme.Open Round d ∷ inside ++ lexeme.Close b e ∷ rest)) → Nested inside
       → ADeclarator (lexeme.Open Round a ∷ lexeme.Star s ∷ ts)
-          (Read (record { is_function = true; stars = Zero; options = options; name = name_of n; bounds = []; bits = None }) rest)
+      (Read (record { is_function = true; stars = Zero; options = options; name = name_of n; bounds = []; bits = None }) rest)
   -- the fault of the marker
   in_marker : {ts us : List Lexeme} (a s : Spot) (why : Failure) → Qualifiers ts us → MaybeMarker us (failed why)
       → ADeclarator (lexeme.Open Round a ∷ lexeme.Star s ∷ ts) (failed why)

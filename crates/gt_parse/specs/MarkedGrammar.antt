@@ -1,5 +1,5 @@
 -- The grammar of marked items. Each case is a rule: which tokens are read as what, or with which fault reading stops.
-use Rattle.std.specs.Prelude.{◌≡◌, ℕ, Bool, true, false, List, [], ◌∷◌, codes, Option, Some, None}
+use Rattle.std.specs.Prelude.{◌≡◌, ℕ, Bool, true, false, List, [], ◌∷◌, codes, Some, None}
 use Rattle.std.specs.Str.{bytes_eq}
 use Rattle.gt_parse.specs.declared.faults.TheConstants.{UNEXPECTED, UNSUPPORTED, BAD_MARKER_PLACE}
 use Rattle.gt_parse.specs.declared.items.Name.{Name}

@@ -1,8 +1,7 @@
 -- The grammar of markers and of types. Each case is a rule: which tokens are read as what, or with which fault reading stops. The
 -- relations say nothing of how tokens are read.
-use Rattle.std.specs.Prelude.{◌≡◌, ℕ, ◌==◌, Bool, true, false, List, [], ◌∷◌, ◌++◌, codes, encode_utf8_all, Option, Some, None, Result, Ok, Err}
+use Rattle.std.specs.Prelude.{◌≡◌, ℕ, ◌==◌, Bool, true, false, List, [], ◌∷◌, ◌++◌, encode_utf8_all, Option, Some, None, Result, Ok, Err}
 use Rattle.std.specs.Option.{option_map}
-use Rattle.std.specs.Str.{bytes_eq}
 use Rattle.gt_expr.specs.declared.raw.RawExpr.{RawExpr}
 use Rattle.gt_expr.specs.declared.TheConstants.{BAD_EXPR}
 use Rattle.gt_expr.specs.Expression.{expression_of}

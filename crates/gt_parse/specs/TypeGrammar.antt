@@ -1,8 +1,7 @@
 -- The grammar of types. Each case is a rule: which tokens are read as what, or with which fault reading stops.
-use Rattle.std.specs.Prelude.{◌≡◌, ℕ, Bool, true, false, ◌&&◌, List, [], ◌∷◌, codes, Option, Some, None}
+use Rattle.std.specs.Prelude.{◌≡◌, ℕ, Bool, true, false, ◌&&◌, List, ◌∷◌, codes, Some, None}
 use Rattle.std.specs.Str.{bytes_eq}
 use Rattle.gt_parse.specs.declared.faults.TheConstants.{UNEXPECTED}
-use Rattle.gt_parse.specs.declared.items.Name.{Name}
 use Rattle.gt_parse.specs.declared.items.Stars.{Stars}
 use Rattle.gt_parse.specs.declared.items.Stars.TheVariants.{Zero}
 use Rattle.gt_parse.specs.declared.items.Combination.{Combination}

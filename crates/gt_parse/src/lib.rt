@@ -12,9 +12,9 @@ mod unread;
 
 pub use faults::{BAD_MARKER_PLACE, UNCLOSED, UNEXPECTED, UNSUPPORTED};
 pub use items::{
-    Alias, Combination, Core, Declarator, Enumerator, Item, Items, Keyword, Meaning, Name, Parameter,
-    PointedType, RawCache, RawConstant, RawEnum, RawField, RawOption, RawRoot, RawStructure, RawType,
-    RawTypedef, Sign, Size, Stars,
+    Alias, Combination, Core, Declarator, Enumerator, Item, Items, Keyword, Meaning, Name,
+    Parameter, PointedType, RawCache, RawConstant, RawEnum, RawField, RawOption, RawRoot,
+    RawStructure, RawType, RawTypedef, Sign, Size, Stars,
 };
 pub use laws::{each_rule, field_rules, marked_rules, marker_rules, one_outcome, type_rules};
 pub use parsing::parse;
