@@ -12,7 +12,7 @@ use Rattle.gt_parse.specs.declared.lexeme.Bracket.{Bracket}
 use Rattle.gt_parse.specs.declared.lexeme.Bracket.TheVariants.{Round, Square, Brace}
 use Rattle.gt_parse.specs.declared.lexeme.Lexeme.{Lexeme}
 use Rattle.gt_parse.specs.declared.lexeme.Lexeme.TheVariants as lexeme
-use Rattle.gt_parse.specs.FieldGrammar.{is_semicolon, is_colon, opens_square, closes_brace, begins_label, Nested, Bounds, Bits, PlainDeclarator, ADeclarator, Declarators, Field, FieldsToBrace}
+use Rattle.gt_parse.specs.FieldGrammar.{is_semicolon, is_colon, opens_square, closes_brace, begins_label, closes_any, IsFree, Bounds, Bits, PlainDeclarator, ADeclarator, Declarators, Field, FieldsToBrace}
 use Rattle.gt_parse.specs.Fields.{bits_at, no_function_at, plain_declarator_at, star_at, function_declarator_at, declarator_at, behind_declarator, declarators_from, is_access, no_label_at, field_at, until_brace, fields_from}
 use Rattle.gt_parse.specs.Groups.{bounds_from}
 use Rattle.gt_parse.specs.Lexemes.{kept_text}
@@ -44,7 +44,7 @@ bounds-from (Bounds.bound {inside} {ts} {rest} {bounds} b o p n m) (suc count) b
     rw (inside-closed n b p ts)
     (bounds-from m count (before ++ kept_text inside ∷ []) (omega (arith, length-append inside (lexeme.Close b p ∷ ts))) ∙ prefixed_twice before (kept_text inside) (Read bounds rest))
 bounds-from (Bounds.not_closed o u) zero before h = absurd (omega arith)
-bounds-from (Bounds.not_closed o u) (suc count) before h = rw (inside-unclosed u 0) refl
+bounds-from (Bounds.not_closed o u) (suc count) before h = rw (inside-unclosed u) refl
 bounds-from (Bounds.in_more b o p why n m) zero before h = absurd (omega arith)
 bounds-from (Bounds.in_more {inside} {ts} b o p why n m) (suc count) before h =
     rw (inside-closed n b p ts)
@@ -56,7 +56,7 @@ bounds-leaves (Bounds.bound {inside} {ts} b o p n m) = omega (arith, bounds-leav
 bounds-leaves (Bounds.not_closed o u) = tt
 bounds-leaves (Bounds.in_more b o p why n m) = failed_leaves (List (List ℕ)) why _
 
-bounds_more : (o : Spot) {inside ts : List Lexeme} (b : Bracket) (p : Spot) {out : Outcome (List (List ℕ))} → Nested inside → Bounds ts out → Comes out
+bounds_more : (o : Spot) {inside ts : List Lexeme} (b : Bracket) (p : Spot) {out : Outcome (List (List ℕ))} → IsFree closes_any inside → Bounds ts out → Comes out
     → Has Bounds (lexeme.Open Square o ∷ inside ++ lexeme.Close b p ∷ ts)
 bounds_more o b p n m (read bounds rest) = record { outcome = _; holds = Bounds.bound b o p n m }
 bounds_more o b p n m (unread why) = record { outcome = failed why; holds = Bounds.in_more b o p why n m }
@@ -182,7 +182,7 @@ declarator-one (ADeclarator.no_star {ts} a h) = rw (no_stars ts h) (sym (unexpec
 declarator-one (ADeclarator.no_name {rest} a s q m h) = rw (qualifiers-one q, ← maybe_marker-one m, no_name rest h) (sym (unexpected_step rest _))
 declarator-one (ADeclarator.not_closed {rest} a s n q m h) = rw (qualifiers-one q, ← maybe_marker-one m, no_close_round rest h) (sym (unexpected_step rest _))
 declarator-one (ADeclarator.no_arguments {rest} a s n c q m h) = rw (qualifiers-one q, ← maybe_marker-one m, no_open_round rest h) (sym (unexpected_step rest _))
-declarator-one (ADeclarator.arguments_not_closed a s n c d q m u) = rw (qualifiers-one q, ← maybe_marker-one m, inside-unclosed u 0) refl
+declarator-one (ADeclarator.arguments_not_closed a s n c d q m u) = rw (qualifiers-one q, ← maybe_marker-one m, inside-unclosed u) refl
 
 declarator-leaves : {ts : List Lexeme} {o : Outcome Declarator} → ADeclarator ts o → Leaves (length ts) o
 declarator-leaves (ADeclarator.plain h d) = plain-leaves d

@@ -1,5 +1,5 @@
 -- Items are read as their rules say.
-use Rattle.std.proofs.Common.{◌≡◌, ℕ, zero, suc, Bool, true, false, List, [], ◌∷◌, ◌++◌, Option, Some, None, refl, sym, ap, ◌∙◌}
+use Rattle.std.proofs.Common.{◌≡◌, ℕ, zero, suc, Bool, true, false, ◌||◌, List, [], ◌∷◌, ◌++◌, Option, Some, None, refl, sym, ap, ◌∙◌}
 use Rattle.std.specs.List.{list_any}
 use Rattle.gt_parse.specs.declared.faults.TheConstants.{BAD_MARKER_PLACE}
 use Rattle.gt_parse.specs.declared.items.Item.{Item}
@@ -7,16 +7,17 @@ use Rattle.gt_parse.specs.declared.items.Keyword.TheVariants as keyword
 use Rattle.gt_parse.specs.declared.lexeme.Spot.{Spot}
 use Rattle.gt_parse.specs.declared.lexeme.Lexeme.{Lexeme}
 use Rattle.gt_parse.specs.declared.lexeme.Lexeme.TheVariants as lexeme
-use Rattle.gt_parse.specs.ItemGrammar.{Stands, begins_unmarked, UnmarkedItem, AnItem}
+use Rattle.gt_parse.specs.FieldGrammar.{depth_after, Stands}
+use Rattle.gt_parse.specs.ItemGrammar.{begins_unmarked, UnmarkedItem, AnItem}
 use Rattle.gt_parse.specs.Marked.{marked_at}
 use Rattle.gt_parse.specs.MarkedGrammar.{MarkedItem}
 use Rattle.gt_parse.specs.MarkerGrammar.{failed, begins}
 use Rattle.gt_parse.specs.Outcome.{Outcome, Read, Stops, ◌>>=◌}
-use Rattle.gt_parse.specs.Reading.{item_at}
+use Rattle.gt_parse.specs.Reading.{is_marked, item_at}
 use Rattle.gt_parse.specs.Search.{is_gty}
 use Rattle.gt_parse.specs.Unmarked.{unmarked_of, unmarked_at}
 use Rattle.gt_parse.proofs.MarkedLemmas.{marked_has, marked-alone}
-use Rattle.gt_parse.proofs.PlacesLemmas.{or_false, stands, Stands-stands, stands-Stands, stands-not, not-stands, is_marked-stands}
+use Rattle.gt_parse.proofs.PlacesLemmas.{or_false, stands, Stands-stands, stands-Stands, stands-not, not-stands}
 use Rattle.gt_parse.proofs.UnmarkedLemmas.{enum-alone, enum_has, typedef-alone, typedef_has}
 use Rattle.gt_parse.proofs.Words.{Has, allowed, Comes, read, unread, comes, failed_step}
 
@@ -62,6 +63,27 @@ first_marker whole [] g behind h = refl
 first_marker whole (t ∷ front) g behind h =
     let parts = or_false (is_gty t) (list_any is_gty front) h in
     unmarked_step whole t (front ++ lexeme.Gty g ∷ behind) parts.0 ∙ first_marker whole front g behind parts.1
+
+-- ---- markers
+
+marked_zero : (t : Lexeme) (ts : List Lexeme) → is_marked zero (t ∷ ts) ≡ (is_gty t || is_marked (depth_after zero t) ts)
+unfolding is_marked
+marked_zero (lexeme.Gty s) ts = refl
+marked_zero (lexeme.Open b s) ts = refl
+marked_zero (lexeme.Close b s) ts = refl
+marked_zero t ts = refl
+
+marked_suc : (depth : ℕ) (t : Lexeme) (ts : List Lexeme) → is_marked (suc depth) (t ∷ ts) ≡ is_marked (depth_after (suc depth) t) ts
+unfolding is_marked
+marked_suc depth (lexeme.Open b s) ts = refl
+marked_suc depth (lexeme.Close b s) ts = refl
+marked_suc depth t ts = refl
+
+is_marked-stands : (ts : List Lexeme) (depth : ℕ) → is_marked depth ts ≡ stands is_gty depth ts
+unfolding is_marked
+is_marked-stands [] depth = refl
+is_marked-stands (t ∷ ts) zero = marked_zero t ts ∙ ap (λ (b : Bool). is_gty t || b) (is_marked-stands ts (depth_after zero t))
+is_marked-stands (t ∷ ts) (suc depth) = marked_suc depth t ts ∙ is_marked-stands ts (depth_after (suc depth) t)
 
 -- ---- items
 

@@ -6,4 +6,5 @@ mod MarkersLemmas
 mod PlacesLemmas
 mod TypesLemmas
 mod UnmarkedLemmas
+mod UnmarkedPlaces
 mod Words

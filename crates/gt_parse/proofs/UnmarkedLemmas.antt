@@ -20,8 +20,8 @@ use Rattle.gt_parse.specs.declared.lexeme.Spot.{Spot}
 use Rattle.gt_parse.specs.declared.lexeme.Bracket.TheVariants.{Brace}
 use Rattle.gt_parse.specs.declared.lexeme.Lexeme.{Lexeme}
 use Rattle.gt_parse.specs.declared.lexeme.Lexeme.TheVariants as lexeme
-use Rattle.gt_parse.specs.FieldGrammar.{Unclosed}
-use Rattle.gt_parse.specs.ItemGrammar.{depth_after, depth_behind, is_enum, begins_body, is_starred, IsEnumerator, Enumerators, EnumBody, UnmarkedEnum, HasBody, HasMeaning, Aliases, FirstForm, HasPointer, StarredName, LastName, UnmarkedTypedef}
+use Rattle.gt_parse.specs.FieldGrammar.{depth_after, depth_behind, Stands, closes_any}
+use Rattle.gt_parse.specs.ItemGrammar.{is_enum, begins_body, is_starred, IsEnumerator, Enumerators, EnumBody, UnmarkedEnum, HasBody, HasMeaning, Aliases, FirstForm, HasPointer, StarredName, LastName, UnmarkedTypedef}
 use Rattle.gt_parse.specs.Lexemes.{name_of}
 use Rattle.gt_parse.specs.Marked.{alias_at}
 use Rattle.gt_parse.specs.MarkedGrammar.{AnAlias}
@@ -33,7 +33,8 @@ use Rattle.gt_parse.specs.Types.{type_at, bare_type_at}
 use Rattle.gt_parse.specs.Unmarked.{enumerator_of, pieces_from, enumerators_of, enum_body_at, enum_at, body_at, plain_meaning_at, tagged_meaning_at, keyword_meaning_at, bare_meaning_at, meaning_at, behind_alias, aliases_from, first_form_at, last_name, behind_round, starred_name, opaque_name, opaque_typedef, typedef_of, typedef_at}
 use Rattle.gt_parse.proofs.GroupsLemmas.{inside-closed, inside-unclosed, Closes, closed, unclosed, closes}
 use Rattle.gt_parse.proofs.MarkedLemmas.{alias-one, alias_has}
-use Rattle.gt_parse.proofs.PlacesLemmas.{stands, stands-not, not-stands, depth_one_more, stands_one_more, pieces_pass, last_stays, last_found, HasLast, last_place, pointer-round, round-pointer, no-pointer}
+use Rattle.gt_parse.proofs.PlacesLemmas.{stands, stands-not, not-stands, depth_one_more, stands_one_more}
+use Rattle.gt_parse.proofs.UnmarkedPlaces.{pieces_pass, last_stays, last_found, HasLast, last_place, pointer-round, round-pointer, no-pointer}
 use Rattle.gt_parse.proofs.TypesLemmas.{no_qualifiers, qualifiers-one, qualifiers-done, qualifiers_has, stars-leaves, bare_type-one, type-allowed}
 use Rattle.gt_parse.proofs.Words.{Has}
 
@@ -99,14 +100,14 @@ first_piece piece ts c h o =
 enumerators-one : {ts : List Lexeme} {all : List Enumerator} → Enumerators ts all → enumerators_of (pieces_from 0 [] ts) ≡ all
 unfolding enumerators_of
 enumerators-one (Enumerators.last {piece} h i) = rw (last_piece piece (not-stands is_comma piece h), enumerator-one i) refl
-enumerators-one (Enumerators.more {piece} {ts} c h o i m) =
-    rw (first_piece piece ts c (not-stands is_comma piece h) o, enumerator-one i, enumerators-one m) refl
+enumerators-one (Enumerators.more {piece} {ts} c f i m) =
+    rw (first_piece piece ts c (not-stands is_comma piece f.free) f.closed, enumerator-one i, enumerators-one m) refl
 
 pieces_last : (piece : List Lexeme) → stands is_comma 0 piece ≡ false → Has Enumerators piece
 pieces_last piece h = record { outcome = _; holds = Enumerators.last (stands-not is_comma piece h) (enumerator_has piece).holds }
 
 pieces_more : (piece : List Lexeme) (c : Spot) (ts : List Lexeme) → stands is_comma 0 piece ≡ false → depth_behind 0 piece ≡ 0 → Has Enumerators ts → Has Enumerators (piece ++ lexeme.Comma c ∷ ts)
-pieces_more piece c ts h o has = record { outcome = _; holds = Enumerators.more c (stands-not is_comma piece h) o (enumerator_has piece).holds has.holds }
+pieces_more piece c ts h o has = record { outcome = _; holds = Enumerators.more c (record { closed = o; free = stands-not is_comma piece h }) (enumerator_has piece).holds has.holds }
 
 pieces_on : (us : List Lexeme) (t : Lexeme) (ts : List Lexeme) → Has Enumerators ((us ++ t ∷ []) ++ ts) → Has Enumerators (us ++ t ∷ ts)
 pieces_on us t ts has = rw (← append_assoc us (t ∷ []) ts) has
@@ -128,14 +129,14 @@ enum_body-one : {tag : Option Name} {ts rest : List Lexeme} {found : RawEnum} �
 unfolding enum_body_at
 enum_body-one (EnumBody.body {rest} b c n m) = rw (inside-closed n b c rest, enumerators-one m) refl
 
-enum_body-endless : (tag : Option Name) {ts : List Lexeme} → Unclosed ts → enum_body_at tag ts ≡ Ends
+enum_body-endless : (tag : Option Name) {ts : List Lexeme} → ¬ Stands closes_any ts → enum_body_at tag ts ≡ Ends
 unfolding enum_body_at
-enum_body-endless tag u = rw (inside-unclosed u 0) refl
+enum_body-endless tag u = rw (inside-unclosed u) refl
 
 -- a body is closed, or it is not
 data HasEnumBody (tag : Option Name) (ts : List Lexeme) : Type 0 where
   has_body : (found : RawEnum) (rest : List Lexeme) → EnumBody tag ts found rest → HasEnumBody tag ts
-  has_none : Unclosed ts → HasEnumBody tag ts
+  has_none : ¬ Stands closes_any ts → HasEnumBody tag ts
 
 enum_body_closes : (tag : Option Name) {ts : List Lexeme} → Closes ts → HasEnumBody tag ts
 enum_body_closes tag (closed {inside} rest b c n) = has_body _ rest (EnumBody.body b c n (enumerators-allowed inside))
@@ -191,18 +192,18 @@ data ComesToBody (k : Keyword) (tag : Option Name) (ts : List Lexeme) : Type 0 w
   is_body : (means : Meaning) (rest : List Lexeme) → HasBody k tag ts means rest → ComesToBody k tag ts
   is_none : body_at k tag ts ≡ Ends → ComesToBody k tag ts
 
-fields_come : (k : Keyword) (tag : Option Name) {ts : List Lexeme} → is_enum k ≡ false → Closes ts → (Unclosed ts → body_at k tag ts ≡ Ends) → ComesToBody k tag ts
+fields_come : (k : Keyword) (tag : Option Name) {ts : List Lexeme} → is_enum k ≡ false → Closes ts → (¬ Stands closes_any ts → body_at k tag ts ≡ Ends) → ComesToBody k tag ts
 fields_come k tag h (closed {inside} rest b c n) none = is_body _ _ (HasBody.fields b c h n (qualifiers_has rest).qualifiers)
 fields_come k tag h (unclosed u) none = is_none (none u)
 
-constants_come : (tag : Option Name) {ts : List Lexeme} → HasEnumBody tag ts → (Unclosed ts → body_at keyword.Enum tag ts ≡ Ends) → ComesToBody keyword.Enum tag ts
+constants_come : (tag : Option Name) {ts : List Lexeme} → HasEnumBody tag ts → (¬ Stands closes_any ts → body_at keyword.Enum tag ts ≡ Ends) → ComesToBody keyword.Enum tag ts
 constants_come tag (has_body found rest b) none = is_body _ _ (HasBody.constants b (qualifiers_has rest).qualifiers)
 constants_come tag (has_none u) none = is_none (none u)
 
 body_comes : (k : Keyword) (tag : Option Name) (ts : List Lexeme) → ComesToBody k tag ts
 unfolding body_at
-body_comes keyword.Struct tag ts = fields_come keyword.Struct tag refl (closes ts) (λ u. rw (inside-unclosed u 0) refl)
-body_comes keyword.Union tag ts = fields_come keyword.Union tag refl (closes ts) (λ u. rw (inside-unclosed u 0) refl)
+body_comes keyword.Struct tag ts = fields_come keyword.Struct tag refl (closes ts) (λ u. rw (inside-unclosed u) refl)
+body_comes keyword.Union tag ts = fields_come keyword.Union tag refl (closes ts) (λ u. rw (inside-unclosed u) refl)
 body_comes keyword.Enum tag ts = constants_come tag (enum_body_has tag ts) (λ u. rw (enum_body-endless tag u) refl)
 
 body-sound : (k : Keyword) (tag : Option Name) (ts : List Lexeme) (means : Meaning) (rest : List Lexeme) → body_at k tag ts ≡ Read means rest → HasBody k tag ts means rest

@@ -1,5 +1,5 @@
 -- The grammar of fields. Each case is a rule: which tokens are read as what, or with which fault reading stops.
-use Rattle.std.specs.Prelude.{◌≡◌, ℕ, Bool, true, false, List, [], ◌∷◌, ◌++◌, Option, Some, None}
+use Rattle.std.specs.Prelude.{◌≡◌, ℕ, zero, suc, Bool, true, false, List, [], ◌∷◌, ◌++◌, Option, Some, None}
 use Rattle.gt_parse.specs.declared.faults.TheConstants.{UNSUPPORTED}
 use Rattle.gt_parse.specs.declared.items.Declarator.{Declarator}
 use Rattle.gt_parse.specs.declared.items.RawField.{RawField}
@@ -16,7 +16,6 @@ use Rattle.gt_parse.specs.Fields.{is_access}
 use Rattle.gt_parse.specs.Lexemes.{name_of, kept_text}
 use Rattle.gt_parse.specs.MarkerGrammar.{Failure, failed, begins, is_comma, opens_round, closes_round, MaybeMarker}
 use Rattle.gt_parse.specs.Outcome.{Outcome, Read, Stops, Ends, unexpected}
-use Rattle.gt_parse.specs.Search.{is_no_bracket}
 use Rattle.gt_parse.specs.TypeGrammar.{is_name, is_star, Qualifiers, AreStars, AType}
 
 -- ---- the words of the rules
@@ -37,6 +36,10 @@ abbrev pub closes_brace : Lexeme → Bool
 closes_brace (lexeme.Close Brace s) = true
 closes_brace t = false
 
+abbrev pub closes_any : Lexeme → Bool
+closes_any (lexeme.Close b s) = true
+closes_any t = false
+
 -- a token before which the text of a bit count ends
 abbrev pub ends_text : Lexeme → Bool
 ends_text (lexeme.Comma s) = true
@@ -51,51 +54,50 @@ begins_label ts = false
 
 -- ---- brackets. That each is closed by its like is known of a whole item, and not asked again.
 
--- tokens in which each bracket that is opened is closed, and no other
-pub data Nested : List Lexeme → Type 0 where
-  nothing : Nested []
-  token : {ts : List Lexeme} (t : Lexeme) → is_no_bracket t ≡ true → Nested ts → Nested (t ∷ ts)
-  group : {inside ts : List Lexeme} (b c : Bracket) (o p : Spot) → Nested inside → Nested ts → Nested (lexeme.Open b o ∷ inside ++ lexeme.Close c p ∷ ts)
+-- how many brackets are open behind a token, and behind some, where so many are open before; one that closes none counts for nothing
+abbrev pub depth_after : ℕ → Lexeme → ℕ
+depth_after depth (lexeme.Open b s) = suc depth
+depth_after zero (lexeme.Close b s) = zero
+depth_after (suc depth) (lexeme.Close b s) = depth
+depth_after depth t = depth
 
--- tokens that close no bracket which was opened before them
-pub data Unclosed : List Lexeme → Type 0 where
-  nothing : Unclosed []
-  token : {ts : List Lexeme} (t : Lexeme) → is_no_bracket t ≡ true → Unclosed ts → Unclosed (t ∷ ts)
-  group : {inside ts : List Lexeme} (b c : Bracket) (o p : Spot) → Nested inside → Unclosed ts → Unclosed (lexeme.Open b o ∷ inside ++ lexeme.Close c p ∷ ts)
-  opened : {ts : List Lexeme} (b : Bracket) (o : Spot) → Unclosed ts → Unclosed (lexeme.Open b o ∷ ts)
+abbrev pub depth_behind : ℕ → List Lexeme → ℕ
+depth_behind depth [] = depth
+depth_behind depth (t ∷ ts) = depth_behind (depth_after depth t) ts
 
--- nested tokens without a comma or semicolon that stands in none of their brackets
-pub data IsText : List Lexeme → Type 0 where
-  nothing : IsText []
-  token : {ts : List Lexeme} (t : Lexeme) → is_no_bracket t ≡ true → ends_text t ≡ false → IsText ts → IsText (t ∷ ts)
-  group : {inside ts : List Lexeme} (b c : Bracket) (o p : Spot) → Nested inside → IsText ts → IsText (lexeme.Open b o ∷ inside ++ lexeme.Close c p ∷ ts)
+-- a token that passes a test stands among these, in no brackets
+pub record Stands (is : Lexeme → Bool) (ts : List Lexeme) : Type 0 where
+  pub front : List Lexeme
+  pub token : Lexeme
+  pub behind : List Lexeme
+  pub parts : ts ≡ front ++ token ∷ behind
+  pub outside : depth_behind 0 front ≡ 0
+  pub passes : is token ≡ true
 
--- tokens in which such a text does not end
-pub data IsEndless : List Lexeme → Type 0 where
-  nothing : IsEndless []
-  token : {ts : List Lexeme} (t : Lexeme) → is_no_bracket t ≡ true → ends_text t ≡ false → IsEndless ts → IsEndless (t ∷ ts)
-  group : {inside ts : List Lexeme} (b c : Bracket) (o p : Spot) → Nested inside → IsEndless ts → IsEndless (lexeme.Open b o ∷ inside ++ lexeme.Close c p ∷ ts)
-  opened : {ts : List Lexeme} (b : Bracket) (o : Spot) → Unclosed ts → IsEndless (lexeme.Open b o ∷ ts)
+-- these tokens close the brackets that they open, and outside of these no token passes a test
+pub record IsFree (is : Lexeme → Bool) (ts : List Lexeme) : Type 0 where
+  pub closed : depth_behind 0 ts ≡ 0
+  pub free : ¬ Stands is ts
 
 -- ---- declarators
 
 -- bounds := {"[" text "]"}
 pub data Bounds : List Lexeme → Outcome (List (List ℕ)) → Type 0 where
   no_bound : {ts : List Lexeme} → begins opens_square ts ≡ false → Bounds ts (Read [] ts)
-  bound : {inside ts rest : List Lexeme} {bounds : List (List ℕ)} (b : Bracket) (o p : Spot) → Nested inside → Bounds ts (Read bounds rest)
+  bound : {inside ts rest : List Lexeme} {bounds : List (List ℕ)} (b : Bracket) (o p : Spot) → IsFree closes_any inside → Bounds ts (Read bounds rest)
       → Bounds (lexeme.Open Square o ∷ inside ++ lexeme.Close b p ∷ ts) (Read (kept_text inside ∷ bounds) rest)
   -- the tokens end in a bound
-  not_closed : {ts : List Lexeme} (o : Spot) → Unclosed ts → Bounds (lexeme.Open Square o ∷ ts) Ends
-  in_more : {inside ts : List Lexeme} (b : Bracket) (o p : Spot) (why : Failure) → Nested inside → Bounds ts (failed why)
+  not_closed : {ts : List Lexeme} (o : Spot) → ¬ Stands closes_any ts → Bounds (lexeme.Open Square o ∷ ts) Ends
+  in_more : {inside ts : List Lexeme} (b : Bracket) (o p : Spot) (why : Failure) → IsFree closes_any inside → Bounds ts (failed why)
       → Bounds (lexeme.Open Square o ∷ inside ++ lexeme.Close b p ∷ ts) (failed why)
 
 -- bits := [":" text]
 pub data Bits : List Lexeme → Outcome (Option (List ℕ)) → Type 0 where
   no_bits : {ts : List Lexeme} → begins is_colon ts ≡ false → Bits ts (Read None ts)
-  bits : {text rest : List Lexeme} (c : Spot) (t : Lexeme) → IsText text → ends_text t ≡ true
+  bits : {text rest : List Lexeme} (c : Spot) (t : Lexeme) → IsFree ends_text text → ends_text t ≡ true
       → Bits (lexeme.Colon c ∷ text ++ t ∷ rest) (Read (Some (kept_text text)) (t ∷ rest))
   -- the tokens end in the text
-  endless : {ts : List Lexeme} (c : Spot) → IsEndless ts → Bits (lexeme.Colon c ∷ ts) Ends
+  endless : {ts : List Lexeme} (c : Spot) → ¬ Stands ends_text ts → Bits (lexeme.Colon c ∷ ts) Ends
 
 -- {"*"} [marker] NAME bounds bits
 pub data PlainDeclarator : List Lexeme → Outcome Declarator → Type 0 where
@@ -121,7 +123,7 @@ pub data PlainDeclarator : List Lexeme → Outcome Declarator → Type 0 where
 pub data ADeclarator : List Lexeme → Outcome Declarator → Type 0 where
   plain : {ts : List Lexeme} {o : Outcome Declarator} → begins opens_round ts ≡ false → PlainDeclarator ts o → ADeclarator ts o
   function : {ts us inside rest : List Lexeme} {options : List RawOption} (a s n c d e : Spot) (b : Bracket) → Qualifiers ts us
-      → MaybeMarker us (Read options (lexeme.Name n ∷ lexeme.Close Round c ∷ lexeme.Open Round d ∷ inside ++ lexeme.Close b e ∷ rest)) → Nested inside
+      → MaybeMarker us (Read options (lexeme.Name n ∷ lexeme.Close Round c ∷ lexeme.Open Round d ∷ inside ++ lexeme.Close b e ∷ rest)) → IsFree closes_any inside
       → ADeclarator (lexeme.Open Round a ∷ lexeme.Star s ∷ ts)
       (Read (record { is_function = true; stars = Zero; options = options; name = name_of n; bounds = []; bits = None }) rest)
   -- the fault of the marker
@@ -138,7 +140,7 @@ pub data ADeclarator : List Lexeme → Outcome Declarator → Type 0 where
       → ADeclarator (lexeme.Open Round a ∷ lexeme.Star s ∷ ts) (unexpected rest)
   -- the tokens end in the last brackets
   arguments_not_closed : {ts us rest : List Lexeme} {options : List RawOption} (a s n c d : Spot) → Qualifiers ts us
-      → MaybeMarker us (Read options (lexeme.Name n ∷ lexeme.Close Round c ∷ lexeme.Open Round d ∷ rest)) → Unclosed rest
+      → MaybeMarker us (Read options (lexeme.Name n ∷ lexeme.Close Round c ∷ lexeme.Open Round d ∷ rest)) → ¬ Stands closes_any rest
       → ADeclarator (lexeme.Open Round a ∷ lexeme.Star s ∷ ts) Ends
 
 -- declarator {"," declarator} ";"

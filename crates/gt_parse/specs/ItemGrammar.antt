@@ -1,5 +1,5 @@
 -- The grammar of unmarked items, and of whole items. Each case is a rule: what some tokens declare, or with which fault reading stops.
-use Rattle.std.specs.Prelude.{◌≡◌, ℕ, zero, suc, Bool, true, false, List, [], ◌∷◌, ◌++◌, Option, Some, None}
+use Rattle.std.specs.Prelude.{◌≡◌, Bool, true, false, List, [], ◌∷◌, ◌++◌, Option, Some, None}
 use Rattle.std.specs.List.{list_any}
 use Rattle.gt_parse.specs.declared.faults.TheConstants.{UNEXPECTED, BAD_MARKER_PLACE}
 use Rattle.gt_parse.specs.declared.items.Name.{Name}
@@ -21,7 +21,7 @@ use Rattle.gt_parse.specs.declared.lexeme.Bracket.{Bracket}
 use Rattle.gt_parse.specs.declared.lexeme.Bracket.TheVariants.{Round, Brace}
 use Rattle.gt_parse.specs.declared.lexeme.Lexeme.{Lexeme}
 use Rattle.gt_parse.specs.declared.lexeme.Lexeme.TheVariants as lexeme
-use Rattle.gt_parse.specs.FieldGrammar.{Nested, Unclosed}
+use Rattle.gt_parse.specs.FieldGrammar.{closes_any, depth_behind, Stands, IsFree}
 use Rattle.gt_parse.specs.Lexemes.{name_of, kept_text}
 use Rattle.gt_parse.specs.MarkedGrammar.{MarkedItem}
 use Rattle.gt_parse.specs.MarkerGrammar.{Failure, failed, begins, is_comma, opens_round}
@@ -31,26 +31,6 @@ use Rattle.gt_parse.specs.TypeGrammar.{is_name, Qualifiers, AreStars, AType}
 use Rattle.gt_parse.specs.Unmarked.{opaque_typedef}
 
 -- ---- the words of the rules
-
--- how many brackets are open behind a token, and behind some, where so many are open before; one that closes none counts for nothing
-abbrev pub depth_after : ℕ → Lexeme → ℕ
-depth_after depth (lexeme.Open b s) = suc depth
-depth_after zero (lexeme.Close b s) = zero
-depth_after (suc depth) (lexeme.Close b s) = depth
-depth_after depth t = depth
-
-abbrev pub depth_behind : ℕ → List Lexeme → ℕ
-depth_behind depth [] = depth
-depth_behind depth (t ∷ ts) = depth_behind (depth_after depth t) ts
-
--- a token that passes a test stands among these, in no brackets
-pub record Stands (is : Lexeme → Bool) (ts : List Lexeme) : Type 0 where
-  pub front : List Lexeme
-  pub token : Lexeme
-  pub behind : List Lexeme
-  pub parts : ts ≡ front ++ token ∷ behind
-  pub outside : depth_behind 0 front ≡ 0
-  pub passes : is token ≡ true
 
 abbrev pub is_enum : Keyword → Bool
 is_enum keyword.Struct = false
@@ -89,12 +69,12 @@ pub data IsEnumerator : List Lexeme → Enumerator → Type 0 where
 -- pieces := piece {"," piece}, with the commas that stand in no brackets
 pub data Enumerators : List Lexeme → List Enumerator → Type 0 where
   last : {piece : List Lexeme} {one : Enumerator} → ¬ Stands is_comma piece → IsEnumerator piece one → Enumerators piece (one ∷ [])
-  more : {piece ts : List Lexeme} {one : Enumerator} {others : List Enumerator} (c : Spot) → ¬ Stands is_comma piece → depth_behind 0 piece ≡ 0
+  more : {piece ts : List Lexeme} {one : Enumerator} {others : List Enumerator} (c : Spot) → IsFree is_comma piece
       → IsEnumerator piece one → Enumerators ts others → Enumerators (piece ++ lexeme.Comma c ∷ ts) (one ∷ others)
 
 -- pieces "}", and the tokens behind them
 pub data EnumBody (tag : Option Name) : List Lexeme → RawEnum → List Lexeme → Type 0 where
-  body : {inside rest : List Lexeme} {constants : List Enumerator} (b : Bracket) (c : Spot) → Nested inside → Enumerators inside constants
+  body : {inside rest : List Lexeme} {constants : List Enumerator} (b : Bracket) (c : Spot) → IsFree closes_any inside → Enumerators inside constants
       → EnumBody tag (inside ++ lexeme.Close b c ∷ rest) (record { tag = tag; constants = constants }) rest
 
 -- enum := "enum" [NAME] "{" pieces "}", behind the keyword; another enum declares nothing
@@ -103,14 +83,14 @@ pub data UnmarkedEnum : List Lexeme → Option Item → Type 0 where
   tagged : {ts rest : List Lexeme} {found : RawEnum} (n o : Spot) → EnumBody (Some (name_of n)) ts found rest
       → UnmarkedEnum (lexeme.Name n ∷ lexeme.Open Brace o ∷ ts) (Some (Enum found))
   no_body : {ts : List Lexeme} → begins_body ts ≡ false → UnmarkedEnum ts None
-  untagged_not_closed : {ts : List Lexeme} (o : Spot) → Unclosed ts → UnmarkedEnum (lexeme.Open Brace o ∷ ts) None
-  tagged_not_closed : {ts : List Lexeme} (n o : Spot) → Unclosed ts → UnmarkedEnum (lexeme.Name n ∷ lexeme.Open Brace o ∷ ts) None
+  untagged_not_closed : {ts : List Lexeme} (o : Spot) → ¬ Stands closes_any ts → UnmarkedEnum (lexeme.Open Brace o ∷ ts) None
+  tagged_not_closed : {ts : List Lexeme} (n o : Spot) → ¬ Stands closes_any ts → UnmarkedEnum (lexeme.Name n ∷ lexeme.Open Brace o ∷ ts) None
 
 -- ---- typedefs of the first form
 
 -- a body behind its brace, what it means, and the tokens behind it: fields, which are not read, or the constants of an enum
 pub data HasBody : Keyword → Option Name → List Lexeme → Meaning → List Lexeme → Type 0 where
-  fields : {k : Keyword} {tag : Option Name} {inside ts rest : List Lexeme} (b : Bracket) (c : Spot) → is_enum k ≡ false → Nested inside → Qualifiers ts rest
+  fields : {k : Keyword} {tag : Option Name} {inside ts rest : List Lexeme} (b : Bracket) (c : Spot) → is_enum k ≡ false → IsFree closes_any inside → Qualifiers ts rest
       → HasBody k tag (inside ++ lexeme.Close b c ∷ ts) (meaning.Body k tag) rest
   constants : {tag : Option Name} {ts us rest : List Lexeme} {found : RawEnum} → EnumBody tag ts found us → Qualifiers us rest
       → HasBody keyword.Enum tag ts (meaning.Enum found) rest
@@ -144,8 +124,7 @@ pub record HasPointer (ts : List Lexeme) : Type 0 where
   pub star : Spot
   pub behind : List Lexeme
   pub parts : ts ≡ front ++ lexeme.Open Round bracket ∷ lexeme.Star star ∷ behind
-  pub outside : depth_behind 0 front ≡ 0
-  pub first : ¬ Stands opens_round front
+  pub first : IsFree opens_round front
 
 -- the name behind stars, if there is one
 pub data StarredName : List Lexeme → Option Name → Type 0 where
