@@ -4,7 +4,7 @@ use Rattle.gt_parse.specs.declared.lexeme.Spot.{Spot}
 use Rattle.gt_parse.specs.declared.lexeme.Bracket.{Bracket}
 use Rattle.gt_parse.specs.declared.lexeme.Lexeme.{Lexeme}
 use Rattle.gt_parse.specs.declared.lexeme.Lexeme.TheVariants as lexeme
-use Rattle.gt_parse.specs.FieldGrammar.{closes_any, ends_text, depth_after, depth_behind, Stands, IsFree}
+use Rattle.gt_parse.specs.FieldGrammar.{closes_any, ends_text, depth_after, depth_through, Stands, IsFree}
 use Rattle.gt_parse.specs.Groups.{with_token, inside_from, before_end}
 use Rattle.gt_parse.specs.Outcome.{Outcome, Read, Ends}
 use Rattle.gt_parse.proofs.PlacesLemmas.{or_false, stands, stands-not, not-stands, FirstPlace, first_place}
@@ -23,7 +23,7 @@ inside_suc depth (lexeme.Close b s) ts = refl
 inside_suc depth (lexeme.Open b s) ts = refl
 inside_suc depth t ts = refl
 
-inside_found : (us : List Lexeme) (depth : ℕ) (b : Bracket) (p : Spot) (ts : List Lexeme) → depth_behind depth us ≡ 0 → stands closes_any depth us ≡ false
+inside_found : (us : List Lexeme) (depth : ℕ) (b : Bracket) (p : Spot) (ts : List Lexeme) → depth_through depth us ≡ 0 → stands closes_any depth us ≡ false
     → inside_from depth (us ++ lexeme.Close b p ∷ ts) ≡ Read us ts
 unfolding inside_from
 inside_found [] zero b p ts o h = refl
@@ -94,7 +94,7 @@ before_here (lexeme.Semicolon s) ts h = refl
 before_here (lexeme.Close b s) ts h = refl
 before_here t ts h = absurd cc
 
-before_found : (us : List Lexeme) (depth : ℕ) (t : Lexeme) (ts : List Lexeme) → ends_text t ≡ true → depth_behind depth us ≡ 0 → stands ends_text depth us ≡ false
+before_found : (us : List Lexeme) (depth : ℕ) (t : Lexeme) (ts : List Lexeme) → ends_text t ≡ true → depth_through depth us ≡ 0 → stands ends_text depth us ≡ false
     → before_end depth (us ++ t ∷ ts) ≡ Read us (t ∷ ts)
 before_found [] zero t ts e o h = before_here t ts e
 before_found [] (suc depth) t ts e o h = absurd (omega arith)

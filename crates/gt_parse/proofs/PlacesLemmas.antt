@@ -1,7 +1,7 @@
 -- What stands in no brackets.
 use Rattle.std.proofs.Common.{◌≡◌, ℕ, zero, suc, Bool, true, false, ◌||◌, List, [], ◌∷◌, ◌++◌, refl, sym, ap, ◌∙◌, arith}
 use Rattle.gt_parse.specs.declared.lexeme.Lexeme.{Lexeme}
-use Rattle.gt_parse.specs.FieldGrammar.{depth_after, depth_behind, Stands}
+use Rattle.gt_parse.specs.FieldGrammar.{depth_after, depth_through, Stands}
 
 -- ---- tests
 
@@ -26,7 +26,7 @@ pub record FirstPlace (is : Lexeme → Bool) (depth : ℕ) (ts : List Lexeme) : 
   pub token : Lexeme
   pub behind : List Lexeme
   pub parts : ts ≡ front ++ token ∷ behind
-  pub outside : depth_behind depth front ≡ 0
+  pub outside : depth_through depth front ≡ 0
   pub none : stands is depth front ≡ false
   pub passes : is token ≡ true
 
@@ -48,7 +48,7 @@ first_place is [] depth e = absurd cc
 first_place is (t ∷ ts) zero e = first_zero is t ts (is t) refl e (first_place is ts (depth_after zero t))
 first_place is (t ∷ ts) (suc depth) e = further is depth t ts (first_place is ts (depth_after (suc depth) t) e)
 
-stands-is : (is : Lexeme → Bool) (front : List Lexeme) (depth : ℕ) (token : Lexeme) (behind : List Lexeme) → depth_behind depth front ≡ 0 → is token ≡ true
+stands-is : (is : Lexeme → Bool) (front : List Lexeme) (depth : ℕ) (token : Lexeme) (behind : List Lexeme) → depth_through depth front ≡ 0 → is token ≡ true
     → stands is depth (front ++ token ∷ behind) ≡ true
 stands-is is [] zero token behind o p = rw p refl
 stands-is is [] (suc depth) token behind o p = absurd (omega arith)
@@ -75,11 +75,11 @@ not-stands is ts h = cases (stands is 0 ts) refl
 
 -- ---- lists that follow one another
 
-depth-append : (us ts : List Lexeme) (depth : ℕ) → depth_behind depth (us ++ ts) ≡ depth_behind (depth_behind depth us) ts
+depth-append : (us ts : List Lexeme) (depth : ℕ) → depth_through depth (us ++ ts) ≡ depth_through (depth_through depth us) ts
 depth-append [] ts depth = refl
 depth-append (u ∷ us) ts depth = depth-append us ts (depth_after depth u)
 
-stands-append : (is : Lexeme → Bool) (us ts : List Lexeme) (depth : ℕ) → stands is depth us ≡ false → stands is (depth_behind depth us) ts ≡ false
+stands-append : (is : Lexeme → Bool) (us ts : List Lexeme) (depth : ℕ) → stands is depth us ≡ false → stands is (depth_through depth us) ts ≡ false
     → stands is depth (us ++ ts) ≡ false
 stands-append is [] ts depth h k = k
 stands-append is (u ∷ us) ts zero h k =
@@ -88,9 +88,9 @@ stands-append is (u ∷ us) ts zero h k =
 stands-append is (u ∷ us) ts (suc depth) h k = stands-append is us ts (depth_after (suc depth) u) h k
 
 -- one more token
-pub depth_one_more : (us : List Lexeme) (t : Lexeme) (depth : ℕ) → depth_behind 0 us ≡ depth → depth_behind 0 (us ++ t ∷ []) ≡ depth_after depth t
+pub depth_one_more : (us : List Lexeme) (t : Lexeme) (depth : ℕ) → depth_through 0 us ≡ depth → depth_through 0 (us ++ t ∷ []) ≡ depth_after depth t
 depth_one_more us t depth e = depth-append us (t ∷ []) 0 ∙ ap (λ (d : ℕ). depth_after d t) e
 
-pub stands_one_more : (is : Lexeme → Bool) (us : List Lexeme) (t : Lexeme) (depth : ℕ) → stands is 0 us ≡ false → depth_behind 0 us ≡ depth → stands is depth (t ∷ []) ≡ false
+pub stands_one_more : (is : Lexeme → Bool) (us : List Lexeme) (t : Lexeme) (depth : ℕ) → stands is 0 us ≡ false → depth_through 0 us ≡ depth → stands is depth (t ∷ []) ≡ false
     → stands is 0 (us ++ t ∷ []) ≡ false
 stands_one_more is us t depth h e k = stands-append is us (t ∷ []) 0 h (ap (λ (d : ℕ). stands is d (t ∷ [])) e ∙ k)

@@ -20,7 +20,7 @@ use Rattle.gt_parse.specs.declared.lexeme.Spot.{Spot}
 use Rattle.gt_parse.specs.declared.lexeme.Bracket.TheVariants.{Brace}
 use Rattle.gt_parse.specs.declared.lexeme.Lexeme.{Lexeme}
 use Rattle.gt_parse.specs.declared.lexeme.Lexeme.TheVariants as lexeme
-use Rattle.gt_parse.specs.FieldGrammar.{depth_after, depth_behind, Stands, closes_any}
+use Rattle.gt_parse.specs.FieldGrammar.{depth_after, depth_through, Stands, closes_any}
 use Rattle.gt_parse.specs.ItemGrammar.{is_enum, begins_body, is_starred, IsEnumerator, Enumerators, EnumBody, UnmarkedEnum, HasBody, HasMeaning, Aliases, FirstForm, HasPointer, StarredName, LastName, UnmarkedTypedef}
 use Rattle.gt_parse.specs.Lexemes.{name_of}
 use Rattle.gt_parse.specs.Marked.{alias_at}
@@ -92,7 +92,7 @@ comma_piece : (piece ts : List Lexeme) (c : Spot) → pieces_from 0 piece (lexem
 unfolding pieces_from
 comma_piece piece ts c = refl
 
-first_piece : (piece ts : List Lexeme) (c : Spot) → stands is_comma 0 piece ≡ false → depth_behind 0 piece ≡ 0
+first_piece : (piece ts : List Lexeme) (c : Spot) → stands is_comma 0 piece ≡ false → depth_through 0 piece ≡ 0
     → pieces_from 0 [] (piece ++ lexeme.Comma c ∷ ts) ≡ piece ∷ pieces_from 0 [] ts
 first_piece piece ts c h o =
     pieces_pass piece 0 [] (lexeme.Comma c ∷ ts) h ∙ ap (λ (depth : ℕ). pieces_from depth piece (lexeme.Comma c ∷ ts)) o ∙ comma_piece piece ts c
@@ -106,13 +106,13 @@ enumerators-one (Enumerators.more {piece} {ts} c f i m) =
 pieces_last : (piece : List Lexeme) → stands is_comma 0 piece ≡ false → Has Enumerators piece
 pieces_last piece h = record { outcome = _; holds = Enumerators.last (stands-not is_comma piece h) (enumerator_has piece).holds }
 
-pieces_more : (piece : List Lexeme) (c : Spot) (ts : List Lexeme) → stands is_comma 0 piece ≡ false → depth_behind 0 piece ≡ 0 → Has Enumerators ts → Has Enumerators (piece ++ lexeme.Comma c ∷ ts)
+pieces_more : (piece : List Lexeme) (c : Spot) (ts : List Lexeme) → stands is_comma 0 piece ≡ false → depth_through 0 piece ≡ 0 → Has Enumerators ts → Has Enumerators (piece ++ lexeme.Comma c ∷ ts)
 pieces_more piece c ts h o has = record { outcome = _; holds = Enumerators.more c (record { closed = o; free = stands-not is_comma piece h }) (enumerator_has piece).holds has.holds }
 
 pieces_on : (us : List Lexeme) (t : Lexeme) (ts : List Lexeme) → Has Enumerators ((us ++ t ∷ []) ++ ts) → Has Enumerators (us ++ t ∷ ts)
 pieces_on us t ts has = rw (← append_assoc us (t ∷ []) ts) has
 
-pieces_has : (ts us : List Lexeme) (depth : ℕ) → stands is_comma 0 us ≡ false → depth_behind 0 us ≡ depth → Has Enumerators (us ++ ts)
+pieces_has : (ts us : List Lexeme) (depth : ℕ) → stands is_comma 0 us ≡ false → depth_through 0 us ≡ depth → Has Enumerators (us ++ ts)
 pieces_has [] us depth h o = rw (append-nil us) (pieces_last us h)
 pieces_has (lexeme.Comma c ∷ ts) us zero h o = pieces_more us c ts h o (pieces_has ts [] zero refl refl)
 pieces_has (t ∷ ts) us zero h o = pieces_on us t ts (pieces_has ts (us ++ t ∷ []) (depth_after zero t) (stands_one_more is_comma us t zero h o refl) (depth_one_more us t zero o))

@@ -7,7 +7,7 @@ use Rattle.gt_parse.specs.declared.lexeme.Spot.{Spot}
 use Rattle.gt_parse.specs.declared.lexeme.Bracket.TheVariants.{Round}
 use Rattle.gt_parse.specs.declared.lexeme.Lexeme.{Lexeme}
 use Rattle.gt_parse.specs.declared.lexeme.Lexeme.TheVariants as lexeme
-use Rattle.gt_parse.specs.FieldGrammar.{depth_after, depth_behind}
+use Rattle.gt_parse.specs.FieldGrammar.{depth_after, depth_through}
 use Rattle.gt_parse.specs.ItemGrammar.{HasPointer}
 use Rattle.gt_parse.specs.Lexemes.{name_of}
 use Rattle.gt_parse.specs.MarkerGrammar.{is_comma, opens_round}
@@ -32,15 +32,15 @@ pieces_suc depth piece (lexeme.Close b s) ts = refl
 pieces_suc depth piece t ts = refl
 
 pub pieces_pass : (us : List Lexeme) (depth : ℕ) (piece ts : List Lexeme) → stands is_comma depth us ≡ false
-    → pieces_from depth piece (us ++ ts) ≡ pieces_from (depth_behind depth us) (piece ++ us) ts
+    → pieces_from depth piece (us ++ ts) ≡ pieces_from (depth_through depth us) (piece ++ us) ts
 pieces_pass [] depth piece ts h = rw (append-nil piece) refl
 pieces_pass (u ∷ us) zero piece ts h =
     let parts = or_false (is_comma u) (stands is_comma (depth_after zero u) us) h in
     pieces_zero piece u (us ++ ts) parts.0 ∙ pieces_pass us (depth_after zero u) (piece ++ u ∷ []) ts parts.1
-    ∙ ap (λ (vs : List Lexeme). pieces_from (depth_behind (depth_after zero u) us) vs ts) (append_assoc piece (u ∷ []) us)
+    ∙ ap (λ (vs : List Lexeme). pieces_from (depth_through (depth_after zero u) us) vs ts) (append_assoc piece (u ∷ []) us)
 pieces_pass (u ∷ us) (suc depth) piece ts h =
     pieces_suc depth piece u (us ++ ts) ∙ pieces_pass us (depth_after (suc depth) u) (piece ++ u ∷ []) ts h
-    ∙ ap (λ (vs : List Lexeme). pieces_from (depth_behind (depth_after (suc depth) u) us) vs ts) (append_assoc piece (u ∷ []) us)
+    ∙ ap (λ (vs : List Lexeme). pieces_from (depth_through (depth_after (suc depth) u) us) vs ts) (append_assoc piece (u ∷ []) us)
 
 -- ---- the last name
 
@@ -71,7 +71,7 @@ last_stays (t ∷ ts) zero last h =
     last_step zero last t ts ∙ last_stays ts (depth_after zero t) (new_last zero last t) parts.1 ∙ same_last last t parts.0
 last_stays (t ∷ ts) (suc depth) last h = last_step (suc depth) last t ts ∙ last_stays ts (depth_after (suc depth) t) last h
 
-pub last_found : (front : List Lexeme) (depth : ℕ) (last : Option Name) (n : Spot) (behind : List Lexeme) → depth_behind depth front ≡ 0
+pub last_found : (front : List Lexeme) (depth : ℕ) (last : Option Name) (n : Spot) (behind : List Lexeme) → depth_through depth front ≡ 0
     → last_name depth last (front ++ lexeme.Name n ∷ behind) ≡ last_name 0 (Some (name_of n)) behind
 last_found [] zero last n behind o = last_step zero last (lexeme.Name n) behind
 last_found [] (suc depth) last n behind o = absurd (omega arith)
@@ -83,7 +83,7 @@ pub record HasLast (depth : ℕ) (ts : List Lexeme) : Type 0 where
   pub name : Spot
   pub behind : List Lexeme
   pub parts : ts ≡ front ++ lexeme.Name name ∷ behind
-  pub outside : depth_behind depth front ≡ 0
+  pub outside : depth_through depth front ≡ 0
   pub none : stands is_name 0 behind ≡ false
 
 last_further : (depth : ℕ) (t : Lexeme) (ts : List Lexeme) → HasLast (depth_after depth t) ts → HasLast depth (t ∷ ts)
@@ -121,7 +121,7 @@ round_suc depth (lexeme.Open Round s) ts = refl
 round_suc depth (lexeme.Close b s) ts = refl
 round_suc depth t ts = refl
 
-round_found : (front : List Lexeme) (depth : ℕ) (a : Spot) (ts : List Lexeme) → depth_behind depth front ≡ 0 → stands opens_round depth front ≡ false
+round_found : (front : List Lexeme) (depth : ℕ) (a : Spot) (ts : List Lexeme) → depth_through depth front ≡ 0 → stands opens_round depth front ≡ false
     → behind_round depth (front ++ lexeme.Open Round a ∷ ts) ≡ ts
 unfolding behind_round
 round_found [] zero a ts o h = refl
@@ -139,7 +139,7 @@ record HasRound (depth : ℕ) (ts rest : List Lexeme) : Type 0 where
   front : List Lexeme
   bracket : Spot
   parts : ts ≡ front ++ lexeme.Open Round bracket ∷ rest
-  outside : depth_behind depth front ≡ 0
+  outside : depth_through depth front ≡ 0
   first : stands opens_round depth front ≡ false
 
 round_further_zero : (t : Lexeme) (ts rest : List Lexeme) → opens_round t ≡ false → HasRound (depth_after zero t) ts rest → HasRound zero (t ∷ ts) rest

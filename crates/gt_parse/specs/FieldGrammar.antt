@@ -54,16 +54,17 @@ begins_label ts = false
 
 -- ---- brackets. That each is closed by its like is known of a whole item, and not asked again.
 
--- how many brackets are open behind a token, and behind some, where so many are open before; one that closes none counts for nothing
+-- how many brackets are open behind a token, where so many are open before it; a bracket that closes none counts for nothing
 abbrev pub depth_after : ℕ → Lexeme → ℕ
 depth_after depth (lexeme.Open b s) = suc depth
 depth_after zero (lexeme.Close b s) = zero
 depth_after (suc depth) (lexeme.Close b s) = depth
 depth_after depth t = depth
 
-abbrev pub depth_behind : ℕ → List Lexeme → ℕ
-depth_behind depth [] = depth
-depth_behind depth (t ∷ ts) = depth_behind (depth_after depth t) ts
+-- how many are open behind some tokens
+abbrev pub depth_through : ℕ → List Lexeme → ℕ
+depth_through depth [] = depth
+depth_through depth (t ∷ ts) = depth_through (depth_after depth t) ts
 
 -- a token that passes a test stands among these, in no brackets
 pub record Stands (is : Lexeme → Bool) (ts : List Lexeme) : Type 0 where
@@ -71,12 +72,12 @@ pub record Stands (is : Lexeme → Bool) (ts : List Lexeme) : Type 0 where
   pub token : Lexeme
   pub behind : List Lexeme
   pub parts : ts ≡ front ++ token ∷ behind
-  pub outside : depth_behind 0 front ≡ 0
+  pub outside : depth_through 0 front ≡ 0
   pub passes : is token ≡ true
 
--- these tokens close the brackets that they open, and outside of these no token passes a test
+-- these tokens close each bracket that they open, and none of them that stands in no brackets passes a test
 pub record IsFree (is : Lexeme → Bool) (ts : List Lexeme) : Type 0 where
-  pub closed : depth_behind 0 ts ≡ 0
+  pub closed : depth_through 0 ts ≡ 0
   pub free : ¬ Stands is ts
 
 -- ---- declarators

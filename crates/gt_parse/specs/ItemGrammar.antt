@@ -21,7 +21,7 @@ use Rattle.gt_parse.specs.declared.lexeme.Bracket.{Bracket}
 use Rattle.gt_parse.specs.declared.lexeme.Bracket.TheVariants.{Round, Brace}
 use Rattle.gt_parse.specs.declared.lexeme.Lexeme.{Lexeme}
 use Rattle.gt_parse.specs.declared.lexeme.Lexeme.TheVariants as lexeme
-use Rattle.gt_parse.specs.FieldGrammar.{closes_any, depth_behind, Stands, IsFree}
+use Rattle.gt_parse.specs.FieldGrammar.{closes_any, depth_through, Stands, IsFree}
 use Rattle.gt_parse.specs.Lexemes.{name_of, kept_text}
 use Rattle.gt_parse.specs.MarkedGrammar.{MarkedItem}
 use Rattle.gt_parse.specs.MarkerGrammar.{Failure, failed, begins, is_comma, opens_round}
@@ -135,7 +135,7 @@ pub data StarredName : List Lexeme → Option Name → Type 0 where
 
 -- the last name that stands in no brackets, if there is one
 pub data LastName : List Lexeme → Option Name → Type 0 where
-  name : (front : List Lexeme) {behind : List Lexeme} (n : Spot) → depth_behind 0 front ≡ 0 → ¬ Stands is_name behind → LastName (front ++ lexeme.Name n ∷ behind) (Some (name_of n))
+  name : (front : List Lexeme) {behind : List Lexeme} (n : Spot) → depth_through 0 front ≡ 0 → ¬ Stands is_name behind → LastName (front ++ lexeme.Name n ∷ behind) (Some (name_of n))
   no_name : {ts : List Lexeme} → ¬ Stands is_name ts → LastName ts None
 
 -- an unmarked typedef, behind the word; one that is not of the first form declares one opaque name, or nothing where it has none
@@ -159,8 +159,8 @@ pub data AnItem : List Lexeme → Outcome (Option Item) → Type 0 where
   -- one with GTY in no brackets is marked
   marked : {ts rest : List Lexeme} {found : Item} → Stands is_gty ts → MarkedItem ts (Read found rest) → AnItem ts (Read (Some found) rest)
   in_marked : {ts : List Lexeme} (why : Failure) → Stands is_gty ts → MarkedItem ts (failed why) → AnItem ts (failed why)
-  -- another has no GTY
+  -- one without GTY is not; all of it is read
   unmarked : {ts : List Lexeme} {found : Option Item} → list_any is_gty ts ≡ false → UnmarkedItem ts found → AnItem ts (Read found [])
-  -- 10: it has one, in brackets; at the first
+  -- 10: GTY stands in brackets alone; at the first
   bad_place : (front behind : List Lexeme) (g : Spot) → ¬ Stands is_gty (front ++ lexeme.Gty g ∷ behind) → list_any is_gty front ≡ false
       → AnItem (front ++ lexeme.Gty g ∷ behind) (Stops BAD_MARKER_PLACE g.start)
