@@ -24,7 +24,7 @@ use Rattle.gt_parse.specs.Types.{stars_at, name_at, without_qualifiers, bare_typ
 use Rattle.gt_parse.proofs.GroupsLemmas.{inside-closed, inside-unclosed, Closes, closed, unclosed, closes, before-ended, before-endless, EndsText, ended, endless, ends}
 use Rattle.gt_parse.proofs.MarkersLemmas.{maybe_marker-one, maybe_marker-leaves, maybe_marker_has}
 use Rattle.gt_parse.proofs.TypesLemmas.{no_name, qualifiers-one, qualifiers-leaves, qualifiers_has, stars-one, stars-leaves, stars_has, type-alone, type-leaves, type_has}
-use Rattle.gt_parse.proofs.Words.{Has, allowed, Comes, read, unread, comes, failed_step, unexpected_step, Leaves, failed_leaves, unexpected_leaves, prefixed, prefixed_twice, no_open_round, no_close_round}
+use Rattle.gt_parse.proofs.GrammarWords.{Has, allowed, Comes, read, unread, comes, failed_step, unexpected_step, Leaves, failed_leaves, unexpected_leaves, prefixed, prefixed_twice, no_open_round, no_close_round}
 
 -- ---- bounds
 

@@ -19,7 +19,7 @@ use Rattle.gt_parse.specs.Unmarked.{unmarked_of, unmarked_at}
 use Rattle.gt_parse.proofs.MarkedLemmas.{marked_has, marked-alone}
 use Rattle.gt_parse.proofs.PlacesLemmas.{or_false, stands, Stands-stands, stands-Stands, stands-not, not-stands}
 use Rattle.gt_parse.proofs.UnmarkedLemmas.{enum-alone, enum_has, typedef-alone, typedef_has}
-use Rattle.gt_parse.proofs.Words.{Has, allowed, Comes, read, unread, comes, failed_step}
+use Rattle.gt_parse.proofs.GrammarWords.{Has, allowed, Comes, read, unread, comes, failed_step}
 
 -- ---- unmarked items
 

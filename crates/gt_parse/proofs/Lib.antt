@@ -1,4 +1,5 @@
 mod FieldsLemmas
+mod GrammarWords
 mod GroupsLemmas
 mod ItemsLemmas
 mod MarkedLemmas
@@ -7,4 +8,3 @@ mod PlacesLemmas
 mod TypesLemmas
 mod UnmarkedLemmas
 mod UnmarkedPlaces
-mod Words

@@ -29,7 +29,7 @@ use Rattle.gt_parse.specs.Types.{name_at, type_at}
 use Rattle.gt_parse.proofs.FieldsLemmas.{bounds-from, bounds_has, fields-from, fields_has, no_stars}
 use Rattle.gt_parse.proofs.MarkersLemmas.{marker-one, marker_has}
 use Rattle.gt_parse.proofs.TypesLemmas.{no_name, qualifiers-one, qualifiers_has, stars-one, stars-leaves, stars_has, type-alone, type_has}
-use Rattle.gt_parse.proofs.Words.{Has, allowed, Comes, read, unread, comes, failed_step, unexpected_step, Leaves, unexpected_leaves, prefixed_nothing}
+use Rattle.gt_parse.proofs.GrammarWords.{Has, allowed, Comes, read, unread, comes, failed_step, unexpected_step, Leaves, unexpected_leaves, prefixed_nothing}
 
 -- ---- tokens that have to stand
 

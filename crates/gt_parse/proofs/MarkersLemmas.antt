@@ -18,7 +18,7 @@ use Rattle.gt_parse.specs.MarkerGrammar.{Joins, AnOption, Options, MaybeOptions,
 use Rattle.gt_parse.specs.Markers.{inside_quotes, unescaped, takes_expression, parameter_at, more_strings, strings_at, parameters_at, option_at, behind_comma, options_from, options_at, marker_at, maybe_marker}
 use Rattle.gt_parse.specs.Outcome.{Outcome, Read, Stops, ◌>>=◌, unexpected}
 use Rattle.gt_parse.specs.Search.{is_gty}
-use Rattle.gt_parse.proofs.Words.{Has, allowed, Comes, read, unread, comes, failed_step, unexpected_step, Leaves, failed_leaves, unexpected_leaves, prefixed, prefixed_nothing, prefixed_twice, no_gty, no_open_round, no_close_round, no_comma}
+use Rattle.gt_parse.proofs.GrammarWords.{Has, allowed, Comes, read, unread, comes, failed_step, unexpected_step, Leaves, failed_leaves, unexpected_leaves, prefixed, prefixed_nothing, prefixed_twice, no_gty, no_open_round, no_close_round, no_comma}
 
 -- ---- the bytes of literals
 

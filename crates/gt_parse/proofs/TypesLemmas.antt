@@ -17,7 +17,7 @@ use Rattle.gt_parse.specs.MarkerGrammar.{begins, opens_round}
 use Rattle.gt_parse.specs.Outcome.{Outcome, Read, Stops, Ends, unexpected}
 use Rattle.gt_parse.specs.TypeGrammar.{is_name, is_star, is_qualifier, opens_brace, begins_type, goes_on, Qualifiers, AreStars, MoreWords, BareType, AType}
 use Rattle.gt_parse.specs.Types.{no_words, with_word, is_unsigned_alone, one_more, without_qualifiers, stars_from, stars_at, name_at, words_from, without_body, tagged_at, bitfield_at, behind_bitfield, bare_type_at, type_at}
-use Rattle.gt_parse.proofs.Words.{Has, allowed, unexpected_step, Leaves, unexpected_leaves, no_close_round}
+use Rattle.gt_parse.proofs.GrammarWords.{Has, allowed, unexpected_step, Leaves, unexpected_leaves, no_close_round}
 
 pub no_name : (ts : List Lexeme) → begins is_name ts ≡ false → name_at ts ≡ unexpected ts
 unfolding name_at

@@ -36,7 +36,7 @@ use Rattle.gt_parse.proofs.MarkedLemmas.{alias-one, alias_has}
 use Rattle.gt_parse.proofs.PlacesLemmas.{stands, stands-not, not-stands, depth_one_more, stands_one_more}
 use Rattle.gt_parse.proofs.UnmarkedPlaces.{pieces_pass, last_stays, last_found, HasLast, last_place, pointer-round, round-pointer, no-pointer}
 use Rattle.gt_parse.proofs.TypesLemmas.{no_qualifiers, qualifiers-one, qualifiers-done, qualifiers_has, stars-leaves, bare_type-one, type-allowed}
-use Rattle.gt_parse.proofs.Words.{Has}
+use Rattle.gt_parse.proofs.GrammarWords.{Has}
 
 -- ---- steps that read
 
