@@ -36,7 +36,10 @@ pub use items::{
     Parameter, PointedType, RawCache, RawConstant, RawEnum, RawField, RawOption, RawRoot,
     RawStructure, RawType, RawTypedef, Sign, Size, Stars,
 };
-pub use laws::{one_search, some_search};
+pub use laws::{
+    each_rule, field_rules, marked_rules, marker_rules, one_outcome, one_search, some_search,
+    type_rules,
+};
 pub use parsing::parse;
 
 #[cfg(test)]
