@@ -16,3 +16,6 @@ pub use items::{
     RawTypedef, Sign, Size, Stars,
 };
 pub use parsing::parse;
+
+#[cfg(test)]
+mod tests;
