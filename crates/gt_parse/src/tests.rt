@@ -460,7 +460,7 @@ const SEARCH: [(&str, &str); 24] = [
 ];
 
 // How the search ends, and the first of several faults.
-const ENDS: [(&str, &str); 23] = [
+const ENDS: [(&str, &str); 24] = [
     ("int x", "fault 7 at 0"),
     ("int y; ;struct GTY(()) s { int 5;", "fault 7 at 8"),
     ("int f (int x) { } int a[ {", "fault 7 at 18"),
@@ -476,6 +476,7 @@ const ENDS: [(&str, &str); 23] = [
     ("int f ({ 1 )});", "fault 8 at 11"),
     ("extern \"C\" { int x }", "fault 8 at 19"),
     ("namespace n { ] }", "fault 8 at 14"),
+    ("namespace n { int f ( }", "fault 8 at 22"),
     ("namespace n { } }", "fault 8 at 16"),
     (
         "namespace n { struct GTY(()) s { int 5; ) };",
@@ -694,7 +695,7 @@ const WORDS: [(&str, &str); 16] = [
 ];
 
 // Types with names, and what may stand anywhere in a type.
-const NAMES: [(&str, &str); 20] = [
+const NAMES: [(&str, &str); 19] = [
     (
         "struct GTY(()) s { unsigned HOST_WIDE_INT a; unsigned const HOST_WIDE_INT volatile b; HOST_WIDE_INT c; unsigned int HOST_WIDE_INT; };",
         "struct s@15 {unsigned HOST_WIDE_INT a@42; unsigned HOST_WIDE_INT b@83; HOST_WIDE_INT@86 c@100; unsigned int HOST_WIDE_INT@116}",
@@ -714,10 +715,6 @@ const NAMES: [(&str, &str); 20] = [
     (
         "struct GTY(()) s { unsigned tree; struct t a; union u *b; enum e c; tree d; };",
         "struct s@15 {unsigned tree@28; struct t@41 a@43; union u@52 *b@55; enum e@63 c@65; tree@68 d@73}",
-    ),
-    (
-        "struct GTY(()) inline { hash_map public; };",
-        "struct inline@15 {hash_map@24 public@33}",
     ),
     (
         "struct GTY(()) s { ENUM_BITFIELD (code) a : 8; ENUM_BITFIELD b; ENUM_BITFIELD (*f) (int); };",
@@ -748,7 +745,7 @@ const NAMES: [(&str, &str); 20] = [
 ];
 
 // What is no type, and types that are defined where they are used.
-const NO_TYPES: [(&str, &str); 24] = [
+const NO_TYPES: [(&str, &str); 20] = [
     ("static GTY(()) 5 x;", "fault 8 at 15"),
     ("static GTY(()) static int x;", "fault 8 at 15"),
     ("static GTY(()) GTY(()) int x;", "fault 8 at 15"),
@@ -761,10 +758,6 @@ const NO_TYPES: [(&str, &str); 24] = [
     ("static GTY(()) ENUM_BITFIELD (e, f) x;", "fault 8 at 31"),
     ("struct GTY(()) s { class c *p; };", "fault 8 at 19"),
     ("struct GTY(()) s { typedef int t; };", "fault 8 at 19"),
-    ("struct GTY(()) int { int x; };", "fault 8 at 15"),
-    ("struct GTY(()) s { int extern; };", "fault 8 at 23"),
-    ("struct GTY(()) s { int namespace; };", "fault 8 at 23"),
-    ("static GTY(()) int template;", "fault 8 at 19"),
     (
         "struct GTY(()) s { struct t { int x; } y; };",
         "fault 9 at 28",
@@ -782,6 +775,51 @@ const NO_TYPES: [(&str, &str); 24] = [
     ("struct GTY(()) s { tree { int x; } y; };", "fault 8 at 24"),
     ("static GTY(()) struct t { int x; } y;", "fault 8 at 24"),
     ("static GTY(()) enum { A } y;", "fault 8 at 20"),
+];
+
+// Words with a meaning of their own are no names, but for options.
+const NO_NAMES: [(&str, &str); 29] = [
+    ("struct GTY(()) s { tree unsigned; };", "fault 8 at 24"),
+    ("struct GTY(()) s { tree signed; };", "fault 8 at 24"),
+    ("struct GTY(()) s { tree short; };", "fault 8 at 24"),
+    ("struct GTY(()) s { tree long; };", "fault 8 at 24"),
+    ("struct GTY(()) s { tree int; };", "fault 8 at 24"),
+    ("struct GTY(()) s { tree char; };", "fault 8 at 24"),
+    ("struct GTY(()) s { tree bool; };", "fault 8 at 24"),
+    ("struct GTY(()) s { tree _Bool; };", "fault 8 at 24"),
+    ("struct GTY(()) s { tree float; };", "fault 8 at 24"),
+    ("struct GTY(()) s { tree double; };", "fault 8 at 24"),
+    ("struct GTY(()) s { tree void; };", "fault 8 at 24"),
+    ("struct GTY(()) s { tree struct; };", "fault 8 at 24"),
+    ("struct GTY(()) s { tree union; };", "fault 8 at 24"),
+    ("struct GTY(()) s { tree enum; };", "fault 8 at 24"),
+    ("struct GTY(()) s { tree typedef; };", "fault 8 at 24"),
+    ("struct GTY(()) s { tree static; };", "fault 8 at 24"),
+    ("struct GTY(()) s { tree extern; };", "fault 8 at 24"),
+    ("struct GTY(()) s { tree class; };", "fault 8 at 24"),
+    ("struct GTY(()) s { tree template; };", "fault 8 at 24"),
+    ("struct GTY(()) s { tree namespace; };", "fault 8 at 24"),
+    ("struct GTY(()) s { tree const; };", "fault 8 at 29"),
+    ("struct GTY(()) s { tree volatile; };", "fault 8 at 32"),
+    ("struct GTY(()) s { tree GTY; };", "fault 8 at 27"),
+    ("struct GTY(()) int { int x; };", "fault 8 at 15"),
+    ("static GTY(()) extern;", "fault 8 at 15"),
+    (
+        "enum { A, unsigned, signed, short, long, int, char, bool, _Bool, float, double, void, struct, union, enum, typedef, static, extern, class, template, namespace, const, volatile, B };",
+        "enum {A@7, -, -, -, -, -, -, -, -, -, -, -, -, -, -, -, -, -, -, -, -, -, -, B@177}",
+    ),
+    (
+        "typedef a unsigned signed short long int char bool _Bool float double void struct union enum typedef static extern class template namespace const volatile;",
+        "typedef opaque: a@8",
+    ),
+    (
+        "static GTY((unsigned, signed, short, long, int, char, bool, _Bool, float, double, void, struct, union, enum, typedef, static, extern, class, template, namespace, const, volatile, GTY)) tree b;",
+        "root [unsigned@12, signed@22, short@30, long@37, int@43, char@48, bool@54, _Bool@60, float@67, double@74, void@82, struct@88, union@96, enum@103, typedef@109, static@118, extern@126, class@134, template@141, namespace@151, const@162, volatile@169, GTY@179] tree@185 b@190",
+    ),
+    (
+        "struct GTY(()) inline { hash_map public; };",
+        "struct inline@15 {hash_map@24 public@33}",
+    ),
 ];
 
 // Fields: stars, markers, bounds, bit counts and functions.
@@ -872,7 +910,7 @@ const NO_FIELDS: [(&str, &str); 16] = [
 ];
 
 // Structures.
-const STRUCTURES: [(&str, &str); 26] = [
+const STRUCTURES: [(&str, &str); 27] = [
     (
         "union u GTY((desc (\"%1.k\"))) { int a; };",
         "union u@6 [desc@13=%1.k] {int a@35}",
@@ -893,6 +931,10 @@ const STRUCTURES: [(&str, &str); 26] = [
     ("struct GTY(()) s { int x; } t;", "fault 8 at 28"),
     ("struct GTY(()) s { int x; } *;", "fault 8 at 28"),
     ("typedef struct GTY(()) s { int x; };", "fault 8 at 35"),
+    (
+        "typedef struct GTY(()) s { int x; } const t;",
+        "fault 8 at 36",
+    ),
     ("typedef struct GTY(()) s { int x; } t, u;", "fault 8 at 37"),
     ("typedef struct GTY(()) s { int x; } t[2];", "fault 8 at 37"),
     ("struct GTY(()) { int x; };", "fault 8 at 15"),
@@ -1181,7 +1223,8 @@ fn markers_and_types_are_read(rt: HostRuntime) -> Result<(), Fail> {
     check(rt.alloc(), &TYPES)?;
     check(rt.alloc(), &WORDS)?;
     check(rt.alloc(), &NAMES)?;
-    check(rt.alloc(), &NO_TYPES)
+    check(rt.alloc(), &NO_TYPES)?;
+    check(rt.alloc(), &NO_NAMES)
 }
 
 #[test]
