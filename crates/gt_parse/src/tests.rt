@@ -2,7 +2,7 @@
 //! place as `name@15`, options in square brackets before what they belong to, fields and the constants of enums in braces.
 use super::*;
 use gt_expr::RawExpr;
-use gt_lex::{Lexed, lex};
+use gt_lex::lex;
 use gt_types::{Base, Bytes, Fault, List, Op, Stop};
 use std::alloc::{AllocError, Global};
 use std::test::Fail;
