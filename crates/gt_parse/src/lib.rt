@@ -44,3 +44,5 @@ pub use parsing::parse;
 
 #[cfg(test)]
 mod search_tests;
+#[cfg(test)]
+mod tests;
