@@ -1,5 +1,5 @@
 -- The objects whose flag is set are what a collection keeps, where the flags are set exactly at those that the roots reach.
-use Rattle.std.proofs.Common.{◌≡◌, ℕ, suc, ◌⊎◌, inl, inr, Bool, true, false, cond, List, [], ◌∷◌, length, Some, refl, ap, ap₂, sym, subst, ◌∙◌, arith}
+use Rattle.std.proofs.Common.{◌≡◌, ℕ, suc, inl, inr, Bool, true, false, cond, List, [], ◌∷◌, length, Some, refl, ap, ap₂, sym, subst, arith}
 use Rattle.std.specs.Prelude.{All, IsTrue, ◌↔◌, slice_get}
 use Rattle.std.proofs.lemmas.Bool.{false≢true}
 use Rattle.std.proofs.lemmas.List.Elements.{All-head, All-tail}

@@ -5,14 +5,14 @@ use Rattle.std.proofs.Math.Nat.{mul-le-mul_left}
 use Rattle.std.proofs.lemmas.Bool.{cases_lt}
 use Rattle.std.proofs.lemmas.Nat.{div_below, div-mul-add}
 use Rattle.std.proofs.lemmas.List.{map_push}
-use Rattle.std.proofs.lemmas.List.Elements.{All-contains, All-push, Contains-append_cases, Contains-append_left, Contains-append_right}
-use Rattle.gt_space.specs.declared.TheConstants.{HEAP_START, PAGE_BYTES}
+use Rattle.std.proofs.lemmas.List.Elements.{All-contains, Contains-append_cases, Contains-append_left, Contains-append_right}
+use Rattle.gt_space.specs.declared.TheConstants.{HEAP_START}
 use Rattle.gt_space.specs.Laws.{IsApart}
 use Rattle.gt_heap.specs.Ledger.{Block, Ledger, Sound, Place, Room, AreApart, AreFree, HasFreePlace, IsInPlace, IsOffPage, IsImagePage, LiesInside, LiesOutside, page_of, page_address, pages_of, with_block}
 use Rattle.gt_heap.specs.Slots.{AreAllBelow, AreDifferent, InUse, IsNext}
 use Rattle.gt_heap.specs.Heap.{Places, per_page, block_of, ledger_of, address_of}
-use Rattle.gt_heap.proofs.Quotients.{IsSmall, per_page_pos, place_fits, number_of, block_within, page_of-block_at, offset_is_multiple, offset_within, block_at-place, ordered}
-use Rattle.gt_heap.proofs.Items.{All-each, All-items, Contains-each, contained_each, cases_ne, contains_head, contains_none, different_left, different_sides}
+use Rattle.gt_heap.proofs.Quotients.{IsSmall, per_page_pos, place_fits, block_within, page_of-block_at, offset_is_multiple, offset_within, block_at-place, ordered}
+use Rattle.gt_heap.proofs.Items.{All-each, All-items, Contains-each, contained_each, contains_head, contains_none, different_left, different_sides}
 use Rattle.gt_heap.proofs.Queues.{in_use_or_not}
 
 -- ---- the blocks of objects

@@ -1,6 +1,6 @@
 -- How many objects a heap has, where each of them lies, and how many bytes their blocks have.
-use Rattle.std.proofs.Common.{◌≡◌, ◌≢◌, ℕ, zero, suc, ◌+◌, ◌-◌, ◌*◌, ◌^◌, ◌<◌, ◌≤◌, Bool, true, false, eqb, List, [], ◌∷◌, ◌++◌, length, get_or, length-append, refl, ap, ap₂, sym, subst, ◌∙◌, arith, rules, mul_comm}
-use Rattle.std.specs.Prelude.{Contains, Option, Some, None, IsTrue, ◌↔◌, filter, is_some, map, slice_get}
+use Rattle.std.proofs.Common.{◌≡◌, ◌≢◌, ℕ, zero, suc, ◌+◌, ◌-◌, ◌*◌, ◌^◌, ◌<◌, ◌≤◌, Bool, false, eqb, List, [], ◌∷◌, ◌++◌, length, get_or, length-append, refl, ap, ap₂, sym, subst, ◌∙◌, arith, rules, mul_comm}
+use Rattle.std.specs.Prelude.{Option, Some, None, IsTrue, ◌↔◌, is_some, map, slice_get}
 use Rattle.std.specs.List.{IsDistinct, sum}
 use Rattle.std.proofs.Math.Nat.{mul-le-mul_left}
 use Rattle.std.proofs.lemmas.Bool.{eqb-true, eq-eqb, ne_eqb}
@@ -14,10 +14,10 @@ use Rattle.gt_types.specs.declared.program.Program.{Program}
 use Rattle.gt_space.specs.declared.TheConstants.{PAGE_BYTES, MAX_PAGES}
 use Rattle.gt_space.specs.Range.{Range}
 use Rattle.gt_heap.specs.Values.{Object}
-use Rattle.gt_heap.specs.Ledger.{Block, Room}
+use Rattle.gt_heap.specs.Ledger.{Room}
 use Rattle.gt_heap.specs.Slots.{AreAllBelow, AreDifferent}
 use Rattle.gt_heap.specs.Kept.{allocated_of, count_of_size}
-use Rattle.gt_heap.specs.Heap.{IsHeap, IsObject, Places, per_page, address_of, block_of, fields_of, graph_of, ledger_of}
+use Rattle.gt_heap.specs.Heap.{IsHeap, IsObject, Places, per_page, address_of, block_of, graph_of, ledger_of}
 use Rattle.gt_heap.proofs.Quotients.{IsSmall, per_page_fits}
 use Rattle.gt_heap.proofs.Blocks.{slots_of}
 use Rattle.gt_heap.proofs.Memory.{size_fits}

@@ -1,16 +1,14 @@
 -- The free slots, pages in use first: with the slots that hold objects they are all slots, and they are a queue.
-use Rattle.std.proofs.Common.{◌≡◌, ◌≢◌, ℕ, zero, suc, ◌+◌, ◌-◌, ◌*◌, ◌/◌, ◌<◌, ◌≤◌, ◌⊎◌, inl, inr, Bool, true, false, cond, eqb, List, [], ◌∷◌, ◌++◌, append_assoc, get_or, length, refl, ap, ap₂, sym, subst, ◌∙◌, arith}
+use Rattle.std.proofs.Common.{◌≡◌, ◌≢◌, ℕ, zero, suc, ◌+◌, ◌-◌, ◌*◌, ◌/◌, ◌<◌, ◌≤◌, ◌⊎◌, inl, inr, Bool, true, false, cond, eqb, List, [], ◌∷◌, ◌++◌, append_assoc, get_or, refl, ap, ap₂, sym, subst, ◌∙◌, arith}
 use Rattle.std.specs.Prelude.{All, Contains, ◌&&◌, filter, not}
-use Rattle.std.proofs.Math.Nat.{mul-le-mul_left}
 use Rattle.std.proofs.lemmas.Bool.{cases_lt, eqb-true, eq-eqb}
 use Rattle.std.proofs.lemmas.Nat.{div_below, le-div}
 use Rattle.std.proofs.lemmas.List.{append-nil}
-use Rattle.std.proofs.lemmas.List.Elements.{All-append, All-contains, All-contains_itself, All-filter, All-weaker, Contains-append_left, Contains-append_right, Contains-append_cases, filter-append, filter_passes}
+use Rattle.std.proofs.lemmas.List.Elements.{All-append, All-contains, All-contains_itself, All-filter, Contains-append_left, Contains-append_right, Contains-append_cases, filter-append, filter_passes}
 use Rattle.std.proofs.lemmas.List.Folds.{Any-from_list_any, list_any_at}
 use Rattle.gt_heap.specs.Slots.{AreAllBelow, AreDifferent, InUse, IsQueue, free_slots, is_in_use, is_shared, is_unopened, numbers}
-use Rattle.gt_heap.proofs.Quotients.{page_le}
 use Rattle.gt_heap.proofs.Items.{All-items, contains_head, contains_none, contains_tail, cons_cases, different_append, different_sides}
-use Rattle.gt_heap.proofs.Queues.{AreRising, OnlyLowest, different_rising, numbers_within, queue_rising, queue_shared, rising_numbers, within_numbers}
+use Rattle.gt_heap.proofs.Queues.{AreRising, different_rising, numbers_within, queue_rising, queue_shared, rising_numbers, within_numbers}
 
 -- ---- tests
 

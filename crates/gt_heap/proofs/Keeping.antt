@@ -1,8 +1,8 @@
 -- What is left of a heap where some objects are kept: a heap, of the graph without the others.
-use Rattle.std.proofs.Common.{◌≡◌, ◌≢◌, ℕ, zero, suc, ◌+◌, ◌-◌, ◌*◌, ◌/◌, ◌^◌, ◌<◌, ◌≤◌, inl, inr, Bool, true, false, cond, List, [], ◌∷◌, ◌++◌, length, refl, ap, ap₂, sym, subst, ◌∙◌, arith}
+use Rattle.std.proofs.Common.{◌≡◌, ◌≢◌, ℕ, zero, suc, ◌+◌, ◌-◌, ◌*◌, ◌^◌, ◌<◌, ◌≤◌, inl, inr, Bool, true, false, cond, List, [], ◌∷◌, ◌++◌, length, refl, ap, ap₂, sym, subst, ◌∙◌, arith}
 use Rattle.std.specs.Prelude.{All, Contains, map}
 use Rattle.std.specs.Int.{div_ceil}
-use Rattle.std.proofs.Math.Nat.{mul-le-mul_left, mul-le-mul_right}
+use Rattle.std.proofs.Math.Nat.{mul-le-mul_right}
 use Rattle.std.proofs.lemmas.Bool.{cases_lt}
 use Rattle.std.proofs.lemmas.Grind.{div_ceil_times}
 use Rattle.std.proofs.lemmas.List.Elements.{All-contains, All-head, All-tail, Contains-append_left, Contains-append_right}
@@ -10,7 +10,7 @@ use Rattle.gt_types.specs.declared.program.Root.{Root}
 use Rattle.gt_types.specs.declared.program.Program.{Program}
 use Rattle.gt_space.specs.Range.{Range}
 use Rattle.gt_space.specs.Numbers.{u64_at}
-use Rattle.gt_heap.specs.Tree.{Rec, Trees, And, End}
+use Rattle.gt_heap.specs.Tree.{Trees}
 use Rattle.gt_heap.specs.Values.{Object}
 use Rattle.gt_heap.specs.Ledger.{Block}
 use Rattle.gt_heap.specs.Slots.{AreAllBelow, AreDifferent, free_slots, numbers}
@@ -35,7 +35,7 @@ flagged-map f (x ∷ xs) [] = refl
 flagged-map f (x ∷ xs) (true ∷ flags) = ap (λ ys. f x ∷ ys) (flagged-map f xs flags)
 flagged-map f (x ∷ xs) (false ∷ flags) = flagged-map f xs flags
 
-flagged_within : {A : Type 0} (xs : List A) (flags : List Bool) (y : A) → Contains (flagged xs flags) y → Contains xs y
+pub flagged_within : {A : Type 0} (xs : List A) (flags : List Bool) (y : A) → Contains (flagged xs flags) y → Contains xs y
 flagged_within [] flags y there = there
 flagged_within (x ∷ xs) [] y there = absurd (contains_none y there)
 flagged_within (x ∷ xs) (true ∷ flags) y there =

@@ -15,5 +15,7 @@ pub mod Scans
 pub mod FreeSlots
 pub mod Keeping
 pub mod AfterFlags
+pub mod Closing
+pub mod Unlinking
 pub mod PlainSpans
 pub mod PlainBytes

@@ -1,10 +1,10 @@
 -- Which lists of slots are queues, and all the slots that there are.
-use Rattle.std.proofs.Common.{◌≡◌, ◌≢◌, ℕ, zero, suc, ◌+◌, ◌-◌, ◌*◌, ◌/◌, ◌<◌, ◌≤◌, ◌⊎◌, inl, inr, false, List, [], ◌∷◌, ◌++◌, length, drop, append_assoc, refl, ap, ap₂, sym, subst, ◌∙◌, arith}
+use Rattle.std.proofs.Common.{◌≡◌, ◌≢◌, ℕ, zero, suc, ◌+◌, ◌-◌, ◌/◌, ◌<◌, ◌≤◌, ◌⊎◌, inl, inr, false, List, [], ◌∷◌, ◌++◌, length, drop, append_assoc, refl, ap, ap₂, sym, subst, ◌∙◌, arith}
 use Rattle.std.specs.Prelude.{All, Contains, Option, Some, None, is_some, slice_get}
 use Rattle.std.specs.Option.{option_to_list}
-use Rattle.std.proofs.lemmas.List.Elements.{All-head, All-tail, All-cons, All-nil, All-weaker, All-contains, Contains-append_left, Contains-append_right, Contains-append_cases, Contains-push, Contains-push_cases}
+use Rattle.std.proofs.lemmas.List.Elements.{All-head, All-tail, All-weaker, All-contains, Contains-append_left, Contains-push_cases}
 use Rattle.std.proofs.lemmas.List.{append-nil}
-use Rattle.gt_heap.specs.Slots.{AreAllBelow, AreDifferent, InUse, IsNext, IsQueue, numbers}
+use Rattle.gt_heap.specs.Slots.{AreAllBelow, AreDifferent, InUse, IsQueue, numbers}
 use Rattle.gt_heap.proofs.Quotients.{page_le}
 use Rattle.gt_heap.proofs.Items.{cases_ne, contains_head, contains_tail, contains_none, cons_cases, All-items}
 

@@ -1,6 +1,6 @@
 -- Steps of the loops over slots, and what their flags say.
-use Rattle.std.proofs.Common.{◌≡◌, ◌≢◌, ℕ, zero, suc, ◌+◌, ◌*◌, ◌/◌, ◌<◌, ◌≤◌, Bool, true, false, cond, eqb, List, [], ◌∷◌, ◌++◌, append_assoc, length, get_or, set, take, refl, ap, ap₂, sym, subst, ◌∙◌, add-one, rules, arith}
-use Rattle.std.specs.Prelude.{All, Contains, ◌&&◌, filter, map, not, replicate}
+use Rattle.std.proofs.Common.{◌≡◌, ℕ, zero, suc, ◌+◌, ◌*◌, ◌/◌, ◌<◌, Bool, true, false, cond, eqb, List, [], ◌∷◌, ◌++◌, append_assoc, length, get_or, set, take, refl, ap, ap₂, sym, ◌∙◌, rules, arith}
+use Rattle.std.specs.Prelude.{Contains, ◌&&◌, filter, map, not, replicate}
 use Rattle.std.specs.Prelude.{◌||◌}
 use Rattle.std.proofs.lemmas.Bool.{eq-eqb, ne_eqb}
 use Rattle.std.proofs.lemmas.Nat.{div_below}

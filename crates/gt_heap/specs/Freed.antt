@@ -1,8 +1,7 @@
 -- What is left where some objects stay and the others are freed.
-use Rattle.std.specs.Prelude.{◌≡◌, ℕ, Bool, true, false, List, [], ◌∷◌, Contains, length, slice_get, Some, IsTrue, ◌↔◌, All}
+use Rattle.std.specs.Prelude.{◌≡◌, ℕ, Bool, true, false, List, [], ◌∷◌, Contains, length, slice_get, Some, IsTrue, ◌↔◌}
 use Rattle.gt_types.specs.declared.program.Program.{Program}
 use Rattle.gt_heap.specs.Values.{Object}
-use Rattle.gt_heap.specs.Ledger.{Block, Ledger}
 use Rattle.gt_heap.specs.Graph.{Graph}
 use Rattle.gt_heap.specs.Kept.{edges, static_edges, Reached}
 
@@ -31,8 +30,3 @@ pub record IsClosed (program : Program) (g : Graph) (flags : List Bool) : Type 0
 pub record AreMarks (program : Program) (g : Graph) (flags : List Bool) : Type 0 where
   pub count : length flags ≡ length g.objects
   pub each : (i : ℕ) (o : Object) (flag : Bool) → slice_get g.objects i ≡ Some o → slice_get flags i ≡ Some flag → IsTrue flag ↔ Reached program g o.id
-
--- no object and no root points to an object
-pub record HasNoEdges (program : Program) (g : Graph) : Type 0 where
-  pub objects : All (λ o. edges o.value ≡ []) g.objects
-  pub roots : static_edges program g.statics ≡ []

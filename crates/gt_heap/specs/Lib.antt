@@ -8,5 +8,6 @@ pub mod Freed
 pub mod Slots
 pub mod Heap
 pub mod Making
+pub mod Unlinked
 pub mod Plain
 pub mod PlainBytes

@@ -1,5 +1,5 @@
 -- Why no object is made, and which slot a new one takes.
-use Rattle.std.specs.Prelude.{◌≡◌, ℕ, List, [], ◌∷◌, ◌++◌}
+use Rattle.std.specs.Prelude.{◌≡◌, ℕ, [], ◌∷◌, ◌++◌}
 use Rattle.gt_heap.specs.declared.heap.MakeFail.{MakeFail}
 use Rattle.gt_heap.specs.declared.heap.MakeFail.TheVariants.{Full, Memory}
 use Rattle.gt_heap.specs.Ledger.{Ledger, Room}

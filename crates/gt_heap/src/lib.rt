@@ -11,7 +11,7 @@ mod slots;
 mod words;
 
 pub use heap::{Heap, Made, MakeFail};
-pub use laws::{after_flags, objects_stay};
+pub use laws::{after_flags, marks_are_closed, objects_stay};
 pub use plain::{Span, is_sound};
 pub use plain_bytes::{Pointers, stands};
 pub use sizes::{SIZES, all_sizes};

@@ -7,11 +7,7 @@ use std::alloc::{AllocError, Global};
 use std::collections::VecDeque;
 
 /// The slots whose flag is set, in order.
-pub fn flagged_slots(
-    alloc: Global,
-    slots: &[u32],
-    flags: &[bool],
-) -> Result<Vec<u32>, AllocError>
+pub fn flagged_slots(alloc: Global, slots: &[u32], flags: &[bool]) -> Result<Vec<u32>, AllocError>
     requires { length flags.now ≡ length slots.now }
     ensures { IfOk result (λ some. some.items ≡ flagged slots.now flags.now) }
 {
@@ -93,11 +89,7 @@ fn push_shared(
 }
 
 // Pushes the slots of the pages that are not used.
-fn push_unopened(
-    free: &mut VecDeque<u32>,
-    used: &[bool],
-    per_page: u32,
-) -> Result<(), AllocError>
+fn push_unopened(free: &mut VecDeque<u32>, used: &[bool], per_page: u32) -> Result<(), AllocError>
     requires some { 0 < per_page }
     requires few { length used.now * per_page < 2 ^ 32 }
     ensures { IfOk result (λ _. free.new.items ≡ free.old.items ++ filter (λ slot. not (flag_at used.now (slot / per_page))) (numbers 0 (length used.now * per_page))) }

@@ -3,7 +3,7 @@
 ghost use Rattle.std.specs.Prelude.{◌≡◌, ◌+◌, ◌*◌, ◌≤◌, All, IfOk, length};
 ghost use Rattle.gt_space.specs.Range.{IsInside};
 ghost use Rattle.gt_heap.specs.Heap.{IsFirst, IsHeap, IsPlain, fields_of, graph_of};
-ghost use Rattle.gt_heap.specs.Freed.{HasNoEdges};
+ghost use Rattle.gt_heap.specs.Unlinked.{IsUnlinked};
 
 use super::*;
 use gt_space::{HEAP_START, MIN_PAGES, Space};
@@ -82,7 +82,8 @@ fn three_pointers(alloc: Global) -> Result<Program, Fail>
 // A heap of the fewest pages, in a fresh space.
 fn fresh(alloc: Global, program: &Program) -> Result<(Heap, Space), Fail>
     requires { IsFirst program.now }
-    ensures { IfOk result (λ made. IsHeap program.now made.0 made.1) }
+    ensures heap { IfOk result (λ made. IsHeap program.now made.0 made.1) }
+    ensures unlinked { IfOk result (λ made. IsUnlinked program.now (graph_of program.now made.0 made.1)) }
 {
     let mut space = Space::empty(alloc);
     space.resize_fresh(MIN_PAGES, 8 * program.roots.len() as u32)?;
@@ -150,9 +151,9 @@ fn make_some(
     count: u32,
 ) -> Result<u64, MakeFail>
     requires heap { IsHeap program.now heap.old space.old }
-    requires unlinked { HasNoEdges program.now (graph_of program.now heap.old space.old) }
+    requires unlinked { IsUnlinked program.now (graph_of program.now heap.old space.old) }
     ensures heap { IsHeap program.now heap.new space.new }
-    ensures unlinked { HasNoEdges program.now (graph_of program.now heap.new space.new) }
+    ensures unlinked { IsUnlinked program.now (graph_of program.now heap.new space.new) }
 {
     let mut last = 0;
     for _number in 0..count {
@@ -171,9 +172,9 @@ fn keep_some(
     count: u32,
 ) -> Result<(), Fail>
     requires heap { IsHeap program.now heap.old space.now }
-    requires unlinked { HasNoEdges program.now (graph_of program.now heap.old space.now) }
+    requires unlinked { IsUnlinked program.now (graph_of program.now heap.old space.now) }
     ensures heap { IsHeap program.now heap.new space.now }
-    ensures unlinked { HasNoEdges program.now (graph_of program.now heap.new space.now) }
+    ensures unlinked { IsUnlinked program.now (graph_of program.now heap.new space.now) }
 {
     let mut kept = vec![in alloc; false; heap.len() as usize]?;
     for (i, flag) in kept.iter_mut().enumerate() {
@@ -187,16 +188,28 @@ fn keep_some(
 fn a_freed_place_is_given_out_again(rt: HostRuntime) -> Result<(), Fail> {
     let program = three_pointers(rt.alloc())?;
     let (mut heap, mut space) = fresh(rt.alloc(), &program)?;
-    assert_eq!(rt; make_some(&program, &mut heap, &mut space, 3), Ok(0x1000_0040));
+    assert_eq!(rt;
+        make_some(&program, &mut heap, &mut space, 3),
+        Ok(0x1000_0040)
+    );
     keep_some(rt.alloc(), &program, &mut heap, &space, 1, 1)?;
     assert_eq!(rt; heap.len(), 1);
     assert_eq!(rt; heap.object(0), 0x1000_0020);
     assert_eq!(rt; heap.allocated(), 32);
     assert_eq!(rt; heap.count(32), 1);
     assert_eq!(rt; heap.count(16), 0);
-    assert_eq!(rt; make_some(&program, &mut heap, &mut space, 1), Ok(0x1000_0000));
-    assert_eq!(rt; make_some(&program, &mut heap, &mut space, 1), Ok(0x1000_0040));
-    assert_eq!(rt; make_some(&program, &mut heap, &mut space, 1), Ok(0x1000_0060));
+    assert_eq!(rt;
+        make_some(&program, &mut heap, &mut space, 1),
+        Ok(0x1000_0000)
+    );
+    assert_eq!(rt;
+        make_some(&program, &mut heap, &mut space, 1),
+        Ok(0x1000_0040)
+    );
+    assert_eq!(rt;
+        make_some(&program, &mut heap, &mut space, 1),
+        Ok(0x1000_0060)
+    );
     Ok(())
 }
 
@@ -205,18 +218,42 @@ fn a_page_in_use_comes_before_a_lower_one(rt: HostRuntime) -> Result<(), Fail> {
     let program = three_pointers(rt.alloc())?;
     let (mut heap, mut space) = fresh(rt.alloc(), &program)?;
     // The second place of the page 2 is the last that is given out, and it alone is kept, so page 2 fills first.
-    assert_eq!(rt; make_some(&program, &mut heap, &mut space, 258), Ok(0x1000_2020));
+    assert_eq!(rt;
+        make_some(&program, &mut heap, &mut space, 258),
+        Ok(0x1000_2020)
+    );
     keep_some(rt.alloc(), &program, &mut heap, &space, 257, 1)?;
-    assert_eq!(rt; make_some(&program, &mut heap, &mut space, 1), Ok(0x1000_2000));
-    assert_eq!(rt; make_some(&program, &mut heap, &mut space, 126), Ok(0x1000_2fe0));
+    assert_eq!(rt;
+        make_some(&program, &mut heap, &mut space, 1),
+        Ok(0x1000_2000)
+    );
+    assert_eq!(rt;
+        make_some(&program, &mut heap, &mut space, 126),
+        Ok(0x1000_2fe0)
+    );
     // Then the lowest page without an object, and the next ones.
-    assert_eq!(rt; make_some(&program, &mut heap, &mut space, 1), Ok(0x1000_0000));
-    assert_eq!(rt; make_some(&program, &mut heap, &mut space, 128), Ok(0x1000_1000));
-    assert_eq!(rt; make_some(&program, &mut heap, &mut space, 128), Ok(0x1000_3000));
+    assert_eq!(rt;
+        make_some(&program, &mut heap, &mut space, 1),
+        Ok(0x1000_0000)
+    );
+    assert_eq!(rt;
+        make_some(&program, &mut heap, &mut space, 128),
+        Ok(0x1000_1000)
+    );
+    assert_eq!(rt;
+        make_some(&program, &mut heap, &mut space, 128),
+        Ok(0x1000_3000)
+    );
     // All are freed.
     keep_some(rt.alloc(), &program, &mut heap, &space, 0, 0)?;
-    assert_eq!(rt; make_some(&program, &mut heap, &mut space, 2048), Ok(0x1000_ffe0));
-    assert_eq!(rt; make_some(&program, &mut heap, &mut space, 1), Err(MakeFail::Full { need: 32 }));
+    assert_eq!(rt;
+        make_some(&program, &mut heap, &mut space, 2048),
+        Ok(0x1000_ffe0)
+    );
+    assert_eq!(rt;
+        make_some(&program, &mut heap, &mut space, 1),
+        Err(MakeFail::Full { need: 32 })
+    );
     Ok(())
 }
 

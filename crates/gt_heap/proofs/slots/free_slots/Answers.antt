@@ -1,4 +1,4 @@
-use Rattle.std.proofs.Common.{◌≡◌, ℕ, ◌*◌, ◌<◌, length, ap, ap₂, sym, subst, ◌∙◌}
+use Rattle.std.proofs.Common.{◌*◌, ◌<◌, ap, sym, subst, ◌∙◌}
 use Rattle.gt_heap.specs.Slots.{is_in_use}
 use Rattle.gt_heap.proofs.Scans.{length-groups, scans_done}
 use Rattle.gt_heap.proofs.slots.free_slots.Goals as goal

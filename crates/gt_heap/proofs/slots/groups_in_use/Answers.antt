@@ -1,5 +1,4 @@
-use Rattle.std.proofs.Common.{◌≡◌, ℕ, ◌/◌, ◌<◌, get_or, length, replicate, set, take, true, false, ap, sym, ◌∙◌, arith, rules}
-use Rattle.std.specs.Prelude.{map}
+use Rattle.std.proofs.Common.{◌≡◌, ◌/◌, ◌<◌, get_or, length, replicate, set, take, true, false, ap, ◌∙◌, arith, rules}
 use Rattle.std.proofs.lemmas.Grind.{common_steps}
 use Rattle.gt_heap.specs.Slots.{is_in_use, numbers}
 use Rattle.std.proofs.lemmas.List.{length-map}

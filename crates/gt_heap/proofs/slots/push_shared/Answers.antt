@@ -1,4 +1,4 @@
-use Rattle.std.proofs.Common.{true, false, ℕ, ◌/◌, sym, ◌∙◌}
+use Rattle.std.proofs.Common.{◌/◌, sym, ◌∙◌}
 use Rattle.std.specs.Prelude.{◌&&◌, not}
 use Rattle.gt_heap.specs.Slots.{flag_at}
 use Rattle.gt_heap.proofs.Scans.{filter_dropped, filter_kept}

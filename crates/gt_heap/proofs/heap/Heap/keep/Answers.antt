@@ -1,4 +1,4 @@
-use Rattle.std.proofs.Common.{◌*◌, ◌/◌, ◌<◌, ap, sym, subst, ◌∙◌, arith, rules}
+use Rattle.std.proofs.Common.{◌*◌, ◌/◌, ◌<◌, ap, sym, subst, ◌∙◌, rules}
 use Rattle.std.specs.Prelude.{All}
 use Rattle.gt_heap.specs.Slots.{free_slots}
 use Rattle.gt_heap.specs.Freed.{flagged}

@@ -1,6 +1,5 @@
 use Rattle.std.proofs.Common.{◌∙◌, ap}
 use Rattle.gt_heap.specs.Heap.{Places}
-use Rattle.gt_heap.specs.Making.{Takes}
 use Rattle.gt_heap.proofs.Counting.{room_to_count}
 use Rattle.gt_heap.proofs.Graphs.{MadeOne, inside_taken, made_one, none_left}
 use Rattle.gt_heap.proofs.heap.Heap.make.Goals as goal

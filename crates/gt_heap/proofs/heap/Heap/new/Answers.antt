@@ -1,4 +1,4 @@
-use Rattle.std.proofs.Common.{◌*◌, ◌/◌, length, refl, subst}
+use Rattle.std.proofs.Common.{◌*◌, length, refl, subst}
 use Rattle.gt_space.specs.Range.{fresh_range}
 use Rattle.gt_heap.specs.Heap.{IsFresh, IsHeap, graph_of}
 use Rattle.gt_heap.proofs.Goodness.{heap_from}

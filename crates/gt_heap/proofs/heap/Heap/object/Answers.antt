@@ -1,5 +1,5 @@
-use Rattle.std.proofs.Common.{ℕ, ◌<◌, List, get_or, length, ap, sym, subst, ◌∙◌, rules}
-use Rattle.gt_heap.specs.Heap.{Places, address_of, block_at}
+use Rattle.std.proofs.Common.{◌<◌, get_or, length, ap, sym, subst, ◌∙◌, rules}
+use Rattle.gt_heap.specs.Heap.{Places, block_at}
 use Rattle.gt_heap.proofs.Counting.{object_at_place, place_below, single_at_place}
 use Rattle.gt_heap.proofs.heap.Heap.object.Goals as goal
 
