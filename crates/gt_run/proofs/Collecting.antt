@@ -1,5 +1,5 @@
 -- A collection keeps the objects that were found, which are those that the roots reach.
-use Rattle.std.proofs.Common.{◌≡◌, ℕ, ◌+◌, ◌≤◌, Bool, List, [], length, map, Option, Some, refl, sym, ap, subst, ◌∙◌, arith}
+use Rattle.std.proofs.Common.{◌≡◌, ℕ, ◌+◌, ◌≤◌, Bool, List, length, map, Option, Some, refl, sym, ap, subst, ◌∙◌, arith}
 use Rattle.std.proofs.lemmas.List.{length-map}
 use Rattle.std.specs.Prelude.{Contains, IsTrue, ◌↔◌, filter}
 use Rattle.std.specs.List.{slice_get}
@@ -10,7 +10,7 @@ use Rattle.gt_types.specs.declared.program.Program.{Program}
 use Rattle.gt_heap.specs.Values.{Object}
 use Rattle.gt_heap.specs.Graph.{Graph}
 use Rattle.gt_heap.specs.Kept.{After, Reached, allocated_of}
-use Rattle.gt_heap.specs.Freed.{AreMarks, IsClosed, IsNamed, flagged, flagged_graph}
+use Rattle.gt_heap.specs.Freed.{AreMarks, IsNamed, flagged, flagged_graph}
 use Rattle.gt_heap.specs.Heap.{Places, IsObject, graph_of}
 use Rattle.gt_space.specs.Range.{Range}
 use Rattle.gt_io.specs.Held.{Held}
@@ -18,7 +18,6 @@ use Rattle.gt_run.specs.State.{Variables, meaning}
 use Rattle.gt_run.specs.Session.{state_of}
 use Rattle.gt_run.specs.Next.{Collects, KeepsBound}
 use Rattle.gt_run.specs.declared.session.Session.{Session}
-use Rattle.gt_run.proofs.Edges.{Reached-on}
 use Rattle.gt_run.proofs.Members.{contains_filter, filter_contained, flagged-map}
 
 same_flag : (a b : Bool) → Some a ≡ Some b → a ≡ b
@@ -41,6 +40,17 @@ module _ (program : Program) (g : Graph) (found : ℕ → Bool) where
   kept_found : (id : ℕ) → IsNamed kept id → IsTrue (found id)
   kept_found id (o, there, named) = ap found (sym named) ∙ (filter_contained is_kept g.objects o there).1
 
+  -- the flags say what is reached
+  pub AreMarks-found : ((id : ℕ) → IsTrue (found id) ↔ Reached program g id) → (flags : List Bool) → flags ≡ map is_kept g.objects → AreMarks program g flags
+  AreMarks-found reached flags is =
+      record {
+        count = ap length is ∙ length-map g.objects is_kept;
+        each = λ i o flag at has.
+            (let same : flag ≡ found o.id =
+            same_flag _ _ (sym has ∙ ap (λ fs. slice_get fs i) is ∙ slice_get-map is_kept g.objects i ∙ ap (option_map is_kept) at) in
+            subst (λ b. IsTrue b ↔ Reached program g o.id) (sym same) (reached o.id));
+      }
+
   module _ (named : (id : ℕ) → IsTrue (found id) → IsNamed g.objects id) where
     found_kept : (id : ℕ) → IsTrue (found id) → IsNamed kept id
     found_kept id h = let o = named id h in (o.0, contains_filter is_kept g.objects o.0 o.1 (ap found o.2 ∙ h), o.2)
@@ -55,36 +65,10 @@ module _ (program : Program) (g : Graph) (found : ℕ → Bool) where
           λ h. (keeps name id).1 (h.0, kept_found id (subst (λ os. IsNamed os id) all h.1)),
         )
 
-    module _ (reached : (id : ℕ) → IsTrue (found id) ↔ Reached program g id) where
-      -- the flags say what is reached
-      pub AreMarks-found : (flags : List Bool) → flags ≡ map is_kept g.objects → AreMarks program g flags
-      AreMarks-found flags is =
-          record {
-            count = ap length is ∙ length-map g.objects is_kept;
-            each = λ i o flag at has.
-                (let same : flag ≡ found o.id =
-                same_flag _ _ (sym has ∙ ap (λ fs. slice_get fs i) is ∙ slice_get-map is_kept g.objects i ∙ ap (option_map is_kept) at) in
-                subst (λ b. IsTrue b ↔ Reached program g o.id) (sym same) (reached o.id));
-          }
-
-      -- and what roots and kept objects point to is kept
-      pub IsClosed-found : (flags : List Bool) → flags ≡ map is_kept g.objects → IsClosed program g flags
-      IsClosed-found flags is =
-          let all : flagged g.objects flags ≡ kept = ap (flagged g.objects) is ∙ flagged-map is_kept g.objects in
-          let back : (to : ℕ) → Reached program g to → IsNamed (flagged g.objects flags) to =
-          λ to h. subst (λ os. IsNamed os to) (sym all) (found_kept to ((reached to).1 h)) in
-          record {
-            objects = λ o to has edge.
-                (let o_kept = filter_contained is_kept g.objects o (subst (λ os. Contains os o) all has) in
-                back to (Reached-on program g o.id to ((reached o.id).0 o_kept.1) (o, o_kept.0, refl, edge)));
-            roots = λ to has. back to (to, has, ([], refl));
-          }
-
 -- the heap after a collection: its graph is that of the objects that were found
 pub record IsCollected (s : Session) (range : Range) (found : ℕ → Bool) (flags : List Bool) (heap : Places) (vars : Variables) (last : ℕ) : Type 0 where
   pub flags_are : flags ≡ map (λ o. found o.id) (graph_of s.program s.heap range).objects
   pub objects : (id : ℕ) → IsTrue (found id) → IsObject s.program s.heap range id
-  pub reached : (id : ℕ) → IsTrue (found id) ↔ Reached s.program (graph_of s.program s.heap range) id
   pub keeps : graph_of s.program heap range ≡ flagged_graph (graph_of s.program s.heap range) flags
   pub stay : (o : Object) → Contains (flagged (graph_of s.program s.heap range).objects flags) o → IsObject s.program heap range o.id
   pub bound : KeepsBound (λ id. IsTrue (found id)) s.vars vars

@@ -112,7 +112,7 @@ way_on objects from mid to [] e points = (subst (λ m. PointsTo objects m to) e 
 way_on objects from mid to (next ∷ way) w points = (w.0, way_on objects next mid to way w.1 points)
 
 -- what is reached leads to what it points to
-pub Reached-on : (program : Program) (g : Graph) (from to : ℕ) → Reached program g from → PointsTo g.objects from to → Reached program g to
+Reached-on : (program : Program) (g : Graph) (from to : ℕ) → Reached program g from → PointsTo g.objects from to → Reached program g to
 Reached-on program g from to (root, has, (way, is)) points = (root, has, (way ++ to ∷ [], way_on g.objects root from to way is points))
 
 module _ (program : Program) (places : Places) (range : Range) where

@@ -29,6 +29,11 @@ pub record FollowsOne (object : ℕ) (old new : Marks) : Type 0 where
   pub found : (id : ℕ) → is_found new id ≡ is_found old id
   pub work : old.work.items ≡ new.work.items ++ object ∷ []
 
+-- none is to be followed
+pub record FollowsNone (old new : Marks) : Type 0 where
+  pub found : (id : ℕ) → is_found new id ≡ is_found old id
+  pub none : old.work.items ≡ []
+
 -- one of so many words from an address on points to the object
 abbrev pub PointsAmong : Range → (address count : ℕ) → ℕ → Type 0
 PointsAmong range address count id = (i : ℕ) × (i < count) × (pointer_of (u64_at range (address + 8 * i)) ≡ Some id)
@@ -48,11 +53,6 @@ pub record IsMarking (program : Program) (places : Places) (range : Range) (curr
       → Contains marks.work.items id ⊎ (current ≡ Some id) ⊎ IsFollowed range marks id (fields_of program)
   pub from_current : IfSome current (λ id. IsTrue (is_found marks id) × IsFollowed range marks id fields)
   pub from_roots : IsFollowed range marks range.start roots
-
--- none is to be followed
-pub record FollowsNone (old new : Marks) : Type 0 where
-  pub found : (id : ℕ) → is_found new id ≡ is_found old id
-  pub none : old.work.items ≡ []
 
 -- how many objects are still to be found or followed
 abbrev pub waiting : List Object → Marks → ℕ

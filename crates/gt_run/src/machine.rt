@@ -14,7 +14,7 @@ use crate::marking::{flags, reached};
 use crate::report::report;
 use crate::show::show;
 use crate::{Answer, Session, Why};
-use gt_heap::{MakeFail, after_flags};
+use gt_heap::{MakeFail, after_flags, marks_are_closed};
 use gt_io::Files;
 use gt_script::{Command, Given, Line, Route};
 use gt_space::Space;
@@ -130,6 +130,7 @@ fn collect(alloc: Global, s: &mut Session, space: &Space) -> Result<Answer, Allo
     ensures program { s.new.program ≡ s.old.program }
 {
     after_flags();
+    marks_are_closed();
     let found = reached(alloc, s, space)?;
     let kept = flags(alloc, &s.heap, &found)?;
     let before = s.heap.len();

@@ -1,6 +1,5 @@
 // The text of the heap's numbers.
 ghost use Rattle.std.specs.Prelude.{◌≡◌, ◌++◌, IfOk, OnOk};
-ghost use Rattle.gt_heap.specs.Ledger.{Ledger};
 ghost use Rattle.gt_heap.specs.Heap.{IsHeap, graph_of};
 ghost use Rattle.gt_run.specs.Text.{heap_text, size_line, size_lines};
 

@@ -1,7 +1,7 @@
 // The text of a line's answer.
 ghost use Rattle.std.specs.Prelude.{◌≡◌, ◌++◌, IfOk, OnOk};
 ghost use Rattle.std.specs.String.{string_bytes};
-ghost use Rattle.gt_run.specs.Text.{answer_text as answer_text_of, decimal, hexadecimal, text_of, why_text as why_text_of};
+ghost use Rattle.gt_run.specs.Text.{answer_text as answer_text_of, decimal, hexadecimal, text_of};
 
 use crate::{Answer, Why};
 use gt_script::Line;

@@ -3,14 +3,16 @@ use Rattle.std.specs.Ordering.{nat_cmp}
 use Rattle.std.specs.BTreeSet.{contains}
 use Rattle.gt_heap.specs.Freed.{flagged}
 use Rattle.gt_heap.specs.Heap.{graph_of}
-use Rattle.gt_run.proofs.Collecting.{IsCollected, AreMarks-found, IsClosed-found, Collects-found, kept_few, names_object, variables_left}
+use Rattle.gt_run.proofs.Collecting.{IsCollected, AreMarks-found, Collects-found, kept_few, variables_left}
 use Rattle.gt_run.proofs.machine.collect.Goals as goal
 
 pub keep-requires-clause-closed : goal.keep-requires-clause-closed
 keep-requires-clause-closed c =
-    IsClosed-found c.args.s.now.program (graph_of c.args.s.now.program c.args.s.now.heap c.args.space.now) (contains nat_cmp c.in_ok-found.found)
-    (λ id h. names_object c.args.s.now.program c.args.s.now.heap c.args.space.now id (c.in_ok-found.ensures.objects id h)) c.in_ok-found.ensures.reached c.deref.result.now
-    (c.deref.ensures.value ∙ c.in_ok-kept.ensures.flags c.args.s.now.program c.args.space.now)
+    let program = c.args.s.now.program in
+    let range = c.args.space.now in
+    c.marks_are_closed.ensures program c.args.s.now.heap range c.deref.result.now c.requires.session.heap
+    (AreMarks-found program (graph_of program c.args.s.now.heap range) (contains nat_cmp c.in_ok-found.found) c.in_ok-found.ensures.reached c.deref.result.now
+    (c.deref.ensures.value ∙ c.in_ok-kept.ensures.flags program range))
 
 pub overflow_sub-result : goal.overflow_sub-result
 overflow_sub-result c =
@@ -34,7 +36,6 @@ returns-clause-next c = λ told.
     record {
       flags_are = flags_are;
       objects = c.in_ok-found.ensures.objects;
-      reached = c.in_ok-found.ensures.reached;
       keeps = c.in_ok-keep.ensures.kept;
       stay = c.in_ok-keep.ensures.objects;
       bound = c.keep-2.ensures.kept;
@@ -44,8 +45,7 @@ returns-clause-next c = λ told.
     c.len.result (c.len-before.result - c.len-2.result) (c.len.ensures program range)
     (omega (arith, few, left, c.len-before.ensures program range, c.len.ensures program range, c.len-2.ensures program range))
     (c.after_flags.ensures program old c.deref.result.now c.requires.session.heap.good refl c.requires.session.heap.first.no_deletable
-    (AreMarks-found program old (contains nat_cmp c.in_ok-found.found) (λ id h. names_object program c.args.s.now.heap range id (c.in_ok-found.ensures.objects id h))
-    c.in_ok-found.ensures.reached c.deref.result.now flags_are))
+    (AreMarks-found program old (contains nat_cmp c.in_ok-found.found) c.in_ok-found.ensures.reached c.deref.result.now flags_are))
 
 pub returns-clause-session : goal.returns-clause-session
 returns-clause-session c =
@@ -55,7 +55,6 @@ returns-clause-session c =
     record {
       flags_are = c.deref.ensures.value ∙ c.in_ok-kept.ensures.flags program range;
       objects = c.in_ok-found.ensures.objects;
-      reached = c.in_ok-found.ensures.reached;
       keeps = c.in_ok-keep.ensures.kept;
       stay = c.in_ok-keep.ensures.objects;
       bound = c.keep-2.ensures.kept;
