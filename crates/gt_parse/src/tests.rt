@@ -387,7 +387,7 @@ fn check(alloc: Global, table: &[(&str, &str)]) -> Result<(), Fail> {
 // ---- the tables
 
 // Where items begin and end, and what is passed over.
-const SEARCH: [(&str, &str); 24] = [
+const SEARCH: [(&str, &str); 27] = [
     ("", ""),
     (";", ""),
     (
@@ -442,6 +442,18 @@ const SEARCH: [(&str, &str); 24] = [
         "enum {B@42}",
     ),
     (
+        "static \"C\" { enum { A }; } int x; extern C { enum { B }; } int y; enum { D };",
+        "enum {D@73}",
+    ),
+    (
+        "class { enum { A }; } x; class c { enum { B }; } y; enum { D };",
+        "enum {D@59}",
+    ),
+    (
+        "struct { enum { A }; } x; struct c { enum { B }; } y; enum { D };",
+        "enum {D@61}",
+    ),
+    (
         "namespace a::b { enum { A }; } int x; enum { B };",
         "enum {B@45}",
     ),
@@ -460,13 +472,14 @@ const SEARCH: [(&str, &str); 24] = [
 ];
 
 // How the search ends, and the first of several faults.
-const ENDS: [(&str, &str); 24] = [
+const ENDS: [(&str, &str); 25] = [
     ("int x", "fault 7 at 0"),
     ("int y; ;struct GTY(()) s { int 5;", "fault 7 at 8"),
     ("int f (int x) { } int a[ {", "fault 7 at 18"),
     ("extern \"C\" {", "fault 7 at 11"),
     ("namespace a { } namespace { enum { A };", "fault 7 at 26"),
     ("namespace a { namespace b { int x", "fault 7 at 12"),
+    ("namespace a { int f ( {", "fault 7 at 12"),
     ("extern \"C++\" { }", "fault 7 at 0"),
     ("}", "fault 8 at 0"),
     ("int x; ) int y", "fault 8 at 7"),
@@ -745,13 +758,14 @@ const NAMES: [(&str, &str); 19] = [
 ];
 
 // What is no type, and types that are defined where they are used.
-const NO_TYPES: [(&str, &str); 20] = [
+const NO_TYPES: [(&str, &str); 21] = [
     ("static GTY(()) 5 x;", "fault 8 at 15"),
     ("static GTY(()) static int x;", "fault 8 at 15"),
     ("static GTY(()) GTY(()) int x;", "fault 8 at 15"),
     ("static GTY(()) struct 5 x;", "fault 8 at 22"),
     ("static GTY(()) struct struct t x;", "fault 8 at 22"),
     ("static GTY(()) union * x;", "fault 8 at 21"),
+    ("struct GTY(()) s { struct * x; };", "fault 8 at 26"),
     ("static GTY(()) enum int x;", "fault 8 at 20"),
     ("static GTY(()) ENUM_BITFIELD (5) x;", "fault 8 at 30"),
     ("static GTY(()) ENUM_BITFIELD (int) x;", "fault 8 at 30"),
@@ -1098,7 +1112,7 @@ const ENUMS: [(&str, &str); 9] = [
 ];
 
 // Typedefs.
-const TYPEDEFS: [(&str, &str); 20] = [
+const TYPEDEFS: [(&str, &str); 21] = [
     (
         "typedef int t; typedef unsigned long *a, b, ***c;",
         "typedef int: t@12 | typedef unsigned long: *a@38, b@41, ***c@47",
@@ -1149,6 +1163,7 @@ const TYPEDEFS: [(&str, &str); 20] = [
         "typedef struct { int (*f) (int); } t[2]; typedef char a[(*b)];",
         "typedef opaque: t@35 | typedef opaque: a@54",
     ),
+    ("typedef int a[*b];", "typedef opaque: a@12"),
     (
         "typedef enum { A } t[2]; typedef int a (b, (*c));",
         "typedef opaque: t@19 | typedef opaque: a@37",
