@@ -424,7 +424,7 @@ fresh_graph program size pages first =
       objects = refl;
       blocks = refl;
       no_image = refl;
-      no_pairs = All-nil (λ pairs. pairs ≡ []);
+      no_pairs = ap (map (λ cache. [])) (sym first.no_caches);
       roots = (
         leaves_at (fresh_range pages (8 * length program.roots)) (statics_start (8 * length program.roots)) (length program.roots),
         refl,

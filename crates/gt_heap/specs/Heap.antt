@@ -165,7 +165,7 @@ pub record IsFresh (program : Program) (g : Graph) : Type 0 where
   pub objects : g.objects ≡ []
   pub blocks : g.ledger.blocks ≡ []
   pub no_image : g.ledger.image.count ≡ 0
-  pub no_pairs : All (λ pairs. pairs ≡ []) g.pairs
+  pub no_pairs : g.pairs ≡ map (λ cache. []) program.caches
   pub roots : (trees : Trees) × (g.statics ≡ Rec trees) × AllZero program (map (λ r. r.ty) program.roots) trees
 
 -- the address is that of an object of the heap
