@@ -19,9 +19,9 @@ mod words;
 
 pub use faults::{BAD_MARKER_PLACE, UNCLOSED, UNEXPECTED, UNSUPPORTED};
 pub use items::{
-    Alias, Combination, Core, Declarator, Enumerator, Item, Items, Keyword, Meaning, Name, Parameter,
-    PointedType, RawCache, RawConstant, RawEnum, RawField, RawOption, RawRoot, RawStructure, RawType,
-    RawTypedef, Sign, Size, Stars,
+    Alias, Combination, Core, Declarator, Enumerator, Item, Items, Keyword, Meaning, Name,
+    Parameter, PointedType, RawCache, RawConstant, RawEnum, RawField, RawOption, RawRoot,
+    RawStructure, RawType, RawTypedef, Sign, Size, Stars,
 };
 pub use laws::{one_search, some_search};
 pub use parsing::parse;
