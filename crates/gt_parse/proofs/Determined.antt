@@ -1,6 +1,6 @@
 -- Where an item ends is determined: what the relation of the search says is what searching one token at a time finds.
-use Rattle.std.proofs.Common.{◌≡◌, ◌≢◌, ℕ, suc, ◌+◌, Bool, true, false, List, [], ◌∷◌, ◌++◌, length, refl, ap, subst, ◌∙◌, sym, append_assoc, arith}
-use Rattle.std.specs.Prelude.{◌&&◌, ◌||◌, not, if◌then◌else◌}
+use Rattle.std.proofs.Common.{◌≡◌, ◌≢◌, ℕ, Bool, true, false, List, [], ◌∷◌, ◌++◌, length, refl, ap, ◌∙◌, sym, append_assoc}
+use Rattle.std.specs.Prelude.{◌&&◌, not, if◌then◌else◌}
 use Rattle.std.proofs.lemmas.Bool.{false≢true}
 use Rattle.std.proofs.lemmas.List.{append-nil}
 use Rattle.gt_parse.specs.declared.lexeme.Spot.{Spot}
@@ -8,13 +8,11 @@ use Rattle.gt_parse.specs.declared.lexeme.Bracket.{Bracket}
 use Rattle.gt_parse.specs.declared.lexeme.Bracket.TheVariants.{Round, Square, Brace}
 use Rattle.gt_parse.specs.declared.lexeme.Lexeme.{Lexeme}
 use Rattle.gt_parse.specs.declared.lexeme.Lexeme.TheVariants as lexeme
-use Rattle.gt_parse.specs.declared.search.Begun.{Begun}
 use Rattle.gt_parse.specs.declared.search.ItemEnd.{ItemEnd}
 use Rattle.gt_parse.specs.declared.search.ItemEnd.TheVariants.{Whole, Unmatched, Unended}
-use Rattle.gt_parse.specs.declared.search.Step.{Step}
 use Rattle.gt_parse.specs.declared.search.Step.TheVariants.{Goes, Ends, Stops}
 use Rattle.gt_parse.specs.Search.{is_no_bracket, is_plain, is_gty, is_equals, Balanced, EndsItem, Inside, BeginsItem, IsUnmatched}
-use Rattle.gt_parse.specs.Searching.{same_bracket, called_behind, ends_body, closed_with, step, one_longer, end_behind, item_end}
+use Rattle.gt_parse.specs.Searching.{same_bracket, called_behind, ends_body, one_longer, end_behind, item_end}
 use Rattle.gt_parse.proofs.ItemEnds.{item_end-step, item_end-nil}
 use Rattle.gt_parse.proofs.Sound.{begun}
 

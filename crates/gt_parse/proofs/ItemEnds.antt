@@ -1,12 +1,12 @@
 -- How an item ends that has begun, one token at a time.
-use Rattle.std.proofs.Common.{◌≡◌, ℕ, suc, ◌+◌, ◌<◌, ◌≤◌, List, [], ◌∷◌, ◌++◌, length, get_or, drop, refl, ap, ◌∙◌, sym, arith}
+use Rattle.std.proofs.Common.{◌≡◌, ℕ, suc, ◌+◌, ◌<◌, ◌≤◌, List, [], ◌∷◌, length, get_or, drop, refl, ap, ◌∙◌, sym, arith}
 use Rattle.std.proofs.lemmas.List.{at_drop_more, drop_all}
 use Rattle.gt_parse.specs.declared.lexeme.Lexeme.{Lexeme}
 use Rattle.gt_parse.specs.declared.search.Begun.{Begun}
 use Rattle.gt_parse.specs.declared.search.ItemEnd.{ItemEnd}
 use Rattle.gt_parse.specs.declared.search.ItemEnd.TheVariants.{Whole, Unmatched, Unended}
 use Rattle.gt_parse.specs.declared.search.Step.{Step}
-use Rattle.gt_parse.specs.declared.search.Step.TheVariants.{Goes, Ends, Stops}
+use Rattle.gt_parse.specs.declared.search.Step.TheVariants.{Goes}
 use Rattle.gt_parse.specs.Searching.{none_begun, step, one_longer, end_behind, item_end}
 
 -- so many tokens stand before

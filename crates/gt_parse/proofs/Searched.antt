@@ -1,7 +1,6 @@
 -- The search has one answer for each list of tokens.
-use Rattle.std.proofs.Common.{◌≡◌, ◌≢◌, ℕ, zero, suc, ◌+◌, ◌<◌, ◌≤◌, Bool, true, false, List, [], ◌∷◌, ◌++◌, length, take, drop, Some, None, Option, refl, ap, subst, ◌∙◌, sym, arith}
-use Rattle.std.specs.Prelude.{codes, if◌then◌else◌}
-use Rattle.std.specs.Str.{bytes_eq}
+use Rattle.std.proofs.Common.{◌≡◌, ℕ, zero, suc, ◌<◌, Bool, true, false, List, [], ◌∷◌, ◌++◌, length, take, drop, Some, None, Option, refl, ap, subst, ◌∙◌, sym, arith}
+use Rattle.std.specs.Prelude.{if◌then◌else◌}
 use Rattle.std.proofs.lemmas.Bool.{false≢true}
 use Rattle.std.proofs.lemmas.List.{length-append, take_at, drop_at}
 use Rattle.gt_parse.specs.declared.faults.TheConstants.{UNCLOSED, UNEXPECTED}
@@ -13,12 +12,12 @@ use Rattle.gt_parse.specs.declared.lexeme.Lexeme.TheVariants as lexeme
 use Rattle.gt_parse.specs.declared.search.End.{End}
 use Rattle.gt_parse.specs.declared.search.End.TheVariants.{Complete, Fails}
 use Rattle.gt_parse.specs.declared.search.ItemEnd.{ItemEnd}
-use Rattle.gt_parse.specs.declared.search.ItemEnd.TheVariants.{Whole, Unmatched, Unended}
+use Rattle.gt_parse.specs.declared.search.ItemEnd.TheVariants.{Whole, Unmatched}
 use Rattle.gt_parse.specs.declared.search.Turn.{Turn}
 use Rattle.gt_parse.specs.declared.search.Turn.TheVariants.{Wrapper, WrapperEnd, Item, Last}
-use Rattle.gt_parse.specs.Search.{EndsItem, BeginsItem, begins_wrapper, IsWrapper, IsUnmatched, ClosesWrapper, Searches, is_plain, is_no_bracket, unclosed_place, outermost}
+use Rattle.gt_parse.specs.Search.{EndsItem, BeginsItem, begins_wrapper, IsWrapper, ClosesWrapper, Searches, is_plain, unclosed_place, outermost}
 use Rattle.gt_parse.specs.Searching.{none_begun, item_end, wrapper_at, item_turn, plain_turn, turn_with, turn_at}
-use Rattle.gt_parse.proofs.Turns.{WrapsSo, WrapperTells, wrapper_tells, PassesSo, ItemSo, LeavesSo, TurnTells, turn_tells, is_close_brace, EndsItem-some, IsWrapper-some, pass, take_item}
+use Rattle.gt_parse.proofs.Turns.{WrapperTells, wrapper_tells, PassesSo, LeavesSo, TurnTells, turn_tells, is_close_brace, EndsItem-some, IsWrapper-some, pass, take_item}
 use Rattle.gt_parse.proofs.Determined.{whole, unended, unmatched}
 
 -- items, and how the search ends

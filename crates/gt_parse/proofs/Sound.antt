@@ -1,6 +1,6 @@
 -- What searching one token at a time finds is what the relation of the search says.
-use Rattle.std.proofs.Common.{◌≡◌, ◌≢◌, ℕ, zero, suc, ◌+◌, ◌<◌, ◌≤◌, ◌⊎◌, inl, inr, Bool, true, false, List, [], ◌∷◌, ◌++◌, length, refl, ap, subst, ◌∙◌, sym, append_assoc, arith}
-use Rattle.std.specs.Prelude.{◌&&◌, ◌||◌, not, if◌then◌else◌}
+use Rattle.std.proofs.Common.{◌≡◌, ◌≢◌, ℕ, suc, ◌⊎◌, inl, inr, Bool, true, false, List, [], ◌∷◌, ◌++◌, length, refl, ap, subst, ◌∙◌, sym, append_assoc}
+use Rattle.std.specs.Prelude.{◌&&◌, not, if◌then◌else◌}
 use Rattle.std.proofs.lemmas.Bool.{false≢true}
 use Rattle.gt_parse.specs.declared.lexeme.Spot.{Spot}
 use Rattle.gt_parse.specs.declared.lexeme.Bracket.{Bracket}
@@ -10,9 +10,9 @@ use Rattle.gt_parse.specs.declared.lexeme.Lexeme.TheVariants as lexeme
 use Rattle.gt_parse.specs.declared.search.Begun.{Begun}
 use Rattle.gt_parse.specs.declared.search.ItemEnd.{ItemEnd}
 use Rattle.gt_parse.specs.declared.search.ItemEnd.TheVariants.{Whole, Unmatched, Unended}
-use Rattle.gt_parse.specs.declared.search.Step.TheVariants.{Goes, Ends, Stops}
-use Rattle.gt_parse.specs.Search.{is_no_bracket, is_plain, is_gty, is_equals, Balanced, EndsItem, Inside, BeginsItem, IsUnmatched}
-use Rattle.gt_parse.specs.Searching.{lowest, called_behind, ends_body, opened_with, closed_with, step, one_longer, end_behind, item_end}
+use Rattle.gt_parse.specs.declared.search.Step.TheVariants.{Goes, Ends}
+use Rattle.gt_parse.specs.Search.{is_no_bracket, is_gty, is_equals, Balanced, EndsItem, Inside, BeginsItem, IsUnmatched}
+use Rattle.gt_parse.specs.Searching.{lowest, called_behind, ends_body, closed_with, one_longer, end_behind, item_end}
 
 -- ---- what stands behind the tokens so far
 

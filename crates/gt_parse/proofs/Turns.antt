@@ -1,24 +1,24 @@
 -- What stands at the front of the rest of a text is what the relation of the search says.
-use Rattle.std.proofs.Common.{◌≡◌, ◌≢◌, ℕ, zero, suc, ◌+◌, ◌-◌, ◌<◌, ◌≤◌, ◌⊎◌, inl, inr, Bool, true, false, List, [], ◌∷◌, ◌++◌, length, map, take, drop, Option, Some, None, refl, ap, subst, ◌∙◌, sym, arith}
+use Rattle.std.proofs.Common.{◌≡◌, ℕ, ◌<◌, ◌≤◌, ◌⊎◌, inl, inr, Bool, true, false, List, [], ◌∷◌, ◌++◌, length, map, take, drop, Option, Some, None, refl, ap, subst, ◌∙◌, sym, arith}
 use Rattle.std.specs.Prelude.{codes, MatchOption, if◌then◌else◌}
 use Rattle.std.specs.Str.{bytes_eq}
 use Rattle.std.proofs.lemmas.Bool.{false≢true}
 use Rattle.std.proofs.lemmas.List.{length-append, take_at, drop_at}
-use Rattle.gt_parse.specs.declared.faults.TheConstants.{UNCLOSED, UNEXPECTED}
+use Rattle.gt_parse.specs.declared.faults.TheConstants.{UNEXPECTED}
 use Rattle.gt_parse.specs.declared.lexeme.Spot.{Spot}
 use Rattle.gt_parse.specs.declared.lexeme.Bracket.{Bracket}
-use Rattle.gt_parse.specs.declared.lexeme.Bracket.TheVariants.{Round, Square, Brace}
+use Rattle.gt_parse.specs.declared.lexeme.Bracket.TheVariants.{Brace}
 use Rattle.gt_parse.specs.declared.lexeme.Lexeme.{Lexeme}
 use Rattle.gt_parse.specs.declared.lexeme.Lexeme.TheVariants as lexeme
 use Rattle.gt_parse.specs.declared.search.End.{End}
-use Rattle.gt_parse.specs.declared.search.End.TheVariants.{Complete, Fails}
+use Rattle.gt_parse.specs.declared.search.End.TheVariants.{Fails}
 use Rattle.gt_parse.specs.declared.search.ItemEnd.{ItemEnd}
 use Rattle.gt_parse.specs.declared.search.ItemEnd.TheVariants.{Whole, Unmatched, Unended}
 use Rattle.gt_parse.specs.declared.search.Turn.{Turn}
 use Rattle.gt_parse.specs.declared.search.Turn.TheVariants.{Wrapper, WrapperEnd, Item, Last}
-use Rattle.gt_parse.specs.Search.{EndsItem, begins_wrapper, IsWrapper, ClosesWrapper, Searches}
+use Rattle.gt_parse.specs.Search.{EndsItem, begins_wrapper, IsWrapper, Searches}
 use Rattle.gt_parse.specs.Searching.{none_begun, item_end, wrapper_at, item_turn, plain_turn, turn_with, turn_at}
-use Rattle.gt_parse.proofs.Sound.{Tells, EndsSo, StopsSo, tells}
+use Rattle.gt_parse.proofs.Sound.{Tells, EndsSo, tells}
 
 -- ---- wrappers
 

@@ -1,5 +1,5 @@
 -- What is answered for a text, by its search and the reading of each of its items.
-use Rattle.std.specs.Prelude.{◌≡◌, ℕ, ◌++◌, List, [], ◌∷◌, map, if◌then◌else◌, nat_lt, Option, Some, None, Result, Ok, Err}
+use Rattle.std.specs.Prelude.{◌≡◌, ℕ, List, [], ◌∷◌, map, if◌then◌else◌, nat_lt, Option, Some, None, Result, Ok, Err}
 use Rattle.std.specs.List.{flat_map}
 use Rattle.gt_types.specs.declared.faults.Stop.{Stop}
 use Rattle.gt_types.specs.declared.faults.Stop.TheVariants.{Memory, At}
@@ -14,7 +14,7 @@ use Rattle.gt_parse.specs.Lexemes.{lexemes_of}
 use Rattle.gt_parse.specs.Outcome.{Outcome, Read, Stops, Ends}
 use Rattle.gt_parse.specs.Reading.{item_at}
 use Rattle.gt_parse.specs.Search.{Searches}
-use Rattle.gt_parse.specs.Header.{constant_in, item_faults, end_faults}
+use Rattle.gt_parse.specs.Header.{constant_in, item_faults}
 
 -- what a whole item declares, if anything
 abbrev pub items_by : Outcome (Option Item) → List Item

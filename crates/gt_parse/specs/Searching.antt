@@ -1,5 +1,5 @@
 -- Searching for items from left to right, one token at a time.
-use Rattle.std.specs.Prelude.{ℕ, zero, suc, ◌<◌, ◌≤◌, Bool, true, false, ◌&&◌, ◌||◌, not, if◌then◌else◌, List, [], ◌∷◌, length, codes, Option, Some, None}
+use Rattle.std.specs.Prelude.{ℕ, suc, ◌<◌, ◌≤◌, Bool, true, false, ◌&&◌, ◌||◌, not, if◌then◌else◌, List, [], ◌∷◌, length, codes, Option, Some, None}
 use Rattle.std.specs.Str.{bytes_eq}
 use Rattle.gt_parse.specs.declared.faults.TheConstants.{UNCLOSED, UNEXPECTED}
 use Rattle.gt_parse.specs.declared.lexeme.Bracket.{Bracket}

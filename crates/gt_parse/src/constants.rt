@@ -23,7 +23,10 @@ pub fn constants(alloc: Global, text: &[u8], lexed: &Lexed) -> Result<List<RawCo
     for define in lexed.defines.as_slice() {
         let word = word_in(alloc, text, define.start, define.end)?;
         made.push(RawConstant {
-            name: Name { word, at: define.start },
+            name: Name {
+                word,
+                at: define.start,
+            },
             value: define.value,
         })?;
     }

@@ -105,11 +105,7 @@ fn earlier(one: End, other: End) -> End
     match (one, other) {
         (End::Complete, end) | (end, End::Complete) => end,
         (End::Fails { at, .. }, End::Fails { at: place, .. }) => {
-            if place < at {
-                other
-            } else {
-                one
-            }
+            if place < at { other } else { one }
         }
     }
 }

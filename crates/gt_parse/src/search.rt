@@ -53,49 +53,44 @@ pub enum Turn {
 
 impl Begun {
     // An opening bracket. Within it the state is the one behind it.
-    fn open(self, bracket: Bracket) -> Result<Begun, AllocError>
+    fn open(mut self, bracket: Bracket) -> Result<Begun, AllocError>
         ensures { IfOk result (λ begun. begun ≡ opened_in self bracket) }
     {
-        let Begun { mut opened, marks, called } = self;
-        if !opened.is_empty() {
-            opened.push(bracket)?;
-            return Ok(Begun { opened, marks, called });
+        if self.opened.is_empty() {
+            self.called = self.called || bracket == Bracket::Round && !self.marks;
+            self.marks = false;
         }
-        let called = called || bracket == Bracket::Round && !marks;
-        opened.push(bracket)?;
-        Ok(Begun { opened, marks: false, called })
+        self.opened.push(bracket)?;
+        Ok(self)
     }
 
     // A closing bracket. One that closes the body of a function ends the item.
-    fn close(self, bracket: Bracket, at: u32) -> Step
+    fn close(mut self, bracket: Bracket, at: u32) -> Step
         ensures { result ≡ closed_in self bracket at }
     {
-        let Begun { mut opened, marks, called } = self;
-        match opened.pop() {
-            Some(last) if last == bracket => {
-                if opened.is_empty() && bracket == Bracket::Brace && called {
-                    return Step::Ends;
-                }
-                Step::Goes(Begun { opened, marks, called })
-            }
-            _ => Step::Stops { at },
+        match self.opened.pop() {
+            Some(last) if last == bracket => {}
+            _ => return Step::Stops { at },
         }
+        if self.opened.is_empty() && bracket == Bracket::Brace && self.called {
+            return Step::Ends;
+        }
+        Step::Goes(self)
     }
 
     // Any other token.
-    fn pass(self, token: &Lexeme) -> Step
+    fn pass(mut self, token: &Lexeme) -> Step
         ensures { result ≡ passed_in self token.now }
     {
         if !self.opened.is_empty() {
             return Step::Goes(self);
         }
-        let Begun { opened, called, .. } = self;
-        match token {
-            Lexeme::Semicolon(_) => Step::Ends,
-            Lexeme::Gty(_) => Step::Goes(Begun { opened, marks: true, called }),
-            Lexeme::Equals(_) => Step::Goes(Begun { opened, marks: false, called: false }),
-            _ => Step::Goes(Begun { opened, marks: false, called }),
+        if matches!(token, Lexeme::Semicolon(_)) {
+            return Step::Ends;
         }
+        self.marks = matches!(token, Lexeme::Gty(_));
+        self.called = self.called && !matches!(token, Lexeme::Equals(_));
+        Step::Goes(self)
     }
 
     fn step(self, token: &Lexeme) -> Result<Step, AllocError>
@@ -138,15 +133,18 @@ fn wrapper_at(tokens: &[Lexeme]) -> Option<(u32, usize)>
             Lexeme::Extern(_),
             Lexeme::Quoted(language),
             Lexeme::Open(Bracket::Brace, brace),
-            ..,
+            ..
         ] if is_word(&language.word, "\"C\"") => Some((brace.start, 3)),
-        [Lexeme::Reserved(word), Lexeme::Open(Bracket::Brace, brace), ..]
-            if is_word(&word.word, "namespace") => Some((brace.start, 2)),
+        [
+            Lexeme::Reserved(word),
+            Lexeme::Open(Bracket::Brace, brace),
+            ..
+        ] if is_word(&word.word, "namespace") => Some((brace.start, 2)),
         [
             Lexeme::Reserved(word),
             Lexeme::Name(_),
             Lexeme::Open(Bracket::Brace, brace),
-            ..,
+            ..
         ] if is_word(&word.word, "namespace") => Some((brace.start, 3)),
         _ => None,
     }
@@ -158,7 +156,10 @@ fn end_in(wrappers: &Stack<u32>) -> End
 {
     match wrappers.bottom() {
         None => End::Complete,
-        Some(at) => End::Fails { number: UNCLOSED, at: *at },
+        Some(at) => End::Fails {
+            number: UNCLOSED,
+            at: *at,
+        },
     }
 }
 
@@ -171,17 +172,24 @@ fn next_turn(alloc: Global, wrappers: &Stack<u32>, tokens: &[Lexeme]) -> Result<
     if let Some((brace, len)) = wrapper_at(tokens) {
         return Ok(Turn::Wrapper { brace, len });
     }
-    let first = match tokens {
-        [] => return Ok(Turn::Last(end_in(wrappers))),
-        [Lexeme::Close(Bracket::Brace, _), ..] if !wrappers.is_empty() => return Ok(Turn::WrapperEnd),
-        [first, ..] => first,
+    let [first, ..] = tokens else {
+        return Ok(Turn::Last(end_in(wrappers)));
     };
+    if matches!(first, Lexeme::Close(Bracket::Brace, _)) && !wrappers.is_empty() {
+        return Ok(Turn::WrapperEnd);
+    }
     match item_end(alloc, tokens)? {
         ItemEnd::Whole { len } => Ok(Turn::Item { len }),
-        ItemEnd::Unmatched { at } => Ok(Turn::Last(End::Fails { number: UNEXPECTED, at })),
+        ItemEnd::Unmatched { at } => Ok(Turn::Last(End::Fails {
+            number: UNEXPECTED,
+            at,
+        })),
         ItemEnd::Unended => {
             let at = wrappers.bottom().copied().unwrap_or(first.spot().start);
-            Ok(Turn::Last(End::Fails { number: UNCLOSED, at }))
+            Ok(Turn::Last(End::Fails {
+                number: UNCLOSED,
+                at,
+            }))
         }
     }
 }

@@ -1,4 +1,4 @@
-use Rattle.std.proofs.Common.{◌<◌, length, get_or}
+use Rattle.std.proofs.Common.{get_or}
 use Rattle.gt_lex.specs.declared.tokens.Define.{Define}
 use Rattle.gt_parse.proofs.Cuts.{MayBeCut, define_cut}
 use Rattle.gt_parse.proofs.constants.constants.Goals as goal

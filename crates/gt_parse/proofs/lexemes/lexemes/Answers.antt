@@ -1,4 +1,4 @@
-use Rattle.std.proofs.Common.{◌<◌, length, get_or}
+use Rattle.std.proofs.Common.{get_or}
 use Rattle.gt_lex.specs.declared.tokens.Token.{Token}
 use Rattle.gt_parse.proofs.Cuts.{MayBeCut, token_cut}
 use Rattle.gt_parse.proofs.lexemes.lexemes.Goals as goal

@@ -6,5 +6,5 @@ use Rattle.gt_parse.proofs.stack.Stack.bottom.Goals as goal
 
 pub returns : goal.returns
 returns g c = record {
-  lowest = c.first.ensures.value ∙ ap (λ xs. slice_get xs 0) c.deref.ensures.value ∙ sym (bottom-reverse c.self.inside.items.items) ∙ ap bottom c.self.view_is
+  lowest = c.first.ensures.value ∙ ap (λ xs. slice_get xs 0) c.deref.ensures.value ∙ sym (bottom-reverse c.self.inside.items.items) ∙ ap bottom c.self.view_is;
 }
