@@ -3,32 +3,32 @@
 //! The layer above resolves names and types.
 #![tactic(auto)]
 
-mod items;
+mod caches;
+mod combinations;
+mod constants;
+mod declarators;
+mod enums;
 mod faults;
+mod fields;
+mod globals;
+mod groups;
+mod items;
+mod laws;
 mod lexeme;
-mod words;
 mod lexemes;
+mod markers;
+mod options;
+mod parsing;
+mod reading;
+mod search;
 mod slices;
 mod stack;
-mod search;
-mod unread;
 mod strings;
-mod options;
-mod markers;
-mod combinations;
-mod types;
-mod groups;
-mod declarators;
-mod fields;
 mod structures;
-mod globals;
-mod caches;
-mod enums;
 mod typedefs;
-mod reading;
-mod constants;
-mod parsing;
-mod laws;
+mod types;
+mod unread;
+mod words;
 
 pub use faults::{BAD_MARKER_PLACE, UNCLOSED, UNEXPECTED, UNSUPPORTED};
 pub use items::{

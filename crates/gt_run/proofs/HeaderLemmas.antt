@@ -22,7 +22,6 @@ module _ (text : List ℕ) (file : ℕ) (lexed : Lexed) (items : Items)
     (token_fault : (first : Fault) → first.file ≡ file → IsFirstTokenFault text first.number first.at → GivesTokenFault (Ok lexed) first)
     (all_items : (others : Items) → AreItems text lexed.tokens lexed.defines others → GivesItems (Ok items) others)
     (item_fault : (first : Fault) → first.file ≡ file → IsFirstItemFault text lexed.tokens first.number first.at → GivesItemFault (Ok items) first) where
-
   -- it has no fault
   no_fault : (number at : ℕ) → IsHeaderFault text number at → ⊥
   no_fault number at (inl fault) = token_fault (record { number = number; file = file; at = at }) refl fault

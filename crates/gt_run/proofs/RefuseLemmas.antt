@@ -59,7 +59,6 @@ four_is NoMemory answers e = absurd cc
 
 module _ (words : List (List ℕ)) (told : Option Held) (old new : Option (List ℕ)) (ending : Ending) (range : Range) (outcome : Outcome)
     (status : outcome.status ≡ status_of ending []) (answers : outcome.answers ≡ []) (tells : outcome.refusal ≡ refusal_of ending) where
-
   -- a refusal that is no fault of a header
   pub Ends-refused : (refusal : Refusal) → Halts words told (halt.Refused refusal) → ((headers : List (List ℕ)) → Refuses words headers refusal old new ending) → Ends words told old new outcome range
   Ends-refused refusal halts refuses =

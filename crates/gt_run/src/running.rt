@@ -63,11 +63,13 @@ pub fn top<F: Files, K: Sink>(
             let ending = refuse(alloc, words, refusal, out);
             Outcome::of(ending, List::new(alloc))
         }
-        Err(Halt::Faulty {
-            fault,
-            line,
-            column,
-        }) => {
+        Err(
+            Halt::Faulty {
+                fault,
+                line,
+                column,
+            },
+        ) => {
             let ending = refuse_fault(alloc, words, fault, line, column, out);
             Outcome::of(ending, List::new(alloc))
         }

@@ -272,16 +272,32 @@ fn a_header_that_is_no_such_program_is_refused(rt: HostRuntime) -> Result<(), Fa
         ("int x;\n\n  int y[3);", "", "3:10: fault 8 Unexpected"),
         ("char *s = \"x\n\";", "", "1:11: fault 3 OpenString"),
         ("int \u{f6} = 0x;", "", "1:10: fault 4 BadNumber"),
-        ("struct GTY((tag(\"+\"))) s { int x; };", "", "1:13: fault 5 BadExpr"),
+        (
+            "struct GTY((tag(\"+\"))) s { int x; };",
+            "",
+            "1:13: fault 5 BadExpr",
+        ),
         ("class GTY(()) c { };", "", "1:1: fault 9 Unsupported"),
         // Forms that are not built.
         (node, "", " not built"),
         (node, "static GTY(()) struct node **head;", " not built"),
-        (node, "static GTY((deletable)) struct node *head;", " not built"),
+        (
+            node,
+            "static GTY((deletable)) struct node *head;",
+            " not built",
+        ),
         (node, "static GTY(()) struct other *head;", " not built"),
         (node, "static GTY(()) struct node *size_t;", " not built"),
-        (node, "static GTY(()) struct node *head; enum e { A };", " not built"),
-        (node, "static GTY(()) struct node *head;\n#define N 3\n", " not built"),
+        (
+            node,
+            "static GTY(()) struct node *head; enum e { A };",
+            " not built",
+        ),
+        (
+            node,
+            "static GTY(()) struct node *head;\n#define N 3\n",
+            " not built",
+        ),
         (
             "struct GTY(()) node { struct node *next, *next; };",
             "static GTY(()) struct node *head;",

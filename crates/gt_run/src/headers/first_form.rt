@@ -129,10 +129,7 @@ fn are_distinct(names: &[Word]) -> bool
 fn are_field_names(names: &[Word]) -> bool
     ensures { result ≡ are_field_names_of names.now }
 {
-    !names.is_empty()
-        && names.len() <= MAX_FIELDS
-        && are_plain_words(names)
-        && are_distinct(names)
+    !names.is_empty() && names.len() <= MAX_FIELDS && are_plain_words(names) && are_distinct(names)
 }
 
 // Whether a type is the struct of this tag.

@@ -84,9 +84,9 @@ module _ (g : Over) (c : goal.After-of-in-Err-Faulty g) where
   faulty_file word e =
       let file = HaltsFor-word _ _ _ _ _ faulty_halts in
       let other : Header c.in-Err-Faulty.fault ≡ InFile word Fault =
-          tells_it c.args.words.now (g.F.Files.told c.args.files.now) _ _ c.refuse_fault-ending.result c.args.space.now c.of-in-Err-Faulty.result
-          faulty_status faulty_answers c.of-in-Err-Faulty.ensures.refusal (faulty_halts.text ∷ []) (Header c.in-Err-Faulty.fault)
-          (c.refuse_fault-ending.ensures.refused faulty_halts.text file.0 faulty_halts.line_is faulty_halts.column_is) (InFile word Fault) e in
+      tells_it c.args.words.now (g.F.Files.told c.args.files.now) _ _ c.refuse_fault-ending.result c.args.space.now c.of-in-Err-Faulty.result
+      faulty_status faulty_answers c.of-in-Err-Faulty.ensures.refusal (faulty_halts.text ∷ []) (Header c.in-Err-Faulty.fault)
+      (c.refuse_fault-ending.ensures.refused faulty_halts.text file.0 faulty_halts.line_is faulty_halts.column_is) (InFile word Fault) e in
       absurd cc
 
   faulty_sink : c.of-in-Err-Faulty.result.status ≡ 4 → Rose (g.K.Sink.faults c.args.out.now) (g.K.Sink.faults c.refuse_fault-ending.new.out)
