@@ -14,10 +14,11 @@ for n in 15000 30000; do
   } >"$work/$n.gty"
 done
 "$root/gtyheap" "$work/15000.gty" "$work/node.h" >/dev/null
+program=$root/crates/gtyheap/out/gtyheap
 # Seconds of the processor that five runs take.
 seconds() {
   local TIMEFORMAT='%U %S'
-  { time for _ in 1 2 3 4 5; do "$root/gtyheap" "$work/$1.gty" "$work/node.h" >/dev/null; done; } 2>&1 | awk '{ print $1 + $2 }'
+  { time for _ in 1 2 3 4 5; do "$program" "$work/$1.gty" "$work/node.h" >/dev/null; done; } 2>&1 | awk '{ print $1 + $2 }'
 }
 small=$(seconds 15000)
 large=$(seconds 30000)

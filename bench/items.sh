@@ -1,0 +1,94 @@
+#!/usr/bin/env bash
+# Reads headers of 1 MB and of a tenth of that up to their items, and compares the times. Run by hand, from any folder; each
+# ratio should stay under 12. The program that reads them is written and built in a copy of the crates that it needs.
+set -eu
+root=$(cd "$(dirname "$0")/.." && pwd)
+work=$(mktemp -d)
+trap 'rm -rf "$work"' EXIT
+names='gt_types gt_text gt_io gt_lex gt_expr gt_parse'
+mkdir -p "$work/crates/read_items/src"
+for name in $names; do
+  (cd "$root/crates" && tar -c --exclude=out "$name") | tar -x -C "$work/crates"
+  grep "^$name:" "$root/crates.txt" >>"$work/crates.txt"
+done
+echo 'read_items: gt_types gt_io gt_lex gt_parse' >>"$work/crates.txt"
+cat >"$work/crates/read_items/src/main.rt" <<'END'
+//! Reads the header `header.h` up to its items.
+#![tactic(auto)]
+ghost use Rattle.std.specs.Prelude.{◌<◌, ◌^◌, length};
+
+use gt_io::{Files, HostFiles};
+use gt_lex::lex;
+use gt_parse::parse;
+use gt_types::Word;
+use std::alloc::Global;
+use std::process::ExitCode;
+
+fn items(alloc: Global, text: &[u8]) -> ExitCode
+    requires { length text.now < 2 ^ 32 }
+{
+    let Ok(lexed) = lex(alloc, 1, text) else {
+        return ExitCode::from(2);
+    };
+    match parse(alloc, 1, text, &lexed) {
+        Ok(_) => ExitCode::from(0),
+        Err(_) => ExitCode::from(2),
+    }
+}
+
+fn main(rt: HostRuntime) -> ExitCode {
+    let alloc = rt.alloc();
+    let Ok(name) = Word::of(alloc, "header.h") else {
+        return ExitCode::from(9);
+    };
+    let mut files = HostFiles::new(rt);
+    let Ok(Some(bytes)) = files.read(alloc, &name, 4000000) else {
+        return ExitCode::from(3);
+    };
+    items(alloc, bytes.as_slice())
+}
+END
+for name in $names; do (cd "$work/crates/$name" && rt lib) >"$work/log" 2>&1 || { cat "$work/log" >&2; exit 2; }; done
+echo >"$work/crates/read_items/header.h"
+(cd "$work/crates/read_items" && rt run) >"$work/log" 2>&1 || { cat "$work/log" >&2; exit 2; }
+program=$work/crates/read_items/out/read_items
+
+# So many times the text, in which N is the number of the turn.
+turns() { awk -v n="$1" -v text="$2" 'BEGIN { for (i = 1; i <= n; i++) { line = text; gsub(/N/, i, line); print line } }'; }
+functions() { turns "$(($1 * 25000))" 'int fN (int x) { return x; }'; }
+skipped() { turns "$(($1 * 62500))" 'x = y + z;'; }
+deep() { awk -v n="$(($1 * 500000))" 'BEGIN { for (i = 0; i < n; i++) printf "("; for (i = 0; i < n; i++) printf ")"; print ";" }'; }
+one_item() { turns "$(($1 * 62500))" 'x = (y + z),'; echo 'x;'; }
+structure() { echo 'struct GTY(()) s {'; turns "$(($1 * 32000))" '  struct s *a, *bN[3];'; echo '};'; }
+few_fields() { echo 'struct GTY(()) s {'; turns "$(($1 * 1024))" '  struct s *GTY((length ("%h.n + %h.m"), skip)) fN;'; echo '};'; }
+options() { echo 'struct GTY(()) s { int GTY((a'; turns "$(($1 * 62500))" ', b ("x" "y")'; echo ')) f; };'; }
+structures() { turns "$(($1 * 20000))" 'struct GTY(()) sN { struct sN *next; };'; }
+roots() { turns "$(($1 * 20000))" 'static GTY(()) struct s *rN[4] = { 0 };'; }
+typedefs() { turns "$(($1 * 100000))" 'typedef int tN;'; }
+opaque() { turns "$(($1 * 50000))" 'typedef int tN (int x);'; }
+enumeration() { echo 'enum e {'; turns "$(($1 * 62500))" 'eN = 1 + 2,'; echo '};'; }
+wrappers() { turns "$(($1 * 50000))" 'namespace n {'; turns "$(($1 * 50000))" '}'; }
+
+# Seconds of the processor that five runs take.
+seconds() {
+  local TIMEFORMAT='%U %S'
+  cd "$work"
+  { time for _ in 1 2 3 4 5; do "$program"; done; } 2>&1 | awk '{ print $1 + $2 }'
+}
+for kind in functions skipped deep one_item structure few_fields options structures roots typedefs opaque enumeration wrappers; do
+  $kind 1 >"$work/whole"
+  head -c 0 "$work/whole" >"$work/header.h"
+  # A tenth: the same with a tenth of the turns.
+  (
+    turns() { awk -v n="$1" -v text="$2" 'BEGIN { n = int(n / 10); for (i = 1; i <= n; i++) { line = text; gsub(/N/, i, line); print line } }'; }
+    deep() { awk 'BEGIN { n = 50000; for (i = 0; i < n; i++) printf "("; for (i = 0; i < n; i++) printf ")"; print ";" }'; }
+    $kind 1
+  ) >"$work/header.h"
+  small=$(seconds)
+  small_bytes=$(wc -c <"$work/header.h")
+  cp "$work/whole" "$work/header.h"
+  large=$(seconds)
+  large_bytes=$(wc -c <"$work/header.h")
+  awk -v k="$kind" -v a="$small" -v b="$large" -v m="$small_bytes" -v n="$large_bytes" \
+    'BEGIN { printf "%-12s %8d bytes: %.4f s, %8d bytes: %.4f s, ratio %.1f\n", k, m, a / 5, n, b / 5, b / a }'
+done
