@@ -1,7 +1,6 @@
 -- Fields are read as their rules say.
 use Rattle.std.proofs.Common.{◌≡◌, ℕ, zero, suc, ◌-◌, ◌≤◌, Bool, true, false, List, [], ◌∷◌, ◌++◌, length, Option, None, refl, sym, ◌∙◌, length-append, arith}
 use Rattle.std.proofs.lemmas.List.{append-nil}
-use Rattle.gt_parse.specs.declared.faults.TheConstants.{UNSUPPORTED}
 use Rattle.gt_parse.specs.declared.items.Declarator.{Declarator}
 use Rattle.gt_parse.specs.declared.items.RawField.{RawField}
 use Rattle.gt_parse.specs.declared.items.RawOption.{RawOption}
@@ -12,6 +11,7 @@ use Rattle.gt_parse.specs.declared.lexeme.Bracket.{Bracket}
 use Rattle.gt_parse.specs.declared.lexeme.Bracket.TheVariants.{Round, Square, Brace}
 use Rattle.gt_parse.specs.declared.lexeme.Lexeme.{Lexeme}
 use Rattle.gt_parse.specs.declared.lexeme.Lexeme.TheVariants as lexeme
+use Rattle.gt_parse.specs.declared.types.Place.TheVariants.{InField}
 use Rattle.gt_parse.specs.FieldGrammar.{is_semicolon, is_colon, opens_square, closes_brace, begins_label, closes_any, IsFree, Bounds, Bits, PlainDeclarator, ADeclarator, Declarators, Field, FieldsToBrace}
 use Rattle.gt_parse.specs.Fields.{bits_at, no_function_at, plain_declarator_at, star_at, function_declarator_at, declarator_at, behind_declarator, declarators_from, is_access, no_label_at, field_at, until_brace, fields_from}
 use Rattle.gt_parse.specs.Groups.{bounds_from}
@@ -304,11 +304,11 @@ no_label (t ∷ ts) h = refl
 field-one : {ts : List Lexeme} {o : Outcome RawField} → Field ts o → o ≡ field_at ts
 unfolding field_at no_label_at
 field-one (Field.field {ts} {us} h t d) =
-    rw (no_label ts h, ← type-alone UNSUPPORTED ts _ t, declarators-from d (length us) [] (omega arith)) refl
+    rw (no_label ts h, ← type-alone InField ts _ t, declarators-from d (length us) [] (omega arith)) refl
 field-one (Field.label s c h) = rw h refl
-field-one (Field.in_type {ts} why h t) = rw (no_label ts h, ← type-alone UNSUPPORTED ts _ t) (sym (failed_step why _))
+field-one (Field.in_type {ts} why h t) = rw (no_label ts h, ← type-alone InField ts _ t) (sym (failed_step why _))
 field-one (Field.in_declarators {ts} {us} why h t d) =
-    rw (no_label ts h, ← type-alone UNSUPPORTED ts _ t, declarators-from d (length us) [] (omega arith), failed_step, failed_step) refl
+    rw (no_label ts h, ← type-alone InField ts _ t, declarators-from d (length us) [] (omega arith), failed_step, failed_step) refl
 
 field-leaves : {ts : List Lexeme} {o : Outcome RawField} → Field ts o → (n : ℕ) → length ts ≤ suc n → Leaves n o
 field-leaves (Field.field h t d) n k = declarators-leaves d n (omega (arith, type-leaves t))
@@ -316,16 +316,16 @@ field-leaves (Field.label s c h) n k = tt
 field-leaves (Field.in_type why h t) n k = failed_leaves RawField why n
 field-leaves (Field.in_declarators why h t d) n k = failed_leaves RawField why n
 
-field_declares : {ts us : List Lexeme} {x : RawType} → begins_label ts ≡ false → AType UNSUPPORTED ts (Read x us) → {o : Outcome (List Declarator)} → Declarators us o → Comes o → Has Field ts
+field_declares : {ts us : List Lexeme} {x : RawType} → begins_label ts ≡ false → AType InField ts (Read x us) → {o : Outcome (List Declarator)} → Declarators us o → Comes o → Has Field ts
 field_declares h t d (read xs rest) = record { outcome = _; holds = Field.field h t d }
 field_declares h t d (unread why) = record { outcome = failed why; holds = Field.in_declarators why h t d }
 
-field_type : {ts : List Lexeme} → begins_label ts ≡ false → {o : Outcome RawType} → AType UNSUPPORTED ts o → Comes o → Has Field ts
+field_type : {ts : List Lexeme} → begins_label ts ≡ false → {o : Outcome RawType} → AType InField ts o → Comes o → Has Field ts
 field_type h t (read x us) = field_declares h t (declarators_has us).holds (comes (declarators_has us).outcome)
 field_type h t (unread why) = record { outcome = failed why; holds = Field.in_type why h t }
 
 field_behind : (ts : List Lexeme) → begins_label ts ≡ false → Has Field ts
-field_behind ts h = field_type h (type_has UNSUPPORTED ts).holds (comes (type_has UNSUPPORTED ts).outcome)
+field_behind ts h = field_type h (type_has InField ts).holds (comes (type_has InField ts).outcome)
 
 field_label : (s c : Spot) (ts : List Lexeme) (is : Bool) → is_access s.word ≡ is → Has Field (lexeme.Name s ∷ lexeme.Colon c ∷ ts)
 field_label s c ts true h = record { outcome = _; holds = Field.label s c h }

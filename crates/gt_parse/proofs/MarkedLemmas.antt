@@ -1,7 +1,6 @@
 -- Marked items are read as their rules say.
 use Rattle.std.proofs.Common.{◌≡◌, ℕ, Bool, true, false, List, [], ◌∷◌, length, codes, refl, sym, ◌∙◌, arith}
 use Rattle.std.specs.Str.{bytes_eq}
-use Rattle.gt_parse.specs.declared.faults.TheConstants.{UNEXPECTED}
 use Rattle.gt_parse.specs.declared.items.Name.{Name}
 use Rattle.gt_parse.specs.declared.items.Alias.{Alias}
 use Rattle.gt_parse.specs.declared.items.Item.{Item}
@@ -15,6 +14,8 @@ use Rattle.gt_parse.specs.declared.lexeme.Spot.{Spot}
 use Rattle.gt_parse.specs.declared.lexeme.Bracket.TheVariants.{Brace}
 use Rattle.gt_parse.specs.declared.lexeme.Lexeme.{Lexeme}
 use Rattle.gt_parse.specs.declared.lexeme.Lexeme.TheVariants as lexeme
+use Rattle.gt_parse.specs.declared.types.Place.{Place}
+use Rattle.gt_parse.specs.declared.types.Place.TheVariants.{Elsewhere}
 use Rattle.gt_parse.specs.FieldGrammar.{is_semicolon, is_colon, Bounds, FieldsToBrace}
 use Rattle.gt_parse.specs.Fields.{fields_from}
 use Rattle.gt_parse.specs.Groups.{bounds_from}
@@ -168,8 +169,8 @@ structure_has has_alias is_union ts = structure_tag has_alias is_union (tag_has 
 
 -- ---- globals that are no maps
 
-type-one : {body : ℕ} {ts : List Lexeme} {o : Outcome RawType} → AType body ts o → o ≡ type_at body ts
-type-one {body} {ts} {o} t = type-alone body ts o t
+type-one : {place : Place} {ts : List Lexeme} {o : Outcome RawType} → AType place ts o → o ≡ type_at place ts
+type-one {place} {ts} {o} t = type-alone place ts o t
 
 bounds-all : {ts : List Lexeme} {o : Outcome (List (List ℕ))} → Bounds ts o → bounds_from (length ts) [] ts ≡ o
 bounds-all {ts} {o} b = bounds-from b (length ts) [] (omega arith) ∙ prefixed_nothing o
@@ -190,7 +191,7 @@ root-one (ARoot.in_bounds n why t a b) = rw (← type-one t, stars-one a, bounds
 root-one (ARoot.no_name {rest} t a h) = rw (← type-one t, stars-one a, no_name rest h) (sym (unexpected_step rest _))
 root-one (ARoot.not_ended {rest} n t a b h k) = rw (← type-one t, stars-one a, bounds-all b, no_initialiser rest h k) (sym (unexpected_step rest _))
 
-root_bounds : (options : List RawOption) (n : Spot) {ts us vs : List Lexeme} {type : RawType} {stars : Stars} → AType UNEXPECTED ts (Read type us)
+root_bounds : (options : List RawOption) (n : Spot) {ts us vs : List Lexeme} {type : RawType} {stars : Stars} → AType Elsewhere ts (Read type us)
     → AreStars us stars (lexeme.Name n ∷ vs) → {o : Outcome (List (List ℕ))} → Bounds vs o → Comes o → Has (ARoot options) ts
 root_bounds options n t a b (unread why) = record { outcome = failed why; holds = ARoot.in_bounds n why t a b }
 root_bounds options n t a b (read bounds (lexeme.Semicolon s ∷ rest)) = record { outcome = _; holds = ARoot.root n s t a b }
@@ -198,18 +199,18 @@ root_bounds options n t a b (read bounds (lexeme.Equals e ∷ rest)) = record { 
 root_bounds options n t a b (read bounds []) = record { outcome = unexpected []; holds = ARoot.not_ended n t a b refl refl }
 root_bounds options n t a b (read bounds (u ∷ us)) = record { outcome = unexpected (u ∷ us); holds = ARoot.not_ended n t a b refl refl }
 
-root_name : (options : List RawOption) {ts us : List Lexeme} {type : RawType} {stars : Stars} (vs : List Lexeme) → AType UNEXPECTED ts (Read type us)
+root_name : (options : List RawOption) {ts us : List Lexeme} {type : RawType} {stars : Stars} (vs : List Lexeme) → AType Elsewhere ts (Read type us)
     → AreStars us stars vs → Has (ARoot options) ts
 root_name options (lexeme.Name n ∷ vs) t a = root_bounds options n t a (bounds_has vs).holds (comes (bounds_has vs).outcome)
 root_name options [] t a = record { outcome = unexpected []; holds = ARoot.no_name t a refl }
 root_name options (u ∷ us) t a = record { outcome = unexpected (u ∷ us); holds = ARoot.no_name t a refl }
 
-root_type : (options : List RawOption) {ts : List Lexeme} {o : Outcome RawType} → AType UNEXPECTED ts o → Comes o → Has (ARoot options) ts
+root_type : (options : List RawOption) {ts : List Lexeme} {o : Outcome RawType} → AType Elsewhere ts o → Comes o → Has (ARoot options) ts
 root_type options t (unread why) = record { outcome = failed why; holds = ARoot.in_type why t }
 root_type options t (read type us) = root_name options (stars_has us).behind t (stars_has us).are
 
 root_has : (options : List RawOption) (ts : List Lexeme) → Has (ARoot options) ts
-root_has options ts = root_type options (type_has UNEXPECTED ts).holds (comes (type_has UNEXPECTED ts).outcome)
+root_has options ts = root_type options (type_has Elsewhere ts).holds (comes (type_has Elsewhere ts).outcome)
 
 -- ---- maps
 
@@ -218,12 +219,12 @@ unfolding pointed_at
 pointed-one (APointed.pointed t a) = rw (← type-one t, stars-one a) refl
 pointed-one (APointed.in_type why t) = rw (← type-one t) (sym (failed_step why _))
 
-pointed_type : {ts : List Lexeme} {o : Outcome RawType} → AType UNEXPECTED ts o → Comes o → Has APointed ts
+pointed_type : {ts : List Lexeme} {o : Outcome RawType} → AType Elsewhere ts o → Comes o → Has APointed ts
 pointed_type t (unread why) = record { outcome = failed why; holds = APointed.in_type why t }
 pointed_type t (read type us) = record { outcome = _; holds = APointed.pointed t (stars_has us).are }
 
 pointed_has : (ts : List Lexeme) → Has APointed ts
-pointed_has ts = pointed_type (type_has UNEXPECTED ts).holds (comes (type_has UNEXPECTED ts).outcome)
+pointed_has ts = pointed_type (type_has Elsewhere ts).holds (comes (type_has Elsewhere ts).outcome)
 
 no_traits : (ts : List Lexeme) → begins is_comma ts ≡ false → traits_at ts ≡ Read tt ts
 unfolding traits_at

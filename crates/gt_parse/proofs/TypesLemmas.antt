@@ -1,10 +1,11 @@
 -- Types are read as their rules say.
-use Rattle.std.proofs.Common.{◌≡◌, ℕ, zero, suc, ◌≤◌, Bool, true, false, List, [], ◌∷◌, length, codes, Option, Some, None, refl, sym, ap, ◌∙◌, arith}
+use Rattle.std.proofs.Common.{◌≡◌, ℕ, zero, suc, ◌≤◌, Bool, true, false, ◌&&◌, List, [], ◌∷◌, length, codes, Option, Some, None, refl, sym, ap, ◌∙◌, arith}
 use Rattle.std.specs.Str.{bytes_eq}
 use Rattle.gt_parse.specs.declared.items.Stars.{Stars}
 use Rattle.gt_parse.specs.declared.items.Stars.TheVariants.{Zero, One, Two, More}
 use Rattle.gt_parse.specs.declared.items.Combination.{Combination}
 use Rattle.gt_parse.specs.declared.items.Keyword.{Keyword}
+use Rattle.gt_parse.specs.declared.items.RawOption.{RawOption}
 use Rattle.gt_parse.specs.declared.items.RawType.{RawType}
 use Rattle.gt_parse.specs.declared.items.RawType.TheVariants.{Words, Named}
 use Rattle.gt_parse.specs.declared.lexeme.Spot.{Spot}
@@ -12,12 +13,17 @@ use Rattle.gt_parse.specs.declared.lexeme.Bracket.TheVariants.{Round, Brace}
 use Rattle.gt_parse.specs.declared.lexeme.TypeWord.{TypeWord}
 use Rattle.gt_parse.specs.declared.lexeme.Lexeme.{Lexeme}
 use Rattle.gt_parse.specs.declared.lexeme.Lexeme.TheVariants as lexeme
+use Rattle.gt_parse.specs.declared.types.Place.{Place}
+use Rattle.gt_parse.specs.declared.types.Place.TheVariants.{InField, Elsewhere}
 use Rattle.gt_parse.specs.Lexemes.{name_of}
-use Rattle.gt_parse.specs.MarkerGrammar.{begins, opens_round}
-use Rattle.gt_parse.specs.Outcome.{Outcome, Read, Stops, Ends, unexpected}
-use Rattle.gt_parse.specs.TypeGrammar.{is_name, is_star, is_qualifier, opens_brace, begins_type, goes_on, Qualifiers, AreStars, MoreWords, BareType, AType}
-use Rattle.gt_parse.specs.Types.{no_words, with_word, is_unsigned_alone, one_more, without_qualifiers, stars_from, stars_at, name_at, words_from, without_body, tagged_at, bitfield_at, behind_bitfield, bare_type_at, type_at}
-use Rattle.gt_parse.proofs.GrammarWords.{Has, allowed, unexpected_step, Leaves, unexpected_leaves, no_close_round}
+use Rattle.gt_parse.specs.MarkerGrammar.{failed, begins, opens_round, Marker}
+use Rattle.gt_parse.specs.Markers.{marker_at}
+use Rattle.gt_parse.specs.Outcome.{Outcome, Read, Stops, Ends, ◌>>=◌, unexpected}
+use Rattle.gt_parse.specs.Search.{is_gty}
+use Rattle.gt_parse.specs.TypeGrammar.{is_name, is_star, is_qualifier, opens_brace, begins_type, goes_on, in_field, Qualifiers, AreStars, MoreWords, BareType, AType}
+use Rattle.gt_parse.specs.Types.{no_words, with_word, is_unsigned_alone, one_more, without_qualifiers, stars_from, stars_at, name_at, words_from, no_brace_at, no_body_at, tagged_at, bitfield_at, behind_bitfield, bare_type_at, type_at}
+use Rattle.gt_parse.proofs.GrammarWords.{Has, allowed, Comes, read, unread, comes, failed_step, unexpected_step, Leaves, failed_leaves, unexpected_leaves, no_close_round}
+use Rattle.gt_parse.proofs.MarkersLemmas.{marker-one, marker_has}
 
 pub no_name : (ts : List Lexeme) → begins is_name ts ≡ false → name_at ts ≡ unexpected ts
 unfolding name_at
@@ -189,129 +195,184 @@ words_has (t ∷ ts) before = record { outcome = _; holds = MoreWords.no_word re
 
 -- ---- types
 
-no_body : (body : ℕ) (type : RawType) (ts : List Lexeme) → begins opens_brace ts ≡ false → without_body body type ts ≡ Read type ts
-no_body body type [] h = refl
-no_body body type (lexeme.Open Brace s ∷ ts) h = absurd cc
-no_body body type (t ∷ ts) h = refl
+no_brace : (place : Place) (ts : List Lexeme) → begins opens_brace ts ≡ false → no_brace_at place ts ≡ Read tt ts
+no_brace place [] h = refl
+no_brace place (lexeme.Open Brace s ∷ ts) h = absurd cc
+no_brace place (t ∷ ts) h = refl
 
-no_tags : (body : ℕ) (k : Keyword) (ts : List Lexeme) → begins is_name ts ≡ false → begins opens_brace ts ≡ false → tagged_at body k ts ≡ unexpected ts
+unmarked : (place : Place) (ts : List Lexeme) → (in_field place && begins is_gty ts) ≡ false → no_body_at place ts ≡ no_brace_at place ts
+unfolding no_body_at
+unmarked InField [] h = refl
+unmarked InField (lexeme.Gty g ∷ ts) h = absurd cc
+unmarked InField (t ∷ ts) h = refl
+unmarked Elsewhere ts h = refl
+
+brace_body : (place : Place) (b : Spot) (ts : List Lexeme) → no_body_at place (lexeme.Open Brace b ∷ ts) ≡ no_brace_at place (lexeme.Open Brace b ∷ ts)
+unfolding no_body_at
+brace_body InField b ts = refl
+brace_body Elsewhere b ts = refl
+
+marked : (place : Place) (g : Spot) (ts : List Lexeme) → in_field place ≡ true
+    → no_body_at place (lexeme.Gty g ∷ ts)
+    ≡ (marker_at (lexeme.Gty g ∷ ts) >>= λ options. no_brace_at InField options.1 >>= λ no_brace. Read tt (lexeme.Gty g ∷ ts))
+unfolding no_body_at
+marked InField g ts h = refl
+marked Elsewhere g ts h = absurd cc
+
+no_tags : (place : Place) (k : Keyword) (ts : List Lexeme) → begins is_name ts ≡ false → begins opens_brace ts ≡ false → tagged_at place k ts ≡ unexpected ts
 unfolding tagged_at
-no_tags body k [] h g = refl
-no_tags body k (lexeme.Name s ∷ ts) h g = absurd cc
-no_tags body k (lexeme.Open Brace s ∷ ts) h g = absurd cc
-no_tags body k (t ∷ ts) h g = refl
+no_tags place k [] h g = refl
+no_tags place k (lexeme.Name s ∷ ts) h g = absurd cc
+no_tags place k (lexeme.Open Brace s ∷ ts) h g = absurd cc
+no_tags place k (t ∷ ts) h g = refl
 
-no_bracket : (s : Spot) (ts : List Lexeme) → begins opens_round ts ≡ false → behind_bitfield s ts ≡ Read (Named (name_of s)) ts
-no_bracket s [] h = refl
-no_bracket s (lexeme.Open Round p ∷ ts) h = absurd cc
-no_bracket s (t ∷ ts) h = refl
+no_bracket : (place : Place) (s : Spot) (ts : List Lexeme) → begins opens_round ts ≡ false → behind_bitfield place s ts ≡ Read (Named (name_of s)) ts
+no_bracket InField s [] h = refl
+no_bracket InField s (lexeme.Open Round p ∷ ts) h = absurd cc
+no_bracket InField s (t ∷ ts) h = refl
+no_bracket Elsewhere s [] h = refl
+no_bracket Elsewhere s (lexeme.Open Round p ∷ ts) h = absurd cc
+no_bracket Elsewhere s (t ∷ ts) h = refl
 
-bitfield_bracket : (s a : Spot) (ts : List Lexeme) → begins is_star ts ≡ false → behind_bitfield s (lexeme.Open Round a ∷ ts) ≡ bitfield_at ts
-bitfield_bracket s a [] h = refl
-bitfield_bracket s a (lexeme.Star p ∷ ts) h = absurd cc
-bitfield_bracket s a (t ∷ ts) h = refl
+-- a name has to stand behind a bracket, where no pointer to a function is declared
+bitfield_bracket : (place : Place) (s a : Spot) (ts : List Lexeme) → (in_field place && begins is_star ts) ≡ false
+    → behind_bitfield place s (lexeme.Open Round a ∷ ts) ≡ bitfield_at ts
+bitfield_bracket InField s a [] h = refl
+bitfield_bracket InField s a (lexeme.Star p ∷ ts) h = absurd cc
+bitfield_bracket InField s a (t ∷ ts) h = refl
+bitfield_bracket Elsewhere s a ts h = refl
 
-no_types : (body : ℕ) (ts : List Lexeme) → begins begins_type ts ≡ false → bare_type_at body ts ≡ unexpected ts
+pointer : (place : Place) (s a p : Spot) (ts : List Lexeme) → in_field place ≡ true
+    → behind_bitfield place s (lexeme.Open Round a ∷ lexeme.Star p ∷ ts) ≡ Read (Named (name_of s)) (lexeme.Open Round a ∷ lexeme.Star p ∷ ts)
+pointer InField s a p ts h = refl
+pointer Elsewhere s a p ts h = absurd cc
+
+no_pointer : (place : Place) (ts : List Lexeme) → begins is_star ts ≡ false → (in_field place && begins is_star ts) ≡ false
+no_pointer InField ts h = h
+no_pointer Elsewhere ts h = refl
+
+no_types : (place : Place) (ts : List Lexeme) → begins begins_type ts ≡ false → bare_type_at place ts ≡ unexpected ts
 unfolding bare_type_at
-no_types body [] h = refl
-no_types body (lexeme.Type w s ∷ ts) h = absurd cc
-no_types body (lexeme.Tag k s ∷ ts) h = absurd cc
-no_types body (lexeme.Name s ∷ ts) h = absurd cc
-no_types body (t ∷ ts) h = refl
+no_types place [] h = refl
+no_types place (lexeme.Type w s ∷ ts) h = absurd cc
+no_types place (lexeme.Tag k s ∷ ts) h = absurd cc
+no_types place (lexeme.Name s ∷ ts) h = absurd cc
+no_types place (t ∷ ts) h = refl
 
-pub bare_type-one : {body : ℕ} {ts : List Lexeme} {o : Outcome RawType} → BareType body ts o → o ≡ bare_type_at body ts
+pub bare_type-one : {place : Place} {ts : List Lexeme} {o : Outcome RawType} → BareType place ts o → o ≡ bare_type_at place ts
 unfolding bare_type_at tagged_at bitfield_at words_from
 bare_type-one (BareType.words w s m) = words-one m
-bare_type-one {body} (BareType.tagged {rest} k t s q r h) = rw (qualifiers-one q, qualifiers-one r) (sym (no_body body _ rest h))
-bare_type-one (BareType.with_body k t s b q r) = rw (qualifiers-one q, qualifiers-one r) refl
+bare_type-one {place} (BareType.tagged {rest} k t s q r h g) = rw (qualifiers-one q, qualifiers-one r, unmarked place rest g, no_brace place rest h) refl
+bare_type-one {place} (BareType.before_marker {rest} {behind} k t s g f q r m h) =
+    rw (qualifiers-one q, qualifiers-one r, marked place g rest f, ← marker-one m, no_brace InField behind h) refl
+bare_type-one {place} (BareType.with_body {rest} k t s b q r) = rw (qualifiers-one q, qualifiers-one r, brace_body place b rest) refl
+bare_type-one {place} (BareType.marked_body {rest} k t s g b f q r m) = rw (qualifiers-one q, qualifiers-one r, marked place g rest f, ← marker-one m) refl
+bare_type-one {place} (BareType.in_marker {rest} k t s g why f q r m) =
+    rw (qualifiers-one q, qualifiers-one r, marked place g rest f, ← marker-one m, failed_step, failed_step) refl
 bare_type-one (BareType.body_alone k t b q) = rw (qualifiers-one q) refl
-bare_type-one {body} (BareType.no_tag {rest} k t q h g) = rw (qualifiers-one q) (sym (no_tags body k rest h g))
+bare_type-one {place} (BareType.no_tag {rest} k t q h g) = rw (qualifiers-one q) (sym (no_tags place k rest h g))
 bare_type-one (BareType.named s e q) = rw (e, qualifiers-one q) refl
-bare_type-one (BareType.bitfield {us} {vs} {ws} s a n b e q r p z) =
-    rw (e, qualifiers-one q, bitfield_bracket s a us (qualifiers-no_star r refl), qualifiers-one r, a_name n vs, qualifiers-one p, qualifiers-one z) refl
-bare_type-one (BareType.no_bitfield {rest} s e q h) = rw (e, qualifiers-one q) (sym (no_bracket s rest h))
-bare_type-one (BareType.function_pointer s a p e q) = rw (e, qualifiers-one q) refl
-bare_type-one (BareType.bitfield_no_name {us} {rest} s a e q h r k) =
-    rw (e, qualifiers-one q, bitfield_bracket s a us h, qualifiers-one r, no_name rest k, unexpected_step) refl
-bare_type-one (BareType.bitfield_not_closed {us} {vs} {rest} s a n e q r p k) =
-    rw (e, qualifiers-one q, bitfield_bracket s a us (qualifiers-no_star r refl), qualifiers-one r, a_name n vs, qualifiers-one p, no_close_round rest k, unexpected_step) refl
-bare_type-one {body} (BareType.no_type {ts} h) = sym (no_types body ts h)
+bare_type-one {place} (BareType.bitfield {us} {vs} {ws} s a n b e q r p z) =
+    rw (e, qualifiers-one q, bitfield_bracket place s a us (no_pointer place us (qualifiers-no_star r refl)), qualifiers-one r, a_name n vs, qualifiers-one p, qualifiers-one z) refl
+bare_type-one {place} (BareType.no_bitfield {rest} s e q h) = rw (e, qualifiers-one q) (sym (no_bracket place s rest h))
+bare_type-one {place} (BareType.function_pointer {rest} s a p f e q) = rw (e, qualifiers-one q, pointer place s a p rest f) refl
+bare_type-one {place} (BareType.bitfield_no_name {us} {rest} s a e q h r k) =
+    rw (e, qualifiers-one q, bitfield_bracket place s a us h, qualifiers-one r, no_name rest k, unexpected_step) refl
+bare_type-one {place} (BareType.bitfield_not_closed {us} {vs} {rest} s a n e q r p k) =
+    rw (e, qualifiers-one q, bitfield_bracket place s a us (no_pointer place us (qualifiers-no_star r refl)), qualifiers-one r, a_name n vs, qualifiers-one p, no_close_round rest k, unexpected_step) refl
+bare_type-one {place} (BareType.no_type {ts} h) = sym (no_types place ts h)
 
-bare_type-leaves : {body : ℕ} {ts : List Lexeme} {o : Outcome RawType} → BareType body ts o → Leaves (length ts) o
+bare_type-leaves : {place : Place} {ts : List Lexeme} {o : Outcome RawType} → BareType place ts o → Leaves (length ts) o
 bare_type-leaves (BareType.words w s m) = words-leaves m
-bare_type-leaves (BareType.tagged k t s q r h) = omega (arith, qualifiers-leaves q, qualifiers-leaves r)
+bare_type-leaves (BareType.tagged k t s q r h g) = omega (arith, qualifiers-leaves q, qualifiers-leaves r)
+bare_type-leaves (BareType.before_marker k t s g f q r m h) = omega (arith, qualifiers-leaves q, qualifiers-leaves r)
 bare_type-leaves (BareType.with_body k t s b q r) = tt
 bare_type-leaves (BareType.body_alone k t b q) = tt
+bare_type-leaves (BareType.marked_body k t s g b f q r m) = tt
+bare_type-leaves (BareType.in_marker k t s g why f q r m) = failed_leaves RawType why _
 bare_type-leaves (BareType.no_tag {rest} k t q h g) = unexpected_leaves RawType rest _
 bare_type-leaves (BareType.named s e q) = omega (arith, qualifiers-leaves q)
 bare_type-leaves (BareType.bitfield s a n b e q r p z) = omega (arith, qualifiers-leaves q, qualifiers-leaves r, qualifiers-leaves p, qualifiers-leaves z)
 bare_type-leaves (BareType.no_bitfield s e q h) = omega (arith, qualifiers-leaves q)
-bare_type-leaves (BareType.function_pointer s a p e q) = omega (arith, qualifiers-leaves q)
+bare_type-leaves (BareType.function_pointer s a p f e q) = omega (arith, qualifiers-leaves q)
 bare_type-leaves (BareType.bitfield_no_name {rest} s a e q h r k) = unexpected_leaves RawType rest _
 bare_type-leaves (BareType.bitfield_not_closed {rest} s a n e q r p k) = unexpected_leaves RawType rest _
 bare_type-leaves (BareType.no_type {ts} h) = unexpected_leaves RawType ts _
 
-tag_behind : (body : ℕ) (k : Keyword) (t s : Spot) (ts us rest : List Lexeme) → Qualifiers ts (lexeme.Name s ∷ us) → Qualifiers us rest → Has (BareType body) (lexeme.Tag k t ∷ ts)
-tag_behind body k t s ts us (lexeme.Open Brace b ∷ rest) q r = record { outcome = _; holds = BareType.with_body k t s b q r }
-tag_behind body k t s ts us [] q r = record { outcome = _; holds = BareType.tagged k t s q r refl }
-tag_behind body k t s ts us (u ∷ rest) q r = record { outcome = _; holds = BareType.tagged k t s q r refl }
+-- a marker behind a tag in a field
+marker_behind_tag : (k : Keyword) (t s g : Spot) (ts us rest : List Lexeme) → Qualifiers ts (lexeme.Name s ∷ us) → Qualifiers us (lexeme.Gty g ∷ rest)
+    → {o : Outcome (List RawOption)} → Marker (lexeme.Gty g ∷ rest) o → Comes o → Has (BareType InField) (lexeme.Tag k t ∷ ts)
+marker_behind_tag k t s g ts us rest q r m (unread why) = record { outcome = failed why; holds = BareType.in_marker k t s g why refl q r m }
+marker_behind_tag k t s g ts us rest q r m (read options (lexeme.Open Brace b ∷ behind)) = record { outcome = _; holds = BareType.marked_body k t s g b refl q r m }
+marker_behind_tag k t s g ts us rest q r m (read options []) = record { outcome = _; holds = BareType.before_marker k t s g refl q r m refl }
+marker_behind_tag k t s g ts us rest q r m (read options (u ∷ behind)) = record { outcome = _; holds = BareType.before_marker k t s g refl q r m refl }
 
-tagged_has : (body : ℕ) (k : Keyword) (t : Spot) (ts us : List Lexeme) → Qualifiers ts us → Has (BareType body) (lexeme.Tag k t ∷ ts)
-tagged_has body k t ts (lexeme.Name s ∷ us) q = tag_behind body k t s ts us (qualifiers_has us).behind q (qualifiers_has us).qualifiers
-tagged_has body k t ts (lexeme.Open Brace b ∷ us) q = record { outcome = _; holds = BareType.body_alone k t b q }
-tagged_has body k t ts [] q = record { outcome = unexpected []; holds = BareType.no_tag k t q refl refl }
-tagged_has body k t ts (u ∷ us) q = record { outcome = unexpected (u ∷ us); holds = BareType.no_tag k t q refl refl }
+tag_behind : (place : Place) (k : Keyword) (t s : Spot) (ts us rest : List Lexeme) → Qualifiers ts (lexeme.Name s ∷ us) → Qualifiers us rest → Has (BareType place) (lexeme.Tag k t ∷ ts)
+tag_behind place k t s ts us (lexeme.Open Brace b ∷ rest) q r = record { outcome = _; holds = BareType.with_body k t s b q r }
+tag_behind InField k t s ts us (lexeme.Gty g ∷ rest) q r =
+    let has = marker_has (lexeme.Gty g ∷ rest) in marker_behind_tag k t s g ts us rest q r has.holds (comes has.outcome)
+tag_behind InField k t s ts us [] q r = record { outcome = _; holds = BareType.tagged k t s q r refl refl }
+tag_behind InField k t s ts us (u ∷ rest) q r = record { outcome = _; holds = BareType.tagged k t s q r refl refl }
+tag_behind Elsewhere k t s ts us [] q r = record { outcome = _; holds = BareType.tagged k t s q r refl refl }
+tag_behind Elsewhere k t s ts us (u ∷ rest) q r = record { outcome = _; holds = BareType.tagged k t s q r refl refl }
 
-bitfield_closes : (body : ℕ) (s a n : Spot) (ts us vs rest : List Lexeme) → bytes_eq s.word (codes "ENUM_BITFIELD") ≡ true
-    → Qualifiers ts (lexeme.Open Round a ∷ us) → Qualifiers us (lexeme.Name n ∷ vs) → Qualifiers vs rest → Has (BareType body) (lexeme.Name s ∷ ts)
-bitfield_closes body s a n ts us vs (lexeme.Close Round b ∷ rest) e q r p = record { outcome = _; holds = BareType.bitfield s a n b e q r p (qualifiers_has rest).qualifiers }
-bitfield_closes body s a n ts us vs [] e q r p = record { outcome = unexpected []; holds = BareType.bitfield_not_closed s a n e q r p refl }
-bitfield_closes body s a n ts us vs (u ∷ rest) e q r p = record { outcome = unexpected (u ∷ rest); holds = BareType.bitfield_not_closed s a n e q r p refl }
+tagged_has : (place : Place) (k : Keyword) (t : Spot) (ts us : List Lexeme) → Qualifiers ts us → Has (BareType place) (lexeme.Tag k t ∷ ts)
+tagged_has place k t ts (lexeme.Name s ∷ us) q = tag_behind place k t s ts us (qualifiers_has us).behind q (qualifiers_has us).qualifiers
+tagged_has place k t ts (lexeme.Open Brace b ∷ us) q = record { outcome = _; holds = BareType.body_alone k t b q }
+tagged_has place k t ts [] q = record { outcome = unexpected []; holds = BareType.no_tag k t q refl refl }
+tagged_has place k t ts (u ∷ us) q = record { outcome = unexpected (u ∷ us); holds = BareType.no_tag k t q refl refl }
 
-bitfield_name : (body : ℕ) (s a : Spot) (ts us rest : List Lexeme) → bytes_eq s.word (codes "ENUM_BITFIELD") ≡ true
-    → Qualifiers ts (lexeme.Open Round a ∷ us) → begins is_star us ≡ false → Qualifiers us rest → Has (BareType body) (lexeme.Name s ∷ ts)
-bitfield_name body s a ts us (lexeme.Name n ∷ rest) e q h r = bitfield_closes body s a n ts us rest (qualifiers_has rest).behind e q r (qualifiers_has rest).qualifiers
-bitfield_name body s a ts us [] e q h r = record { outcome = unexpected []; holds = BareType.bitfield_no_name s a e q h r refl }
-bitfield_name body s a ts us (u ∷ rest) e q h r = record { outcome = unexpected (u ∷ rest); holds = BareType.bitfield_no_name s a e q h r refl }
+bitfield_closes : (place : Place) (s a n : Spot) (ts us vs rest : List Lexeme) → bytes_eq s.word (codes "ENUM_BITFIELD") ≡ true
+    → Qualifiers ts (lexeme.Open Round a ∷ us) → Qualifiers us (lexeme.Name n ∷ vs) → Qualifiers vs rest → Has (BareType place) (lexeme.Name s ∷ ts)
+bitfield_closes place s a n ts us vs (lexeme.Close Round b ∷ rest) e q r p = record { outcome = _; holds = BareType.bitfield s a n b e q r p (qualifiers_has rest).qualifiers }
+bitfield_closes place s a n ts us vs [] e q r p = record { outcome = unexpected []; holds = BareType.bitfield_not_closed s a n e q r p refl }
+bitfield_closes place s a n ts us vs (u ∷ rest) e q r p = record { outcome = unexpected (u ∷ rest); holds = BareType.bitfield_not_closed s a n e q r p refl }
 
-bitfield_opened : (body : ℕ) (s a : Spot) (ts us : List Lexeme) → bytes_eq s.word (codes "ENUM_BITFIELD") ≡ true
-    → Qualifiers ts (lexeme.Open Round a ∷ us) → Has (BareType body) (lexeme.Name s ∷ ts)
-bitfield_opened body s a ts (lexeme.Star p ∷ us) e q = record { outcome = _; holds = BareType.function_pointer s a p e q }
-bitfield_opened body s a ts [] e q = bitfield_name body s a ts [] (qualifiers_has []).behind e q refl (qualifiers_has []).qualifiers
-bitfield_opened body s a ts (u ∷ us) e q = bitfield_name body s a ts (u ∷ us) (qualifiers_has (u ∷ us)).behind e q refl (qualifiers_has (u ∷ us)).qualifiers
+bitfield_name : (place : Place) (s a : Spot) (ts us rest : List Lexeme) → bytes_eq s.word (codes "ENUM_BITFIELD") ≡ true
+    → Qualifiers ts (lexeme.Open Round a ∷ us) → (in_field place && begins is_star us) ≡ false → Qualifiers us rest → Has (BareType place) (lexeme.Name s ∷ ts)
+bitfield_name place s a ts us (lexeme.Name n ∷ rest) e q h r = bitfield_closes place s a n ts us rest (qualifiers_has rest).behind e q r (qualifiers_has rest).qualifiers
+bitfield_name place s a ts us [] e q h r = record { outcome = unexpected []; holds = BareType.bitfield_no_name s a e q h r refl }
+bitfield_name place s a ts us (u ∷ rest) e q h r = record { outcome = unexpected (u ∷ rest); holds = BareType.bitfield_no_name s a e q h r refl }
 
-bitfield_has : (body : ℕ) (s : Spot) (ts us : List Lexeme) → bytes_eq s.word (codes "ENUM_BITFIELD") ≡ true → Qualifiers ts us → Has (BareType body) (lexeme.Name s ∷ ts)
-bitfield_has body s ts (lexeme.Open Round a ∷ us) e q = bitfield_opened body s a ts us e q
-bitfield_has body s ts [] e q = record { outcome = _; holds = BareType.no_bitfield s e q refl }
-bitfield_has body s ts (u ∷ us) e q = record { outcome = _; holds = BareType.no_bitfield s e q refl }
+bitfield_opened : (place : Place) (s a : Spot) (ts us : List Lexeme) → bytes_eq s.word (codes "ENUM_BITFIELD") ≡ true
+    → Qualifiers ts (lexeme.Open Round a ∷ us) → Has (BareType place) (lexeme.Name s ∷ ts)
+bitfield_opened InField s a ts (lexeme.Star p ∷ us) e q = record { outcome = _; holds = BareType.function_pointer s a p refl e q }
+bitfield_opened InField s a ts [] e q = bitfield_name InField s a ts [] (qualifiers_has []).behind e q refl (qualifiers_has []).qualifiers
+bitfield_opened InField s a ts (u ∷ us) e q = bitfield_name InField s a ts (u ∷ us) (qualifiers_has (u ∷ us)).behind e q refl (qualifiers_has (u ∷ us)).qualifiers
+bitfield_opened Elsewhere s a ts us e q = bitfield_name Elsewhere s a ts us (qualifiers_has us).behind e q refl (qualifiers_has us).qualifiers
 
-named_has : (body : ℕ) (s : Spot) (ts : List Lexeme) (is : Bool) → bytes_eq s.word (codes "ENUM_BITFIELD") ≡ is → Has (BareType body) (lexeme.Name s ∷ ts)
-named_has body s ts true e = bitfield_has body s ts (qualifiers_has ts).behind e (qualifiers_has ts).qualifiers
-named_has body s ts false e = record { outcome = _; holds = BareType.named s e (qualifiers_has ts).qualifiers }
+bitfield_has : (place : Place) (s : Spot) (ts us : List Lexeme) → bytes_eq s.word (codes "ENUM_BITFIELD") ≡ true → Qualifiers ts us → Has (BareType place) (lexeme.Name s ∷ ts)
+bitfield_has place s ts (lexeme.Open Round a ∷ us) e q = bitfield_opened place s a ts us e q
+bitfield_has place s ts [] e q = record { outcome = _; holds = BareType.no_bitfield s e q refl }
+bitfield_has place s ts (u ∷ us) e q = record { outcome = _; holds = BareType.no_bitfield s e q refl }
 
-bare_type_has : (body : ℕ) (ts : List Lexeme) → Has (BareType body) ts
-bare_type_has body (lexeme.Type w s ∷ ts) = record { outcome = _; holds = BareType.words w s (words_has (lexeme.Type w s ∷ ts) no_words).holds }
-bare_type_has body (lexeme.Tag k t ∷ ts) = tagged_has body k t ts (qualifiers_has ts).behind (qualifiers_has ts).qualifiers
-bare_type_has body (lexeme.Name s ∷ ts) = named_has body s ts (bytes_eq s.word (codes "ENUM_BITFIELD")) refl
-bare_type_has body [] = record { outcome = unexpected []; holds = BareType.no_type refl }
-bare_type_has body (t ∷ ts) = record { outcome = unexpected (t ∷ ts); holds = BareType.no_type refl }
+named_has : (place : Place) (s : Spot) (ts : List Lexeme) (is : Bool) → bytes_eq s.word (codes "ENUM_BITFIELD") ≡ is → Has (BareType place) (lexeme.Name s ∷ ts)
+named_has place s ts true e = bitfield_has place s ts (qualifiers_has ts).behind e (qualifiers_has ts).qualifiers
+named_has place s ts false e = record { outcome = _; holds = BareType.named s e (qualifiers_has ts).qualifiers }
 
-type-one : {body : ℕ} {ts : List Lexeme} {o : Outcome RawType} → AType body ts o → o ≡ type_at body ts
+bare_type_has : (place : Place) (ts : List Lexeme) → Has (BareType place) ts
+bare_type_has place (lexeme.Type w s ∷ ts) = record { outcome = _; holds = BareType.words w s (words_has (lexeme.Type w s ∷ ts) no_words).holds }
+bare_type_has place (lexeme.Tag k t ∷ ts) = tagged_has place k t ts (qualifiers_has ts).behind (qualifiers_has ts).qualifiers
+bare_type_has place (lexeme.Name s ∷ ts) = named_has place s ts (bytes_eq s.word (codes "ENUM_BITFIELD")) refl
+bare_type_has place [] = record { outcome = unexpected []; holds = BareType.no_type refl }
+bare_type_has place (t ∷ ts) = record { outcome = unexpected (t ∷ ts); holds = BareType.no_type refl }
+
+type-one : {place : Place} {ts : List Lexeme} {o : Outcome RawType} → AType place ts o → o ≡ type_at place ts
 unfolding type_at
 type-one (AType.type q b) = rw (qualifiers-one q) (bare_type-one b)
 
-pub type-leaves : {body : ℕ} {ts : List Lexeme} {o : Outcome RawType} → AType body ts o → Leaves (length ts) o
+pub type-leaves : {place : Place} {ts : List Lexeme} {o : Outcome RawType} → AType place ts o → Leaves (length ts) o
 type-leaves (AType.type {o = Read x us} q b) = omega (arith, qualifiers-leaves q, bare_type-leaves b)
 type-leaves (AType.type {o = Stops number at} q b) = tt
 type-leaves (AType.type {o = Ends} q b) = tt
 
-pub type_has : (body : ℕ) (ts : List Lexeme) → Has (AType body) ts
-type_has body ts =
-    let bare = bare_type_has body (qualifiers_has ts).behind in
+pub type_has : (place : Place) (ts : List Lexeme) → Has (AType place) ts
+type_has place ts =
+    let bare = bare_type_has place (qualifiers_has ts).behind in
     record { outcome = bare.outcome; holds = AType.type (qualifiers_has ts).qualifiers bare.holds }
 
-pub type-alone : (body : ℕ) (ts : List Lexeme) (o : Outcome RawType) → AType body ts o → o ≡ type_at body ts
-type-alone body ts o d = type-one d
+pub type-alone : (place : Place) (ts : List Lexeme) (o : Outcome RawType) → AType place ts o → o ≡ type_at place ts
+type-alone place ts o d = type-one d
 
-pub type-allowed : (body : ℕ) (ts : List Lexeme) → AType body ts (type_at body ts)
-type-allowed body = allowed (AType body) (type_at body) (type-alone body) (type_has body)
+pub type-allowed : (place : Place) (ts : List Lexeme) → AType place ts (type_at place ts)
+type-allowed place = allowed (AType place) (type_at place) (type-alone place) (type_has place)

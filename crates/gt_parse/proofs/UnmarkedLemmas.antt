@@ -1,7 +1,6 @@
 -- Unmarked enums and typedefs are read as their rules say.
 use Rattle.std.proofs.Common.{◌≡◌, ℕ, zero, suc, ◌≤◌, Bool, true, false, List, [], ◌∷◌, ◌++◌, length, Option, Some, None, refl, sym, ap, ◌∙◌, append_assoc, arith}
 use Rattle.std.proofs.lemmas.List.{append-nil}
-use Rattle.gt_parse.specs.declared.faults.TheConstants.{UNEXPECTED}
 use Rattle.gt_parse.specs.declared.items.Name.{Name}
 use Rattle.gt_parse.specs.declared.items.Alias.{Alias}
 use Rattle.gt_parse.specs.declared.items.Keyword.{Keyword}
@@ -20,6 +19,7 @@ use Rattle.gt_parse.specs.declared.lexeme.Spot.{Spot}
 use Rattle.gt_parse.specs.declared.lexeme.Bracket.TheVariants.{Brace}
 use Rattle.gt_parse.specs.declared.lexeme.Lexeme.{Lexeme}
 use Rattle.gt_parse.specs.declared.lexeme.Lexeme.TheVariants as lexeme
+use Rattle.gt_parse.specs.declared.types.Place.TheVariants.{Elsewhere}
 use Rattle.gt_parse.specs.FieldGrammar.{depth_after, depth_through, Stands, closes_any}
 use Rattle.gt_parse.specs.ItemGrammar.{is_enum, begins_body, is_starred, IsEnumerator, Enumerators, EnumBody, UnmarkedEnum, HasBody, HasMeaning, Aliases, FirstForm, HasPointer, StarredName, LastName, UnmarkedTypedef}
 use Rattle.gt_parse.specs.Lexemes.{name_of}
@@ -222,28 +222,31 @@ no_body_behind k tag whole [] h = refl
 no_body_behind k tag whole (lexeme.Open Brace o ∷ ts) h = absurd cc
 no_body_behind k tag whole (t ∷ ts) h = refl
 
-plain_means : (us : List Lexeme) {rest : List Lexeme} {type : RawType} → begins is_qualifier us ≡ false → bare_type_at UNEXPECTED us ≡ Read type rest → plain_meaning_at us ≡ Read (meaning.Type type) rest
+plain_means : (us : List Lexeme) {rest : List Lexeme} {type : RawType} → begins is_qualifier us ≡ false → bare_type_at Elsewhere us ≡ Read type rest → plain_meaning_at us ≡ Read (meaning.Type type) rest
 unfolding plain_meaning_at type_at
 plain_means us h e = rw (no_qualifiers us h, e) refl
 
-bare_means : {us rest : List Lexeme} {type : RawType} {o : Outcome RawType} → begins is_qualifier us ≡ false → BareType UNEXPECTED us o → o ≡ Read type rest
+bare_means : {us rest : List Lexeme} {type : RawType} {o : Outcome RawType} → begins is_qualifier us ≡ false → BareType Elsewhere us o → o ≡ Read type rest
     → bare_meaning_at us ≡ Read (meaning.Type type) rest
 unfolding bare_meaning_at
 bare_means h (BareType.words w s m) e = plain_means _ h (sym (bare_type-one (BareType.words w s m)) ∙ e)
-bare_means {us} h (BareType.tagged {rest} k t s q r l) e =
-    rw (qualifiers-one q, qualifiers-one r) (no_body_behind k (name_of s) us rest l ∙ plain_means _ h (sym (bare_type-one (BareType.tagged k t s q r l)) ∙ e))
+bare_means {us} h (BareType.tagged {rest} k t s q r l g) e =
+    rw (qualifiers-one q, qualifiers-one r) (no_body_behind k (name_of s) us rest l ∙ plain_means _ h (sym (bare_type-one (BareType.tagged k t s q r l g)) ∙ e))
+bare_means h (BareType.before_marker k t s g f q r m l) e = absurd cc
 bare_means h (BareType.with_body k t s b q r) e = absurd cc
 bare_means h (BareType.body_alone k t b q) e = absurd cc
+bare_means h (BareType.marked_body k t s g b f q r m) e = absurd cc
+bare_means h (BareType.in_marker k t s g why f q r m) e = absurd cc
 bare_means h (BareType.no_tag {rest} k t q l g) e = absurd (unexpected_read rest _ _ e)
 bare_means h (BareType.named s d q) e = plain_means _ h (sym (bare_type-one (BareType.named s d q)) ∙ e)
 bare_means h (BareType.bitfield s a n b d q r p z) e = plain_means _ h (sym (bare_type-one (BareType.bitfield s a n b d q r p z)) ∙ e)
 bare_means h (BareType.no_bitfield s d q l) e = plain_means _ h (sym (bare_type-one (BareType.no_bitfield s d q l)) ∙ e)
-bare_means h (BareType.function_pointer s a p d q) e = plain_means _ h (sym (bare_type-one (BareType.function_pointer s a p d q)) ∙ e)
+bare_means h (BareType.function_pointer s a p f d q) e = absurd cc
 bare_means h (BareType.bitfield_no_name {rest} s a d q l r k) e = absurd (unexpected_read rest _ _ e)
 bare_means h (BareType.bitfield_not_closed {rest} s a n d q r p k) e = absurd (unexpected_read rest _ _ e)
 bare_means h (BareType.no_type {ts} l) e = absurd (unexpected_read ts _ _ e)
 
-type_means : {ts rest : List Lexeme} {type : RawType} {o : Outcome RawType} → AType UNEXPECTED ts o → o ≡ Read type rest → meaning_at ts ≡ Read (meaning.Type type) rest
+type_means : {ts rest : List Lexeme} {type : RawType} {o : Outcome RawType} → AType Elsewhere ts o → o ≡ Read type rest → meaning_at ts ≡ Read (meaning.Type type) rest
 unfolding meaning_at
 type_means (AType.type q b) e = rw (qualifiers-one q) (bare_means (qualifiers-done q) b e)
 
@@ -254,20 +257,20 @@ meaning-one (HasMeaning.untagged k t o q r b) = rw (qualifiers-one q, qualifiers
 meaning-one (HasMeaning.tagged k t n o q r p b) = rw (qualifiers-one q, qualifiers-one r, qualifiers-one p) (body-one b)
 
 -- the other way round
-same_type : {ts us : List Lexeme} → Qualifiers ts us → type_at UNEXPECTED ts ≡ type_at UNEXPECTED us
+same_type : {ts us : List Lexeme} → Qualifiers ts us → type_at Elsewhere ts ≡ type_at Elsewhere us
 unfolding type_at
 same_type {us} q = rw (qualifiers-one q, no_qualifiers us (qualifiers-done q)) refl
 
-type_meaning : (ts : List Lexeme) (type : RawType) (us : List Lexeme) (means : Meaning) (rest : List Lexeme) → type_at UNEXPECTED ts ≡ Read type us
+type_meaning : (ts : List Lexeme) (type : RawType) (us : List Lexeme) (means : Meaning) (rest : List Lexeme) → type_at Elsewhere ts ≡ Read type us
     → ◌≡◌ {A = Outcome Meaning} (Read (meaning.Type type) us) (Read means rest) → HasMeaning ts means rest
 type_meaning ts type us means rest here e =
     let same = read_is (meaning.Type type) means us rest e in
-    rw (← same.0, ← same.1) (HasMeaning.type (rw here at (type-allowed UNEXPECTED ts)))
+    rw (← same.0, ← same.1) (HasMeaning.type (rw here at (type-allowed Elsewhere ts)))
 
 plain_sound : (ts us : List Lexeme) (means : Meaning) (rest : List Lexeme) → Qualifiers ts us → plain_meaning_at us ≡ Read means rest → HasMeaning ts means rest
 unfolding plain_meaning_at
 plain_sound ts us means rest q e =
-    let step = steps (type_at UNEXPECTED us) (λ type. Read (meaning.Type type.0) type.1) means rest e in
+    let step = steps (type_at Elsewhere us) (λ type. Read (meaning.Type type.0) type.1) means rest e in
     type_meaning ts step.found step.behind means rest (same_type q ∙ step.first) step.second
 
 tagged_sound : (ts : List Lexeme) (k : Keyword) (t n : Spot) (us vs ws : List Lexeme) (means : Meaning) (rest : List Lexeme) → Qualifiers ts (lexeme.Tag k t ∷ us)

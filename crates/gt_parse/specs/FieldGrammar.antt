@@ -12,6 +12,7 @@ use Rattle.gt_parse.specs.declared.lexeme.Bracket.{Bracket}
 use Rattle.gt_parse.specs.declared.lexeme.Bracket.TheVariants.{Round, Square, Brace}
 use Rattle.gt_parse.specs.declared.lexeme.Lexeme.{Lexeme}
 use Rattle.gt_parse.specs.declared.lexeme.Lexeme.TheVariants as lexeme
+use Rattle.gt_parse.specs.declared.types.Place.TheVariants.{InField}
 use Rattle.gt_parse.specs.Fields.{is_access}
 use Rattle.gt_parse.specs.Lexemes.{name_of, kept_text}
 use Rattle.gt_parse.specs.MarkerGrammar.{Failure, failed, begins, is_comma, opens_round, closes_round, MaybeMarker}
@@ -161,13 +162,13 @@ pub data Declarators : List Lexeme → Outcome (List Declarator) → Type 0 wher
 
 -- field := type declarator {"," declarator} ";"
 pub data Field : List Lexeme → Outcome RawField → Type 0 where
-  field : {ts us rest : List Lexeme} {type : RawType} {declarators : List Declarator} → begins_label ts ≡ false → AType UNSUPPORTED ts (Read type us)
+  field : {ts us rest : List Lexeme} {type : RawType} {declarators : List Declarator} → begins_label ts ≡ false → AType InField ts (Read type us)
       → Declarators us (Read declarators rest) → Field ts (Read (record { ty = type; declarators = declarators }) rest)
   -- 9: an access label, at its word
   label : {ts : List Lexeme} (s c : Spot) → is_access s.word ≡ true → Field (lexeme.Name s ∷ lexeme.Colon c ∷ ts) (Stops UNSUPPORTED s.start)
   -- the fault of the type, 9 where one is defined there; of a declarator
-  in_type : {ts : List Lexeme} (why : Failure) → begins_label ts ≡ false → AType UNSUPPORTED ts (failed why) → Field ts (failed why)
-  in_declarators : {ts us : List Lexeme} {type : RawType} (why : Failure) → begins_label ts ≡ false → AType UNSUPPORTED ts (Read type us)
+  in_type : {ts : List Lexeme} (why : Failure) → begins_label ts ≡ false → AType InField ts (failed why) → Field ts (failed why)
+  in_declarators : {ts us : List Lexeme} {type : RawType} (why : Failure) → begins_label ts ≡ false → AType InField ts (Read type us)
       → Declarators us (failed why) → Field ts (failed why)
 
 -- field+ "}"

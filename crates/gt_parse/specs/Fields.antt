@@ -8,6 +8,7 @@ use Rattle.gt_parse.specs.declared.items.Stars.TheVariants.{Zero}
 use Rattle.gt_parse.specs.declared.lexeme.Bracket.TheVariants.{Round, Brace}
 use Rattle.gt_parse.specs.declared.lexeme.Lexeme.{Lexeme}
 use Rattle.gt_parse.specs.declared.lexeme.Lexeme.TheVariants as lexeme
+use Rattle.gt_parse.specs.declared.types.Place.TheVariants.{InField}
 use Rattle.gt_parse.specs.Lexemes.{kept_text}
 use Rattle.gt_parse.specs.Outcome.{Outcome, Read, Stops, Ends, ◌>>=◌, unexpected}
 use Rattle.gt_parse.specs.Markers.{maybe_marker, open_round_at, close_round_at}
@@ -87,7 +88,7 @@ no_label_at ts = Read tt ts
 unfoldable pub field_at : List Lexeme → Outcome RawField
 field_at ts = do
   no_label ← no_label_at ts
-  type ← type_at UNSUPPORTED no_label.1
+  type ← type_at InField no_label.1
   declarators ← declarators_from (length type.1) [] type.1
   Read (record { ty = type.0; declarators = declarators.0 }) declarators.1
 

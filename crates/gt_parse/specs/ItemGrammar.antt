@@ -1,7 +1,7 @@
 -- The grammar of unmarked items, and of whole items. Each case is a rule: what some tokens declare, or with which fault reading stops.
 use Rattle.std.specs.Prelude.{◌≡◌, Bool, true, false, List, [], ◌∷◌, ◌++◌, Option, Some, None}
 use Rattle.std.specs.List.{list_any}
-use Rattle.gt_parse.specs.declared.faults.TheConstants.{UNEXPECTED, BAD_MARKER_PLACE}
+use Rattle.gt_parse.specs.declared.faults.TheConstants.{BAD_MARKER_PLACE}
 use Rattle.gt_parse.specs.declared.items.Name.{Name}
 use Rattle.gt_parse.specs.declared.items.Alias.{Alias}
 use Rattle.gt_parse.specs.declared.items.Keyword.{Keyword}
@@ -21,6 +21,7 @@ use Rattle.gt_parse.specs.declared.lexeme.Bracket.{Bracket}
 use Rattle.gt_parse.specs.declared.lexeme.Bracket.TheVariants.{Round, Brace}
 use Rattle.gt_parse.specs.declared.lexeme.Lexeme.{Lexeme}
 use Rattle.gt_parse.specs.declared.lexeme.Lexeme.TheVariants as lexeme
+use Rattle.gt_parse.specs.declared.types.Place.TheVariants.{Elsewhere}
 use Rattle.gt_parse.specs.FieldGrammar.{closes_any, depth_through, Stands, IsFree}
 use Rattle.gt_parse.specs.Lexemes.{name_of, kept_text}
 use Rattle.gt_parse.specs.MarkedGrammar.{MarkedItem}
@@ -97,7 +98,7 @@ pub data HasBody : Keyword → Option Name → List Lexeme → Meaning → List 
 
 -- a type, which may have a body, with a tag or without
 pub data HasMeaning : List Lexeme → Meaning → List Lexeme → Type 0 where
-  type : {ts rest : List Lexeme} {type : RawType} → AType UNEXPECTED ts (Read type rest) → HasMeaning ts (meaning.Type type) rest
+  type : {ts rest : List Lexeme} {type : RawType} → AType Elsewhere ts (Read type rest) → HasMeaning ts (meaning.Type type) rest
   untagged : {ts us vs rest : List Lexeme} {means : Meaning} (k : Keyword) (t o : Spot) → Qualifiers ts (lexeme.Tag k t ∷ us)
       → Qualifiers us (lexeme.Open Brace o ∷ vs) → HasBody k None vs means rest → HasMeaning ts means rest
   tagged : {ts us vs ws rest : List Lexeme} {means : Meaning} (k : Keyword) (t n o : Spot) → Qualifiers ts (lexeme.Tag k t ∷ us)

@@ -14,6 +14,7 @@ use Rattle.gt_parse.specs.declared.lexeme.Spot.{Spot}
 use Rattle.gt_parse.specs.declared.lexeme.Bracket.TheVariants.{Brace}
 use Rattle.gt_parse.specs.declared.lexeme.Lexeme.{Lexeme}
 use Rattle.gt_parse.specs.declared.lexeme.Lexeme.TheVariants as lexeme
+use Rattle.gt_parse.specs.declared.types.Place.TheVariants.{Elsewhere}
 use Rattle.gt_parse.specs.Lexemes.{name_of}
 use Rattle.gt_parse.specs.Outcome.{Outcome, Read, Stops, ◌>>=◌, unexpected}
 use Rattle.gt_parse.specs.Markers.{marker_at}
@@ -80,7 +81,7 @@ initialiser_at ts = semicolon_at ts
 -- type {"*"} NAME {"[" text "]"} ["=" skipped] ";", behind the marker
 unfoldable pub root_at : List RawOption → List Lexeme → Outcome Item
 root_at options ts = do
-  type ← type_at UNEXPECTED ts
+  type ← type_at Elsewhere ts
   name ← name_at (stars_at type.1).1
   bounds ← bounds_from (length name.1) [] name.1
   ended ← initialiser_at bounds.1
@@ -88,7 +89,7 @@ root_at options ts = do
 
 -- a type and its stars
 unfoldable pub pointed_at : List Lexeme → Outcome PointedType
-pointed_at ts = type_at UNEXPECTED ts >>= λ type. Read (record { ty = type.0; stars = (stars_at type.1).0 }) (stars_at type.1).1
+pointed_at ts = type_at Elsewhere ts >>= λ type. Read (record { ty = type.0; stars = (stars_at type.1).0 }) (stars_at type.1).1
 
 -- a third type of the map may be named
 unfoldable pub traits_at : List Lexeme → Outcome (Unit {0})

@@ -16,6 +16,7 @@ use Rattle.gt_parse.specs.declared.lexeme.Spot.{Spot}
 use Rattle.gt_parse.specs.declared.lexeme.Bracket.TheVariants.{Brace}
 use Rattle.gt_parse.specs.declared.lexeme.Lexeme.{Lexeme}
 use Rattle.gt_parse.specs.declared.lexeme.Lexeme.TheVariants as lexeme
+use Rattle.gt_parse.specs.declared.types.Place.TheVariants.{Elsewhere}
 use Rattle.gt_parse.specs.FieldGrammar.{is_semicolon, is_colon, Bounds, FieldsToBrace}
 use Rattle.gt_parse.specs.Lexemes.{name_of}
 use Rattle.gt_parse.specs.Marked.{is_cache}
@@ -108,29 +109,29 @@ pub data AStructure : (has_alias is_union : Bool) → List Lexeme → Outcome It
 
 -- type {"*"} NAME bounds ["=" skipped] ";", behind a marker with these options
 pub data ARoot (options : List RawOption) : List Lexeme → Outcome Item → Type 0 where
-  root : {ts us vs rest : List Lexeme} {type : RawType} {stars : Stars} {bounds : List (List ℕ)} (n s : Spot) → AType UNEXPECTED ts (Read type us)
+  root : {ts us vs rest : List Lexeme} {type : RawType} {stars : Stars} {bounds : List (List ℕ)} (n s : Spot) → AType Elsewhere ts (Read type us)
       → AreStars us stars (lexeme.Name n ∷ vs) → Bounds vs (Read bounds (lexeme.Semicolon s ∷ rest))
       → ARoot options ts (Read (Root (record { options = options; ty = type; stars = stars; name = name_of n; bounds = bounds })) rest)
   -- an initialiser is passed over to the end of the item
-  initialised : {ts us vs skipped : List Lexeme} {type : RawType} {stars : Stars} {bounds : List (List ℕ)} (n e : Spot) → AType UNEXPECTED ts (Read type us)
+  initialised : {ts us vs skipped : List Lexeme} {type : RawType} {stars : Stars} {bounds : List (List ℕ)} (n e : Spot) → AType Elsewhere ts (Read type us)
       → AreStars us stars (lexeme.Name n ∷ vs) → Bounds vs (Read bounds (lexeme.Equals e ∷ skipped))
       → ARoot options ts (Read (Root (record { options = options; ty = type; stars = stars; name = name_of n; bounds = bounds })) [])
   -- the fault of the type, 8 where one is defined there; of a bound
-  in_type : {ts : List Lexeme} (why : Failure) → AType UNEXPECTED ts (failed why) → ARoot options ts (failed why)
-  in_bounds : {ts us vs : List Lexeme} {type : RawType} {stars : Stars} (n : Spot) (why : Failure) → AType UNEXPECTED ts (Read type us)
+  in_type : {ts : List Lexeme} (why : Failure) → AType Elsewhere ts (failed why) → ARoot options ts (failed why)
+  in_bounds : {ts us vs : List Lexeme} {type : RawType} {stars : Stars} (n : Spot) (why : Failure) → AType Elsewhere ts (Read type us)
       → AreStars us stars (lexeme.Name n ∷ vs) → Bounds vs (failed why) → ARoot options ts (failed why)
   -- 8: a name has to stand here; a semicolon or the sign =
-  no_name : {ts us rest : List Lexeme} {type : RawType} {stars : Stars} → AType UNEXPECTED ts (Read type us) → AreStars us stars rest
+  no_name : {ts us rest : List Lexeme} {type : RawType} {stars : Stars} → AType Elsewhere ts (Read type us) → AreStars us stars rest
       → begins is_name rest ≡ false → ARoot options ts (unexpected rest)
-  not_ended : {ts us vs rest : List Lexeme} {type : RawType} {stars : Stars} {bounds : List (List ℕ)} (n : Spot) → AType UNEXPECTED ts (Read type us)
+  not_ended : {ts us vs rest : List Lexeme} {type : RawType} {stars : Stars} {bounds : List (List ℕ)} (n : Spot) → AType Elsewhere ts (Read type us)
       → AreStars us stars (lexeme.Name n ∷ vs) → Bounds vs (Read bounds rest) → begins is_equals rest ≡ false → begins is_semicolon rest ≡ false
       → ARoot options ts (unexpected rest)
 
 -- type {"*"}
 pub data APointed : List Lexeme → Outcome PointedType → Type 0 where
-  pointed : {ts us rest : List Lexeme} {type : RawType} {stars : Stars} → AType UNEXPECTED ts (Read type us) → AreStars us stars rest
+  pointed : {ts us rest : List Lexeme} {type : RawType} {stars : Stars} → AType Elsewhere ts (Read type us) → AreStars us stars rest
       → APointed ts (Read (record { ty = type; stars = stars }) rest)
-  in_type : {ts : List Lexeme} (why : Failure) → AType UNEXPECTED ts (failed why) → APointed ts (failed why)
+  in_type : {ts : List Lexeme} (why : Failure) → AType Elsewhere ts (failed why) → APointed ts (failed why)
 
 -- traits := ["," NAME]
 pub data Traits : List Lexeme → Outcome (Unit {0}) → Type 0 where

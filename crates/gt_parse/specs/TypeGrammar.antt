@@ -1,12 +1,13 @@
 -- The grammar of types. Each case is a rule: which tokens are read as what, or with which fault reading stops.
-use Rattle.std.specs.Prelude.{◌≡◌, ℕ, Bool, true, false, ◌&&◌, List, ◌∷◌, codes, Some, None}
+use Rattle.std.specs.Prelude.{◌≡◌, Bool, true, false, ◌&&◌, List, ◌∷◌, codes, Some, None}
 use Rattle.std.specs.Str.{bytes_eq}
-use Rattle.gt_parse.specs.declared.faults.TheConstants.{UNEXPECTED}
+use Rattle.gt_parse.specs.declared.faults.TheConstants.{UNEXPECTED, UNSUPPORTED}
 use Rattle.gt_parse.specs.declared.items.Stars.{Stars}
 use Rattle.gt_parse.specs.declared.items.Stars.TheVariants.{Zero}
 use Rattle.gt_parse.specs.declared.items.Combination.{Combination}
 use Rattle.gt_parse.specs.declared.items.Keyword.{Keyword}
 use Rattle.gt_parse.specs.declared.items.Keyword.TheVariants as keyword
+use Rattle.gt_parse.specs.declared.items.RawOption.{RawOption}
 use Rattle.gt_parse.specs.declared.items.RawType.{RawType}
 use Rattle.gt_parse.specs.declared.items.RawType.TheVariants.{Words, UnsignedHostWide, Tagged, Named}
 use Rattle.gt_parse.specs.declared.lexeme.Spot.{Spot}
@@ -14,10 +15,13 @@ use Rattle.gt_parse.specs.declared.lexeme.Bracket.TheVariants.{Round, Brace}
 use Rattle.gt_parse.specs.declared.lexeme.TypeWord.{TypeWord}
 use Rattle.gt_parse.specs.declared.lexeme.Lexeme.{Lexeme}
 use Rattle.gt_parse.specs.declared.lexeme.Lexeme.TheVariants as lexeme
+use Rattle.gt_parse.specs.declared.types.Place.{Place}
+use Rattle.gt_parse.specs.declared.types.Place.TheVariants.{InField, Elsewhere}
 use Rattle.gt_parse.specs.Lexemes.{name_of}
-use Rattle.gt_parse.specs.MarkerGrammar.{begins, opens_round, closes_round}
+use Rattle.gt_parse.specs.MarkerGrammar.{Failure, failed, begins, opens_round, closes_round, Marker}
 use Rattle.gt_parse.specs.Outcome.{Outcome, Read, Stops, unexpected}
-use Rattle.gt_parse.specs.Types.{no_words, with_word, is_unsigned_alone, one_more}
+use Rattle.gt_parse.specs.Search.{is_gty}
+use Rattle.gt_parse.specs.Types.{no_words, with_word, is_unsigned_alone, one_more, definition_fault}
 
 -- ---- the words of the rules
 
@@ -51,6 +55,11 @@ goes_on (lexeme.Qualifier s) = true
 goes_on (lexeme.Name s) = true
 goes_on t = false
 
+-- a field, where a pointer to a function may be declared
+abbrev pub in_field : Place → Bool
+in_field InField = true
+in_field Elsewhere = false
+
 -- ---- qualifiers and stars
 
 -- as many of const and volatile as follow one another, which mean nothing, and the tokens behind them
@@ -83,45 +92,56 @@ pub data MoreWords : Combination → List Lexeme → Outcome RawType → Type 0 
   -- no more words
   no_word : {before : Combination} {ts : List Lexeme} → begins goes_on ts ≡ false → MoreWords before ts (Read (Words before) ts)
 
--- A type that begins with no qualifier: words, a keyword and a tag, or a name. body is the number of the fault of a type that is
--- defined here.
-pub data BareType (body : ℕ) : List Lexeme → Outcome RawType → Type 0 where
+-- A type that stands at a place and begins with no qualifier: words, a keyword and a tag, or a name. A type that is defined there is
+-- 9 in a field, and 8 elsewhere.
+pub data BareType (place : Place) : List Lexeme → Outcome RawType → Type 0 where
   words : {ts : List Lexeme} {o : Outcome RawType} (w : TypeWord) (s : Spot) → MoreWords no_words (lexeme.Type w s ∷ ts) o
-      → BareType body (lexeme.Type w s ∷ ts) o
+      → BareType place (lexeme.Type w s ∷ ts) o
   -- (struct | union | enum) NAME
   tagged : {ts us rest : List Lexeme} (k : Keyword) (t s : Spot) → Qualifiers ts (lexeme.Name s ∷ us) → Qualifiers us rest
-      → begins opens_brace rest ≡ false → BareType body (lexeme.Tag k t ∷ ts) (Read (Tagged k (name_of s)) rest)
+      → begins opens_brace rest ≡ false → (in_field place && begins is_gty rest) ≡ false → BareType place (lexeme.Tag k t ∷ ts) (Read (Tagged k (name_of s)) rest)
+  -- in a field, before the marker of its name
+  before_marker : {ts us rest behind : List Lexeme} {options : List RawOption} (k : Keyword) (t s g : Spot) → in_field place ≡ true
+      → Qualifiers ts (lexeme.Name s ∷ us) → Qualifiers us (lexeme.Gty g ∷ rest) → Marker (lexeme.Gty g ∷ rest) (Read options behind) → begins opens_brace behind ≡ false
+      → BareType place (lexeme.Tag k t ∷ ts) (Read (Tagged k (name_of s)) (lexeme.Gty g ∷ rest))
   -- a body may stand neither behind the tag nor in its place
   with_body : {ts us rest : List Lexeme} (k : Keyword) (t s b : Spot) → Qualifiers ts (lexeme.Name s ∷ us) → Qualifiers us (lexeme.Open Brace b ∷ rest)
-      → BareType body (lexeme.Tag k t ∷ ts) (Stops body b.start)
+      → BareType place (lexeme.Tag k t ∷ ts) (Stops (definition_fault place) b.start)
   body_alone : {ts rest : List Lexeme} (k : Keyword) (t b : Spot) → Qualifiers ts (lexeme.Open Brace b ∷ rest)
-      → BareType body (lexeme.Tag k t ∷ ts) (Stops body b.start)
+      → BareType place (lexeme.Tag k t ∷ ts) (Stops (definition_fault place) b.start)
+  -- in a field it may not stand behind a tag and a marker either; the fault of that marker
+  marked_body : {ts us rest behind : List Lexeme} {options : List RawOption} (k : Keyword) (t s g b : Spot) → in_field place ≡ true
+      → Qualifiers ts (lexeme.Name s ∷ us) → Qualifiers us (lexeme.Gty g ∷ rest) → Marker (lexeme.Gty g ∷ rest) (Read options (lexeme.Open Brace b ∷ behind))
+      → BareType place (lexeme.Tag k t ∷ ts) (Stops UNSUPPORTED b.start)
+  in_marker : {ts us rest : List Lexeme} (k : Keyword) (t s g : Spot) (why : Failure) → in_field place ≡ true
+      → Qualifiers ts (lexeme.Name s ∷ us) → Qualifiers us (lexeme.Gty g ∷ rest) → Marker (lexeme.Gty g ∷ rest) (failed why)
+      → BareType place (lexeme.Tag k t ∷ ts) (failed why)
   -- 8: a tag has to stand here
   no_tag : {ts rest : List Lexeme} (k : Keyword) (t : Spot) → Qualifiers ts rest → begins is_name rest ≡ false → begins opens_brace rest ≡ false
-      → BareType body (lexeme.Tag k t ∷ ts) (unexpected rest)
+      → BareType place (lexeme.Tag k t ∷ ts) (unexpected rest)
   -- a name
   named : {ts rest : List Lexeme} (s : Spot) → bytes_eq s.word (codes "ENUM_BITFIELD") ≡ false → Qualifiers ts rest
-      → BareType body (lexeme.Name s ∷ ts) (Read (Named (name_of s)) rest)
+      → BareType place (lexeme.Name s ∷ ts) (Read (Named (name_of s)) rest)
   -- "ENUM_BITFIELD" "(" NAME ")" is an enum
   bitfield : {ts us vs ws rest : List Lexeme} (s a n b : Spot) → bytes_eq s.word (codes "ENUM_BITFIELD") ≡ true
       → Qualifiers ts (lexeme.Open Round a ∷ us) → Qualifiers us (lexeme.Name n ∷ vs) → Qualifiers vs (lexeme.Close Round b ∷ ws) → Qualifiers ws rest
-      → BareType body (lexeme.Name s ∷ ts) (Read (Tagged keyword.Enum (name_of n)) rest)
-  -- that word is a name like another, where no bracket stands behind it, or one with a star: a pointer to a function
+      → BareType place (lexeme.Name s ∷ ts) (Read (Tagged keyword.Enum (name_of n)) rest)
+  -- that word is a name like another, where no bracket stands behind it, or in a field one with a star: a pointer to a function
   no_bitfield : {ts rest : List Lexeme} (s : Spot) → bytes_eq s.word (codes "ENUM_BITFIELD") ≡ true → Qualifiers ts rest → begins opens_round rest ≡ false
-      → BareType body (lexeme.Name s ∷ ts) (Read (Named (name_of s)) rest)
-  function_pointer : {ts rest : List Lexeme} (s a p : Spot) → bytes_eq s.word (codes "ENUM_BITFIELD") ≡ true
+      → BareType place (lexeme.Name s ∷ ts) (Read (Named (name_of s)) rest)
+  function_pointer : {ts rest : List Lexeme} (s a p : Spot) → in_field place ≡ true → bytes_eq s.word (codes "ENUM_BITFIELD") ≡ true
       → Qualifiers ts (lexeme.Open Round a ∷ lexeme.Star p ∷ rest)
-      → BareType body (lexeme.Name s ∷ ts) (Read (Named (name_of s)) (lexeme.Open Round a ∷ lexeme.Star p ∷ rest))
+      → BareType place (lexeme.Name s ∷ ts) (Read (Named (name_of s)) (lexeme.Open Round a ∷ lexeme.Star p ∷ rest))
   -- 8: a name has to stand here; a closing bracket
   bitfield_no_name : {ts us rest : List Lexeme} (s a : Spot) → bytes_eq s.word (codes "ENUM_BITFIELD") ≡ true
-      → Qualifiers ts (lexeme.Open Round a ∷ us) → begins is_star us ≡ false → Qualifiers us rest → begins is_name rest ≡ false
-      → BareType body (lexeme.Name s ∷ ts) (unexpected rest)
+      → Qualifiers ts (lexeme.Open Round a ∷ us) → (in_field place && begins is_star us) ≡ false → Qualifiers us rest → begins is_name rest ≡ false
+      → BareType place (lexeme.Name s ∷ ts) (unexpected rest)
   bitfield_not_closed : {ts us vs rest : List Lexeme} (s a n : Spot) → bytes_eq s.word (codes "ENUM_BITFIELD") ≡ true
       → Qualifiers ts (lexeme.Open Round a ∷ us) → Qualifiers us (lexeme.Name n ∷ vs) → Qualifiers vs rest → begins closes_round rest ≡ false
-      → BareType body (lexeme.Name s ∷ ts) (unexpected rest)
+      → BareType place (lexeme.Name s ∷ ts) (unexpected rest)
   -- 8: a type has to stand here
-  no_type : {ts : List Lexeme} → begins begins_type ts ≡ false → BareType body ts (unexpected ts)
+  no_type : {ts : List Lexeme} → begins begins_type ts ≡ false → BareType place ts (unexpected ts)
 
 -- a type, with qualifiers before it and in it
-pub data AType (body : ℕ) : List Lexeme → Outcome RawType → Type 0 where
-  type : {ts us : List Lexeme} {o : Outcome RawType} → Qualifiers ts us → BareType body us o → AType body ts o
+pub data AType (place : Place) : List Lexeme → Outcome RawType → Type 0 where
+  type : {ts us : List Lexeme} {o : Outcome RawType} → Qualifiers ts us → BareType place us o → AType place ts o

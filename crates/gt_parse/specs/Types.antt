@@ -1,7 +1,7 @@
 -- How types are read.
 use Rattle.std.specs.Prelude.{ℕ, Bool, true, false, ◌&&◌, if◌then◌else◌, List, ◌∷◌, codes, Option, Some, None}
 use Rattle.std.specs.Str.{bytes_eq}
-use Rattle.gt_parse.specs.declared.faults.TheConstants.{UNEXPECTED}
+use Rattle.gt_parse.specs.declared.faults.TheConstants.{UNEXPECTED, UNSUPPORTED}
 use Rattle.gt_parse.specs.declared.items.Name.{Name}
 use Rattle.gt_parse.specs.declared.items.Stars.{Stars}
 use Rattle.gt_parse.specs.declared.items.Stars.TheVariants.{Zero, One, Two, More}
@@ -22,9 +22,11 @@ use Rattle.gt_parse.specs.declared.lexeme.TypeWord.{TypeWord}
 use Rattle.gt_parse.specs.declared.lexeme.TypeWord.TheVariants as word
 use Rattle.gt_parse.specs.declared.lexeme.Lexeme.{Lexeme}
 use Rattle.gt_parse.specs.declared.lexeme.Lexeme.TheVariants as lexeme
+use Rattle.gt_parse.specs.declared.types.Place.{Place}
+use Rattle.gt_parse.specs.declared.types.Place.TheVariants.{InField, Elsewhere}
 use Rattle.gt_parse.specs.Lexemes.{name_of}
 use Rattle.gt_parse.specs.Outcome.{Outcome, Read, Stops, ◌>>=◌, unexpected}
-use Rattle.gt_parse.specs.Markers.{close_round_at}
+use Rattle.gt_parse.specs.Markers.{close_round_at, marker_at}
 
 -- no word yet
 abbrev pub no_words : Combination
@@ -124,16 +126,29 @@ words_from c (lexeme.Qualifier s ∷ ts) = words_from c ts
 words_from c (lexeme.Name s ∷ ts) = words_before c s ts
 words_from c ts = Read (Words c) ts
 
--- no body may stand behind a tag: where one does, this is the number of the fault
-abbrev pub without_body : ℕ → RawType → List Lexeme → Outcome RawType
-without_body body type (lexeme.Open Brace s ∷ ts) = Stops body s.start
-without_body body type ts = Read type ts
+-- the number of the fault of a type that is defined at a place where none may be
+abbrev pub definition_fault : Place → ℕ
+definition_fault InField = UNSUPPORTED
+definition_fault Elsewhere = UNEXPECTED
+
+-- no brace may open a body at the front
+abbrev pub no_brace_at : Place → List Lexeme → Outcome (Unit {0})
+no_brace_at place (lexeme.Open Brace s ∷ ts) = Stops (definition_fault place) s.start
+no_brace_at place ts = Read tt ts
+
+-- no body may stand behind a tag, nor in a field behind a tag and a marker
+unfoldable pub no_body_at : Place → List Lexeme → Outcome (Unit {0})
+no_body_at InField (lexeme.Gty s ∷ ts) = do
+  options ← marker_at (lexeme.Gty s ∷ ts)
+  no_brace ← no_brace_at InField options.1
+  Read tt (lexeme.Gty s ∷ ts)
+no_body_at place ts = no_brace_at place ts
 
 -- the tag behind a keyword
-unfoldable pub tagged_at : ℕ → Keyword → List Lexeme → Outcome RawType
-tagged_at body k (lexeme.Name s ∷ ts) = without_body body (Tagged k (name_of s)) (without_qualifiers ts)
-tagged_at body k (lexeme.Open Brace s ∷ ts) = Stops body s.start
-tagged_at body k ts = unexpected ts
+unfoldable pub tagged_at : Place → Keyword → List Lexeme → Outcome RawType
+tagged_at place k (lexeme.Name s ∷ ts) = no_body_at place (without_qualifiers ts) >>= λ no_body. Read (Tagged k (name_of s)) no_body.1
+tagged_at place k (lexeme.Open Brace s ∷ ts) = Stops (definition_fault place) s.start
+tagged_at place k ts = unexpected ts
 
 -- the enum in the brackets of ENUM_BITFIELD
 unfoldable pub bitfield_at : List Lexeme → Outcome RawType
@@ -142,23 +157,23 @@ bitfield_at ts = do
   closed ← close_round_at (without_qualifiers tag.1)
   Read (Tagged keyword.Enum tag.0) (without_qualifiers closed.1)
 
--- what stands behind the word ENUM_BITFIELD: an enum in brackets, but for `(*`, which declares a pointer to a function
-abbrev pub behind_bitfield : Spot → List Lexeme → Outcome RawType
-behind_bitfield s (lexeme.Open Round p ∷ lexeme.Star q ∷ ts) = Read (Named (name_of s)) (lexeme.Open Round p ∷ lexeme.Star q ∷ ts)
-behind_bitfield s (lexeme.Open Round p ∷ ts) = bitfield_at ts
-behind_bitfield s ts = Read (Named (name_of s)) ts
+-- what stands behind the word ENUM_BITFIELD: an enum in brackets, but for `(*` in a field, which declares a pointer to a function
+abbrev pub behind_bitfield : Place → Spot → List Lexeme → Outcome RawType
+behind_bitfield InField s (lexeme.Open Round p ∷ lexeme.Star q ∷ ts) = Read (Named (name_of s)) (lexeme.Open Round p ∷ lexeme.Star q ∷ ts)
+behind_bitfield place s (lexeme.Open Round p ∷ ts) = bitfield_at ts
+behind_bitfield place s ts = Read (Named (name_of s)) ts
 
 -- a type that begins with a name
-abbrev pub named_at : Spot → List Lexeme → Outcome RawType
-named_at s ts = if bytes_eq s.word (codes "ENUM_BITFIELD") then behind_bitfield s (without_qualifiers ts) else Read (Named (name_of s)) (without_qualifiers ts)
+abbrev pub named_at : Place → Spot → List Lexeme → Outcome RawType
+named_at place s ts = if bytes_eq s.word (codes "ENUM_BITFIELD") then behind_bitfield place s (without_qualifiers ts) else Read (Named (name_of s)) (without_qualifiers ts)
 
 -- a type at the front, without qualifiers before it
-unfoldable pub bare_type_at : ℕ → List Lexeme → Outcome RawType
-bare_type_at body (lexeme.Type w s ∷ ts) = words_with (λ c. words_from c ts) s.start (with_word w no_words)
-bare_type_at body (lexeme.Tag k s ∷ ts) = tagged_at body k (without_qualifiers ts)
-bare_type_at body (lexeme.Name s ∷ ts) = named_at s ts
-bare_type_at body ts = unexpected ts
+unfoldable pub bare_type_at : Place → List Lexeme → Outcome RawType
+bare_type_at place (lexeme.Type w s ∷ ts) = words_with (λ c. words_from c ts) s.start (with_word w no_words)
+bare_type_at place (lexeme.Tag k s ∷ ts) = tagged_at place k (without_qualifiers ts)
+bare_type_at place (lexeme.Name s ∷ ts) = named_at place s ts
+bare_type_at place ts = unexpected ts
 
--- a type, with the qualifiers before and behind it; body is the number of the fault of a type that is defined here
-unfoldable pub type_at : ℕ → List Lexeme → Outcome RawType
-type_at body ts = bare_type_at body (without_qualifiers ts)
+-- a type that stands at a place, with the qualifiers before and behind it
+unfoldable pub type_at : Place → List Lexeme → Outcome RawType
+type_at place ts = bare_type_at place (without_qualifiers ts)

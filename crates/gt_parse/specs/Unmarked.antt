@@ -1,6 +1,6 @@
 -- What unmarked typedefs and enums declare. They give no faults.
 use Rattle.std.specs.Prelude.{ℕ, zero, suc, Bool, true, false, List, [], ◌∷◌, ◌++◌, length, Option, Some, None}
-use Rattle.gt_parse.specs.declared.faults.TheConstants.{UNEXPECTED, BAD_MARKER_PLACE}
+use Rattle.gt_parse.specs.declared.faults.TheConstants.{BAD_MARKER_PLACE}
 use Rattle.gt_parse.specs.declared.items.Name.{Name}
 use Rattle.gt_parse.specs.declared.items.Alias.{Alias}
 use Rattle.gt_parse.specs.declared.items.Keyword.{Keyword}
@@ -17,6 +17,7 @@ use Rattle.gt_parse.specs.declared.items.Enumerator.TheVariants.{Counted, Valued
 use Rattle.gt_parse.specs.declared.lexeme.Bracket.TheVariants.{Round, Brace}
 use Rattle.gt_parse.specs.declared.lexeme.Lexeme.{Lexeme}
 use Rattle.gt_parse.specs.declared.lexeme.Lexeme.TheVariants as lexeme
+use Rattle.gt_parse.specs.declared.types.Place.TheVariants.{Elsewhere}
 use Rattle.gt_parse.specs.Lexemes.{name_of, kept_text}
 use Rattle.gt_parse.specs.Outcome.{Outcome, Read, Stops, Ends, ◌>>=◌, unexpected}
 use Rattle.gt_parse.specs.Types.{without_qualifiers, type_at}
@@ -77,7 +78,7 @@ body_at keyword.Enum tag ts = enum_body_at tag ts >>= λ found. Read (meaning.En
 
 -- a type without a body
 unfoldable pub plain_meaning_at : List Lexeme → Outcome Meaning
-plain_meaning_at ts = type_at UNEXPECTED ts >>= λ type. Read (meaning.Type type.0) type.1
+plain_meaning_at ts = type_at Elsewhere ts >>= λ type. Read (meaning.Type type.0) type.1
 
 -- what stands behind a keyword and a tag: a body, or else the type ends here
 abbrev pub tagged_meaning_at : Keyword → Name → List Lexeme → List Lexeme → Outcome Meaning

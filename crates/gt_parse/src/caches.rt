@@ -4,11 +4,11 @@ ghost use Rattle.gt_parse.specs.Outcome.{Gives};
 ghost use Rattle.gt_parse.specs.Marked.{comma_at, greater_at, pointed_at, traits_at, is_cache, cache_name_at, cache_at};
 
 use crate::declarators::star;
-use crate::faults::{UNEXPECTED, UNSUPPORTED};
+use crate::faults::UNSUPPORTED;
 use crate::items::{Item, Name, PointedType, RawCache, RawOption};
 use crate::lexeme::Lexeme;
 use crate::structures::semicolon;
-use crate::types::{base_type, name, stars, without_qualifiers};
+use crate::types::{Place, base_type, name, stars, without_qualifiers};
 use crate::unread::{Unread, unexpected};
 use crate::words::is_word;
 use gt_types::List;
@@ -45,7 +45,7 @@ pub fn cache(
 fn pointed(alloc: Global, tokens: &[Lexeme]) -> Result<(PointedType, &[Lexeme]), Unread>
     ensures { Gives (λ x. (x.0, x.1.now)) result (pointed_at tokens.now) }
 {
-    let (ty, rest) = base_type(alloc, UNEXPECTED, tokens)?;
+    let (ty, rest) = base_type(alloc, Place::Elsewhere, tokens)?;
     let (stars, rest) = stars(rest);
     Ok((PointedType { ty, stars }, rest))
 }

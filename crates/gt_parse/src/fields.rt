@@ -8,7 +8,7 @@ use crate::declarators::declarators;
 use crate::faults::UNSUPPORTED;
 use crate::items::RawField;
 use crate::lexeme::{Bracket, Lexeme};
-use crate::types::base_type;
+use crate::types::{Place, base_type};
 use crate::unread::Unread;
 use crate::words::is_word;
 use gt_types::{List, Word};
@@ -46,7 +46,7 @@ fn field(alloc: Global, tokens: &[Lexeme]) -> Result<(RawField, &[Lexeme]), Unre
     ensures { Gives (λ x. (x.0, x.1.now)) result (field_at tokens.now) }
 {
     let rest = no_label(tokens)?;
-    let (ty, rest) = base_type(alloc, UNSUPPORTED, rest)?;
+    let (ty, rest) = base_type(alloc, Place::InField, rest)?;
     let (declarators, rest) = declarators(alloc, rest)?;
     Ok((RawField { ty, declarators }, rest))
 }

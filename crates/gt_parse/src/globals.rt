@@ -4,13 +4,12 @@ ghost use Rattle.gt_parse.specs.Outcome.{Gives};
 ghost use Rattle.gt_parse.specs.Marked.{initialiser_at, root_at, behind_marker_at, global_at};
 
 use crate::caches::cache;
-use crate::faults::UNEXPECTED;
 use crate::groups::bounds;
 use crate::items::{Item, RawOption, RawRoot};
 use crate::lexeme::Lexeme;
 use crate::markers::marker;
 use crate::structures::semicolon;
-use crate::types::{base_type, name, stars};
+use crate::types::{Place, base_type, name, stars};
 use crate::unread::Unread;
 use crate::words::is_word;
 use gt_types::List;
@@ -52,7 +51,7 @@ fn root(
 ) -> Result<(Item, &[Lexeme]), Unread>
     ensures { Gives (λ x. (x.0, x.1.now)) result (root_at options tokens.now) }
 {
-    let (ty, rest) = base_type(alloc, UNEXPECTED, tokens)?;
+    let (ty, rest) = base_type(alloc, Place::Elsewhere, tokens)?;
     let (stars, rest) = stars(rest);
     let (name, rest) = name(alloc, rest)?;
     let (bounds, rest) = bounds(alloc, rest)?;

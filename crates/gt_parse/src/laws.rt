@@ -1,10 +1,11 @@
 // Laws of the definitions, for all tokens. The functions do nothing.
-ghost use Rattle.std.specs.Prelude.{◌≡◌, ℕ, List, [], Option};
+ghost use Rattle.std.specs.Prelude.{◌≡◌, List, [], Option};
 ghost use Rattle.gt_parse.specs.declared.items.Item.{Item as TheItem};
 ghost use Rattle.gt_parse.specs.declared.items.RawField.{RawField as TheField};
 ghost use Rattle.gt_parse.specs.declared.items.RawOption.{RawOption as TheOption};
 ghost use Rattle.gt_parse.specs.declared.items.RawType.{RawType as TheType};
 ghost use Rattle.gt_parse.specs.declared.lexeme.Lexeme.{Lexeme as TheLexeme};
+ghost use Rattle.gt_parse.specs.declared.types.Place.{Place as ThePlace};
 ghost use Rattle.gt_parse.specs.FieldGrammar.{Field};
 ghost use Rattle.gt_parse.specs.Fields.{field_at};
 ghost use Rattle.gt_parse.specs.ItemGrammar.{AnItem};
@@ -38,8 +39,8 @@ pub fn marker_rules()
 
 /// How a type is read is what its rules allow, and they allow nothing else.
 pub fn type_rules()
-    ensures allowed { (body : ℕ) (tokens : List TheLexeme) → AType body tokens (type_at body tokens) }
-    ensures alone { (body : ℕ) (tokens : List TheLexeme) (outcome : Outcome TheType) → AType body tokens outcome → outcome ≡ type_at body tokens }
+    ensures allowed { (place : ThePlace) (tokens : List TheLexeme) → AType place tokens (type_at place tokens) }
+    ensures alone { (place : ThePlace) (tokens : List TheLexeme) (outcome : Outcome TheType) → AType place tokens outcome → outcome ≡ type_at place tokens }
 {}
 
 /// How a field is read is what its rules allow, and they allow nothing else.

@@ -708,7 +708,7 @@ const WORDS: [(&str, &str); 16] = [
 ];
 
 // Types with names, and what may stand anywhere in a type.
-const NAMES: [(&str, &str); 19] = [
+const NAMES: [(&str, &str); 21] = [
     (
         "struct GTY(()) s { unsigned HOST_WIDE_INT a; unsigned const HOST_WIDE_INT volatile b; HOST_WIDE_INT c; unsigned int HOST_WIDE_INT; };",
         "struct s@15 {unsigned HOST_WIDE_INT a@42; unsigned HOST_WIDE_INT b@83; HOST_WIDE_INT@86 c@100; unsigned int HOST_WIDE_INT@116}",
@@ -749,16 +749,21 @@ const NAMES: [(&str, &str); 19] = [
         "fault 8 at 31",
     ),
     (
+        "struct GTY(()) o { struct i GTY(()) f; };",
+        "struct o@15 {struct i@26 f@36}",
+    ),
+    (
         "struct GTY(()) s { int (*GTY(()) volatile f) (); };",
         "fault 8 at 33",
     ),
     ("static const GTY(()) int x;", "fault 8 at 7"),
     ("struct const GTY(()) s { int x; };", "fault 8 at 7"),
     ("struct GTY(()) const s { int x; };", "fault 8 at 15"),
+    ("static GTY(()) unsigned HOST_WIDE_INT;", "fault 8 at 37"),
 ];
 
 // What is no type, and types that are defined where they are used.
-const NO_TYPES: [(&str, &str); 21] = [
+const NO_TYPES: [(&str, &str); 30] = [
     ("static GTY(()) 5 x;", "fault 8 at 15"),
     ("static GTY(()) static int x;", "fault 8 at 15"),
     ("static GTY(()) GTY(()) int x;", "fault 8 at 15"),
@@ -789,6 +794,39 @@ const NO_TYPES: [(&str, &str); 21] = [
     ("struct GTY(()) s { tree { int x; } y; };", "fault 8 at 24"),
     ("static GTY(()) struct t { int x; } y;", "fault 8 at 24"),
     ("static GTY(()) enum { A } y;", "fault 8 at 20"),
+    (
+        "struct GTY(()) o { struct i GTY(()) { int x; } f; };",
+        "fault 9 at 36",
+    ),
+    (
+        "struct GTY(()) o { union u const GTY(()) { int x; } f; };",
+        "fault 9 at 41",
+    ),
+    (
+        "struct GTY(()) o { enum e GTY((skip)) { A } f; };",
+        "fault 9 at 38",
+    ),
+    (
+        "struct GTY(()) o { struct i GTY((5)) { int x; } f; };",
+        "fault 8 at 33",
+    ),
+    (
+        "struct GTY(()) o { ENUM_BITFIELD (e) GTY(()) { A } f; };",
+        "fault 8 at 45",
+    ),
+    (
+        "static GTY(()) struct i GTY(()) { int x; } f;",
+        "fault 8 at 24",
+    ),
+    ("static GTY(()) ENUM_BITFIELD (*f) (int);", "fault 8 at 30"),
+    (
+        "static GTY((cache)) hash_map<ENUM_BITFIELD (*f) (int), v *> *m;",
+        "fault 8 at 44",
+    ),
+    (
+        "static GTY((cache)) hash_map<k *, ENUM_BITFIELD (*) *> *m;",
+        "fault 8 at 49",
+    ),
 ];
 
 // Words with a meaning of their own are no names, but for options.

@@ -7,12 +7,11 @@ ghost use Rattle.gt_parse.specs.Unmarked.{body_at, plain_meaning_at, tagged_mean
 
 use crate::declarators::goes_on;
 use crate::enums::enum_body;
-use crate::faults::UNEXPECTED;
 use crate::groups::{depth_after, inside};
 use crate::items::{Alias, Item, Keyword, Meaning, Name, RawTypedef, Stars};
 use crate::lexeme::{Bracket, Lexeme, Spot};
 use crate::structures::alias;
-use crate::types::{base_type, without_qualifiers};
+use crate::types::{Place, base_type, without_qualifiers};
 use crate::unread::{Unread, unexpected};
 use gt_types::List;
 use std::alloc::{AllocError, Global};
@@ -139,7 +138,7 @@ fn body(
 fn plain_meaning(alloc: Global, tokens: &[Lexeme]) -> Result<(Meaning, &[Lexeme]), Unread>
     ensures { Gives (λ x. (x.0, x.1.now)) result (plain_meaning_at tokens.now) }
 {
-    let (ty, rest) = base_type(alloc, UNEXPECTED, tokens)?;
+    let (ty, rest) = base_type(alloc, Place::Elsewhere, tokens)?;
     Ok((Meaning::Type(ty), rest))
 }
 

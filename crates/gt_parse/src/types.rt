@@ -1,35 +1,47 @@
 // Types, and the stars and names behind them.
 ghost use Rattle.std.specs.Prelude.{◌≡◌};
 ghost use Rattle.gt_parse.specs.Outcome.{Gives};
-ghost use Rattle.gt_parse.specs.Types.{without_qualifiers, one_more, stars_from, stars_at, name_at, tagged_at, bitfield_at, behind_bitfield, named_at, bare_type_at, type_at};
+ghost use Rattle.gt_parse.specs.Types.{without_qualifiers, one_more, stars_from, stars_at, name_at, definition_fault, no_brace_at, no_body_at, tagged_at, bitfield_at, behind_bitfield, named_at, bare_type_at, type_at};
 
 use crate::combinations::words;
+use crate::faults::{UNEXPECTED, UNSUPPORTED};
 use crate::items::{Keyword, Name, RawType, Stars};
 use crate::lexeme::{Bracket, Lexeme, Spot};
-use crate::markers::close_round;
+use crate::markers::{close_round, marker};
 use crate::unread::{Unread, unexpected};
 use crate::words::is_word;
 use std::alloc::Global;
 
-/// A type at the front, with the qualifiers before and behind it. `body` is the number of the fault of a type that is defined
-/// there.
+/// Where a type without a body stands: in a field, or else in a global, a map or a typedef. Only a field may declare a pointer to
+/// a function.
+#[derive(Clone, Copy, Debug, PartialEq, Eq)]
+pub enum Place {
+    InField,
+    Elsewhere,
+}
+
+/// A type at the front, with the qualifiers before and behind it.
 #[tactic(auto, unfolding(crate::specs::Types::type_at, crate::specs::Types::bare_type_at))]
-pub fn base_type(alloc: Global, body: u8, tokens: &[Lexeme]) -> Result<(RawType, &[Lexeme]), Unread>
-    ensures { Gives (λ x. (x.0, x.1.now)) result (type_at body tokens.now) }
+pub fn base_type(
+    alloc: Global,
+    place: Place,
+    tokens: &[Lexeme],
+) -> Result<(RawType, &[Lexeme]), Unread>
+    ensures { Gives (λ x. (x.0, x.1.now)) result (type_at place tokens.now) }
 {
-    bare_type(alloc, body, without_qualifiers(tokens))
+    bare_type(alloc, place, without_qualifiers(tokens))
 }
 
 #[tactic(auto, unfolding(crate::specs::Types::bare_type_at, crate::specs::Types::words_from))]
-fn bare_type(alloc: Global, body: u8, tokens: &[Lexeme]) -> Result<(RawType, &[Lexeme]), Unread>
-    ensures { Gives (λ x. (x.0, x.1.now)) result (bare_type_at body tokens.now) }
+fn bare_type(alloc: Global, place: Place, tokens: &[Lexeme]) -> Result<(RawType, &[Lexeme]), Unread>
+    ensures { Gives (λ x. (x.0, x.1.now)) result (bare_type_at place tokens.now) }
 {
     match tokens {
         [Lexeme::Type(..), ..] => words(tokens),
         [Lexeme::Tag(keyword, _), after @ ..] => {
-            tagged(alloc, body, *keyword, without_qualifiers(after))
+            tagged(alloc, place, *keyword, without_qualifiers(after))
         }
-        [Lexeme::Name(spot), after @ ..] => named(alloc, spot, after),
+        [Lexeme::Name(spot), after @ ..] => named(alloc, place, spot, after),
         _ => Err(unexpected(tokens)),
     }
 }
@@ -38,60 +50,95 @@ fn bare_type(alloc: Global, body: u8, tokens: &[Lexeme]) -> Result<(RawType, &[L
 #[tactic(auto, unfolding(crate::specs::Types::tagged_at))]
 fn tagged(
     alloc: Global,
-    body: u8,
+    place: Place,
     keyword: Keyword,
     tokens: &[Lexeme],
 ) -> Result<(RawType, &[Lexeme]), Unread>
-    ensures { Gives (λ x. (x.0, x.1.now)) result (tagged_at body keyword tokens.now) }
+    ensures { Gives (λ x. (x.0, x.1.now)) result (tagged_at place keyword tokens.now) }
 {
     match tokens {
         [Lexeme::Name(spot), after @ ..] => {
-            let rest = without_qualifiers(after);
-            if let [Lexeme::Open(Bracket::Brace, brace), ..] = rest {
-                return Err(Unread::Fault {
-                    number: body,
-                    at: brace.start,
-                });
-            }
+            let rest = no_body(alloc, place, without_qualifiers(after))?;
             let tag = spot.name(alloc)?;
             Ok((RawType::Tagged { keyword, tag }, rest))
         }
         [Lexeme::Open(Bracket::Brace, brace), ..] => Err(Unread::Fault {
-            number: body,
+            number: definition_fault(place),
             at: brace.start,
         }),
         _ => Err(unexpected(tokens)),
     }
 }
 
+// No body may stand behind a tag, nor in a field behind a tag and a marker.
+#[tactic(auto, unfolding(crate::specs::Types::no_body_at))]
+fn no_body(alloc: Global, place: Place, tokens: &[Lexeme]) -> Result<&[Lexeme], Unread>
+    ensures { Gives (λ rest. (tt, rest.now)) result (no_body_at place tokens.now) }
+{
+    match (place, tokens) {
+        (Place::InField, [Lexeme::Gty(_), ..]) => {
+            let (_, rest) = marker(alloc, tokens)?;
+            no_brace(place, rest)?;
+            Ok(tokens)
+        }
+        _ => no_brace(place, tokens),
+    }
+}
+
+// No brace may open a body at the front.
+fn no_brace(place: Place, tokens: &[Lexeme]) -> Result<&[Lexeme], Unread>
+    ensures { Gives (λ rest. (tt, rest.now)) result (no_brace_at place tokens.now) }
+{
+    match tokens {
+        [Lexeme::Open(Bracket::Brace, brace), ..] => Err(Unread::Fault {
+            number: definition_fault(place),
+            at: brace.start,
+        }),
+        _ => Ok(tokens),
+    }
+}
+
+// The number of the fault of a type that is defined at a place.
+fn definition_fault(place: Place) -> u8
+    ensures { result ≡ definition_fault place }
+{
+    match place {
+        Place::InField => UNSUPPORTED,
+        Place::Elsewhere => UNEXPECTED,
+    }
+}
+
 // A type that begins with a name.
 fn named<'a>(
     alloc: Global,
+    place: Place,
     spot: &Spot,
     tokens: &'a [Lexeme],
 ) -> Result<(RawType, &'a [Lexeme]), Unread>
-    ensures { Gives (λ x. (x.0, x.1.now)) result (named_at spot.now tokens.now) }
+    ensures { Gives (λ x. (x.0, x.1.now)) result (named_at place spot.now tokens.now) }
 {
     let rest = without_qualifiers(tokens);
     if is_word(&spot.word, "ENUM_BITFIELD") {
-        return behind_bitfield(alloc, spot, rest);
+        return behind_bitfield(alloc, place, spot, rest);
     }
     Ok((RawType::Named(spot.name(alloc)?), rest))
 }
 
-// What stands behind the word `ENUM_BITFIELD`: an enum in brackets, but for `(*`, which declares a pointer to a function.
+// What stands behind the word `ENUM_BITFIELD`: an enum in brackets, but for `(*` in a field, which declares a pointer to a
+// function.
 fn behind_bitfield<'a>(
     alloc: Global,
+    place: Place,
     spot: &Spot,
     tokens: &'a [Lexeme],
 ) -> Result<(RawType, &'a [Lexeme]), Unread>
-    ensures { Gives (λ x. (x.0, x.1.now)) result (behind_bitfield spot.now tokens.now) }
+    ensures { Gives (λ x. (x.0, x.1.now)) result (behind_bitfield place spot.now tokens.now) }
 {
-    match tokens {
-        [Lexeme::Open(Bracket::Round, _), Lexeme::Star(_), ..] => {
+    match (place, tokens) {
+        (Place::InField, [Lexeme::Open(Bracket::Round, _), Lexeme::Star(_), ..]) => {
             Ok((RawType::Named(spot.name(alloc)?), tokens))
         }
-        [Lexeme::Open(Bracket::Round, _), after @ ..] => bitfield(alloc, after),
+        (_, [Lexeme::Open(Bracket::Round, _), after @ ..]) => bitfield(alloc, after),
         _ => Ok((RawType::Named(spot.name(alloc)?), tokens)),
     }
 }
