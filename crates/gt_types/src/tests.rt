@@ -4,6 +4,8 @@ use std::alloc::{AllocError, Global};
 use std::cmp::Ordering;
 use std::test::Fail;
 
+mod evaluation;
+
 #[test]
 fn words_are_their_characters(rt: HostRuntime) -> Result<(), Fail> {
     let alloc = rt.alloc();

@@ -1,0 +1,9 @@
+pub mod Operators
+pub mod Values
+pub mod Names
+pub mod Shapes
+pub mod Contains
+pub mod Tails
+pub mod Unions
+pub mod Paths
+pub mod Settled
