@@ -1,6 +1,6 @@
 -- Declarators with commas between them and a semicolon behind them, one at a time.
 use Rattle.std.proofs.Common.{◌≡◌, ℕ, suc, ◌+◌, ◌-◌, ◌<◌, ◌≤◌, true, false, List, [], ◌∷◌, ◌++◌, refl, sym, ◌∙◌, arith}
-use Rattle.gt_parse.specs.declared.items.Declarator.{Declarator}
+use Rattle.gt_items.specs.declared.items.Declarator.{Declarator}
 use Rattle.gt_parse.specs.declared.lexeme.Lexeme.{Lexeme}
 use Rattle.gt_parse.specs.declared.lexeme.Lexeme.TheVariants as lexeme
 use Rattle.gt_parse.specs.declared.unread.Unread.{Unread}

@@ -2,9 +2,9 @@
 use Rattle.std.proofs.Common.{◌≡◌, ℕ, zero, suc, ◌+◌, ◌-◌, ◌<◌, ◌≤◌, Bool, true, false, List, [], ◌∷◌, ◌++◌, length, get_or, take, drop, Option, Some, refl, sym, ap, ◌∙◌, append_assoc, arith}
 use Rattle.std.proofs.lemmas.List.{drop_all, take_rest}
 use Rattle.std.proofs.lemmas.List.Edits.{between_more}
-use Rattle.gt_parse.specs.declared.items.Name.{Name}
-use Rattle.gt_parse.specs.declared.items.Item.{Item}
-use Rattle.gt_parse.specs.declared.items.Enumerator.{Enumerator}
+use Rattle.gt_items.specs.declared.items.Name.{Name}
+use Rattle.gt_items.specs.declared.items.Item.{Item}
+use Rattle.gt_items.specs.declared.items.Enumerator.{Enumerator}
 use Rattle.gt_parse.specs.declared.lexeme.Spot.{Spot}
 use Rattle.gt_parse.specs.declared.lexeme.Bracket.TheVariants.{Round}
 use Rattle.gt_parse.specs.declared.lexeme.Lexeme.{Lexeme}

@@ -1,6 +1,6 @@
 -- Fields up to a closing brace, one at a time.
 use Rattle.std.proofs.Common.{◌≡◌, ℕ, suc, ◌+◌, ◌-◌, ◌<◌, ◌≤◌, List, [], ◌∷◌, ◌++◌, Some, None, refl, sym, ◌∙◌, arith}
-use Rattle.gt_parse.specs.declared.items.RawField.{RawField}
+use Rattle.gt_items.specs.declared.items.RawField.{RawField}
 use Rattle.gt_parse.specs.declared.lexeme.Bracket.TheVariants.{Brace}
 use Rattle.gt_parse.specs.declared.lexeme.Lexeme.{Lexeme}
 use Rattle.gt_parse.specs.declared.lexeme.Lexeme.TheVariants as lexeme

@@ -1,11 +1,11 @@
 -- Fields are read as their rules say.
 use Rattle.std.proofs.Common.{◌≡◌, ℕ, zero, suc, ◌-◌, ◌≤◌, Bool, true, false, List, [], ◌∷◌, ◌++◌, length, Option, None, refl, sym, ◌∙◌, length-append, arith}
 use Rattle.std.proofs.lemmas.List.{append-nil}
-use Rattle.gt_parse.specs.declared.items.Declarator.{Declarator}
-use Rattle.gt_parse.specs.declared.items.RawField.{RawField}
-use Rattle.gt_parse.specs.declared.items.RawOption.{RawOption}
-use Rattle.gt_parse.specs.declared.items.RawType.{RawType}
-use Rattle.gt_parse.specs.declared.items.Stars.{Stars}
+use Rattle.gt_items.specs.declared.items.Declarator.{Declarator}
+use Rattle.gt_items.specs.declared.items.RawField.{RawField}
+use Rattle.gt_items.specs.declared.items.RawOption.{RawOption}
+use Rattle.gt_items.specs.declared.items.RawType.{RawType}
+use Rattle.gt_items.specs.declared.items.Stars.{Stars}
 use Rattle.gt_parse.specs.declared.lexeme.Spot.{Spot}
 use Rattle.gt_parse.specs.declared.lexeme.Bracket.{Bracket}
 use Rattle.gt_parse.specs.declared.lexeme.Bracket.TheVariants.{Round, Square, Brace}

@@ -2,8 +2,8 @@
 use Rattle.std.proofs.Common.{◌≡◌, ℕ, zero, suc, Bool, true, false, ◌||◌, List, [], ◌∷◌, ◌++◌, Option, Some, None, refl, sym, ap, ◌∙◌}
 use Rattle.std.specs.List.{list_any}
 use Rattle.gt_parse.specs.declared.faults.TheConstants.{BAD_MARKER_PLACE}
-use Rattle.gt_parse.specs.declared.items.Item.{Item}
-use Rattle.gt_parse.specs.declared.items.Keyword.TheVariants as keyword
+use Rattle.gt_items.specs.declared.items.Item.{Item}
+use Rattle.gt_items.specs.declared.items.Keyword.TheVariants as keyword
 use Rattle.gt_parse.specs.declared.lexeme.Spot.{Spot}
 use Rattle.gt_parse.specs.declared.lexeme.Lexeme.{Lexeme}
 use Rattle.gt_parse.specs.declared.lexeme.Lexeme.TheVariants as lexeme

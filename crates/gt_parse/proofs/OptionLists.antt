@@ -1,6 +1,6 @@
 -- Options with commas between them, one option at a time.
 use Rattle.std.proofs.Common.{◌≡◌, ℕ, suc, ◌+◌, ◌-◌, ◌<◌, ◌≤◌, List, [], ◌∷◌, ◌++◌, Some, None, refl, sym, ◌∙◌, arith}
-use Rattle.gt_parse.specs.declared.items.RawOption.{RawOption}
+use Rattle.gt_items.specs.declared.items.RawOption.{RawOption}
 use Rattle.gt_parse.specs.declared.lexeme.Lexeme.{Lexeme}
 use Rattle.gt_parse.specs.declared.lexeme.Lexeme.TheVariants as lexeme
 use Rattle.gt_parse.specs.declared.unread.Unread.{Unread}

@@ -1,13 +1,13 @@
 -- Types are read as their rules say.
 use Rattle.std.proofs.Common.{◌≡◌, ℕ, zero, suc, ◌≤◌, Bool, true, false, ◌&&◌, List, [], ◌∷◌, length, codes, Option, Some, None, refl, sym, ap, ◌∙◌, arith}
 use Rattle.std.specs.Str.{bytes_eq}
-use Rattle.gt_parse.specs.declared.items.Stars.{Stars}
-use Rattle.gt_parse.specs.declared.items.Stars.TheVariants.{Zero, One, Two, More}
-use Rattle.gt_parse.specs.declared.items.Combination.{Combination}
-use Rattle.gt_parse.specs.declared.items.Keyword.{Keyword}
-use Rattle.gt_parse.specs.declared.items.RawOption.{RawOption}
-use Rattle.gt_parse.specs.declared.items.RawType.{RawType}
-use Rattle.gt_parse.specs.declared.items.RawType.TheVariants.{Words, Named}
+use Rattle.gt_items.specs.declared.items.Stars.{Stars}
+use Rattle.gt_items.specs.declared.items.Stars.TheVariants.{Zero, One, Two, More}
+use Rattle.gt_items.specs.declared.items.Combination.{Combination}
+use Rattle.gt_items.specs.declared.items.Keyword.{Keyword}
+use Rattle.gt_items.specs.declared.items.RawOption.{RawOption}
+use Rattle.gt_items.specs.declared.items.RawType.{RawType}
+use Rattle.gt_items.specs.declared.items.RawType.TheVariants.{Words, Named}
 use Rattle.gt_parse.specs.declared.lexeme.Spot.{Spot}
 use Rattle.gt_parse.specs.declared.lexeme.Bracket.TheVariants.{Round, Brace}
 use Rattle.gt_parse.specs.declared.lexeme.TypeWord.{TypeWord}

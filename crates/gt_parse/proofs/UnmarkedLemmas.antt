@@ -1,20 +1,20 @@
 -- Unmarked enums and typedefs are read as their rules say.
 use Rattle.std.proofs.Common.{◌≡◌, ℕ, zero, suc, ◌≤◌, Bool, true, false, List, [], ◌∷◌, ◌++◌, length, Option, Some, None, refl, sym, ap, ◌∙◌, append_assoc, arith}
 use Rattle.std.proofs.lemmas.List.{append-nil}
-use Rattle.gt_parse.specs.declared.items.Name.{Name}
-use Rattle.gt_parse.specs.declared.items.Alias.{Alias}
-use Rattle.gt_parse.specs.declared.items.Keyword.{Keyword}
-use Rattle.gt_parse.specs.declared.items.Keyword.TheVariants as keyword
-use Rattle.gt_parse.specs.declared.items.Item.{Item}
-use Rattle.gt_parse.specs.declared.items.Item.TheVariants.{Typedef}
-use Rattle.gt_parse.specs.declared.items.Meaning.{Meaning}
-use Rattle.gt_parse.specs.declared.items.Meaning.TheVariants as meaning
-use Rattle.gt_parse.specs.declared.items.RawEnum.{RawEnum}
-use Rattle.gt_parse.specs.declared.items.RawType.{RawType}
-use Rattle.gt_parse.specs.declared.items.RawTypedef.{RawTypedef}
-use Rattle.gt_parse.specs.declared.items.Enumerator.{Enumerator}
-use Rattle.gt_parse.specs.declared.items.Enumerator.TheVariants.{Undefined, Passed}
-use Rattle.gt_parse.specs.declared.items.Stars.{Stars}
+use Rattle.gt_items.specs.declared.items.Name.{Name}
+use Rattle.gt_items.specs.declared.items.Alias.{Alias}
+use Rattle.gt_items.specs.declared.items.Keyword.{Keyword}
+use Rattle.gt_items.specs.declared.items.Keyword.TheVariants as keyword
+use Rattle.gt_items.specs.declared.items.Item.{Item}
+use Rattle.gt_items.specs.declared.items.Item.TheVariants.{Typedef}
+use Rattle.gt_items.specs.declared.items.Meaning.{Meaning}
+use Rattle.gt_items.specs.declared.items.Meaning.TheVariants as meaning
+use Rattle.gt_items.specs.declared.items.RawEnum.{RawEnum}
+use Rattle.gt_items.specs.declared.items.RawType.{RawType}
+use Rattle.gt_items.specs.declared.items.RawTypedef.{RawTypedef}
+use Rattle.gt_items.specs.declared.items.Enumerator.{Enumerator}
+use Rattle.gt_items.specs.declared.items.Enumerator.TheVariants.{Undefined, Passed}
+use Rattle.gt_items.specs.declared.items.Stars.{Stars}
 use Rattle.gt_parse.specs.declared.lexeme.Spot.{Spot}
 use Rattle.gt_parse.specs.declared.lexeme.Bracket.TheVariants.{Brace}
 use Rattle.gt_parse.specs.declared.lexeme.Lexeme.{Lexeme}

@@ -1,12 +1,12 @@
 -- The grammar of fields. Each case is a rule: which tokens are read as what, or with which fault reading stops.
 use Rattle.std.specs.Prelude.{◌≡◌, ℕ, zero, suc, Bool, true, false, List, [], ◌∷◌, ◌++◌, Option, Some, None}
 use Rattle.gt_parse.specs.declared.faults.TheConstants.{UNSUPPORTED}
-use Rattle.gt_parse.specs.declared.items.Declarator.{Declarator}
-use Rattle.gt_parse.specs.declared.items.RawField.{RawField}
-use Rattle.gt_parse.specs.declared.items.RawOption.{RawOption}
-use Rattle.gt_parse.specs.declared.items.RawType.{RawType}
-use Rattle.gt_parse.specs.declared.items.Stars.{Stars}
-use Rattle.gt_parse.specs.declared.items.Stars.TheVariants.{Zero}
+use Rattle.gt_items.specs.declared.items.Declarator.{Declarator}
+use Rattle.gt_items.specs.declared.items.RawField.{RawField}
+use Rattle.gt_items.specs.declared.items.RawOption.{RawOption}
+use Rattle.gt_items.specs.declared.items.RawType.{RawType}
+use Rattle.gt_items.specs.declared.items.Stars.{Stars}
+use Rattle.gt_items.specs.declared.items.Stars.TheVariants.{Zero}
 use Rattle.gt_parse.specs.declared.lexeme.Spot.{Spot}
 use Rattle.gt_parse.specs.declared.lexeme.Bracket.{Bracket}
 use Rattle.gt_parse.specs.declared.lexeme.Bracket.TheVariants.{Round, Square, Brace}

@@ -2,9 +2,9 @@
 use Rattle.std.specs.Prelude.{ℕ, zero, suc, Bool, true, false, ◌||◌, if◌then◌else◌, List, [], ◌∷◌, ◌++◌, length, codes, Option, Some, None}
 use Rattle.std.specs.Str.{bytes_eq}
 use Rattle.gt_parse.specs.declared.faults.TheConstants.{UNSUPPORTED}
-use Rattle.gt_parse.specs.declared.items.Declarator.{Declarator}
-use Rattle.gt_parse.specs.declared.items.RawField.{RawField}
-use Rattle.gt_parse.specs.declared.items.Stars.TheVariants.{Zero}
+use Rattle.gt_items.specs.declared.items.Declarator.{Declarator}
+use Rattle.gt_items.specs.declared.items.RawField.{RawField}
+use Rattle.gt_items.specs.declared.items.Stars.TheVariants.{Zero}
 use Rattle.gt_parse.specs.declared.lexeme.Bracket.TheVariants.{Round, Brace}
 use Rattle.gt_parse.specs.declared.lexeme.Lexeme.{Lexeme}
 use Rattle.gt_parse.specs.declared.lexeme.Lexeme.TheVariants as lexeme

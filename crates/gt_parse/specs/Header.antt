@@ -8,9 +8,9 @@ use Rattle.gt_types.specs.declared.faults.Stop.TheVariants.{Memory, At}
 use Rattle.gt_lex.specs.declared.tokens.Token.{Token}
 use Rattle.gt_lex.specs.declared.tokens.Define.{Define}
 use Rattle.gt_parse.specs.declared.faults.TheConstants.{UNCLOSED}
-use Rattle.gt_parse.specs.declared.items.Item.{Item}
-use Rattle.gt_parse.specs.declared.items.Items.{Items}
-use Rattle.gt_parse.specs.declared.items.RawConstant.{RawConstant}
+use Rattle.gt_items.specs.declared.items.Item.{Item}
+use Rattle.gt_items.specs.declared.items.Items.{Items}
+use Rattle.gt_items.specs.declared.items.RawConstant.{RawConstant}
 use Rattle.gt_parse.specs.declared.lexeme.Lexeme.{Lexeme}
 use Rattle.gt_parse.specs.declared.search.End.{End}
 use Rattle.gt_parse.specs.declared.search.End.TheVariants.{Complete, Fails}

@@ -2,20 +2,20 @@
 use Rattle.std.specs.Prelude.{◌≡◌, Bool, true, false, List, [], ◌∷◌, ◌++◌, Option, Some, None}
 use Rattle.std.specs.List.{list_any}
 use Rattle.gt_parse.specs.declared.faults.TheConstants.{BAD_MARKER_PLACE}
-use Rattle.gt_parse.specs.declared.items.Name.{Name}
-use Rattle.gt_parse.specs.declared.items.Alias.{Alias}
-use Rattle.gt_parse.specs.declared.items.Keyword.{Keyword}
-use Rattle.gt_parse.specs.declared.items.Keyword.TheVariants as keyword
-use Rattle.gt_parse.specs.declared.items.Item.{Item}
-use Rattle.gt_parse.specs.declared.items.Item.TheVariants.{Typedef, Enum}
-use Rattle.gt_parse.specs.declared.items.Meaning.{Meaning}
-use Rattle.gt_parse.specs.declared.items.Meaning.TheVariants as meaning
-use Rattle.gt_parse.specs.declared.items.RawEnum.{RawEnum}
-use Rattle.gt_parse.specs.declared.items.RawType.{RawType}
-use Rattle.gt_parse.specs.declared.items.RawTypedef.{RawTypedef}
-use Rattle.gt_parse.specs.declared.items.Enumerator.{Enumerator}
-use Rattle.gt_parse.specs.declared.items.Enumerator.TheVariants.{Counted, Valued, Undefined, Passed}
-use Rattle.gt_parse.specs.declared.items.Stars.{Stars}
+use Rattle.gt_items.specs.declared.items.Name.{Name}
+use Rattle.gt_items.specs.declared.items.Alias.{Alias}
+use Rattle.gt_items.specs.declared.items.Keyword.{Keyword}
+use Rattle.gt_items.specs.declared.items.Keyword.TheVariants as keyword
+use Rattle.gt_items.specs.declared.items.Item.{Item}
+use Rattle.gt_items.specs.declared.items.Item.TheVariants.{Typedef, Enum}
+use Rattle.gt_items.specs.declared.items.Meaning.{Meaning}
+use Rattle.gt_items.specs.declared.items.Meaning.TheVariants as meaning
+use Rattle.gt_items.specs.declared.items.RawEnum.{RawEnum}
+use Rattle.gt_items.specs.declared.items.RawType.{RawType}
+use Rattle.gt_items.specs.declared.items.RawTypedef.{RawTypedef}
+use Rattle.gt_items.specs.declared.items.Enumerator.{Enumerator}
+use Rattle.gt_items.specs.declared.items.Enumerator.TheVariants.{Counted, Valued, Undefined, Passed}
+use Rattle.gt_items.specs.declared.items.Stars.{Stars}
 use Rattle.gt_parse.specs.declared.lexeme.Spot.{Spot}
 use Rattle.gt_parse.specs.declared.lexeme.Bracket.{Bracket}
 use Rattle.gt_parse.specs.declared.lexeme.Bracket.TheVariants.{Round, Brace}

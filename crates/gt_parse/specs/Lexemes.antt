@@ -4,8 +4,8 @@ use Rattle.std.specs.Str.{bytes_eq, chars}
 use Rattle.gt_lex.specs.declared.tokens.Kind.{Kind}
 use Rattle.gt_lex.specs.declared.tokens.Kind.TheVariants as kind
 use Rattle.gt_lex.specs.declared.tokens.Token.{Token}
-use Rattle.gt_parse.specs.declared.items.Keyword.TheVariants as keyword
-use Rattle.gt_parse.specs.declared.items.Name.{Name}
+use Rattle.gt_items.specs.declared.items.Keyword.TheVariants as keyword
+use Rattle.gt_items.specs.declared.items.Name.{Name}
 use Rattle.gt_parse.specs.declared.lexeme.Spot.{Spot}
 use Rattle.gt_parse.specs.declared.lexeme.Bracket.TheVariants.{Round, Square, Brace}
 use Rattle.gt_parse.specs.declared.lexeme.TypeWord.TheVariants as word

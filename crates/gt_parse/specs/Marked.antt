@@ -3,13 +3,13 @@ use Rattle.std.specs.Prelude.{Bool, true, false, if◌then◌else◌, List, [], 
 use Rattle.std.specs.List.{list_any}
 use Rattle.std.specs.Str.{bytes_eq}
 use Rattle.gt_parse.specs.declared.faults.TheConstants.{UNEXPECTED, UNSUPPORTED, BAD_MARKER_PLACE}
-use Rattle.gt_parse.specs.declared.items.Name.{Name}
-use Rattle.gt_parse.specs.declared.items.Item.{Item}
-use Rattle.gt_parse.specs.declared.items.Item.TheVariants.{Structure, Root, Cache}
-use Rattle.gt_parse.specs.declared.items.Alias.{Alias}
-use Rattle.gt_parse.specs.declared.items.RawOption.{RawOption}
-use Rattle.gt_parse.specs.declared.items.PointedType.{PointedType}
-use Rattle.gt_parse.specs.declared.items.Keyword.TheVariants.{Struct, Union}
+use Rattle.gt_items.specs.declared.items.Name.{Name}
+use Rattle.gt_items.specs.declared.items.Item.{Item}
+use Rattle.gt_items.specs.declared.items.Item.TheVariants.{Structure, Root, Cache}
+use Rattle.gt_items.specs.declared.items.Alias.{Alias}
+use Rattle.gt_items.specs.declared.items.RawOption.{RawOption}
+use Rattle.gt_items.specs.declared.items.PointedType.{PointedType}
+use Rattle.gt_items.specs.declared.items.Keyword.TheVariants.{Struct, Union}
 use Rattle.gt_parse.specs.declared.lexeme.Spot.{Spot}
 use Rattle.gt_parse.specs.declared.lexeme.Bracket.TheVariants.{Brace}
 use Rattle.gt_parse.specs.declared.lexeme.Lexeme.{Lexeme}

@@ -2,16 +2,16 @@
 use Rattle.std.specs.Prelude.{◌≡◌, ℕ, Bool, true, false, List, [], ◌∷◌, codes, Some, None}
 use Rattle.std.specs.Str.{bytes_eq}
 use Rattle.gt_parse.specs.declared.faults.TheConstants.{UNEXPECTED, UNSUPPORTED, BAD_MARKER_PLACE}
-use Rattle.gt_parse.specs.declared.items.Name.{Name}
-use Rattle.gt_parse.specs.declared.items.Alias.{Alias}
-use Rattle.gt_parse.specs.declared.items.Item.{Item}
-use Rattle.gt_parse.specs.declared.items.Item.TheVariants.{Structure, Root, Cache}
-use Rattle.gt_parse.specs.declared.items.Keyword.TheVariants as keyword
-use Rattle.gt_parse.specs.declared.items.PointedType.{PointedType}
-use Rattle.gt_parse.specs.declared.items.RawField.{RawField}
-use Rattle.gt_parse.specs.declared.items.RawOption.{RawOption}
-use Rattle.gt_parse.specs.declared.items.RawType.{RawType}
-use Rattle.gt_parse.specs.declared.items.Stars.{Stars}
+use Rattle.gt_items.specs.declared.items.Name.{Name}
+use Rattle.gt_items.specs.declared.items.Alias.{Alias}
+use Rattle.gt_items.specs.declared.items.Item.{Item}
+use Rattle.gt_items.specs.declared.items.Item.TheVariants.{Structure, Root, Cache}
+use Rattle.gt_items.specs.declared.items.Keyword.TheVariants as keyword
+use Rattle.gt_items.specs.declared.items.PointedType.{PointedType}
+use Rattle.gt_items.specs.declared.items.RawField.{RawField}
+use Rattle.gt_items.specs.declared.items.RawOption.{RawOption}
+use Rattle.gt_items.specs.declared.items.RawType.{RawType}
+use Rattle.gt_items.specs.declared.items.Stars.{Stars}
 use Rattle.gt_parse.specs.declared.lexeme.Spot.{Spot}
 use Rattle.gt_parse.specs.declared.lexeme.Bracket.TheVariants.{Brace}
 use Rattle.gt_parse.specs.declared.lexeme.Lexeme.{Lexeme}

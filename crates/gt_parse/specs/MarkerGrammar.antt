@@ -5,9 +5,9 @@ use Rattle.std.specs.Option.{option_map}
 use Rattle.gt_expr.specs.declared.raw.RawExpr.{RawExpr}
 use Rattle.gt_expr.specs.declared.TheConstants.{BAD_EXPR}
 use Rattle.gt_expr.specs.Expression.{expression_of}
-use Rattle.gt_parse.specs.declared.items.RawOption.{RawOption}
-use Rattle.gt_parse.specs.declared.items.Parameter.{Parameter}
-use Rattle.gt_parse.specs.declared.items.Parameter.TheVariants.{Absent, Expression, Text}
+use Rattle.gt_items.specs.declared.items.RawOption.{RawOption}
+use Rattle.gt_items.specs.declared.items.Parameter.{Parameter}
+use Rattle.gt_items.specs.declared.items.Parameter.TheVariants.{Absent, Expression, Text}
 use Rattle.gt_parse.specs.declared.lexeme.Spot.{Spot}
 use Rattle.gt_parse.specs.declared.lexeme.Bracket.TheVariants.{Round}
 use Rattle.gt_parse.specs.declared.lexeme.Lexeme.{Lexeme}

@@ -1,6 +1,6 @@
 -- How one whole item is read.
 use Rattle.std.specs.Prelude.{ℕ, zero, suc, Bool, true, false, if◌then◌else◌, List, [], ◌∷◌, Option, Some}
-use Rattle.gt_parse.specs.declared.items.Item.{Item}
+use Rattle.gt_items.specs.declared.items.Item.{Item}
 use Rattle.gt_parse.specs.declared.lexeme.Lexeme.{Lexeme}
 use Rattle.gt_parse.specs.declared.lexeme.Lexeme.TheVariants as lexeme
 use Rattle.gt_parse.specs.Outcome.{Outcome, Read, ◌>>=◌}

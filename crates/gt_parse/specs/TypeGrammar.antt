@@ -2,14 +2,14 @@
 use Rattle.std.specs.Prelude.{◌≡◌, Bool, true, false, ◌&&◌, List, ◌∷◌, codes, Some, None}
 use Rattle.std.specs.Str.{bytes_eq}
 use Rattle.gt_parse.specs.declared.faults.TheConstants.{UNEXPECTED, UNSUPPORTED}
-use Rattle.gt_parse.specs.declared.items.Stars.{Stars}
-use Rattle.gt_parse.specs.declared.items.Stars.TheVariants.{Zero}
-use Rattle.gt_parse.specs.declared.items.Combination.{Combination}
-use Rattle.gt_parse.specs.declared.items.Keyword.{Keyword}
-use Rattle.gt_parse.specs.declared.items.Keyword.TheVariants as keyword
-use Rattle.gt_parse.specs.declared.items.RawOption.{RawOption}
-use Rattle.gt_parse.specs.declared.items.RawType.{RawType}
-use Rattle.gt_parse.specs.declared.items.RawType.TheVariants.{Words, UnsignedHostWide, Tagged, Named}
+use Rattle.gt_items.specs.declared.items.Stars.{Stars}
+use Rattle.gt_items.specs.declared.items.Stars.TheVariants.{Zero}
+use Rattle.gt_items.specs.declared.items.Combination.{Combination}
+use Rattle.gt_items.specs.declared.items.Keyword.{Keyword}
+use Rattle.gt_items.specs.declared.items.Keyword.TheVariants as keyword
+use Rattle.gt_items.specs.declared.items.RawOption.{RawOption}
+use Rattle.gt_items.specs.declared.items.RawType.{RawType}
+use Rattle.gt_items.specs.declared.items.RawType.TheVariants.{Words, UnsignedHostWide, Tagged, Named}
 use Rattle.gt_parse.specs.declared.lexeme.Spot.{Spot}
 use Rattle.gt_parse.specs.declared.lexeme.Bracket.TheVariants.{Round, Brace}
 use Rattle.gt_parse.specs.declared.lexeme.TypeWord.{TypeWord}

@@ -2,20 +2,20 @@
 use Rattle.std.specs.Prelude.{ℕ, Bool, true, false, ◌&&◌, if◌then◌else◌, List, ◌∷◌, codes, Option, Some, None}
 use Rattle.std.specs.Str.{bytes_eq}
 use Rattle.gt_parse.specs.declared.faults.TheConstants.{UNEXPECTED, UNSUPPORTED}
-use Rattle.gt_parse.specs.declared.items.Name.{Name}
-use Rattle.gt_parse.specs.declared.items.Stars.{Stars}
-use Rattle.gt_parse.specs.declared.items.Stars.TheVariants.{Zero, One, Two, More}
-use Rattle.gt_parse.specs.declared.items.Sign.{Sign}
-use Rattle.gt_parse.specs.declared.items.Sign.TheVariants as sign
-use Rattle.gt_parse.specs.declared.items.Size.{Size}
-use Rattle.gt_parse.specs.declared.items.Size.TheVariants as size
-use Rattle.gt_parse.specs.declared.items.Core.{Core}
-use Rattle.gt_parse.specs.declared.items.Core.TheVariants as core
-use Rattle.gt_parse.specs.declared.items.Combination.{Combination}
-use Rattle.gt_parse.specs.declared.items.Keyword.{Keyword}
-use Rattle.gt_parse.specs.declared.items.Keyword.TheVariants as keyword
-use Rattle.gt_parse.specs.declared.items.RawType.{RawType}
-use Rattle.gt_parse.specs.declared.items.RawType.TheVariants.{Words, UnsignedHostWide, Tagged, Named}
+use Rattle.gt_items.specs.declared.items.Name.{Name}
+use Rattle.gt_items.specs.declared.items.Stars.{Stars}
+use Rattle.gt_items.specs.declared.items.Stars.TheVariants.{Zero, One, Two, More}
+use Rattle.gt_items.specs.declared.items.Sign.{Sign}
+use Rattle.gt_items.specs.declared.items.Sign.TheVariants as sign
+use Rattle.gt_items.specs.declared.items.Size.{Size}
+use Rattle.gt_items.specs.declared.items.Size.TheVariants as size
+use Rattle.gt_items.specs.declared.items.Core.{Core}
+use Rattle.gt_items.specs.declared.items.Core.TheVariants as core
+use Rattle.gt_items.specs.declared.items.Combination.{Combination}
+use Rattle.gt_items.specs.declared.items.Keyword.{Keyword}
+use Rattle.gt_items.specs.declared.items.Keyword.TheVariants as keyword
+use Rattle.gt_items.specs.declared.items.RawType.{RawType}
+use Rattle.gt_items.specs.declared.items.RawType.TheVariants.{Words, UnsignedHostWide, Tagged, Named}
 use Rattle.gt_parse.specs.declared.lexeme.Spot.{Spot}
 use Rattle.gt_parse.specs.declared.lexeme.Bracket.TheVariants.{Round, Brace}
 use Rattle.gt_parse.specs.declared.lexeme.TypeWord.{TypeWord}

@@ -1,19 +1,19 @@
 -- What unmarked typedefs and enums declare. They give no faults.
 use Rattle.std.specs.Prelude.{ℕ, zero, suc, Bool, true, false, List, [], ◌∷◌, ◌++◌, length, Option, Some, None}
 use Rattle.gt_parse.specs.declared.faults.TheConstants.{BAD_MARKER_PLACE}
-use Rattle.gt_parse.specs.declared.items.Name.{Name}
-use Rattle.gt_parse.specs.declared.items.Alias.{Alias}
-use Rattle.gt_parse.specs.declared.items.Keyword.{Keyword}
-use Rattle.gt_parse.specs.declared.items.Keyword.TheVariants as keyword
-use Rattle.gt_parse.specs.declared.items.Stars.TheVariants.{Zero}
-use Rattle.gt_parse.specs.declared.items.Item.{Item}
-use Rattle.gt_parse.specs.declared.items.Item.TheVariants.{Typedef, Enum}
-use Rattle.gt_parse.specs.declared.items.Meaning.{Meaning}
-use Rattle.gt_parse.specs.declared.items.Meaning.TheVariants as meaning
-use Rattle.gt_parse.specs.declared.items.RawEnum.{RawEnum}
-use Rattle.gt_parse.specs.declared.items.RawTypedef.{RawTypedef}
-use Rattle.gt_parse.specs.declared.items.Enumerator.{Enumerator}
-use Rattle.gt_parse.specs.declared.items.Enumerator.TheVariants.{Counted, Valued, Undefined, Passed}
+use Rattle.gt_items.specs.declared.items.Name.{Name}
+use Rattle.gt_items.specs.declared.items.Alias.{Alias}
+use Rattle.gt_items.specs.declared.items.Keyword.{Keyword}
+use Rattle.gt_items.specs.declared.items.Keyword.TheVariants as keyword
+use Rattle.gt_items.specs.declared.items.Stars.TheVariants.{Zero}
+use Rattle.gt_items.specs.declared.items.Item.{Item}
+use Rattle.gt_items.specs.declared.items.Item.TheVariants.{Typedef, Enum}
+use Rattle.gt_items.specs.declared.items.Meaning.{Meaning}
+use Rattle.gt_items.specs.declared.items.Meaning.TheVariants as meaning
+use Rattle.gt_items.specs.declared.items.RawEnum.{RawEnum}
+use Rattle.gt_items.specs.declared.items.RawTypedef.{RawTypedef}
+use Rattle.gt_items.specs.declared.items.Enumerator.{Enumerator}
+use Rattle.gt_items.specs.declared.items.Enumerator.TheVariants.{Counted, Valued, Undefined, Passed}
 use Rattle.gt_parse.specs.declared.lexeme.Bracket.TheVariants.{Round, Brace}
 use Rattle.gt_parse.specs.declared.lexeme.Lexeme.{Lexeme}
 use Rattle.gt_parse.specs.declared.lexeme.Lexeme.TheVariants as lexeme

@@ -5,12 +5,12 @@ ghost use Rattle.gt_parse.specs.Marked.{comma_at, greater_at, pointed_at, traits
 
 use crate::declarators::star;
 use crate::faults::UNSUPPORTED;
-use crate::items::{Item, Name, PointedType, RawCache, RawOption};
 use crate::lexeme::Lexeme;
 use crate::structures::semicolon;
 use crate::types::{Place, base_type, name, stars, without_qualifiers};
 use crate::unread::{Unread, unexpected};
 use crate::words::is_word;
+use gt_items::{Item, Name, PointedType, RawCache, RawOption};
 use gt_types::List;
 use std::alloc::Global;
 

@@ -4,11 +4,11 @@ ghost use Rattle.gt_parse.specs.Outcome.{Gives};
 ghost use Rattle.gt_parse.specs.Types.{no_words, is_combination, checked, signed_as, sized_short, sized_long, with_core, with_word, is_unsigned_alone, words_from};
 
 use crate::faults::UNEXPECTED;
-use crate::items::{Combination, Core, RawType, Sign, Size};
 use crate::lexeme::{Lexeme, TypeWord};
 use crate::types::without_qualifiers;
 use crate::unread::Unread;
 use crate::words::is_word;
+use gt_items::{Combination, Core, RawType, Sign, Size};
 
 /// The combination of the type words at the front.
 pub fn words(tokens: &[Lexeme]) -> Result<(RawType, &[Lexeme]), Unread>

@@ -3,8 +3,8 @@ ghost use Rattle.std.specs.Prelude.{◌≡◌, map, IfOk};
 ghost use Rattle.gt_lex.specs.Texts.{IsLexed};
 ghost use Rattle.gt_parse.specs.Header.{constant_in};
 
-use crate::items::{Name, RawConstant};
 use crate::slices::word_in;
+use gt_items::{Name, RawConstant};
 use gt_lex::{Lexed, constant_names};
 use gt_types::List;
 use std::alloc::{AllocError, Global};

@@ -5,11 +5,11 @@ ghost use Rattle.gt_parse.specs.Fields.{bits_at, no_function_at, plain_declarato
 
 use crate::faults::UNSUPPORTED;
 use crate::groups::{before_end, bounds, inside, kept_text};
-use crate::items::{Declarator, Stars};
 use crate::lexeme::{Bracket, Lexeme};
 use crate::markers::{close_round, maybe_marker, open_round};
 use crate::types::{name, stars, without_qualifiers};
 use crate::unread::{Unread, unexpected};
+use gt_items::{Declarator, Stars};
 use gt_types::{Bytes, List};
 use std::alloc::Global;
 

@@ -4,9 +4,9 @@ ghost use Rattle.gt_parse.specs.Outcome.{Gives};
 ghost use Rattle.gt_parse.specs.Unmarked.{is_comma, enumerator_of, pieces_from, enumerators_of, enum_body_at, enum_of, enum_at};
 
 use crate::groups::{depth_after, inside, kept_text};
-use crate::items::{Enumerator, Item, Name, RawEnum};
 use crate::lexeme::{Bracket, Lexeme};
 use crate::unread::Unread;
+use gt_items::{Enumerator, Item, Name, RawEnum};
 use gt_types::List;
 use std::alloc::{AllocError, Global};
 

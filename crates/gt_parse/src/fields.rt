@@ -6,11 +6,11 @@ ghost use Rattle.gt_parse.specs.Fields.{is_access, no_label_at, field_at, brace_
 
 use crate::declarators::declarators;
 use crate::faults::UNSUPPORTED;
-use crate::items::RawField;
 use crate::lexeme::{Bracket, Lexeme};
 use crate::types::{Place, base_type};
 use crate::unread::Unread;
 use crate::words::is_word;
+use gt_items::RawField;
 use gt_types::{List, Word};
 use std::alloc::Global;
 

@@ -5,13 +5,13 @@ ghost use Rattle.gt_parse.specs.Marked.{initialiser_at, root_at, behind_marker_a
 
 use crate::caches::cache;
 use crate::groups::bounds;
-use crate::items::{Item, RawOption, RawRoot};
 use crate::lexeme::Lexeme;
 use crate::markers::marker;
 use crate::structures::semicolon;
 use crate::types::{Place, base_type, name, stars};
 use crate::unread::Unread;
 use crate::words::is_word;
+use gt_items::{Item, RawOption, RawRoot};
 use gt_types::List;
 use std::alloc::Global;
 

@@ -1,9 +1,9 @@
 // Laws of the definitions, for all tokens. The functions do nothing.
 ghost use Rattle.std.specs.Prelude.{◌≡◌, List, [], Option};
-ghost use Rattle.gt_parse.specs.declared.items.Item.{Item as TheItem};
-ghost use Rattle.gt_parse.specs.declared.items.RawField.{RawField as TheField};
-ghost use Rattle.gt_parse.specs.declared.items.RawOption.{RawOption as TheOption};
-ghost use Rattle.gt_parse.specs.declared.items.RawType.{RawType as TheType};
+ghost use Rattle.gt_items.specs.declared.items.Item.{Item as TheItem};
+ghost use Rattle.gt_items.specs.declared.items.RawField.{RawField as TheField};
+ghost use Rattle.gt_items.specs.declared.items.RawOption.{RawOption as TheOption};
+ghost use Rattle.gt_items.specs.declared.items.RawType.{RawType as TheType};
 ghost use Rattle.gt_parse.specs.declared.lexeme.Lexeme.{Lexeme as TheLexeme};
 ghost use Rattle.gt_parse.specs.declared.types.Place.{Place as ThePlace};
 ghost use Rattle.gt_parse.specs.FieldGrammar.{Field};

@@ -1,4 +1,4 @@
-use crate::items::{Keyword, Name};
+use gt_items::{Keyword, Name};
 use gt_types::{Copied, Word};
 use std::alloc::{AllocError, Global};
 

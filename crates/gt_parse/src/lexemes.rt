@@ -3,10 +3,10 @@ ghost use Rattle.std.specs.Prelude.{◌≡◌, IfOk};
 ghost use Rattle.gt_lex.specs.Texts.{IsLexed};
 ghost use Rattle.gt_parse.specs.Lexemes.{identifier_lexeme, type_lexeme, mark_lexeme, lexeme_of, lexemes_of};
 
-use crate::items::Keyword;
 use crate::lexeme::{Bracket, Lexeme, Spot, TypeWord};
 use crate::slices::word_in;
 use crate::words::is_word;
+use gt_items::Keyword;
 use gt_lex::{Kind, Lexed, Token, token_slices};
 use std::alloc::{AllocError, Global};
 use std::str;

@@ -12,7 +12,6 @@ mod faults;
 mod fields;
 mod globals;
 mod groups;
-mod items;
 mod laws;
 mod lexeme;
 mod lexemes;
@@ -31,11 +30,6 @@ mod unread;
 mod words;
 
 pub use faults::{BAD_MARKER_PLACE, UNCLOSED, UNEXPECTED, UNSUPPORTED};
-pub use items::{
-    Alias, Combination, Core, Declarator, Enumerator, Item, Items, Keyword, Meaning, Name,
-    Parameter, PointedType, RawCache, RawConstant, RawEnum, RawField, RawOption, RawRoot,
-    RawStructure, RawType, RawTypedef, Sign, Size, Stars,
-};
 pub use laws::{
     each_rule, field_rules, marked_rules, marker_rules, one_outcome, one_search, some_search,
     type_rules,

@@ -3,10 +3,10 @@ ghost use Rattle.std.specs.Prelude.{◌≡◌};
 ghost use Rattle.gt_parse.specs.Outcome.{Gives};
 ghost use Rattle.gt_parse.specs.Markers.{gty_at, open_round_at, close_round_at, marker_at, maybe_marker};
 
-use crate::items::RawOption;
 use crate::lexeme::{Bracket, Lexeme};
 use crate::options::options;
 use crate::unread::{Unread, unexpected};
+use gt_items::RawOption;
 use gt_types::List;
 use std::alloc::Global;
 

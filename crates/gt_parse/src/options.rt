@@ -5,13 +5,13 @@ ghost use Rattle.gt_expr.specs.Expression.{expression_of};
 ghost use Rattle.gt_parse.specs.Outcome.{Gives, GivesBefore};
 ghost use Rattle.gt_parse.specs.Markers.{takes_expression, unescaped, expression_at, parameter_at, parameters_at, option_at, comma_behind, options_from, options_at};
 
-use crate::items::{Parameter, RawOption};
 use crate::lexeme::{Bracket, Lexeme, Spot};
 use crate::markers::close_round;
 use crate::strings::{strings, unescaped};
 use crate::unread::{Unread, unexpected};
 use crate::words::is_word;
 use gt_expr::BAD_EXPR;
+use gt_items::{Parameter, RawOption};
 use gt_types::{Bytes, List, Stop, Word};
 use std::alloc::Global;
 

@@ -3,18 +3,18 @@ ghost use Rattle.std.specs.Prelude.{◌≡◌, ◌<◌, ◌^◌, ◌++◌, lengt
 ghost use Rattle.std.specs.List.{flat_map};
 ghost use Rattle.gt_types.specs.declared.faults.Fault.{Fault as TheFault};
 ghost use Rattle.gt_lex.specs.Texts.{IsLexed};
-ghost use Rattle.gt_parse.specs.declared.items.Items.{Items as TheItems};
+ghost use Rattle.gt_items.specs.declared.items.Items.{Items as TheItems};
 ghost use Rattle.gt_parse.specs.Header.{AreItems, IsFirstFault, IsStop, GivesItems, GivesFault, item_faults, unclosed_faults};
 ghost use Rattle.gt_parse.specs.Answers.{item_items, earlier, first_of, IsAnswer};
 
 use crate::constants::constants;
 use crate::faults::UNCLOSED;
-use crate::items::{Item, Items};
 use crate::lexeme::Lexeme;
 use crate::lexemes::lexemes;
 use crate::reading::item;
 use crate::search::{End, search};
 use crate::unread::Unread;
+use gt_items::{Item, Items};
 use gt_lex::Lexed;
 use gt_types::{Fault, List, Stop};
 use std::alloc::{AllocError, Global};

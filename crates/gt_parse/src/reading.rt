@@ -9,12 +9,12 @@ use crate::enums::enum_item;
 use crate::faults::{BAD_MARKER_PLACE, UNEXPECTED, UNSUPPORTED};
 use crate::globals::global;
 use crate::groups::depth_after;
-use crate::items::{Item, Keyword};
 use crate::lexeme::{Lexeme, Spot};
 use crate::structures::structure;
 use crate::typedefs::typedef_item;
 use crate::unread::{Unread, unexpected};
 use crate::words::is_word;
+use gt_items::{Item, Keyword};
 use std::alloc::{AllocError, Global};
 
 /// What the tokens of one item declare, or why they are refused.

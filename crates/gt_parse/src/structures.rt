@@ -5,11 +5,11 @@ ghost use Rattle.gt_parse.specs.Marked.{semicolon_at, open_brace_at, marker_behi
 
 use crate::faults::UNSUPPORTED;
 use crate::fields::fields;
-use crate::items::{Alias, Item, Name, RawOption, RawStructure};
 use crate::lexeme::{Bracket, Lexeme};
 use crate::markers::marker;
 use crate::types::{name, stars};
 use crate::unread::{Unread, unexpected};
+use gt_items::{Alias, Item, Name, RawOption, RawStructure};
 use gt_types::List;
 use std::alloc::Global;
 

@@ -2,6 +2,11 @@
 //! place as `name@15`, options in square brackets before what they belong to, fields and the constants of enums in braces.
 use super::*;
 use gt_expr::RawExpr;
+use gt_items::{
+    Alias, Combination, Core, Declarator, Enumerator, Item, Items, Keyword, Meaning, Name,
+    Parameter, PointedType, RawCache, RawConstant, RawEnum, RawField, RawOption, RawRoot,
+    RawStructure, RawType, RawTypedef, Sign, Size, Stars,
+};
 use gt_lex::lex;
 use gt_types::{Base, Bytes, Fault, List, Op, Stop};
 use std::alloc::{AllocError, Global};

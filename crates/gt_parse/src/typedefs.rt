@@ -8,11 +8,11 @@ ghost use Rattle.gt_parse.specs.Unmarked.{body_at, plain_meaning_at, tagged_mean
 use crate::declarators::goes_on;
 use crate::enums::enum_body;
 use crate::groups::{depth_after, inside};
-use crate::items::{Alias, Item, Keyword, Meaning, Name, RawTypedef, Stars};
 use crate::lexeme::{Bracket, Lexeme, Spot};
 use crate::structures::alias;
 use crate::types::{Place, base_type, without_qualifiers};
 use crate::unread::{Unread, unexpected};
+use gt_items::{Alias, Item, Keyword, Meaning, Name, RawTypedef, Stars};
 use gt_types::List;
 use std::alloc::{AllocError, Global};
 

@@ -5,11 +5,11 @@ ghost use Rattle.gt_parse.specs.Types.{without_qualifiers, one_more, stars_from,
 
 use crate::combinations::words;
 use crate::faults::{UNEXPECTED, UNSUPPORTED};
-use crate::items::{Keyword, Name, RawType, Stars};
 use crate::lexeme::{Bracket, Lexeme, Spot};
 use crate::markers::{close_round, marker};
 use crate::unread::{Unread, unexpected};
 use crate::words::is_word;
+use gt_items::{Keyword, Name, RawType, Stars};
 use std::alloc::Global;
 
 /// Where a type without a body stands: in a field, or else in a global, a map or a typedef. Only a field may declare a pointer to

@@ -1,0 +1,12 @@
+use Rattle.std.proofs.Common.{◌≡◌, ℕ, ◌<◌, length, true, Some}
+use Rattle.std.specs.Prelude.{◌↔◌, slice_get}
+use Rattle.gt_resolve.specs.Graphs.{Reached, edges_at}
+use Rattle.gt_resolve.proofs.containment.cyclic.Given as goal
+
+-- the flags of so many structures
+abbrev pub invariant-loop-place : goal.invariant-loop-place
+invariant-loop-place l =
+    record {
+      count : length l.flags.items ≡ l.place;
+      cycles : (i : ℕ) → i < l.place → (slice_get l.flags.items i ≡ Some true) ↔ Reached l.graph (edges_at l.graph i) i;
+    }

@@ -1,0 +1,17 @@
+pub mod Amounts
+pub mod Chains
+pub mod Declarations
+pub mod Drafts
+pub mod Faults
+pub mod FirstFaults
+pub mod FirstValues
+pub mod Graphs
+pub mod Meanings
+pub mod Placings
+pub mod Redefinitions
+pub mod Resolution
+pub mod Searches
+pub mod Shapes
+pub mod Spelling
+pub mod Tables
+pub mod TailGraphs

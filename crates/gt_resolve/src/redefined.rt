@@ -1,0 +1,224 @@
+// Second definitions with another meaning. A definition is held against the first of its name. Where some later one has another
+// meaning than the first, the first is marked: each that comes after has another meaning than one of those two.
+ghost use Rattle.std.specs.Prelude.{◌≡◌, [], None, false, length, replicate, IfOk};
+ghost use Rattle.std.specs.Option.{option_map_or};
+ghost use Rattle.gt_items.specs.declared.items.Stars.TheVariants.{Zero};
+ghost use Rattle.gt_resolve.specs.Faults.{agree, is_tag, redefinitions};
+ghost use Rattle.gt_resolve.specs.FirstFaults.{first_from};
+ghost use Rattle.gt_resolve.specs.Meanings.{is_transparent, means_behind, opaque, resolved_type, transparent};
+ghost use Rattle.gt_resolve.specs.Redefinitions.{agrees_at, first_place, first_places, is_clash, marked_faults, with_clash, with_first};
+ghost use Rattle.gt_resolve.specs.Tables.{value_in};
+
+use crate::bounds::flag_at;
+use crate::declaration::{Declaration, What};
+use crate::earliest::with_fault;
+use crate::sameness::{same_bool, same_type};
+use crate::scope::Scope;
+use crate::table::Table;
+use crate::{BaseType, REDEFINED, Resolved, Spelled};
+use gt_items::{Keyword, Stars};
+use gt_types::Fault;
+use std::alloc::{AllocError, Global};
+
+fn is_tag(what: &What) -> bool
+    ensures tag { result ≡ is_tag what.now }
+{
+    match what {
+        What::Structure { .. } | What::Enum { .. } => true,
+        _ => false,
+    }
+}
+
+fn with_first(
+    alloc: Global,
+    places: Table<usize>,
+    tags: bool,
+    d: &Declaration,
+    place: usize,
+) -> Result<Table<usize>, AllocError>
+    ensures first { IfOk result (λ made. made ≡ with_first tags place d.now places) }
+{
+    if same_bool(tags, is_tag(&d.what)) {
+        return places.with(alloc, &d.name.word, place);
+    }
+    Ok(places)
+}
+
+// The places of the first declarations of tags, or of the other names.
+fn first_places(alloc: Global, ds: &[Declaration], tags: bool) -> Result<Table<usize>, AllocError>
+    ensures places { IfOk result (λ made. made ≡ first_places tags 0 [] ds.now) }
+{
+    let mut made = Table::new(alloc);
+    for (place, d) in ds.iter().enumerate() {
+        made = with_first(alloc, made, tags, d, place)?;
+    }
+    Ok(made)
+}
+
+fn place_or(places: &Table<usize>, d: &Declaration, place: usize) -> usize
+    ensures place { result ≡ option_map_or (λ first. first) (value_in places.now d.now.name.word) place }
+{
+    match places.get(&d.name.word) {
+        None => place,
+        Some(first) => *first,
+    }
+}
+
+// The place of the first declaration of the name.
+fn first_place(tags: &Table<usize>, others: &Table<usize>, d: &Declaration, place: usize) -> usize
+    ensures place { result ≡ first_place tags.now others.now d.now place }
+{
+    if is_tag(&d.what) {
+        return place_or(tags, d, place);
+    }
+    place_or(others, d, place)
+}
+
+fn is_transparent(base: &BaseType) -> bool
+    ensures transparent { result ≡ is_transparent base.now }
+{
+    match base {
+        BaseType::Number { .. } | BaseType::Structure(_) => true,
+        BaseType::Undefined { keyword, .. } => match keyword {
+            Keyword::Struct | Keyword::Union => true,
+            Keyword::Enum => false,
+        },
+        BaseType::Float | BaseType::Double | BaseType::Sizeless | BaseType::Unknown => false,
+    }
+}
+
+fn transparent(base: BaseType, stars: Stars) -> Resolved
+    ensures transparent { result ≡ transparent base stars }
+{
+    if is_transparent(&base) {
+        return Resolved { base, stars };
+    }
+    opaque()
+}
+
+fn opaque() -> Resolved
+    ensures opaque { result ≡ opaque }
+{
+    Resolved {
+        base: BaseType::Sizeless,
+        stars: Stars::Zero,
+    }
+}
+
+// What a typedef of a type behind stars means.
+#[tactic(auto, unfolding(crate::specs::Meanings::behind))]
+fn means_behind(stars: Stars, means: Resolved) -> Resolved
+    ensures means { result ≡ means_behind stars means }
+{
+    match stars {
+        Stars::Zero => transparent(means.base, means.stars),
+        Stars::One => match means.stars {
+            Stars::Zero => transparent(means.base, Stars::One),
+            Stars::One | Stars::Two | Stars::More => opaque(),
+        },
+        Stars::Two | Stars::More => opaque(),
+    }
+}
+
+fn meaning(alloc: Global, scope: &Scope, ty: &Spelled, stars: Stars) -> Result<Resolved, AllocError>
+    ensures means { IfOk result (λ r. r ≡ means_behind stars (resolved_type scope.now.declarations.items scope.now.types.items ty.now Zero)) }
+{
+    Ok(means_behind(stars, scope.resolved(alloc, ty, Stars::Zero)?))
+}
+
+// Whether two definitions of one name may stand beside one another.
+#[tactic(auto, unfolding(crate::specs::Faults::agree))]
+fn agree(alloc: Global, scope: &Scope, a: &What, b: &What) -> Result<bool, AllocError>
+    ensures agree { IfOk result (λ r. r ≡ agree scope.now.declarations.items scope.now.types.items a.now b.now) }
+{
+    match a {
+        What::Enum { is_signed } => match b {
+            What::Enum { is_signed: other } => Ok(same_bool(*is_signed, *other)),
+            _ => Ok(false),
+        },
+        What::Constant(value) => match b {
+            What::Constant(other) => Ok(*value == *other),
+            _ => Ok(false),
+        },
+        What::Typedef { ty, stars } => match b {
+            What::Typedef {
+                ty: other,
+                stars: others,
+            } => {
+                let means = meaning(alloc, scope, ty, *stars)?;
+                let meant = meaning(alloc, scope, other, *others)?;
+                Ok(same_type(&means, &meant))
+            }
+            _ => Ok(false),
+        },
+        What::Structure { .. } | What::Root | What::Cache => Ok(false),
+    }
+}
+
+fn agrees_at(alloc: Global, scope: &Scope, what: &What, first: usize) -> Result<bool, AllocError>
+    ensures agrees { IfOk result (λ r. r ≡ agrees_at scope.now.declarations.items scope.now.types.items what.now first) }
+{
+    match scope.declarations.get(first) {
+        None => Ok(true),
+        Some(other) => agree(alloc, scope, what, &other.what),
+    }
+}
+
+// Whether a definition has another meaning than the first of its name, or than one between that has another.
+fn is_clash(
+    alloc: Global,
+    scope: &Scope,
+    clashed: &[bool],
+    what: &What,
+    first: usize,
+    place: usize,
+) -> Result<bool, AllocError>
+    ensures clash { IfOk result (λ r. r ≡ is_clash scope.now.declarations.items scope.now.types.items clashed.now what.now first place) }
+{
+    if first == place {
+        return Ok(false);
+    }
+    if flag_at(clashed, first) {
+        return Ok(true);
+    }
+    let agrees = agrees_at(alloc, scope, what, first)?;
+    Ok(!agrees)
+}
+
+fn mark(clashed: &mut Vec<bool>, clash: bool, first: usize)
+    ensures marked { clashed.new.items ≡ with_clash clash first clashed.old.items }
+{
+    if clash && first < clashed.len() {
+        clashed[first] = true;
+    }
+}
+
+// The earliest second definition, by the places of first ones.
+fn marked(
+    alloc: Global,
+    scope: &Scope,
+    tags: &Table<usize>,
+    others: &Table<usize>,
+) -> Result<Option<Fault>, AllocError>
+    ensures earliest { IfOk result (λ r. r ≡ first_from None (marked_faults scope.now.declarations.items scope.now.types.items tags.now others.now 0
+        (replicate (length scope.now.declarations.items) false) scope.now.declarations.items)) }
+{
+    let mut clashed = vec![in alloc; false; scope.declarations.len()]?;
+    let mut earliest = None;
+    for (place, d) in scope.declarations.iter().enumerate() {
+        let first = first_place(tags, others, d, place);
+        let clash = is_clash(alloc, scope, &clashed, &d.what, first, place)?;
+        mark(&mut clashed, clash, first);
+        earliest = with_fault(earliest, clash, REDEFINED, d.file, d.name.at);
+    }
+    Ok(earliest)
+}
+
+/// The earliest second definition of a name with another meaning.
+pub fn redefined(alloc: Global, scope: &Scope) -> Result<Option<Fault>, AllocError>
+    ensures earliest { IfOk result (λ r. r ≡ first_from None (redefinitions scope.now.declarations.items scope.now.types.items [] scope.now.declarations.items)) }
+{
+    let tags = first_places(alloc, &scope.declarations, true)?;
+    let others = first_places(alloc, &scope.declarations, false)?;
+    marked(alloc, scope, &tags, &others)
+}
