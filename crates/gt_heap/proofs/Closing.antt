@@ -3,18 +3,21 @@ use Rattle.std.proofs.Common.{◌≡◌, ℕ, zero, suc, ◌+◌, ◌*◌, ◌<�
 use Rattle.std.specs.Prelude.{Contains}
 use Rattle.std.proofs.lemmas.Bool.{false≢true}
 use Rattle.std.proofs.lemmas.List.Elements.{Contains-append_cases}
+use Rattle.gt_types.specs.declared.types.TypeId.{TypeId}
 use Rattle.gt_types.specs.declared.program.Root.{Root}
 use Rattle.gt_types.specs.declared.program.Program.{Program}
 use Rattle.gt_space.specs.Range.{Range}
 use Rattle.gt_space.specs.Numbers.{u64_at}
+use Rattle.gt_pages.specs.Lists.{flagged}
 use Rattle.gt_heap.specs.Values.{Object}
 use Rattle.gt_heap.specs.Graph.{Graph, leaf_of}
 use Rattle.gt_heap.specs.Kept.{IsWay, PointsTo, Reached, all_edges, edges, root_edges}
-use Rattle.gt_heap.specs.Freed.{AreMarks, IsClosed, IsNamed, flagged}
-use Rattle.gt_heap.specs.Heap.{IsHeap, IsPointer, Places, address_of, fields_of, graph_of, leaves_at, pointer_of}
+use Rattle.gt_heap.specs.Freed.{AreMarks, IsClosed, IsNamed}
+use Rattle.gt_heap.specs.Heap.{IsHeap, IsPointer, Placed, Places, fields_of, graph_of, leaves_at, object_of, pointer_of}
 use Rattle.gt_heap.proofs.Items.{Contains-each, contained_each, contains_head, contains_none, contains_tail, cons_cases}
 use Rattle.gt_heap.proofs.Leaves.{first_word, next_word}
-use Rattle.gt_heap.proofs.Goodness.{object_of}
+use Rattle.gt_heap.proofs.Memory.{kept}
+use Rattle.gt_heap.proofs.Goodness.{pointer_at_field, pointer_at_root}
 use Rattle.gt_heap.proofs.Keeping.{flagged_within}
 use Rattle.gt_heap.proofs.AfterFlags.{Tell}
 
@@ -72,28 +75,28 @@ root_word range (r ∷ rs) address (suc count) to there =
 
 -- the object of a pointer's word
 named_by_pointer :
-    (program : Program) (places : Places) (range : Range) (word to : ℕ) → word ≡ to → 0 < to → IsPointer places word
+    (program : Program) (places : Places) (range : Range) (node : TypeId) (word to : ℕ) → word ≡ to → 0 < to → IsPointer places node word
     → IsNamed (graph_of program places range).objects to
-named_by_pointer program places range word to is some (inl null) = absurd (omega (arith, is, some, null))
-named_by_pointer program places range word to is some (inr (k, there, at)) =
-    (object_of program places range k, Contains-each (object_of program places range) places.live k there, sym at ∙ is)
+named_by_pointer program places range node word to is some (inl null) = absurd (omega (arith, is, some, null))
+named_by_pointer program places range node word to is some (inr (b, there, kind, at)) =
+    (object_of program range b, Contains-each (object_of program range) places.blocks b there, sym at ∙ is)
 
 -- what an object or a root points to is an object
 named_by_object :
     (program : Program) (places : Places) (range : Range) → IsHeap program places range → (o : Object) (to : ℕ)
     → Contains (graph_of program places range).objects o → Contains (edges o.value) to → IsNamed (graph_of program places range).objects to
 named_by_object program places range heap o to there edge =
-    let found = contained_each (object_of program places range) places.live o there in
-    let here : Contains (edges (object_of program places range found.0).value) to =
-    subst (λ (p : Object). Contains (edges p.value) to) (sym found.2) edge in
-    let leaves : List ℕ = all_edges (leaves_at range (address_of places found.0) (fields_of program)) in
-    let field : IsEdgeWord range (address_of places found.0) (fields_of program) to =
+    let found = contained_each (object_of program range) places.blocks o there in
+    let b : Placed = found.0 in
+    let here : Contains (edges (object_of program range b).value) to = subst (λ (p : Object). Contains (edges p.value) to) (sym found.2) edge in
+    let leaves : List ℕ = all_edges (leaves_at range b.span.addr (fields_of program b.node)) in
+    let field : IsEdgeWord range b.span.addr (fields_of program b.node) to =
     elim (Contains-append_cases leaves [] to here) [
-      | inl within ↦ field_word range (address_of places found.0) (fields_of program) to within
+      | inl within ↦ field_word range b.span.addr (fields_of program b.node) to within
       | inr none ↦ absurd (contains_none to none)
     ] in
-    named_by_pointer program places range (u64_at range (address_of places found.0 + 8 * field.place)) to field.word field.some
-    (heap.pointers.fields found.0 field.place found.1 field.below)
+    let pointer = pointer_at_field program places range (kept program places range heap) b field.place found.1 field.below in
+    named_by_pointer program places range pointer.0 (u64_at range (b.span.addr + 8 * field.place)) to field.word field.some pointer.2
 
 named_by_root :
     (program : Program) (places : Places) (range : Range) → IsHeap program places range → (to : ℕ)
@@ -101,8 +104,8 @@ named_by_root :
     → IsNamed (graph_of program places range).objects to
 named_by_root program places range heap to edge =
     let root = root_word range program.roots range.start (length program.roots) to edge in
-    named_by_pointer program places range (u64_at range (range.start + 8 * root.place)) to root.word root.some
-    (heap.pointers.roots root.place root.below)
+    let pointer = pointer_at_root program places range (kept program places range heap) root.place root.below in
+    named_by_pointer program places range pointer.0 (u64_at range (range.start + 8 * root.place)) to root.word root.some pointer.2
 
 -- ---- flags
 

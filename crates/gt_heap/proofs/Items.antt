@@ -1,10 +1,10 @@
--- Lists of what a function gives at the items of a list, and lists of numbers of which none stands twice.
-use Rattle.std.proofs.Common.{◌≡◌, ◌≢◌, ℕ, ◌<◌, ◌⊎◌, inl, inr, List, [], ◌∷◌, ◌++◌, refl, ap, ap₂, sym, subst, ◌∙◌, arith}
+-- Lists of what a function gives at the items of a list.
+use Rattle.std.proofs.Common.{◌≡◌, ◌≢◌, ℕ, zero, suc, ◌<◌, ◌⊎◌, inl, inr, List, [], ◌∷◌, ◌++◌, length, refl, ap, ap₂, sym, subst, ◌∙◌, arith}
 use Rattle.std.specs.Prelude.{All, Contains, Some, map, slice_get}
+use Rattle.std.proofs.lemmas.Option.{get_or_from_slice_get, slice_get_within}
 use Rattle.std.proofs.lemmas.Bool.{cases_lt}
 use Rattle.std.proofs.lemmas.List.{length-map, get_or-map}
-use Rattle.std.proofs.lemmas.List.Elements.{All-map, All-append, All-weaker, All-contains, All-contains_itself, Contains-append_left, Contains-append_right, Contains-append_cases, Contains-push, Contains-push_cases}
-use Rattle.gt_heap.specs.Slots.{AreDifferent}
+use Rattle.std.proofs.lemmas.List.Elements.{All-map, All-weaker, All-contains, All-contains_itself, Contains-append_left, Contains-append_right, Contains-append_cases, Contains-push, Contains-push_cases}
 
 -- two numbers are one or differ
 pub cases_ne : (m n : ℕ) → (m ≡ n) ⊎ (m ≢ n)
@@ -15,6 +15,9 @@ cases_ne m n =
     ]
 
 -- ---- items
+
+pub some_is : {A : Type 0} {x y : A} → Some x ≡ Some y → x ≡ y
+some_is is = cc
 
 pub contains_head : {A : Type 0} (x : A) (xs : List A) → Contains (x ∷ xs) x
 contains_head x xs = Contains-append_left (x ∷ []) xs x (Contains-push [] x)
@@ -32,9 +35,29 @@ cons_cases x xs y there =
       | inr rest ↦ inr rest
     ]
 
-pub first_item : {A : Type 0} (xs : List A) (x : A) → slice_get xs 0 ≡ Some x → Contains xs x
-first_item [] x is = absurd (cc)
-first_item (y ∷ ys) x is = let e : y ≡ x = cc in subst (Contains (y ∷ ys)) e (contains_head y ys)
+-- the item at a place
+pub item_there : {A : Type 0} (xs : List A) (i : ℕ) (x : A) → slice_get xs i ≡ Some x → Contains xs x
+item_there xs i x is = (i, slice_get_within xs i x is, get_or_from_slice_get xs i x x is)
+
+pub item_below : {A : Type 0} (xs : List A) (i : ℕ) → i < length xs → (x : A) × (slice_get xs i ≡ Some x)
+item_below [] i h = absurd (omega (arith, h))
+item_below (x ∷ xs) zero h = (x, refl)
+item_below (x ∷ xs) (suc i) h = item_below xs i (omega (arith, h))
+
+pub item_holds : {A : Type 0} (P : A → Type 0) (xs : List A) (i : ℕ) (x : A) → All P xs → slice_get xs i ≡ Some x → P x
+item_holds P xs i x all is = All-contains P xs x all (item_there xs i x is)
+
+-- an item of a function's list comes from the one at its place
+pub item_of_each :
+    {A B : Type 0} (f : A → B) (xs : List A) (i : ℕ) (y : B) → slice_get (map f xs) i ≡ Some y → (x : A) × (slice_get xs i ≡ Some x) × (f x ≡ y)
+item_of_each f [] i y is = absurd (cc)
+item_of_each f (x ∷ xs) zero y is = (x, refl, some_is is)
+item_of_each f (x ∷ xs) (suc i) y is = item_of_each f xs i y is
+
+pub item_each : {A B : Type 0} (f : A → B) (xs : List A) (i : ℕ) (x : A) → slice_get xs i ≡ Some x → slice_get (map f xs) i ≡ Some (f x)
+item_each f [] i x is = absurd (cc)
+item_each f (y ∷ xs) zero x is = ap (λ z. Some (f z)) (some_is is)
+item_each f (y ∷ xs) (suc i) x is = item_each f xs i x is
 
 -- what holds of each item
 pub All-items : {A : Type 0} (P : A → Type 0) (xs : List A) → ((x : A) → Contains xs x → P x) → All P xs
@@ -49,7 +72,7 @@ pub Contains-each : {A B : Type 0} (f : A → B) (xs : List A) (x : A) → Conta
 Contains-each f xs x (i, within, is) =
     (i, subst (λ n. i < n) (sym (length-map xs f)) within, get_or-map f xs i x (f x) within ∙ ap f is)
 
-pub contained_each : {B : Type 0} (f : ℕ → B) (ks : List ℕ) (y : B) → Contains (map f ks) y → (k : ℕ) × Contains ks k × (f k ≡ y)
+pub contained_each : {A B : Type 0} (f : A → B) (ks : List A) (y : B) → Contains (map f ks) y → (k : A) × Contains ks k × (f k ≡ y)
 contained_each f [] y there = absurd (contains_none y there)
 contained_each f (k ∷ ks) y there =
     elim (cons_cases (f k) (map f ks) y there) [
@@ -64,38 +87,10 @@ each_same f g (x ∷ xs) h = ap₂ (λ y ys. y ∷ ys) (h x (contains_head x xs)
 
 -- ---- an item between others
 
-pub split_at : (ks : List ℕ) (k : ℕ) → Contains ks k → (front : List ℕ) × (back : List ℕ) × (ks ≡ front ++ k ∷ back)
+pub split_at : {A : Type 0} (ks : List A) (k : A) → Contains ks k → (front : List A) × (back : List A) × (ks ≡ front ++ k ∷ back)
 split_at [] k there = absurd (contains_none k there)
 split_at (j ∷ ks) k there =
     elim (cons_cases j ks k there) [
       | inl is ↦ ([], ks, ap (λ n. n ∷ ks) is)
       | inr rest ↦ let found = split_at ks k rest in (j ∷ found.0, found.1, ap (λ ns. j ∷ ns) found.2)
     ]
-
--- ---- different numbers
-
-pub different_left : (ks js : List ℕ) → AreDifferent (ks ++ js) → AreDifferent ks
-different_left [] js differ = tt
-different_left (k ∷ ks) js differ =
-    (All-items (λ j. k ≢ j) ks (λ j there. All-contains (λ j. k ≢ j) (ks ++ js) j differ.0 (Contains-append_left ks js j there)), different_left ks js differ.1)
-
-pub different_right : (ks js : List ℕ) → AreDifferent (ks ++ js) → AreDifferent js
-different_right [] js differ = differ
-different_right (k ∷ ks) js differ = different_right ks js differ.1
-
--- one of the left is none of the right
-pub different_sides : (ks js : List ℕ) → AreDifferent (ks ++ js) → (k j : ℕ) → Contains ks k → Contains js j → k ≢ j
-different_sides [] js differ k j left right = absurd (contains_none k left)
-different_sides (i ∷ ks) js differ k j left right =
-    elim (cons_cases i ks k left) [
-      | inl is ↦ subst (λ n. n ≢ j) is (All-contains (λ m. i ≢ m) (ks ++ js) j differ.0 (Contains-append_right ks js j right))
-      | inr rest ↦ different_sides ks js differ.1 k j rest right
-    ]
-
-pub different_append :
-    (ks js : List ℕ) → AreDifferent ks → AreDifferent js → ((k j : ℕ) → Contains ks k → Contains js j → k ≢ j) → AreDifferent (ks ++ js)
-different_append [] js left right sides = right
-different_append (k ∷ ks) js left right sides = (
-  All-append (λ j. k ≢ j) ks js left.0 (All-items (λ j. k ≢ j) js (λ j there. sides k j (contains_head k ks) there)),
-  different_append ks js left.1 right (λ i j this that. sides i j (contains_tail k ks i this) that),
-)

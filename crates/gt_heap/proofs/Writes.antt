@@ -1,10 +1,11 @@
 -- A fresh space, a new block and a written pointer keep what a heap keeps.
-use Rattle.std.proofs.Common.{◌≡◌, ◌≢◌, ℕ, ◌+◌, ◌-◌, ◌*◌, ◌<◌, ◌≤◌, ◌⊎◌, inl, inr, List, [], ◌∷◌, ◌++◌, length, take, drop, Some, refl, ap, ap₂, sym, subst, ◌∙◌, arith}
+use Rattle.std.proofs.Common.{◌≡◌, ◌≢◌, ℕ, ◌+◌, ◌-◌, ◌*◌, ◌^◌, ◌<◌, ◌≤◌, ◌⊎◌, inl, inr, List, [], ◌∷◌, length, take, drop, refl, ap, sym, subst, ◌∙◌, arith}
 use Rattle.std.specs.Prelude.{Contains, replicate}
 use Rattle.std.specs.Int.{w64, to_le_bytes, from_le_bytes}
 use Rattle.std.proofs.lemmas.Bool.{cases_lt}
-use Rattle.std.proofs.lemmas.List.{places, same_lists, length-replicate}
-use Rattle.std.proofs.lemmas.List.Elements.{Contains-append_left, Contains-push_cases}
+use Rattle.std.proofs.lemmas.List.{map_push, places, same_lists, length-replicate}
+use Rattle.std.proofs.lemmas.List.Elements.{All-append, All-cons, All-nil, Contains-append_left, Contains-push, Contains-push_cases}
+use Rattle.gt_types.specs.declared.types.TypeId.{TypeId}
 use Rattle.gt_types.specs.declared.program.Program.{Program}
 use Rattle.gt_space.specs.declared.TheConstants.{MIN_PAGES, MAX_PAGES}
 use Rattle.gt_space.specs.Range.{Range, IsInside, IsSized, IsSpace, bytes_at, with_bytes, fresh_range, statics_start, space_len}
@@ -12,16 +13,14 @@ use Rattle.gt_space.specs.Numbers.{u64_at, with_u64}
 use Rattle.gt_space.specs.Laws.{IsApart}
 use Rattle.gt_space.proofs.RangeLemmas.{bytes_at-with_bytes_within, bytes_at-with_bytes_apart}
 use Rattle.gt_space.proofs.NumberLemmas.{u64_at-bytes_at, u64_at-with_u64, u64_at-with_bytes_apart}
-use Rattle.gt_heap.specs.Ledger.{rounded}
+use Rattle.gt_pages.specs.Ledger.{Block, Ledger, Place, Sound, with_block}
 use Rattle.gt_heap.specs.Stands.{AreZero}
-use Rattle.gt_heap.specs.Slots.{IsQueue, numbers}
-use Rattle.gt_heap.specs.Heap.{IsFirst, IsPointer, HoldsPointers, Places, per_page, address_of, fields_of}
-use Rattle.gt_heap.proofs.Quotients.{IsSmall, per_page_pos}
+use Rattle.gt_heap.specs.Heap.{BlockFits, HoldsPointers, IsFieldTo, IsLinked, IsPointer, IsRootTo, Placed, Places, block_of, fields_of, ledger_of}
+use Rattle.gt_heap.specs.Making.{with_placed}
 use Rattle.gt_heap.proofs.Items.{cases_ne, contains_none}
-use Rattle.gt_heap.proofs.Queues.{all_numbers, queue_rising, rising_numbers}
-use Rattle.gt_heap.proofs.Blocks.{TakesFirst, free_slot_below, live_below, one_more, slot_not_live, slots_apart, slots_of, slots_stay}
+use Rattle.gt_heap.proofs.Programs.{field_below, field_same, root_below, root_same}
 use Rattle.gt_heap.proofs.SmallBytes.{bytes-replicate, bytes-low_first}
-use Rattle.gt_heap.proofs.Memory.{Kept, size_fits, few_bytes, statics_below, statics_end, roots_below, inside_root, inside_block, inside_field, inside_part, pointer_fits, IsSized-with_bytes, IsSpace-with_bytes}
+use Rattle.gt_heap.proofs.Memory.{AreApartTwo, Kept, Laid, apart_before, block_in_space, few_bytes, inside_block, inside_field, inside_rest, inside_root, laid_written, parts_apart, pointer_fits, roots_below, same_or_apart, size_fits, statics_below, statics_end}
 
 -- ---- zeros
 
@@ -69,37 +68,34 @@ fresh_space pages statics few small =
     }
 
 -- the places of a heap without objects
-abbrev pub fresh_places : (size pages : ℕ) → Places
-fresh_places size pages = record { size = size; live = []; free = numbers 0 (pages * per_page size); pages = pages }
+abbrev pub fresh_places : (pages : ℕ) → Places
+fresh_places pages = record { blocks = []; pages = pages }
 
--- as the code makes them
-pub fresh_places_are :
-    (size pages slots : ℕ) (live free : List ℕ) → slots ≡ pages * per_page size → live ≡ [] → free ≡ []
-    → fresh_places size pages ≡ record { size = size; live = live; free = free ++ numbers 0 (slots - 0); pages = pages }
-fresh_places_are size pages slots live free all no_live no_free =
-    let count : pages * per_page size ≡ slots - 0 = omega (arith, all) in
-    ap (λ (n : ℕ). let p : Places = record { size = size; live = []; free = numbers 0 n; pages = pages } in p) count
-    ∙ ap₂ (λ (ks js : List ℕ). let p : Places = record { size = size; live = ks; free = js ++ numbers 0 (slots - 0); pages = pages } in p) (sym no_live) (sym no_free)
+-- a ledger without blocks
+sound_empty : (pages : ℕ) → Sound (ledger_of (fresh_places pages))
+sound_empty pages =
+    let ledger : Ledger = ledger_of (fresh_places pages) in
+    record { in_space = All-nil _; apart = tt; sides = All-nil _; places = All-nil _ }
 
 pub fresh_kept :
-    (program : Program) (size pages : ℕ) → IsFirst program → rounded (8 * fields_of program) ≡ Some size → MIN_PAGES ≤ pages → pages ≤ MAX_PAGES
-    → Kept program (fresh_places size pages) (fresh_range pages (8 * length program.roots))
-fresh_kept program size pages first fits at_least at_most =
-    let n : ℕ = pages * per_page size in
-    let some = per_page_pos size (size_fits program (fresh_places size pages) first fits).small in
+    (program : Program) (pages : ℕ) → IsLinked program → MIN_PAGES ≤ pages → pages ≤ MAX_PAGES
+    → Kept program (fresh_places pages) (fresh_range pages (8 * length program.roots))
+fresh_kept program pages linked at_least at_most =
     record {
-      first = first;
-      sized = fresh_sized pages (8 * length program.roots);
-      space = fresh_space pages (8 * length program.roots) at_most (few_bytes program first);
-      fits = fits;
-      slots = all_numbers n;
-      queue = queue_rising (per_page size) some [] (numbers 0 n) (rising_numbers 0 n) (λ slot other here there used. absurd (contains_none used.0 used.1));
-      at_least = at_least;
-      at_most = at_most;
+      laid = record {
+        linked = linked;
+        sized = fresh_sized pages (8 * length program.roots);
+        space = fresh_space pages (8 * length program.roots) at_most (few_bytes program linked);
+        fits = All-nil (BlockFits program);
+        sound = sound_empty pages;
+        at_least = at_least;
+        at_most = at_most;
+      };
       pointers = record {
-        roots = λ root below. inl (fresh_word pages (8 * length program.roots) (8 * root) (omega (arith, below, few_bytes program first)));
-        fields = λ k field none below. absurd (contains_none k none);
-        rest = λ k none. absurd (contains_none k none);
+        roots = λ root to is.
+            inl (fresh_root pages (length program.roots) root (root_below program root to is) (few_bytes program linked));
+        fields = λ b field to none is. absurd (contains_none b none);
+        rest = λ b none. absurd (contains_none b none);
       };
     }
 
@@ -122,9 +118,11 @@ word_stays range address new len other is inside there apart =
 
 -- a root and a block are apart
 pub root_apart_block :
-    (program : Program) (places : Places) (range : Range) → Kept program places range → (root k : ℕ) → root < length program.roots
-    → range.start + 8 * root + 8 ≤ address_of places k
-root_apart_block program places range heap root k h = omega (arith, h, roots_below program places range heap.first heap.sized)
+    (program : Program) (places : Places) (range : Range) → Laid program places range → (root : ℕ) (b : Placed) → root < length program.roots
+    → Contains places.blocks b → range.start + 8 * root + 8 ≤ b.span.addr
+root_apart_block program places range laid root b below there =
+    let within = block_in_space program places range laid b there in
+    omega (arith, below, within.0, roots_below program places range laid)
 
 -- two roots
 pub roots_apart : (start root other : ℕ) → other ≢ root → IsApart (start + 8 * root) 8 (start + 8 * other) 8
@@ -138,199 +136,254 @@ roots_apart start root other differ =
 pub words_apart : (address field other : ℕ) → other ≢ field → IsApart (address + 8 * field) 8 (address + 8 * other) 8
 words_apart address field other differ = roots_apart address field other differ
 
--- words of two blocks
-pub blocks_apart :
-    (places : Places) → IsSmall places.size → (k j skip len part n : ℕ) → j ≢ k → skip + len ≤ places.size → part + n ≤ places.size
-    → IsApart (address_of places k + skip) len (address_of places j + part) n
-blocks_apart places small k j skip len part n differ within there =
-    elim (slots_apart places small k j (λ e. differ (sym e))) [ inl before ↦ inl (omega (arith, within, before)) | inr after ↦ inr (omega (arith, there, after)) ]
-
 -- ---- a new block
 
--- the space with the bytes of a slot's block zero
-abbrev pub with_zeros : Places → (slot : ℕ) → Range → Range
-with_zeros places slot range = with_bytes range (address_of places slot) (zeros places.size)
+-- a block more, where the ledger has a place for it
+pub record Adds (program : Program) (places : Places) (range : Range) (b : Placed) : Type 0 where
+  pub heap : Kept program places range
+  pub fits : BlockFits program b
+  pub place : Place (ledger_of places) (block_of b)
 
-pointer_more : (places : Places) (slot : ℕ) (rest : List ℕ) (word : ℕ) → IsPointer places word → IsPointer (one_more places slot rest) word
-pointer_more places slot rest word (inl null) = inl null
-pointer_more places slot rest word (inr (k, h, is)) = inr (k, Contains-append_left places.live (slot ∷ []) k h, is)
+pub ledger_added : (places : Places) (b : Placed) → ledger_of (with_placed places b) ≡ with_block (ledger_of places) (block_of b)
+ledger_added places b =
+    ap (λ (blocks : List Block). let l : Ledger = record { blocks = blocks; image = record { first = 0; count = 0 }; pages = places.pages } in l)
+    (map_push block_of places.blocks b)
+
+-- with the block all lies in its place
+pub laid_added :
+    (program : Program) (places : Places) (range : Range) (b : Placed) → Adds program places range b → Laid program (with_placed places b) range
+laid_added program places range b adds =
+    record {
+      linked = adds.heap.laid.linked;
+      sized = adds.heap.laid.sized;
+      space = adds.heap.laid.space;
+      fits = All-append (BlockFits program) places.blocks (b ∷ []) adds.heap.laid.fits
+          (All-cons (BlockFits program) b [] adds.fits (All-nil (BlockFits program)));
+      sound = subst Sound (sym (ledger_added places b)) adds.place.sound;
+      at_least = adds.heap.laid.at_least;
+      at_most = adds.heap.laid.at_most;
+    }
+
+-- the new block, and those before it
+pub added_there : (places : Places) (b : Placed) → Contains (with_placed places b).blocks b
+added_there places b = Contains-push places.blocks b
+
+pub added_more : (places : Places) (b c : Placed) → Contains places.blocks c → Contains (with_placed places b).blocks c
+added_more places b c there = Contains-append_left places.blocks (b ∷ []) c there
+
+pub added_apart :
+    (program : Program) (places : Places) (range : Range) (b : Placed) → Adds program places range b → (c : Placed) → Contains places.blocks c
+    → AreApartTwo b c
+added_apart program places range b adds c there =
+    apart_before places.blocks b [] (laid_added program places range b adds).sound.apart c there
+
+-- the space with the bytes of a block zero
+abbrev pub with_zeros : Placed → Range → Range
+with_zeros b range = with_bytes range b.span.addr (zeros b.span.size)
+
+pub inside_added :
+    (program : Program) (places : Places) (range : Range) (b : Placed) → Adds program places range b → IsInside range b.span.addr b.span.size
+inside_added program places range b adds =
+    inside_block program (with_placed places b) range (laid_added program places range b adds) b (added_there places b)
+
+pointer_more : (places : Places) (b : Placed) (to : TypeId) (word : ℕ) → IsPointer places to word → IsPointer (with_placed places b) to word
+pointer_more places b to word (inl null) = inl null
+pointer_more places b to word (inr (c, there, node, is)) = inr (c, added_more places b c there, node, is)
 
 zeros_in_block :
-    (places : Places) (slot : ℕ) (range : Range) (skip len : ℕ) → IsInside range (address_of places slot) places.size → skip + len ≤ places.size
-    → AreZero (with_zeros places slot range) (address_of places slot + skip) len
-zeros_in_block places slot range skip len inside h =
-    let is : length (zeros places.size) ≡ places.size = length-zeros places.size in
-    bytes_at-with_bytes_within range (address_of places slot) (zeros places.size) skip len
-    (subst (IsInside range (address_of places slot)) (sym is) inside) (omega (arith, is, h))
-    ∙ part_of_zeros places.size skip len h
+    (b : Placed) (range : Range) (skip len : ℕ) → IsInside range b.span.addr b.span.size → skip + len ≤ b.span.size
+    → AreZero (with_zeros b range) (b.span.addr + skip) len
+zeros_in_block b range skip len inside h =
+    let is : length (zeros b.span.size) ≡ b.span.size = length-zeros b.span.size in
+    bytes_at-with_bytes_within range b.span.addr (zeros b.span.size) skip len
+    (subst (IsInside range b.span.addr) (sym is) inside) (omega (arith, is, h))
+    ∙ part_of_zeros b.span.size skip len h
 
 -- the words of the roots and of other blocks are as before
 pub roots_stay_made :
-    (program : Program) (places : Places) (range : Range) → Kept program places range → (slot : ℕ) → slot < slots_of places
-    → (root : ℕ) → root < length program.roots
-    → u64_at (with_zeros places slot range) (range.start + 8 * root) ≡ u64_at range (range.start + 8 * root)
-roots_stay_made program places range heap slot room root below =
-    word_stays range (address_of places slot) (zeros places.size) places.size (range.start + 8 * root) (length-zeros places.size)
-    (inside_block program places range heap slot room) (inside_root program places range heap root below)
-    (inr (root_apart_block program places range heap root slot below))
+    (program : Program) (places : Places) (range : Range) (b : Placed) → Adds program places range b → (root : ℕ) → root < length program.roots
+    → u64_at (with_zeros b range) (range.start + 8 * root) ≡ u64_at range (range.start + 8 * root)
+roots_stay_made program places range b adds root below =
+    let laid = laid_added program places range b adds in
+    word_stays range b.span.addr (zeros b.span.size) b.span.size (range.start + 8 * root) (length-zeros b.span.size)
+    (inside_added program places range b adds) (inside_root program places range adds.heap.laid root below)
+    (inr (root_apart_block program (with_placed places b) range laid root b below (added_there places b)))
 
 -- a part of another block
-apart_part :
-    (places : Places) → IsSmall places.size → (slot k part n : ℕ) → k ≢ slot → part + n ≤ places.size
-    → IsApart (address_of places slot) places.size (address_of places k + part) n
-apart_part places small slot k part n differ there =
-    elim (slots_apart places small slot k (λ e. differ (sym e))) [
-      | inl before ↦ inl (omega (arith, before))
-      | inr after ↦ inr (omega (arith, after, there))
-    ]
+apart_part : (b c : Placed) (part n : ℕ) → AreApartTwo b c → part + n ≤ c.span.size → IsApart b.span.addr b.span.size (c.span.addr + part) n
+apart_part b c part n (inl before) there = inl (omega (arith, before))
+apart_part b c part n (inr after) there = inr (omega (arith, after, there))
 
 pub fields_stay_made :
-    (program : Program) (places : Places) (range : Range) → Kept program places range → (slot : ℕ) → slot < slots_of places
-    → (k field : ℕ) → Contains places.live k → k ≢ slot → field < fields_of program
-    → u64_at (with_zeros places slot range) (address_of places k + 8 * field) ≡ u64_at range (address_of places k + 8 * field)
-fields_stay_made program places range heap slot room k field h differ below =
-    let fit = size_fits program places heap.first heap.fits in
-    word_stays range (address_of places slot) (zeros places.size) places.size (address_of places k + 8 * field) (length-zeros places.size)
-    (inside_block program places range heap slot room) (inside_field program places range heap k field h below)
-    (apart_part places fit.small slot k (8 * field) 8 differ (omega (arith, fit.room, below)))
+    (program : Program) (places : Places) (range : Range) (b : Placed) → Adds program places range b → (c : Placed) (field : ℕ)
+    → Contains places.blocks c → field < fields_of program c.node
+    → u64_at (with_zeros b range) (c.span.addr + 8 * field) ≡ u64_at range (c.span.addr + 8 * field)
+fields_stay_made program places range b adds c field there below =
+    let fit = size_fits program places range adds.heap.laid c there in
+    word_stays range b.span.addr (zeros b.span.size) b.span.size (c.span.addr + 8 * field) (length-zeros b.span.size)
+    (inside_added program places range b adds) (inside_field program places range adds.heap.laid c field there below)
+    (apart_part b c (8 * field) 8 (added_apart program places range b adds c there) (omega (arith, fit.room, below)))
 
 rest_stays_made :
-    (program : Program) (places : Places) (range : Range) → Kept program places range → (slot : ℕ) → slot < slots_of places
-    → (k : ℕ) → Contains places.live k → k ≢ slot
-    → bytes_at (with_zeros places slot range) (address_of places k + 8 * fields_of program) (places.size - 8 * fields_of program)
-    ≡ bytes_at range (address_of places k + 8 * fields_of program) (places.size - 8 * fields_of program)
-rest_stays_made program places range heap slot room k h differ =
-    let fit = size_fits program places heap.first heap.fits in
-    bytes_stay range (address_of places slot) (zeros places.size) places.size (address_of places k + 8 * fields_of program)
-    (places.size - 8 * fields_of program) (length-zeros places.size)
-    (inside_block program places range heap slot room)
-    (inside_part range (address_of places k) places.size (8 * fields_of program) (places.size - 8 * fields_of program)
-    (inside_block program places range heap k (live_below places heap.slots k h)) (omega (arith, fit.room)))
-    (apart_part places fit.small slot k (8 * fields_of program) (places.size - 8 * fields_of program) differ (omega (arith, fit.room)))
+    (program : Program) (places : Places) (range : Range) (b : Placed) → Adds program places range b → (c : Placed) → Contains places.blocks c
+    → bytes_at (with_zeros b range) (c.span.addr + 8 * fields_of program c.node) (c.span.size - 8 * fields_of program c.node)
+    ≡ bytes_at range (c.span.addr + 8 * fields_of program c.node) (c.span.size - 8 * fields_of program c.node)
+rest_stays_made program places range b adds c there =
+    let fit = size_fits program places range adds.heap.laid c there in
+    bytes_stay range b.span.addr (zeros b.span.size) b.span.size (c.span.addr + 8 * fields_of program c.node)
+    (c.span.size - 8 * fields_of program c.node) (length-zeros b.span.size) (inside_added program places range b adds)
+    (inside_rest program places range adds.heap.laid c there)
+    (apart_part b c (8 * fields_of program c.node) (c.span.size - 8 * fields_of program c.node) (added_apart program places range b adds c there)
+    (omega (arith, fit.room)))
 
 pub zero_fields_made :
-    (program : Program) (places : Places) (range : Range) → Kept program places range → (slot : ℕ) → slot < slots_of places
-    → (field : ℕ) → field < fields_of program → u64_at (with_zeros places slot range) (address_of places slot + 8 * field) ≡ 0
-zero_fields_made program places range heap slot room field below =
-    let fit = size_fits program places heap.first heap.fits in
-    zero_word (with_zeros places slot range) (address_of places slot + 8 * field)
-    (zeros_in_block places slot range (8 * field) 8 (inside_block program places range heap slot room) (omega (arith, fit.room, below)))
+    (program : Program) (places : Places) (range : Range) (b : Placed) → Adds program places range b → (field : ℕ)
+    → field < fields_of program b.node → u64_at (with_zeros b range) (b.span.addr + 8 * field) ≡ 0
+zero_fields_made program places range b adds field below =
+    let fit = size_fits program (with_placed places b) range (laid_added program places range b adds) b (added_there places b) in
+    zero_word (with_zeros b range) (b.span.addr + 8 * field)
+    (zeros_in_block b range (8 * field) 8 (inside_added program places range b adds) (omega (arith, fit.room, below)))
+
+zero_rest_made :
+    (program : Program) (places : Places) (range : Range) (b : Placed) → Adds program places range b
+    → AreZero (with_zeros b range) (b.span.addr + 8 * fields_of program b.node) (b.span.size - 8 * fields_of program b.node)
+zero_rest_made program places range b adds =
+    let fit = size_fits program (with_placed places b) range (laid_added program places range b adds) b (added_there places b) in
+    zeros_in_block b range (8 * fields_of program b.node) (b.span.size - 8 * fields_of program b.node)
+    (inside_added program places range b adds) (omega (arith, fit.room))
 
 -- the words of one more object are pointers
 pointers_made :
-    (program : Program) (places : Places) (range : Range) → Kept program places range → (slot : ℕ) (rest : List ℕ) → TakesFirst places slot rest
-    → HoldsPointers program (one_more places slot rest) (with_zeros places slot range)
-pointers_made program places range heap slot rest takes =
-    let room = free_slot_below places slot rest takes in
-    let inside = inside_block program places range heap slot room in
-    let fit = size_fits program places heap.first heap.fits in
+    (program : Program) (places : Places) (range : Range) (b : Placed) → Adds program places range b
+    → HoldsPointers program (with_placed places b) (with_zeros b range)
+pointers_made program places range b adds =
     record {
-      roots = λ root below.
-          subst (IsPointer (one_more places slot rest)) (sym (roots_stay_made program places range heap slot room root below))
-          (pointer_more places slot rest (u64_at range (range.start + 8 * root)) (heap.pointers.roots root below));
-      fields = λ k field h below.
-          elim (Contains-push_cases places.live slot k h) [
+      roots = λ root to is.
+          subst (IsPointer (with_placed places b) to) (sym (roots_stay_made program places range b adds root (root_below program root to is)))
+          (pointer_more places b to (u64_at range (range.start + 8 * root)) (adds.heap.pointers.roots root to is));
+      fields = λ c field to there is.
+          elim (Contains-push_cases places.blocks b c there) [
             | inl old ↦
-                subst (IsPointer (one_more places slot rest))
-                (sym (fields_stay_made program places range heap slot room k field old (slot_not_live places slot rest takes k old) below))
-                (pointer_more places slot rest (u64_at range (address_of places k + 8 * field)) (heap.pointers.fields k field old below))
+                subst (IsPointer (with_placed places b) to)
+                (sym (fields_stay_made program places range b adds c field old (field_below program c.node field to is)))
+                (pointer_more places b to (u64_at range (c.span.addr + 8 * field)) (adds.heap.pointers.fields c field to old is))
             | inr e ↦
-                inl (subst (λ n. u64_at (with_zeros places slot range) (address_of places n + 8 * field) ≡ 0) e
-                (zero_fields_made program places range heap slot room field below))
+                let at : IsFieldTo program b.node field to = subst (λ d. IsFieldTo program d.node field to) (sym e) is in
+                inl (subst (λ d. u64_at (with_zeros b range) (d.span.addr + 8 * field) ≡ 0) e
+                (zero_fields_made program places range b adds field (field_below program b.node field to at)))
           ];
-      rest = λ k h.
-          elim (Contains-push_cases places.live slot k h) [
-            | inl old ↦
-                rest_stays_made program places range heap slot room k old (slot_not_live places slot rest takes k old) ∙ heap.pointers.rest k old
+      rest = λ c there.
+          elim (Contains-push_cases places.blocks b c there) [
+            | inl old ↦ rest_stays_made program places range b adds c old ∙ adds.heap.pointers.rest c old
             | inr e ↦
-                subst (λ n. AreZero (with_zeros places slot range) (address_of places n + 8 * fields_of program) (places.size - 8 * fields_of program)) e
-                (zeros_in_block places slot range (8 * fields_of program) (places.size - 8 * fields_of program) inside (omega (arith, fit.room)))
+                subst (λ d. AreZero (with_zeros b range) (d.span.addr + 8 * fields_of program d.node) (d.span.size - 8 * fields_of program d.node)) e
+                (zero_rest_made program places range b adds)
           ];
     }
 
 pub made_kept :
-    (program : Program) (places : Places) (range : Range) → Kept program places range → (slot : ℕ) (rest : List ℕ) → TakesFirst places slot rest
-    → Kept program (one_more places slot rest) (with_zeros places slot range)
-made_kept program places range heap slot rest takes =
-    let is : length (zeros places.size) ≡ places.size = length-zeros places.size in
-    let inside = inside_block program places range heap slot (free_slot_below places slot rest takes) in
-    let inside_new : IsInside range (address_of places slot) (length (zeros places.size)) = subst (IsInside range (address_of places slot)) (sym is) inside in
-    let queue : IsQueue (per_page places.size) places.live (slot ∷ rest) = subst (IsQueue (per_page places.size) places.live) takes.free heap.queue in
+    (program : Program) (places : Places) (range : Range) (b : Placed) → Adds program places range b
+    → Kept program (with_placed places b) (with_zeros b range)
+made_kept program places range b adds =
+    let is : length (zeros b.span.size) ≡ b.span.size = length-zeros b.span.size in
     record {
-      first = heap.first;
-      sized = IsSized-with_bytes range places.pages (8 * length program.roots) (address_of places slot) (zeros places.size) inside_new heap.sized;
-      space = IsSpace-with_bytes range (address_of places slot) (zeros places.size) inside_new (bytes-replicate places.size) heap.space;
-      fits = heap.fits;
-      slots = slots_stay places slot rest takes;
-      queue = queue.1;
-      at_least = heap.at_least;
-      at_most = heap.at_most;
-      pointers = pointers_made program places range heap slot rest takes;
+      laid = laid_written program (with_placed places b) range (laid_added program places range b adds) b.span.addr (zeros b.span.size)
+          (subst (IsInside range b.span.addr) (sym is) (inside_added program places range b adds)) (bytes-replicate b.span.size);
+      pointers = pointers_made program places range b adds;
     }
 
 -- ---- a written pointer
 
--- where a word is one of the heap's, and all others are apart from it
-pub record IsSpot (program : Program) (places : Places) (range : Range) (address : ℕ) : Type 0 where
+-- where a word is one of the heap's that may hold this pointer, and all others are apart from it
+pub record IsSpot (program : Program) (places : Places) (range : Range) (address word : ℕ) : Type 0 where
   pub inside : IsInside range address 8
+  pub fits : word < 2 ^ 64
   pub roots :
-      (root : ℕ) → root < length program.roots → (address ≡ range.start + 8 * root) ⊎ IsApart address 8 (range.start + 8 * root) 8
+      (root : ℕ) (to : TypeId) → IsRootTo program root to
+      → ((address ≡ range.start + 8 * root) × IsPointer places to word) ⊎ IsApart address 8 (range.start + 8 * root) 8
   pub fields :
-      (k field : ℕ) → Contains places.live k → field < fields_of program
-      → (address ≡ address_of places k + 8 * field) ⊎ IsApart address 8 (address_of places k + 8 * field) 8
+      (b : Placed) (field : ℕ) (to : TypeId) → Contains places.blocks b → IsFieldTo program b.node field to
+      → ((address ≡ b.span.addr + 8 * field) × IsPointer places to word) ⊎ IsApart address 8 (b.span.addr + 8 * field) 8
   pub rest :
-      (k : ℕ) → Contains places.live k
-      → IsApart address 8 (address_of places k + 8 * fields_of program) (places.size - 8 * fields_of program)
+      (b : Placed) → Contains places.blocks b
+      → IsApart address 8 (b.span.addr + 8 * fields_of program b.node) (b.span.size - 8 * fields_of program b.node)
 
 pub root_spot :
-    (program : Program) (places : Places) (range : Range) → Kept program places range → (root : ℕ) → root < length program.roots
-    → IsSpot program places range (range.start + 8 * root)
-root_spot program places range heap root below =
+    (program : Program) (places : Places) (range : Range) → Laid program places range → (root word : ℕ) (to : TypeId) → IsRootTo program root to
+    → IsPointer places to word → IsSpot program places range (range.start + 8 * root) word
+root_spot program places range laid root word to is pointer =
+    let below = root_below program root to is in
     record {
-      inside = inside_root program places range heap root below;
-      roots = λ other h.
-          elim (cases_ne other root) [ inl same ↦ inl (ap (λ n. range.start + 8 * n) (sym same)) | inr differ ↦ inr (roots_apart range.start root other differ) ];
-      fields = λ k field h there. inr (inl (omega (arith, root_apart_block program places range heap root k below)));
-      rest = λ k h. inl (omega (arith, root_apart_block program places range heap root k below));
+      inside = inside_root program places range laid root below;
+      fits = pointer_fits program places range laid to word pointer;
+      roots = λ other at there.
+          elim (cases_ne other root) [
+            | inl same ↦
+                let here : IsRootTo program root at = subst (λ n. IsRootTo program n at) same there in
+                inl (
+                  ap (λ n. range.start + 8 * n) (sym same),
+                  subst (λ t. IsPointer places t word) (root_same program root to at is here) pointer,
+                )
+            | inr differ ↦ inr (roots_apart range.start root other differ)
+          ];
+      fields = λ b field at there here. inr (inl (omega (arith, root_apart_block program places range laid root b below there)));
+      rest = λ b there. inl (omega (arith, root_apart_block program places range laid root b below there));
     }
 
+-- a word of one block and a field of another, or the same one
+field_cases :
+    (program : Program) (places : Places) (range : Range) → Laid program places range → (b : Placed) (field word : ℕ) (to : TypeId)
+    → Contains places.blocks b → IsFieldTo program b.node field to → IsPointer places to word
+    → (c : Placed) (other : ℕ) (at : TypeId) → Contains places.blocks c → IsFieldTo program c.node other at
+    → ((b.span.addr + 8 * field ≡ c.span.addr + 8 * other) × IsPointer places at word) ⊎ IsApart (b.span.addr + 8 * field) 8 (c.span.addr + 8 * other) 8
+field_cases program places range laid b field word to there is pointer c other at too here =
+    let fit = size_fits program places range laid b there in
+    let fit_too = size_fits program places range laid c too in
+    let below = field_below program b.node field to is in
+    let below_too = field_below program c.node other at here in
+    elim (same_or_apart places.blocks laid.sound.apart b c there too) [
+      | inl same ↦ elim (cases_ne other field) [
+        | inl one ↦
+            let mine : IsFieldTo program b.node field at =
+            subst (λ n. IsFieldTo program b.node n at) one (subst (λ d. IsFieldTo program d.node other at) (sym same) here) in
+            inl (
+              ap (λ d. d.span.addr + 8 * field) same ∙ ap (λ n. c.span.addr + 8 * n) (sym one),
+              subst (λ t. IsPointer places t word) (field_same program b.node field to at is mine) pointer,
+            )
+        | inr differ ↦
+            inr (subst (λ d. IsApart (b.span.addr + 8 * field) 8 (d.span.addr + 8 * other) 8) same (words_apart b.span.addr field other differ))
+      ]
+      | inr apart ↦
+          inr (parts_apart b c (8 * field) 8 (8 * other) 8 apart (omega (arith, fit.room, below)) (omega (arith, fit_too.room, below_too)))
+    ]
+
 pub field_spot :
-    (program : Program) (places : Places) (range : Range) → Kept program places range
-    → (k field : ℕ) → Contains places.live k → field < fields_of program → IsSpot program places range (address_of places k + 8 * field)
-field_spot program places range heap k field h below =
-    let fit = size_fits program places heap.first heap.fits in
+    (program : Program) (places : Places) (range : Range) → Laid program places range → (b : Placed) (field word : ℕ) (to : TypeId)
+    → Contains places.blocks b → IsFieldTo program b.node field to → IsPointer places to word
+    → IsSpot program places range (b.span.addr + 8 * field) word
+field_spot program places range laid b field word to there is pointer =
+    let fit = size_fits program places range laid b there in
+    let below = field_below program b.node field to is in
     record {
-      inside = inside_field program places range heap k field h below;
-      roots = λ root there. inr (inr (omega (arith, root_apart_block program places range heap root k there)));
-      fields = λ j other made there.
-          elim (cases_ne j k) [
+      inside = inside_field program places range laid b field there below;
+      fits = pointer_fits program places range laid to word pointer;
+      roots = λ root at here. inr (inr (omega (arith, root_apart_block program places range laid root b (root_below program root at here) there)));
+      fields = field_cases program places range laid b field word to there is pointer;
+      rest = λ c too.
+          elim (same_or_apart places.blocks laid.sound.apart b c there too) [
             | inl same ↦
-                elim (cases_ne other field) [
-                  | inl one ↦
-                      inl (ap (λ n. address_of places n + 8 * field) (sym same) ∙ ap (λ n. address_of places j + 8 * n) (sym one))
-                  | inr differ ↦
-                      inr (subst (λ n. IsApart (address_of places k + 8 * field) 8 (address_of places n + 8 * other) 8) (sym same) (words_apart (address_of places k) field other differ))
-                ]
-            | inr differ ↦
-                inr (blocks_apart places fit.small k j (8 * field) 8 (8 * other) 8 differ (omega (arith, fit.room, below)) (omega (arith, fit.room, there)))
-          ];
-      rest = λ j made.
-          elim (cases_ne j k) [
-            | inl same ↦
-                subst (λ n. IsApart (address_of places k + 8 * field) 8 (address_of places n + 8 * fields_of program) (places.size - 8 * fields_of program)) (sym same)
+                subst (λ d. IsApart (b.span.addr + 8 * field) 8 (d.span.addr + 8 * fields_of program d.node) (d.span.size - 8 * fields_of program d.node)) same
                 (inl (omega (arith, below)))
-            | inr differ ↦
-                blocks_apart places fit.small k j (8 * field) 8 (8 * fields_of program) (places.size - 8 * fields_of program) differ
-                (omega (arith, fit.room, below)) (omega (arith, fit.room))
+            | inr apart ↦
+                let fit_too = size_fits program places range laid c too in
+                parts_apart b c (8 * field) 8 (8 * fields_of program c.node) (c.span.size - 8 * fields_of program c.node) apart
+                (omega (arith, fit.room, below)) (omega (arith, fit_too.room))
           ];
     }
 
 -- what was written is read
-pub word_written :
-    (program : Program) (places : Places) (range : Range) → Kept program places range → (address word : ℕ) → IsInside range address 8
-    → IsPointer places word → u64_at (with_u64 range address word) address ≡ word
-word_written program places range heap address word inside pointer =
-    u64_at-with_u64 range address word inside (pointer_fits program places range heap word pointer)
+pub word_written : (range : Range) (address word : ℕ) → IsInside range address 8 → word < 2 ^ 64 → u64_at (with_u64 range address word) address ≡ word
+word_written range address word inside fits = u64_at-with_u64 range address word inside fits
 
 -- a word apart is as before
 pub word_apart :
@@ -341,42 +394,32 @@ word_apart range address word other inside there apart =
 
 -- each word is a pointer, as before
 pointer_after :
-    (program : Program) (places : Places) (range : Range) → Kept program places range → (address word other : ℕ) → IsInside range address 8
-    → IsInside range other 8 → IsPointer places word → IsPointer places (u64_at range other)
-    → (address ≡ other) ⊎ IsApart address 8 other 8 → IsPointer places (u64_at (with_u64 range address word) other)
-pointer_after program places range heap address word other inside there new old (inl same) =
-    subst (λ a. IsPointer places (u64_at (with_u64 range address word) a)) same
-    (subst (IsPointer places) (sym (word_written program places range heap address word inside new)) new)
-pointer_after program places range heap address word other inside there new old (inr apart) =
-    subst (IsPointer places) (sym (word_apart range address word other inside there apart)) old
+    (places : Places) (range : Range) (to : TypeId) (address word other : ℕ) → IsInside range address 8 → word < 2 ^ 64
+    → IsInside range other 8 → IsPointer places to (u64_at range other) → ((address ≡ other) × IsPointer places to word) ⊎ IsApart address 8 other 8
+    → IsPointer places to (u64_at (with_u64 range address word) other)
+pointer_after places range to address word other inside fits there old (inl (same, new)) =
+    subst (λ a. IsPointer places to (u64_at (with_u64 range address word) a)) same
+    (subst (IsPointer places to) (sym (word_written range address word inside fits)) new)
+pointer_after places range to address word other inside fits there old (inr apart) =
+    subst (IsPointer places to) (sym (word_apart range address word other inside there apart)) old
 
 pub written_kept :
-    (program : Program) (places : Places) (range : Range) → Kept program places range → (address word : ℕ) → IsSpot program places range address
-    → IsPointer places word → Kept program places (with_u64 range address word)
-written_kept program places range heap address word spot pointer =
-    let fit = size_fits program places heap.first heap.fits in
+    (program : Program) (places : Places) (range : Range) → Kept program places range → (address word : ℕ)
+    → IsSpot program places range address word → Kept program places (with_u64 range address word)
+written_kept program places range heap address word spot =
     record {
-      first = heap.first;
-      sized = IsSized-with_bytes range places.pages (8 * length program.roots) address (to_le_bytes w64 word) spot.inside heap.sized;
-      space = IsSpace-with_bytes range address (to_le_bytes w64 word) spot.inside (bytes-low_first 0 8 word) heap.space;
-      fits = heap.fits;
-      slots = heap.slots;
-      queue = heap.queue;
-      at_least = heap.at_least;
-      at_most = heap.at_most;
+      laid = laid_written program places range heap.laid address (to_le_bytes w64 word) spot.inside (bytes-low_first 0 8 word);
       pointers = record {
-        roots = λ root below.
-            pointer_after program places range heap address word (range.start + 8 * root) spot.inside
-            (inside_root program places range heap root below) pointer (heap.pointers.roots root below) (spot.roots root below);
-        fields = λ k field h below.
-            pointer_after program places range heap address word (address_of places k + 8 * field) spot.inside
-            (inside_field program places range heap k field h below) pointer (heap.pointers.fields k field h below) (spot.fields k field h below);
-        rest = λ k h.
-            bytes_stay range address (to_le_bytes w64 word) 8 (address_of places k + 8 * fields_of program) (places.size - 8 * fields_of program) refl
-            spot.inside
-            (inside_part range (address_of places k) places.size (8 * fields_of program) (places.size - 8 * fields_of program)
-            (inside_block program places range heap k (live_below places heap.slots k h)) (omega (arith, fit.room)))
-            (spot.rest k h)
-            ∙ heap.pointers.rest k h;
+        roots = λ root to is.
+            pointer_after places range to address word (range.start + 8 * root) spot.inside spot.fits
+            (inside_root program places range heap.laid root (root_below program root to is)) (heap.pointers.roots root to is) (spot.roots root to is);
+        fields = λ b field to there is.
+            pointer_after places range to address word (b.span.addr + 8 * field) spot.inside spot.fits
+            (inside_field program places range heap.laid b field there (field_below program b.node field to is))
+            (heap.pointers.fields b field to there is) (spot.fields b field to there is);
+        rest = λ b there.
+            bytes_stay range address (to_le_bytes w64 word) 8 (b.span.addr + 8 * fields_of program b.node)
+            (b.span.size - 8 * fields_of program b.node) refl spot.inside (inside_rest program places range heap.laid b there) (spot.rest b there)
+            ∙ heap.pointers.rest b there;
       };
     }

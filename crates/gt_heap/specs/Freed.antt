@@ -1,16 +1,10 @@
 -- What is left where some objects stay and the others are freed.
-use Rattle.std.specs.Prelude.{◌≡◌, ℕ, Bool, true, false, List, [], ◌∷◌, Contains, length, slice_get, Some, IsTrue, ◌↔◌}
+use Rattle.std.specs.Prelude.{◌≡◌, ℕ, Bool, List, Contains, length, slice_get, Some, IsTrue, ◌↔◌}
 use Rattle.gt_types.specs.declared.program.Program.{Program}
+use Rattle.gt_pages.specs.Lists.{flagged}
 use Rattle.gt_heap.specs.Values.{Object}
 use Rattle.gt_heap.specs.Graph.{Graph}
 use Rattle.gt_heap.specs.Kept.{edges, static_edges, Reached}
-
--- the items whose flag is set, in order
-abbrev pub flagged : {A : Type 0} → List A → List Bool → List A
-flagged [] flags = []
-flagged (x ∷ xs) [] = []
-flagged (x ∷ xs) (true ∷ flags) = x ∷ flagged xs flags
-flagged (x ∷ xs) (false ∷ flags) = flagged xs flags
 
 -- the objects whose flag is set, with their blocks, and all else as before
 abbrev pub flagged_graph : Graph → List Bool → Graph

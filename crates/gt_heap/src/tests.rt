@@ -1,165 +1,143 @@
-//! Objects of three fields lie in blocks of 32 bytes, 128 to a page; they are filled to the last place, their pointers
-//! are read back, and places that were freed are given out again.
-ghost use Rattle.std.specs.Prelude.{◌≡◌, ◌+◌, ◌*◌, ◌≤◌, All, IfOk, length};
+//! Objects of two structures fill the pages to the last place, their pointers are read back, and pages that were freed
+//! serve another size.
+ghost use Rattle.std.specs.Prelude.{◌≡◌, ◌<◌, ◌≤◌, [], ◌∷◌, All, IfOk, false, length, map};
 ghost use Rattle.gt_space.specs.Range.{IsInside};
-ghost use Rattle.gt_heap.specs.Heap.{IsFirst, IsHeap, IsPlain, fields_of, graph_of};
+ghost use Rattle.gt_heap.specs.Values.{MayStand, types_of};
+ghost use Rattle.gt_heap.specs.Heap.{IsHeap, IsLinked, IsPointerTo, graph_of};
+ghost use Rattle.gt_heap.specs.Shapes.{ArePointers, HasShape, IsRow, node_at, two_kinds};
 ghost use Rattle.gt_heap.specs.Unlinked.{IsUnlinked};
 
 use super::*;
-use gt_space::{HEAP_START, MIN_PAGES, Space};
+use gt_pages::Span;
+use gt_space::{HEAP_START, MIN_PAGES, PAGE_BYTES, Space};
 use gt_types::{Active, Field, List, Program, PtrKind, Root, Structure, Target, Ty, TypeId, Word};
 use std::alloc::Global;
 use std::test::Fail;
 
-fn pointer() -> Ty
-    ensures { IsPlain result }
+fn pointer(to: u32) -> Ty
+    ensures { IsPointerTo result (node_at to) }
 {
     Ty::Ptr {
-        target: Some(Target::Node(TypeId(0))),
+        target: Some(Target::Node(TypeId(to))),
         kind: PtrKind::Plain,
         reorder: false,
     }
 }
 
-fn add_field(alloc: Global, fields: &mut List<Field>, name: &str) -> Result<(), Fail>
-    requires { All (λ field. IsPlain field.ty) fields.old }
-    ensures count { IfOk result (λ _. length fields.new ≡ length fields.old + 1) }
-    ensures plain { IfOk result (λ _. All (λ field. IsPlain field.ty) fields.new) }
+// Fields that point to these structures.
+fn fields_to(alloc: Global, row: &[u32]) -> Result<List<Field>, Fail>
+    ensures { IfOk result (λ fields. ArePointers (types_of fields) row.now) }
 {
-    let name = Word::of(alloc, name)?;
-    let field = Field {
-        name,
-        ty: pointer(),
-        active: Active::Always,
-    };
-    fields.push(field)?;
-    Ok(())
+    let mut fields = List::new(alloc);
+    for to in row {
+        let field = Field {
+            name: Word::of(alloc, "part")?,
+            ty: pointer(*to),
+            active: Active::Always,
+        };
+        fields.push(field)?;
+    }
+    Ok(fields)
 }
 
-// A program of a structure of these fields, and one root.
-fn program_of(alloc: Global, fields: List<Field>) -> Result<Program, Fail>
-    requires some { 1 ≤ length fields }
-    requires few { length fields ≤ 32 }
-    requires plain { All (λ field. IsPlain field.ty) fields }
-    ensures first { IfOk result (λ program. IsFirst program) }
-    ensures fields { IfOk result (λ program. fields_of program ≡ length fields) }
+fn structure(alloc: Global, row: &[u32]) -> Result<Structure, Fail>
+    ensures no_union { IfOk result (λ s. s.is_union ≡ false) }
+    ensures fields { IfOk result (λ s. ArePointers (types_of s.fields) row.now) }
 {
-    let node = Structure {
-        name: Word::of(alloc, "tree")?,
+    Ok(Structure {
+        name: Word::of(alloc, "kind")?,
         is_union: false,
         desc: None,
-        fields,
+        fields: fields_to(alloc, row)?,
         chains: List::new(alloc),
-    };
-    let mut structures = List::new(alloc);
-    structures.push(node)?;
-    let top = Root {
-        name: Word::of(alloc, "top")?,
-        ty: pointer(),
-        deletable: false,
-    };
+    })
+}
+
+// Roots that point to these structures.
+fn roots_to(alloc: Global, row: &[u32]) -> Result<List<Root>, Fail>
+    ensures types { IfOk result (λ roots. ArePointers (map (λ r. r.ty) roots) row.now) }
+    ensures no_deletable { IfOk result (λ roots. All (λ r. r.deletable ≡ false) roots) }
+{
     let mut roots = List::new(alloc);
-    roots.push(top)?;
+    for to in row {
+        let root = Root {
+            name: Word::of(alloc, "top")?,
+            ty: pointer(*to),
+            deletable: false,
+        };
+        roots.push(root)?;
+    }
+    Ok(roots)
+}
+
+// A program of two structures and of roots that point to these structures.
+fn program_of(alloc: Global, first: &[u32], second: &[u32], roots: &[u32]) -> Result<Program, Fail>
+    requires first { IsRow 2 first.now }
+    requires second { IsRow 2 second.now }
+    requires roots { All (λ to. to < 2) roots.now }
+    requires few { length roots.now ≤ 4096 }
+    ensures shape { IfOk result (λ program. HasShape program (first.now ∷ second.now ∷ []) roots.now) }
+    ensures stand { IfOk result (λ program. MayStand program (node_at 0) × MayStand program (node_at 1)) }
+    ensures linked { IfOk result (λ program. IsLinked program) }
+{
+    let mut structures = List::new(alloc);
+    structures.push(structure(alloc, first)?)?;
+    structures.push(structure(alloc, second)?)?;
     Ok(Program {
         structures,
-        roots,
+        roots: roots_to(alloc, roots)?,
         caches: List::new(alloc),
         words: List::new(alloc),
     })
 }
 
-fn three_pointers(alloc: Global) -> Result<Program, Fail>
-    ensures first { IfOk result (λ program. IsFirst program) }
-    ensures fields { IfOk result (λ program. fields_of program ≡ 3) }
+// Blocks of 32 bytes, 128 to a page, and blocks of 8 bytes, 512 to a page; a root for each.
+fn pairs_and_leaves(alloc: Global) -> Result<Program, Fail>
+    ensures shape { IfOk result (λ program. HasShape program two_kinds (0 ∷ 1 ∷ [])) }
+    ensures stand { IfOk result (λ program. MayStand program (node_at 0) × MayStand program (node_at 1)) }
+    ensures linked { IfOk result (λ program. IsLinked program) }
 {
-    let mut fields = List::new(alloc);
-    add_field(alloc, &mut fields, "left")?;
-    add_field(alloc, &mut fields, "right")?;
-    add_field(alloc, &mut fields, "up")?;
-    program_of(alloc, fields)
+    program_of(alloc, &[0, 1, 0], &[0], &[0, 1])
 }
 
 // A heap of the fewest pages, in a fresh space.
 fn fresh(alloc: Global, program: &Program) -> Result<(Heap, Space), Fail>
-    requires { IsFirst program.now }
+    requires { IsLinked program.now }
     ensures heap { IfOk result (λ made. IsHeap program.now made.0 made.1) }
     ensures unlinked { IfOk result (λ made. IsUnlinked program.now (graph_of program.now made.0 made.1)) }
 {
     let mut space = Space::empty(alloc);
     space.resize_fresh(MIN_PAGES, 8 * program.roots.len() as u32)?;
-    Ok((Heap::new(alloc, program, MIN_PAGES), space))
+    Ok((Heap::new(alloc, program, MIN_PAGES)?, space))
 }
 
-// An object that was made, what its last field and its second one point to then, and what the root does.
-#[derive(Clone, Copy, Debug, PartialEq, Eq)]
-struct Linked {
-    made: Made,
-    up: Option<u64>,
-    right: Option<u64>,
-    top: Option<u64>,
+// The page of an address.
+fn page_of(addr: u64) -> u64 {
+    addr.saturating_sub(HEAP_START) / PAGE_BYTES
 }
 
-// Makes an object, links it to the object of the root, and makes it that of the root.
-fn link(program: &Program, heap: &mut Heap, space: &mut Space) -> Result<Linked, MakeFail>
-    requires heap { IsHeap program.now heap.old space.old }
-    requires fields { fields_of program.now ≡ 3 }
-    ensures { IsHeap program.now heap.new space.new }
-{
-    let made = heap.make(program, space)?;
-    let before = heap.root(program, space, 0);
-    let up = heap.field(program, space, made.addr, 2);
-    heap.set_field(program, space, made.addr, 1, before);
-    let right = heap.field(program, space, made.addr, 1);
-    heap.set_root(program, space, 0, Some(made.addr));
-    let top = heap.root(program, space, 0);
-    Ok(Linked {
-        made,
-        up,
-        right,
-        top,
-    })
-}
-
-// What is to come of the object of a number.
-fn expected(number: u32) -> Linked {
-    let addr = 0x10000000 + 32 * number as u64;
-    Linked {
-        made: Made { addr, size: 32 },
-        up: None,
-        right: if number == 0 { None } else { Some(addr - 32) },
-        top: Some(addr),
-    }
-}
-
-#[test]
-fn objects_fill_the_pages_in_order(rt: HostRuntime) -> Result<(), Fail> {
-    let program = three_pointers(rt.alloc())?;
-    let (mut heap, mut space) = fresh(rt.alloc(), &program)?;
-    for number in 0..2048 {
-        assert_eq!(rt; link(&program, &mut heap, &mut space), Ok(expected(number)));
-    }
-    let full = MakeFail::Full { need: 32 };
-    assert_eq!(rt; link(&program, &mut heap, &mut space), Err(full));
-    Ok(())
-}
-
-// Makes so many objects, and says where the last one lies.
+// Makes so many objects of a structure, and says which pages the first and the last of them lie in.
 fn make_some(
     program: &Program,
     heap: &mut Heap,
     space: &mut Space,
+    node: TypeId,
     count: u32,
-) -> Result<u64, MakeFail>
+) -> Result<(u64, u64), MakeFail>
     requires heap { IsHeap program.now heap.old space.old }
     requires unlinked { IsUnlinked program.now (graph_of program.now heap.old space.old) }
+    requires node { MayStand program.now node }
     ensures heap { IsHeap program.now heap.new space.new }
     ensures unlinked { IsUnlinked program.now (graph_of program.now heap.new space.new) }
 {
-    let mut last = 0;
+    let mut lowest = u64::MAX;
+    let mut highest = 0;
     for _number in 0..count {
-        last = heap.make(program, space)?.addr;
+        let page = page_of(heap.make(program, space, node)?.addr);
+        lowest = lowest.min(page);
+        highest = highest.max(page);
     }
-    Ok(last)
+    Ok((lowest, highest))
 }
 
 // Keeps the objects from one on, so many of them, where no object points to another.
@@ -185,181 +163,225 @@ fn keep_some(
 }
 
 #[test]
-fn a_freed_place_is_given_out_again(rt: HostRuntime) -> Result<(), Fail> {
-    let program = three_pointers(rt.alloc())?;
+fn each_size_has_pages_of_its_own(rt: HostRuntime) -> Result<(), Fail> {
+    let program = pairs_and_leaves(rt.alloc())?;
     let (mut heap, mut space) = fresh(rt.alloc(), &program)?;
+    let (pair, leaf) = (TypeId(0), TypeId(1));
+    // 129 pairs need two pages, and the page 2 takes the leaves.
     assert_eq!(rt;
-        make_some(&program, &mut heap, &mut space, 3),
-        Ok(0x1000_0040)
+        make_some(&program, &mut heap, &mut space, pair, 128),
+        Ok((0, 0))
     );
-    keep_some(rt.alloc(), &program, &mut heap, &space, 1, 1)?;
-    assert_eq!(rt; heap.len(), 1);
-    assert_eq!(rt; heap.object(0), 0x1000_0020);
-    assert_eq!(rt; heap.allocated(), 32);
-    assert_eq!(rt; heap.count(32), 1);
+    assert_eq!(rt;
+        make_some(&program, &mut heap, &mut space, pair, 1),
+        Ok((1, 1))
+    );
+    assert_eq!(rt;
+        make_some(&program, &mut heap, &mut space, leaf, 512),
+        Ok((2, 2))
+    );
+    assert_eq!(rt;
+        make_some(&program, &mut heap, &mut space, leaf, 1),
+        Ok((3, 3))
+    );
+    assert_eq!(rt;
+        make_some(&program, &mut heap, &mut space, pair, 128),
+        Ok((1, 4))
+    );
+    assert_eq!(rt; heap.len(), 770);
+    assert_eq!(rt; heap.count(32), 257);
+    assert_eq!(rt; heap.count(8), 513);
     assert_eq!(rt; heap.count(16), 0);
-    assert_eq!(rt;
-        make_some(&program, &mut heap, &mut space, 1),
-        Ok(0x1000_0000)
-    );
-    assert_eq!(rt;
-        make_some(&program, &mut heap, &mut space, 1),
-        Ok(0x1000_0040)
-    );
-    assert_eq!(rt;
-        make_some(&program, &mut heap, &mut space, 1),
-        Ok(0x1000_0060)
-    );
+    assert_eq!(rt; heap.allocated(), 12328);
     Ok(())
 }
 
 #[test]
 fn a_page_in_use_comes_before_a_lower_one(rt: HostRuntime) -> Result<(), Fail> {
-    let program = three_pointers(rt.alloc())?;
+    let program = pairs_and_leaves(rt.alloc())?;
     let (mut heap, mut space) = fresh(rt.alloc(), &program)?;
-    // The second place of the page 2 is the last that is given out, and it alone is kept, so page 2 fills first.
+    let pair = TypeId(0);
+    // The last object of three pages, which alone is kept, lies in the page 2, so that page fills first.
     assert_eq!(rt;
-        make_some(&program, &mut heap, &mut space, 258),
-        Ok(0x1000_2020)
+        make_some(&program, &mut heap, &mut space, pair, 257),
+        Ok((0, 2))
     );
-    keep_some(rt.alloc(), &program, &mut heap, &space, 257, 1)?;
+    keep_some(rt.alloc(), &program, &mut heap, &space, 256, 1)?;
+    assert_eq!(rt; heap.len(), 1);
+    assert_eq!(rt; page_of(heap.object(0)), 2);
     assert_eq!(rt;
-        make_some(&program, &mut heap, &mut space, 1),
-        Ok(0x1000_2000)
-    );
-    assert_eq!(rt;
-        make_some(&program, &mut heap, &mut space, 126),
-        Ok(0x1000_2fe0)
+        make_some(&program, &mut heap, &mut space, pair, 127),
+        Ok((2, 2))
     );
     // Then the lowest page without an object, and the next ones.
     assert_eq!(rt;
-        make_some(&program, &mut heap, &mut space, 1),
-        Ok(0x1000_0000)
+        make_some(&program, &mut heap, &mut space, pair, 128),
+        Ok((0, 0))
     );
     assert_eq!(rt;
-        make_some(&program, &mut heap, &mut space, 128),
-        Ok(0x1000_1000)
+        make_some(&program, &mut heap, &mut space, pair, 128),
+        Ok((1, 1))
     );
     assert_eq!(rt;
-        make_some(&program, &mut heap, &mut space, 128),
-        Ok(0x1000_3000)
-    );
-    // All are freed.
-    keep_some(rt.alloc(), &program, &mut heap, &space, 0, 0)?;
-    assert_eq!(rt;
-        make_some(&program, &mut heap, &mut space, 2048),
-        Ok(0x1000_ffe0)
-    );
-    assert_eq!(rt;
-        make_some(&program, &mut heap, &mut space, 1),
-        Err(MakeFail::Full { need: 32 })
+        make_some(&program, &mut heap, &mut space, pair, 1),
+        Ok((3, 3))
     );
     Ok(())
-}
-
-fn span(addr: u32, size: u32) -> Span {
-    Span { addr, size }
 }
 
 #[test]
-fn places_of_blocks(rt: HostRuntime) {
-    // The first block of the heap, the last one of its page, and the next.
-    let heap = [
-        span(0x1000_0000, 32),
-        span(0x1000_0fe0, 32),
-        span(0x1000_1000, 32),
-    ];
-    assert!(rt; is_sound(16, &heap));
-    assert!(rt; is_sound(16, &[]));
-    // The last block of the space, and one behind it; one below the heap.
-    assert!(rt; is_sound(16, &[span(0x1000_ffe0, 32)]));
-    assert!(rt; !is_sound(16, &[span(0x1001_0000, 32)]));
-    assert!(rt; !is_sound(16, &[span(0x0fff_ffe0, 32)]));
-    // One block twice; one at no multiple of its size; one across the end of its page.
-    assert!(rt; !is_sound(16, &[span(0x1000_0020, 32), span(0x1000_0020, 32)]));
-    assert!(rt; !is_sound(16, &[span(0x1000_0010, 32)]));
-    assert!(rt; !is_sound(16, &[span(0x1000_0ff0, 48)]));
-    // Two sizes in one page, and in two.
-    assert!(rt; !is_sound(16, &[span(0x1000_0000, 32), span(0x1000_0800, 64)]));
-    assert!(rt; is_sound(16, &[span(0x1000_0000, 32), span(0x1000_1800, 64)]));
-    // Two pages from a page's start, and from its middle.
-    assert!(rt; is_sound(16, &[span(0x1000_1000, 8192)]));
-    assert!(rt; !is_sound(16, &[span(0x1000_1800, 8192)]));
-}
-
-// Makes two objects: the first points to the second, the second to the first and to itself, and the root to the second.
-fn draw(program: &Program, heap: &mut Heap, space: &mut Space) -> Result<(), MakeFail>
-    requires heap { IsHeap program.now heap.old space.old }
-    requires fields { fields_of program.now ≡ 3 }
-    ensures { IsHeap program.now heap.new space.new }
-{
-    let first = heap.make(program, space)?;
-    let second = heap.make(program, space)?;
-    heap.set_field(program, space, first.addr, 1, Some(second.addr));
-    heap.set_field(program, space, second.addr, 0, Some(first.addr));
-    heap.set_field(program, space, second.addr, 2, Some(second.addr));
-    heap.set_root(program, space, 0, Some(second.addr));
+fn a_freed_page_serves_another_size(rt: HostRuntime) -> Result<(), Fail> {
+    let program = pairs_and_leaves(rt.alloc())?;
+    let (mut heap, mut space) = fresh(rt.alloc(), &program)?;
+    let (pair, leaf) = (TypeId(0), TypeId(1));
+    assert_eq!(rt;
+        make_some(&program, &mut heap, &mut space, pair, 2048),
+        Ok((0, 15))
+    );
+    assert!(rt; !heap.has_room(&program, &space, pair));
+    assert!(rt; !heap.has_room(&program, &space, leaf));
+    assert_eq!(rt;
+        make_some(&program, &mut heap, &mut space, pair, 1),
+        Err(MakeFail::Full { need: 32 })
+    );
+    assert_eq!(rt;
+        make_some(&program, &mut heap, &mut space, leaf, 1),
+        Err(MakeFail::Full { need: 8 })
+    );
+    // Of all pages the first alone keeps an object.
+    keep_some(rt.alloc(), &program, &mut heap, &space, 5, 1)?;
+    assert!(rt; heap.has_room(&program, &space, pair));
+    assert!(rt; heap.has_room(&program, &space, leaf));
+    assert_eq!(rt;
+        make_some(&program, &mut heap, &mut space, leaf, 7680),
+        Ok((1, 15))
+    );
+    assert!(rt; !heap.has_room(&program, &space, leaf));
+    assert_eq!(rt;
+        make_some(&program, &mut heap, &mut space, pair, 127),
+        Ok((0, 0))
+    );
+    assert!(rt; !heap.has_room(&program, &space, pair));
+    assert_eq!(rt; heap.allocated(), 65536);
     Ok(())
 }
 
-// Whether the space stands for one root and two objects with these pointers.
+#[test]
+fn objects_of_two_pages_in_a_program_without_roots(rt: HostRuntime) -> Result<(), Fail> {
+    let wide = [0; 1024];
+    let program = program_of(rt.alloc(), &wide, &[0], &[])?;
+    let (mut heap, mut space) = fresh(rt.alloc(), &program)?;
+    assert_eq!(rt; space.start(), HEAP_START);
+    assert_eq!(rt;
+        make_some(&program, &mut heap, &mut space, TypeId(0), 1),
+        Ok((0, 0))
+    );
+    assert_eq!(rt;
+        make_some(&program, &mut heap, &mut space, TypeId(1), 1),
+        Ok((2, 2))
+    );
+    assert_eq!(rt;
+        make_some(&program, &mut heap, &mut space, TypeId(0), 6),
+        Ok((3, 13))
+    );
+    // One page is left, which is too little for a wide object.
+    assert_eq!(rt;
+        make_some(&program, &mut heap, &mut space, TypeId(0), 1),
+        Err(MakeFail::Full { need: 8192 })
+    );
+    assert_eq!(rt; heap.count(8192), 7);
+    assert_eq!(rt; heap.allocated(), 57352);
+    Ok(())
+}
+
+// Two objects that were made.
+#[derive(Clone, Copy, Debug, PartialEq, Eq)]
+struct Drawn {
+    pair: Made,
+    leaf: Made,
+}
+
+// Makes a pair and a leaf that point to one another; the pair points to itself too, and each root to its object.
+fn draw(program: &Program, heap: &mut Heap, space: &mut Space) -> Result<Drawn, MakeFail>
+    requires heap { IsHeap program.now heap.old space.old }
+    requires shape { HasShape program.now two_kinds (0 ∷ 1 ∷ []) }
+    ensures heap { IsHeap program.now heap.new space.new }
+{
+    let pair = heap.make(program, space, TypeId(0))?;
+    let leaf = heap.make(program, space, TypeId(1))?;
+    heap.set_field(program, space, pair.addr, 1, Some(leaf.addr));
+    heap.set_field(program, space, leaf.addr, 0, Some(pair.addr));
+    heap.set_field(program, space, pair.addr, 2, Some(pair.addr));
+    heap.set_root(program, space, 0, Some(pair.addr));
+    heap.set_root(program, space, 1, Some(leaf.addr));
+    Ok(Drawn { pair, leaf })
+}
+
+const PAIR: u64 = 0x1000_0000;
+
+const LEAF: u64 = 0x1000_1000;
+
+// Whether the space stands for two roots, a pair and a leaf with these pointers.
 fn is_drawn(
     space: &Space,
-    root: Option<u32>,
-    first: [Option<u32>; 3],
-    second: [Option<u32>; 3],
+    roots: [Option<u64>; 2],
+    pair: [Option<u64>; 3],
+    leaf: Option<u64>,
 ) -> bool
-    requires root { IsInside space.now space.now.start 8 }
-    requires objects { IsInside space.now HEAP_START 64 }
+    requires roots { IsInside space.now space.now.start 16 }
+    requires objects { IsInside space.now HEAP_START 8192 }
 {
     let objects = [
         Pointers {
             span: Span {
-                addr: 0x1000_0000,
+                addr: PAIR,
                 size: 32,
             },
-            fields: &first,
+            fields: &pair,
         },
         Pointers {
             span: Span {
-                addr: 0x1000_0020,
-                size: 32,
+                addr: LEAF,
+                size: 8,
             },
-            fields: &second,
+            fields: &[leaf],
         },
     ];
-    stands(space, MIN_PAGES, &[root], &objects)
+    stands(space, MIN_PAGES, &roots, &objects)
 }
 
 #[test]
 fn bytes_of_objects(rt: HostRuntime) -> Result<(), Fail> {
-    let program = three_pointers(rt.alloc())?;
+    let program = pairs_and_leaves(rt.alloc())?;
     let (mut heap, mut space) = fresh(rt.alloc(), &program)?;
-    assert_eq!(rt; draw(&program, &mut heap, &mut space), Ok(()));
-    let (first, second) = (Some(0x1000_0000), Some(0x1000_0020));
-    let (from_first, from_second) = ([None, second, None], [first, None, second]);
-    assert!(rt; is_drawn(&space, second, from_first, from_second));
+    let drawn = Drawn {
+        pair: Made {
+            addr: PAIR,
+            size: 32,
+        },
+        leaf: Made {
+            addr: LEAF,
+            size: 8,
+        },
+    };
+    assert_eq!(rt; draw(&program, &mut heap, &mut space), Ok(drawn));
+    assert_eq!(rt; heap.root(&program, &space, 0), Some(PAIR));
+    assert_eq!(rt; heap.root(&program, &space, 1), Some(LEAF));
+    let (pair, leaf) = (Some(PAIR), Some(LEAF));
+    assert!(rt; is_drawn(&space, [pair, leaf], [None, leaf, pair], pair));
     // Another pointer, null for a pointer, and a pointer for null.
-    assert!(rt; !is_drawn(&space, second, [None, first, None], from_second));
-    assert!(rt; !is_drawn(&space, second, [None, None, None], from_second));
-    assert!(rt; !is_drawn(&space, second, from_first, [first, first, second]));
+    assert!(rt; !is_drawn(&space, [pair, leaf], [None, pair, pair], pair));
+    assert!(rt; !is_drawn(&space, [pair, leaf], [None, leaf, pair], None));
+    assert!(rt; !is_drawn(&space, [pair, leaf], [pair, leaf, pair], pair));
     // Another root, and none.
-    assert!(rt; !is_drawn(&space, first, from_first, from_second));
-    assert!(rt; !is_drawn(&space, None, from_first, from_second));
-    // The last byte behind the fields of the second object.
-    space.write_u8(0x1000_003f, 1);
-    assert!(rt; !is_drawn(&space, second, from_first, from_second));
-    space.write_u8(0x1000_003f, 0);
-    assert!(rt; is_drawn(&space, second, from_first, from_second));
+    assert!(rt; !is_drawn(&space, [pair, pair], [None, leaf, pair], pair));
+    assert!(rt; !is_drawn(&space, [None, leaf], [None, leaf, pair], pair));
+    // The last byte behind the fields of the pair.
+    space.write_u8(PAIR + 31, 1);
+    assert!(rt; !is_drawn(&space, [pair, leaf], [None, leaf, pair], pair));
+    space.write_u8(PAIR + 31, 0);
     // A word that no object has as its address, though the picture says the same.
-    space.write_u64(0x1000_0000, 0x1000_0010);
-    assert!(rt;
-        !is_drawn(
-            &space,
-            second,
-            [Some(0x1000_0010), second, None],
-            from_second
-        )
-    );
+    space.write_u64(PAIR, PAIR + 16);
+    assert!(rt; !is_drawn(&space, [pair, leaf], [Some(PAIR + 16), leaf, pair], pair));
     Ok(())
 }

@@ -7,11 +7,11 @@ use Rattle.std.specs.Option.{option_map}
 use Rattle.std.proofs.lemmas.List.Sums.{length-filter, count_by-le-length}
 use Rattle.std.proofs.lemmas.Option.{slice_get-map}
 use Rattle.gt_types.specs.declared.program.Program.{Program}
-use Rattle.gt_heap.specs.Values.{Object}
-use Rattle.gt_heap.specs.Graph.{Graph}
-use Rattle.gt_heap.specs.Kept.{After, Reached, allocated_of}
-use Rattle.gt_heap.specs.Freed.{AreMarks, IsNamed, flagged, flagged_graph}
-use Rattle.gt_heap.specs.Heap.{Places, IsObject, graph_of}
+use Rattle.gt_first_heap.specs.Values.{Object}
+use Rattle.gt_first_heap.specs.Graph.{Graph}
+use Rattle.gt_first_heap.specs.Kept.{After, Reached, allocated_of}
+use Rattle.gt_first_heap.specs.Freed.{AreMarks, IsNamed, flagged, flagged_graph}
+use Rattle.gt_first_heap.specs.Heap.{Places, IsObject, graph_of}
 use Rattle.gt_space.specs.Range.{Range}
 use Rattle.gt_io.specs.Held.{Held}
 use Rattle.gt_run.specs.State.{Variables, meaning}

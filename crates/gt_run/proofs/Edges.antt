@@ -6,10 +6,10 @@ use Rattle.gt_types.specs.declared.program.Root.{Root}
 use Rattle.gt_types.specs.declared.program.Program.{Program}
 use Rattle.gt_space.specs.Range.{Range}
 use Rattle.gt_space.specs.Numbers.{u64_at}
-use Rattle.gt_heap.specs.Values.{Object}
-use Rattle.gt_heap.specs.Graph.{Graph, leaf_of}
-use Rattle.gt_heap.specs.Kept.{edges, all_edges, root_edges, static_edges, PointsTo, IsWay, Reached}
-use Rattle.gt_heap.specs.Heap.{Places, IsObject, fields_of, graph_of, leaves_at, object_at, pointer_of}
+use Rattle.gt_first_heap.specs.Values.{Object}
+use Rattle.gt_first_heap.specs.Graph.{Graph, leaf_of}
+use Rattle.gt_first_heap.specs.Kept.{edges, all_edges, root_edges, static_edges, PointsTo, IsWay, Reached}
+use Rattle.gt_first_heap.specs.Heap.{Places, IsObject, fields_of, graph_of, leaves_at, object_at, pointer_of}
 use Rattle.gt_run.specs.Marking.{PointsAmong}
 use Rattle.gt_run.proofs.StepObjects.{object_is}
 

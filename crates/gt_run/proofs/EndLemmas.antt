@@ -10,23 +10,23 @@ use Rattle.gt_script.specs.declared.command.Line.{Line}
 use Rattle.gt_script.specs.Script.{AreLines}
 use Rattle.std.specs.Prelude.{◌&&◌, not, nat_le}
 use Rattle.gt_types.specs.declared.faults.Fault.{Fault as HeaderFault}
-use Rattle.gt_parse.specs.declared.items.RawStructure.{RawStructure}
-use Rattle.gt_parse.specs.declared.items.RawRoot.{RawRoot}
-use Rattle.gt_parse.specs.declared.items.Item.{Item}
-use Rattle.gt_parse.specs.declared.items.Item.TheVariants as item
-use Rattle.gt_parse.specs.declared.items.RawConstant.{RawConstant}
+use Rattle.gt_items.specs.declared.items.RawStructure.{RawStructure}
+use Rattle.gt_items.specs.declared.items.RawRoot.{RawRoot}
+use Rattle.gt_items.specs.declared.items.Item.{Item}
+use Rattle.gt_items.specs.declared.items.Item.TheVariants as item
+use Rattle.gt_items.specs.declared.items.RawConstant.{RawConstant}
 use Rattle.std.proofs.lemmas.Bool.{leb-true}
 use Rattle.gt_run.specs.FirstForm.{field_of, program_of, program_of_both, program_of_items, program_in, field_names, are_field_names, is_first_but_names, is_first_root}
 use Rattle.gt_run.specs.Headers.{Declares as DeclaresAlone}
 use Rattle.gt_run.specs.Halts.{HaltsFor, IsNoFault}
-use Rattle.gt_heap.specs.Heap.{IsFirst, IsPlain}
+use Rattle.gt_first_heap.specs.Heap.{IsFirst, IsPlain}
 use Rattle.gt_run.specs.Call.{Call, Settings, call_of, default_settings}
 use Rattle.gt_run.specs.Asks.{AsksFor, Runs}
 use Rattle.gt_run.specs.Comes.{Comes, Declares}
 use Rattle.gt_run.specs.Lines.{IsFormed, Opened, RanFirst, RunsLines, RunsScript}
 use Rattle.gt_run.specs.Refuses.{HasLine, Refuses}
 use Rattle.gt_run.specs.Good.{IsGoodState}
-use Rattle.gt_heap.specs.Stands.{Stands}
+use Rattle.gt_first_heap.specs.Stands.{Stands}
 use Rattle.gt_io.specs.Appends.{Adds, IsFrontOf}
 use Rattle.gt_run.specs.Run.{Run}
 use Rattle.gt_run.specs.Text.{texts_of}

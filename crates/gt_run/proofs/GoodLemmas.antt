@@ -3,7 +3,7 @@ use Rattle.std.proofs.Common.{◌≡◌, ◌≤◌, List, [], ◌∷◌, Option,
 use Rattle.gt_types.specs.declared.program.Program.{Program}
 use Rattle.gt_script.specs.declared.command.Line.{Line}
 use Rattle.gt_script.specs.declared.command.Command.{Command}
-use Rattle.gt_script.specs.declared.command.Command.TheVariants.{New, Set, Print, CollectForce, Heap as TheHeap}
+use Rattle.gt_script.specs.declared.command.Command.TheVariants.{New, Array, Text, Block, Set, Get, Drop, Print, Put, Find, Collect, CollectForce, Save, Load, Tables, Heap as TheHeap, Stats}
 use Rattle.gt_run.specs.Call.{default_settings}
 use Rattle.gt_run.specs.State.{State, IsOpening}
 use Rattle.gt_run.specs.Next.{Next, Spot, AtRoot, AtObject, AtField, Writes}
@@ -12,7 +12,7 @@ use Rattle.gt_space.specs.Range.{Range}
 use Rattle.gt_run.specs.Good.{HasSameSettings, IsGoodState}
 use Rattle.gt_run.specs.Session.{state_of, IsSession}
 use Rattle.gt_run.specs.declared.session.Session.{Session}
-use Rattle.gt_heap.specs.Tree.{Tree}
+use Rattle.gt_first_heap.specs.Tree.{Tree}
 use Rattle.gt_io.specs.Held.{Held}
 use Rattle.gt_run.specs.declared.TheConstants.{MAX_MIN_EXPAND, MAX_MIN_HEAPSIZE}
 use Rattle.gt_run.specs.declared.answer.Answer.{Answer}
@@ -68,6 +68,18 @@ next p s t TheHeap (Made address size) w = absurd w
 next p s t TheHeap (Shown text) w = absurd w
 next p s t TheHeap (Collected kept freed dropped) w = absurd w
 next p s t TheHeap (Refused why) w = absurd w
+next p s t (Array _ _ _) answer w = absurd w
+next p s t (Text _ _) answer w = absurd w
+next p s t (Block _ _) answer w = absurd w
+next p s t (Get _ _) answer w = absurd w
+next p s t (Drop _) answer w = absurd w
+next p s t (Put _ _ _) answer w = absurd w
+next p s t (Find _ _) answer w = absurd w
+next p s t Collect answer w = absurd w
+next p s t (Save _ _) answer w = absurd w
+next p s t (Load _) answer w = absurd w
+next p s t Tables answer w = absurd w
+next p s t Stats answer w = absurd w
 
 -- a run leaves the settings
 pub Run-same : (p : Program) (s t : State) (lines : List Line) (answers : List Answer) → Run p s lines answers t → HasSameSettings s t

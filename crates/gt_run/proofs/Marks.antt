@@ -9,9 +9,9 @@ use Rattle.std.proofs.lemmas.List.Elements.{Contains-append_left, Contains-push,
 use Rattle.gt_types.specs.declared.program.Program.{Program}
 use Rattle.gt_space.specs.Range.{Range}
 use Rattle.gt_space.specs.Numbers.{u64_at}
-use Rattle.gt_heap.specs.Kept.{IsWay, Reached}
-use Rattle.gt_heap.specs.Freed.{IsNamed}
-use Rattle.gt_heap.specs.Heap.{Places, IsFirst, IsObject, IsTarget, fields_of, graph_of, pointer_of}
+use Rattle.gt_first_heap.specs.Kept.{IsWay, Reached}
+use Rattle.gt_first_heap.specs.Freed.{IsNamed}
+use Rattle.gt_first_heap.specs.Heap.{Places, IsFirst, IsObject, IsTarget, fields_of, graph_of, pointer_of}
 use Rattle.gt_run.specs.Marking.{FindsOne, FindsTarget, FollowsNone, FollowsOne, IsFollowed, IsMarking, is_found}
 use Rattle.gt_run.specs.declared.marking.Marks.{Marks}
 use Rattle.gt_run.proofs.Edges.{PointsTo-among, static_edges-among, Reached-root, Reached-field}

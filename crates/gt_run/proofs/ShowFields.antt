@@ -11,9 +11,9 @@ use Rattle.gt_types.specs.declared.program.Structure.{Structure}
 use Rattle.gt_types.specs.declared.program.Program.{Program}
 use Rattle.gt_space.specs.Range.{Range}
 use Rattle.gt_space.specs.Numbers.{u64_at}
-use Rattle.gt_heap.specs.Tree.{Null, To}
-use Rattle.gt_heap.specs.Graph.{leaf_of}
-use Rattle.gt_heap.specs.Heap.{IsFirst, IsPlain, leaves_at, pointer_of}
+use Rattle.gt_first_heap.specs.Tree.{Null, To}
+use Rattle.gt_first_heap.specs.Graph.{leaf_of}
+use Rattle.gt_first_heap.specs.Heap.{IsFirst, IsPlain, leaves_at, pointer_of}
 use Rattle.gt_run.specs.Show.{IsShown, AreShown, gap_before}
 use Rattle.gt_run.specs.Added.{pointer_text, AddsFields}
 use Rattle.gt_run.proofs.StepPaths.{only_item}

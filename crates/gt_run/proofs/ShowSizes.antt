@@ -1,8 +1,8 @@
 -- The lines of sizes, one after another.
 use Rattle.std.proofs.Common.{◌≡◌, ℕ, ◌+◌, ◌<◌, List, [], ◌∷◌, ◌++◌, length, take, get_or, sym, ap, ◌∙◌, append_assoc, append-nil}
 use Rattle.std.proofs.lemmas.List.{take_more}
-use Rattle.gt_heap.specs.Ledger.{Block}
-use Rattle.gt_heap.specs.Kept.{count_of_size}
+use Rattle.gt_first_heap.specs.Ledger.{Block}
+use Rattle.gt_first_heap.specs.Kept.{count_of_size}
 use Rattle.gt_run.specs.Text.{size_line, size_lines}
 
 -- no line yet

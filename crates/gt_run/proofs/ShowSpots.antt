@@ -9,10 +9,10 @@ use Rattle.gt_types.specs.declared.program.Root.{Root}
 use Rattle.gt_types.specs.declared.program.Structure.{Structure}
 use Rattle.gt_types.specs.declared.program.Program.{Program}
 use Rattle.gt_space.specs.Range.{Range}
-use Rattle.gt_heap.specs.Tree.{Tree, Rec, part_at}
-use Rattle.gt_heap.specs.Values.{Nodes, Object, element_of}
-use Rattle.gt_heap.specs.Graph.{leaf_of}
-use Rattle.gt_heap.specs.Heap.{IsFirst, IsPlain, IsObject, PartIs, Places, the_node, fields_of, graph_of, leaves_at, object_at}
+use Rattle.gt_first_heap.specs.Tree.{Tree, Rec, part_at}
+use Rattle.gt_first_heap.specs.Values.{Nodes, Object, element_of}
+use Rattle.gt_first_heap.specs.Graph.{leaf_of}
+use Rattle.gt_first_heap.specs.Heap.{IsFirst, IsPlain, IsObject, PartIs, Places, the_node, fields_of, graph_of, leaves_at, object_at}
 use Rattle.gt_run.specs.Show.{IsShown, AreShown}
 use Rattle.gt_run.specs.Added.{pointer_text, AddsFields}
 use Rattle.gt_run.proofs.ShowFields.{shown_pointer, plain_field}

@@ -7,10 +7,10 @@ use Rattle.std.specs.BTreeMap.{is_at}
 use Rattle.std.proofs.lemmas.List.Elements.{Contains-append_left, Contains-push}
 use Rattle.gt_types.specs.declared.program.Program.{Program}
 use Rattle.gt_space.specs.Range.{Range}
-use Rattle.gt_heap.specs.Values.{IsSingle}
-use Rattle.gt_heap.specs.Ledger.{Block}
-use Rattle.gt_heap.specs.Graph.{Graph, Makes}
-use Rattle.gt_heap.specs.Heap.{Places, block_of, graph_of, the_node}
+use Rattle.gt_first_heap.specs.Values.{IsSingle}
+use Rattle.gt_first_heap.specs.Ledger.{Block}
+use Rattle.gt_first_heap.specs.Graph.{Graph, Makes}
+use Rattle.gt_first_heap.specs.Heap.{Places, block_of, graph_of, the_node}
 use Rattle.gt_run.specs.State.{Variables, meaning, with_variable}
 use Rattle.gt_run.proofs.VarsEntries.{meaning-with_variable}
 use Rattle.gt_run.proofs.Members.{map_contained}

@@ -5,9 +5,9 @@ use Rattle.gt_script.specs.declared.command.Route.{Route}
 use Rattle.gt_script.specs.declared.command.Given.{Given}
 use Rattle.gt_space.specs.Range.{Range}
 use Rattle.gt_io.specs.Held.{Held}
-use Rattle.gt_heap.specs.Tree.{with_part}
-use Rattle.gt_heap.specs.Graph.{Graph, leaf_of}
-use Rattle.gt_heap.specs.Heap.{Places, IsObject, SetsOnly, address_of, fields_of, graph_of, object_at}
+use Rattle.gt_first_heap.specs.Tree.{with_part}
+use Rattle.gt_first_heap.specs.Graph.{Graph, leaf_of}
+use Rattle.gt_first_heap.specs.Heap.{Places, IsObject, SetsOnly, address_of, fields_of, graph_of, object_at}
 use Rattle.gt_run.specs.State.{State}
 use Rattle.gt_run.specs.Session.{state_of}
 use Rattle.gt_run.specs.Next.{AtRoot, AtField, Leads, NextPrint, NextSet}

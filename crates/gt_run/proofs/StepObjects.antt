@@ -3,8 +3,8 @@ use Rattle.std.proofs.Common.{◌≡◌, ℕ, sym, ap, ◌∙◌}
 use Rattle.std.specs.Prelude.{Contains}
 use Rattle.gt_types.specs.declared.program.Program.{Program}
 use Rattle.gt_space.specs.Range.{Range}
-use Rattle.gt_heap.specs.Values.{Object}
-use Rattle.gt_heap.specs.Heap.{Places, address_of, object_at, fields_of, graph_of}
+use Rattle.gt_first_heap.specs.Values.{Object}
+use Rattle.gt_first_heap.specs.Heap.{Places, address_of, object_at, fields_of, graph_of}
 use Rattle.gt_run.proofs.Members.{map_contained}
 
 -- the object of a name is the one at that address

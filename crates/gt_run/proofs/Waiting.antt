@@ -2,8 +2,8 @@
 use Rattle.std.proofs.Common.{◌≡◌, ℕ, zero, suc, ◌+◌, ◌<◌, ◌≤◌, Bool, true, false, not, cond, eqb, List, [], ◌∷◌, ◌++◌, length, Option, Some, None, refl, ap, subst, ◌∙◌, arith, eq-eqb, length-append}
 use Rattle.std.specs.Prelude.{Contains, count_by, IfSome, IsTrue, ◌||◌}
 use Rattle.std.proofs.lemmas.List.Sums.{sum_by-cons}
-use Rattle.gt_heap.specs.Values.{Object}
-use Rattle.gt_heap.specs.Freed.{IsNamed}
+use Rattle.gt_first_heap.specs.Values.{Object}
+use Rattle.gt_first_heap.specs.Freed.{IsNamed}
 use Rattle.gt_run.specs.Marking.{FindsOne, FindsTarget, FollowsOne, is_found, waiting}
 use Rattle.gt_run.specs.declared.marking.Marks.{Marks}
 

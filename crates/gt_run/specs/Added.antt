@@ -3,7 +3,7 @@ use Rattle.std.specs.Prelude.{◌≡◌, ℕ, List, ◌++◌, length, codes, enc
 use Rattle.gt_types.specs.declared.program.Structure.{Structure}
 use Rattle.gt_types.specs.declared.program.Program.{Program}
 use Rattle.gt_space.specs.Range.{Range}
-use Rattle.gt_heap.specs.Heap.{leaves_at}
+use Rattle.gt_first_heap.specs.Heap.{leaves_at}
 use Rattle.gt_run.specs.Show.{AreShown}
 
 -- the text of a pointer to a structure

@@ -5,7 +5,7 @@ use Rattle.gt_space.specs.Range.{Range, IsSized}
 use Rattle.gt_io.specs.Held.{Held}
 use Rattle.gt_script.specs.declared.command.Line.{Line}
 use Rattle.gt_script.specs.Script.{Parsed}
-use Rattle.gt_heap.specs.Stands.{Stands}
+use Rattle.gt_first_heap.specs.Stands.{Stands}
 use Rattle.gt_run.specs.Call.{Call, call_of, default_settings}
 use Rattle.gt_run.specs.Texts.{Texts, AreTexts}
 use Rattle.gt_run.specs.Comes.{Declares}

@@ -13,20 +13,20 @@ use Rattle.gt_types.specs.declared.program.Field.{Field}
 use Rattle.gt_types.specs.declared.program.Structure.{Structure}
 use Rattle.gt_types.specs.declared.program.Root.{Root}
 use Rattle.gt_types.specs.declared.program.Program.{Program}
-use Rattle.gt_parse.specs.declared.items.Alias.{Alias}
-use Rattle.gt_parse.specs.declared.items.Declarator.{Declarator}
-use Rattle.gt_parse.specs.declared.items.Item.{Item}
-use Rattle.gt_parse.specs.declared.items.Item.TheVariants as item
-use Rattle.gt_parse.specs.declared.items.Items.{Items}
-use Rattle.gt_parse.specs.declared.items.Keyword.TheVariants.{Struct, Union, Enum}
-use Rattle.gt_parse.specs.declared.items.RawConstant.{RawConstant}
-use Rattle.gt_parse.specs.declared.items.RawField.{RawField}
-use Rattle.gt_parse.specs.declared.items.RawRoot.{RawRoot}
-use Rattle.gt_parse.specs.declared.items.RawStructure.{RawStructure}
-use Rattle.gt_parse.specs.declared.items.RawType.{RawType}
-use Rattle.gt_parse.specs.declared.items.RawType.TheVariants.{Words, UnsignedHostWide, Tagged, Named}
-use Rattle.gt_parse.specs.declared.items.Stars.{Stars}
-use Rattle.gt_parse.specs.declared.items.Stars.TheVariants.{Zero, One, Two, More}
+use Rattle.gt_items.specs.declared.items.Alias.{Alias}
+use Rattle.gt_items.specs.declared.items.Declarator.{Declarator}
+use Rattle.gt_items.specs.declared.items.Item.{Item}
+use Rattle.gt_items.specs.declared.items.Item.TheVariants as item
+use Rattle.gt_items.specs.declared.items.Items.{Items}
+use Rattle.gt_items.specs.declared.items.Keyword.TheVariants.{Struct, Union, Enum}
+use Rattle.gt_items.specs.declared.items.RawConstant.{RawConstant}
+use Rattle.gt_items.specs.declared.items.RawField.{RawField}
+use Rattle.gt_items.specs.declared.items.RawRoot.{RawRoot}
+use Rattle.gt_items.specs.declared.items.RawStructure.{RawStructure}
+use Rattle.gt_items.specs.declared.items.RawType.{RawType}
+use Rattle.gt_items.specs.declared.items.RawType.TheVariants.{Words, UnsignedHostWide, Tagged, Named}
+use Rattle.gt_items.specs.declared.items.Stars.{Stars}
+use Rattle.gt_items.specs.declared.items.Stars.TheVariants.{Zero, One, Two, More}
 
 -- ---- names
 

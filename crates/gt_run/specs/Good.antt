@@ -2,8 +2,8 @@
 use Rattle.std.specs.Prelude.{◌≡◌, ◌≤◌, ℕ, List, Some}
 use Rattle.gt_types.specs.declared.program.Program.{Program}
 use Rattle.gt_space.specs.declared.TheConstants.{MIN_PAGES, MAX_PAGES}
-use Rattle.gt_heap.specs.Graph.{IsGood}
-use Rattle.gt_heap.specs.Freed.{IsNamed}
+use Rattle.gt_first_heap.specs.Graph.{IsGood}
+use Rattle.gt_first_heap.specs.Freed.{IsNamed}
 use Rattle.gt_run.specs.State.{State, meaning}
 use Rattle.gt_run.specs.declared.TheConstants.{MAX_MIN_EXPAND, MAX_MIN_HEAPSIZE, MAX_ALLOCATED}
 

@@ -7,7 +7,7 @@ use Rattle.gt_types.specs.declared.program.Program.{Program}
 use Rattle.gt_lex.specs.declared.tokens.Token.{Token}
 use Rattle.gt_lex.specs.declared.tokens.Define.{Define}
 use Rattle.gt_lex.specs.Texts.{IsLexed, IsFirstFault as IsFirstTokenFault}
-use Rattle.gt_parse.specs.declared.items.Items.{Items}
+use Rattle.gt_items.specs.declared.items.Items.{Items}
 use Rattle.gt_parse.specs.Header.{AreItems, IsFirstFault as IsFirstItemFault}
 use Rattle.gt_run.specs.FirstForm.{program_in}
 

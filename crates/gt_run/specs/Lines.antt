@@ -6,7 +6,7 @@ use Rattle.gt_script.specs.declared.command.Line.{Line}
 use Rattle.gt_space.specs.Range.{Range, IsSized}
 use Rattle.gt_io.specs.Held.{Held}
 use Rattle.gt_script.specs.Spelling.{HasForm}
-use Rattle.gt_heap.specs.Stands.{Stands}
+use Rattle.gt_first_heap.specs.Stands.{Stands}
 use Rattle.gt_run.specs.Call.{default_settings}
 use Rattle.gt_run.specs.State.{State, IsOpening}
 use Rattle.gt_run.specs.Good.{IsGoodState}

@@ -5,9 +5,9 @@ use Rattle.std.specs.BTreeSet.{contains}
 use Rattle.gt_types.specs.declared.program.Program.{Program}
 use Rattle.gt_space.specs.Range.{Range}
 use Rattle.gt_space.specs.Numbers.{u64_at}
-use Rattle.gt_heap.specs.Values.{Object}
-use Rattle.gt_heap.specs.Kept.{Reached}
-use Rattle.gt_heap.specs.Heap.{Places, IsObject, fields_of, graph_of, pointer_of}
+use Rattle.gt_first_heap.specs.Values.{Object}
+use Rattle.gt_first_heap.specs.Kept.{Reached}
+use Rattle.gt_first_heap.specs.Heap.{Places, IsObject, fields_of, graph_of, pointer_of}
 use Rattle.gt_run.specs.declared.marking.Marks.{Marks}
 
 -- the object at an address was found

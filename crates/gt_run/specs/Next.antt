@@ -11,13 +11,13 @@ use Rattle.gt_script.specs.declared.command.Route.{Route}
 use Rattle.gt_script.specs.declared.command.Hop.TheVariants.{Name}
 use Rattle.gt_script.specs.declared.command.Given.{Given}
 use Rattle.gt_script.specs.declared.command.Given.TheVariants.{Integer, Null, Var}
-use Rattle.gt_heap.specs.Tree.{Tree, To, part_at, with_part}
-use Rattle.gt_heap.specs.Tree as tree
-use Rattle.gt_heap.specs.Values.{Nodes, Object, element_of, HasSize}
-use Rattle.gt_heap.specs.Ledger.{Room, rounded}
-use Rattle.gt_heap.specs.Graph.{Graph, Makes, SetsPart}
-use Rattle.gt_heap.specs.Kept.{After, allocated_of}
-use Rattle.gt_heap.specs.Freed.{IsNamed}
+use Rattle.gt_first_heap.specs.Tree.{Tree, To, part_at, with_part}
+use Rattle.gt_first_heap.specs.Tree as tree
+use Rattle.gt_first_heap.specs.Values.{Nodes, Object, element_of, HasSize}
+use Rattle.gt_first_heap.specs.Ledger.{Room, rounded}
+use Rattle.gt_first_heap.specs.Graph.{Graph, Makes, SetsPart}
+use Rattle.gt_first_heap.specs.Kept.{After, allocated_of}
+use Rattle.gt_first_heap.specs.Freed.{IsNamed}
 use Rattle.gt_run.specs.State.{State, Variables, meaning, with_variable}
 use Rattle.gt_run.specs.Show.{IsShown}
 use Rattle.gt_run.specs.Text.{heap_text}
@@ -153,10 +153,11 @@ abbrev pub NextHeap : State → Answer → State → Type 0
 NextHeap s (Heap text) t = (text ≡ heap_text s.graph.ledger) × (t ≡ s)
 NextHeap s answer t = ⊥
 
--- from s, the machine may give this answer to the command and go on to t
+-- from s, the machine may give this answer to the command and go on to t; other commands are not built so far
 abbrev pub Next : Program → State → Command → Answer → State → Type 0
 Next program s (New var type n) answer t = NextNew program s var type.name answer t
 Next program s (Set path value) answer t = NextSet program s path value answer t
 Next program s (Print path) answer t = NextPrint program s path answer t
 Next program s CollectForce answer t = NextCollect program s answer t
 Next program s TheHeap answer t = NextHeap s answer t
+Next program s command answer t = ⊥

@@ -5,8 +5,8 @@ use Rattle.gt_script.specs.declared.command.Route.{Route}
 use Rattle.gt_script.specs.declared.command.Given.{Given}
 use Rattle.gt_script.specs.Spelling.{IsVariable, IsRoot, IsField}
 use Rattle.gt_space.specs.Range.{Range}
-use Rattle.gt_heap.specs.Graph.{leaf_of}
-use Rattle.gt_heap.specs.Heap.{Places, IsObject, fields_of}
+use Rattle.gt_first_heap.specs.Graph.{leaf_of}
+use Rattle.gt_first_heap.specs.Heap.{Places, IsObject, fields_of}
 use Rattle.gt_run.specs.State.{State}
 use Rattle.gt_run.specs.Next.{Spot, AtRoot, AtObject, AtField, Leads, IsUnboundPath, HasNoField, IsLeaf, IsUnboundValue}
 use Rattle.gt_run.specs.declared.answer.Why.{Why}

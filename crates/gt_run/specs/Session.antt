@@ -2,7 +2,7 @@
 use Rattle.std.specs.Prelude.{◌≡◌, ℕ, ◌≤◌, List, Option, Some}
 use Rattle.gt_space.specs.Range.{Range}
 use Rattle.gt_io.specs.Held.{Held}
-use Rattle.gt_heap.specs.Heap.{graph_of, IsHeap, IsObject}
+use Rattle.gt_first_heap.specs.Heap.{graph_of, IsHeap, IsObject}
 use Rattle.gt_run.specs.State.{State, meaning}
 use Rattle.gt_run.specs.declared.TheConstants.{MAX_ALLOCATED}
 use Rattle.gt_run.specs.declared.session.Session.{Session}

@@ -7,7 +7,7 @@ use Rattle.gt_types.specs.declared.types.Ty.TheVariants as ty
 use Rattle.gt_types.specs.declared.program.Field.{Field}
 use Rattle.gt_types.specs.declared.program.Structure.{Structure}
 use Rattle.gt_types.specs.declared.program.Program.{Program}
-use Rattle.gt_heap.specs.Tree.{Tree, Null, To, Rec, Trees, End, And}
+use Rattle.gt_first_heap.specs.Tree.{Tree, Null, To, Rec, Trees, End, And}
 
 -- what stands before the text of a field: nothing, or a comma and a space
 abbrev pub gap_before : List Field → List ℕ

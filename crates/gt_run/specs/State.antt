@@ -5,8 +5,8 @@ use Rattle.std.specs.Cmp.Lexicographic.{slice_cmp}
 use Rattle.std.specs.FinMap as fin
 use Rattle.gt_types.specs.declared.program.Program.{Program}
 use Rattle.gt_io.specs.Held.{Held}
-use Rattle.gt_heap.specs.Graph.{Graph}
-use Rattle.gt_heap.specs.Heap.{IsFresh}
+use Rattle.gt_first_heap.specs.Graph.{Graph}
+use Rattle.gt_first_heap.specs.Heap.{IsFresh}
 use Rattle.gt_run.specs.Call.{Settings}
 
 -- variables: objects under names

@@ -3,8 +3,8 @@ use Rattle.std.specs.Prelude.{ℕ, ◌-◌, ◌==◌, Bool, true, false, not, �
 use Rattle.std.specs.Char.{digit_char}
 use Rattle.std.specs.Int.Digits.{digits_of}
 use Rattle.gt_script.specs.declared.command.Line.{Line}
-use Rattle.gt_heap.specs.Ledger.{Block, Ledger, sizes}
-use Rattle.gt_heap.specs.Kept.{allocated_of, count_of_size}
+use Rattle.gt_first_heap.specs.Ledger.{Block, Ledger, sizes}
+use Rattle.gt_first_heap.specs.Kept.{allocated_of, count_of_size}
 use Rattle.gt_run.specs.declared.answer.Answer.{Answer}
 use Rattle.gt_run.specs.declared.answer.Answer.TheVariants.{Done, Made, Shown, Collected, Heap, Refused}
 use Rattle.gt_run.specs.declared.answer.Why.{Why}

@@ -14,7 +14,7 @@ use crate::marking::{flags, reached};
 use crate::report::report;
 use crate::show::show;
 use crate::{Answer, Session, Why};
-use gt_heap::{MakeFail, after_flags, marks_are_closed};
+use gt_first_heap::{MakeFail, after_flags, marks_are_closed};
 use gt_io::Files;
 use gt_script::{Command, Given, Line, Route};
 use gt_space::Space;
@@ -46,6 +46,7 @@ pub fn step<F: Files>(
         Command::Print { path } => print(alloc, s, space, path),
         Command::CollectForce => collect(alloc, s, space),
         Command::Heap => Ok(Answer::Heap(report(alloc, s, space)?)),
+        _ => unreachable!(),
     }
 }
 

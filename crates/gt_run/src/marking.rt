@@ -4,13 +4,13 @@ ghost use Rattle.std.specs.Ordering.{nat_cmp};
 ghost use Rattle.std.specs.BTreeSet.{contains};
 ghost use Rattle.gt_types.specs.declared.program.Program.{Program};
 ghost use Rattle.gt_space.specs.Range.{Range};
-ghost use Rattle.gt_heap.specs.Kept.{Reached};
-ghost use Rattle.gt_heap.specs.Heap.{IsHeap, IsObject, graph_of};
+ghost use Rattle.gt_first_heap.specs.Kept.{Reached};
+ghost use Rattle.gt_first_heap.specs.Heap.{IsHeap, IsObject, graph_of};
 ghost use Rattle.gt_run.specs.Marking.{FindsOne, FindsTarget, FollowsNone, FollowsOne, IsMarking, waiting};
 
 use crate::Session;
 use crate::machine::paths::the_structure;
-use gt_heap::Heap;
+use gt_first_heap::Heap;
 use gt_space::Space;
 use std::alloc::{AllocError, Global};
 use std::collections::BTreeSet;

@@ -1,11 +1,11 @@
 // The text of the heap's numbers.
 ghost use Rattle.std.specs.Prelude.{◌≡◌, ◌++◌, IfOk, OnOk};
-ghost use Rattle.gt_heap.specs.Heap.{IsHeap, graph_of};
+ghost use Rattle.gt_first_heap.specs.Heap.{IsHeap, graph_of};
 ghost use Rattle.gt_run.specs.Text.{heap_text, size_line, size_lines};
 
 use crate::Session;
 use crate::texts::push_decimal;
-use gt_heap::all_sizes;
+use gt_first_heap::all_sizes;
 use gt_space::Space;
 use gt_types::Bytes;
 use std::alloc::{AllocError, Global};

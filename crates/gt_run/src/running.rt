@@ -4,7 +4,7 @@ ghost use Rattle.std.specs.List.{AllByRecursion};
 ghost use Rattle.gt_space.specs.Range.{empty_range, fresh_range};
 ghost use Rattle.gt_io.specs.Counts.{Rose};
 ghost use Rattle.gt_io.specs.Held.{Held};
-ghost use Rattle.gt_heap.specs.Heap.{IsFirst};
+ghost use Rattle.gt_first_heap.specs.Heap.{IsFirst};
 ghost use Rattle.gt_run.specs.Call.{default_settings};
 ghost use Rattle.gt_run.specs.State.{IsOpening};
 ghost use Rattle.gt_run.specs.Session.{state_of, IsSession};
@@ -20,7 +20,7 @@ use crate::{
     Answer, DEFAULT_MIN_EXPAND, DEFAULT_MIN_HEAPSIZE, DEFAULT_PAGES, FileWhy, Outcome, Refusal,
     Session, Vars,
 };
-use gt_heap::Heap;
+use gt_first_heap::Heap;
 use gt_io::{Files, Sink};
 use gt_space::Space;
 use gt_types::{List, Program, Word};

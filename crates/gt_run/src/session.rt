@@ -1,6 +1,6 @@
 // The program under which commands run, and what they change.
 use crate::Vars;
-use gt_heap::Heap;
+use gt_first_heap::Heap;
 use gt_types::Program;
 
 /// The state that commands change, beside the bytes of the space. The numbers `min_expand` (a hundredth) and `min_heapsize`

@@ -1,7 +1,7 @@
 // The text of a value.
 ghost use Rattle.std.specs.Prelude.{◌≡◌, ◌+◌, ◌<◌, ◌++◌, Option, IfOk, IfSome, OnOk, codes, drop, encode_utf8_all, length, slice_get};
 ghost use Rattle.gt_io.specs.Held.{Held};
-ghost use Rattle.gt_heap.specs.Heap.{IsHeap, IsObject, fields_of};
+ghost use Rattle.gt_first_heap.specs.Heap.{IsHeap, IsObject, fields_of};
 ghost use Rattle.gt_run.specs.Show.{gap_before};
 ghost use Rattle.gt_run.specs.Next.{AtField, AtObject, AtRoot, ShowsSpot};
 ghost use Rattle.gt_run.specs.Session.{state_of};

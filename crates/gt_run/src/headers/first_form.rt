@@ -4,7 +4,7 @@ ghost use Rattle.std.specs.List.{list_any, list_all};
 ghost use Rattle.std.specs.Str.{bytes_eq};
 ghost use Rattle.gt_run.specs.FirstForm.{is_word_byte as is_word_byte_of, is_reserved as is_reserved_of, is_plain_name as is_plain_name_of, are_distinct as are_distinct_of, names_struct as names_struct_of, is_link as is_link_of, are_links as are_links_of, field_names as field_names_of, are_field_names as are_field_names_of, is_first_but_names as is_first_but_names_of, is_first_root as is_first_root_of, pointer_type, field_of, structure_of, root_of, program_of, program_of_both, program_in};
 
-use gt_parse::{Declarator, Item, Items, Keyword, RawField, RawRoot, RawStructure, RawType, Stars};
+use gt_items::{Declarator, Item, Items, Keyword, RawField, RawRoot, RawStructure, RawType, Stars};
 use gt_types::{
     Active, Copied, Field, List, Program, PtrKind, Root, Structure, Target, Ty, TypeId, Word,
 };

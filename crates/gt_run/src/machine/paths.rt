@@ -5,7 +5,7 @@ ghost use Rattle.gt_types.specs.declared.types.TypeId.{TypeId};
 ghost use Rattle.gt_script.specs.Spelling.{IsValue};
 ghost use Rattle.gt_space.specs.Range.{Range};
 ghost use Rattle.gt_io.specs.Held.{Held};
-ghost use Rattle.gt_heap.specs.Heap.{IsFirst, IsTarget, the_node};
+ghost use Rattle.gt_first_heap.specs.Heap.{IsFirst, IsTarget, the_node};
 ghost use Rattle.gt_run.specs.Next.{IsTypeNamed};
 ghost use Rattle.gt_run.specs.Session.{state_of, IsSession};
 ghost use Rattle.gt_run.specs.Paths.{Finds, Gives, HasPathForm, IsThere};

@@ -4,8 +4,8 @@ use Rattle.gt_heap.proofs.tests.make_some.Goals as goal
 
 pub loop-number-preserved : goal.loop-number-preserved
 loop-number-preserved c = (
-  c.in_ok-last.ensures.heap,
-  unlinked_made c.args.program.now (graph_of c.args.program.now c.loop-number.heap c.loop-number.space) c.in_ok-last.field-0.addr
-      c.in_ok-last.field-0.size (graph_of c.args.program.now c.make.new.self c.make.new.space) c.loop-number.invariant.0.first
-      c.in_ok-last.ensures.made c.loop-number.invariant.1,
+  c.in_ok-make.ensures.heap,
+  unlinked_made c.args.program.now c.args.node (graph_of c.args.program.now c.loop-number.heap c.loop-number.space) c.in_ok-make.field-0.addr
+      c.in_ok-make.field-0.size (graph_of c.args.program.now c.make.new.self c.make.new.space) c.loop-number.invariant.0.linked
+      c.in_ok-make.ensures.made c.loop-number.invariant.1,
 )

@@ -1,8 +1,8 @@
 use Rattle.std.proofs.Common.{◌≡◌, ◌-◌, ◌≤◌, ◌∙◌, length, ap, refl, arith}
 use Rattle.std.specs.Ordering.{nat_cmp}
 use Rattle.std.specs.BTreeSet.{contains}
-use Rattle.gt_heap.specs.Freed.{flagged}
-use Rattle.gt_heap.specs.Heap.{graph_of}
+use Rattle.gt_first_heap.specs.Freed.{flagged}
+use Rattle.gt_first_heap.specs.Heap.{graph_of}
 use Rattle.gt_run.proofs.Collecting.{IsCollected, AreMarks-found, Collects-found, kept_few, variables_left}
 use Rattle.gt_run.proofs.machine.collect.Goals as goal
 

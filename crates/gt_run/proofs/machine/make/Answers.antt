@@ -1,5 +1,5 @@
 use Rattle.std.proofs.Common.{◌≡◌, ◌∙◌, sym, ap, subst, IsSome}
-use Rattle.gt_heap.specs.Heap.{IsObject, graph_of, the_node}
+use Rattle.gt_first_heap.specs.Heap.{IsObject, graph_of, the_node}
 use Rattle.gt_run.specs.State.{Variables, meaning, with_variable}
 use Rattle.gt_run.specs.Session.{state_of}
 use Rattle.gt_run.proofs.VarsEntries.{with_variable_twice, bound-with_variable}

@@ -1,7 +1,7 @@
 use Rattle.std.proofs.Common.{◌≡◌, ◌∙◌, ◌∷◌, [], ◌++◌, Bool, List, map, take, ap, sym}
 use Rattle.std.specs.Ordering.{nat_cmp}
 use Rattle.std.specs.BTreeSet.{contains}
-use Rattle.gt_heap.specs.Heap.{graph_of}
+use Rattle.gt_first_heap.specs.Heap.{graph_of}
 use Rattle.gt_run.proofs.Members.{map-take_more}
 use Rattle.gt_run.proofs.marking.flags.Goals as goal
 

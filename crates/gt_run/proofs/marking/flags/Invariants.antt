@@ -3,7 +3,7 @@ use Rattle.std.specs.Ordering.{nat_cmp}
 use Rattle.std.specs.BTreeSet.{contains}
 use Rattle.gt_types.specs.declared.program.Program.{Program}
 use Rattle.gt_space.specs.Range.{Range}
-use Rattle.gt_heap.specs.Heap.{graph_of}
+use Rattle.gt_first_heap.specs.Heap.{graph_of}
 use Rattle.gt_run.proofs.marking.flags.Given as goal
 
 -- the flags of so many objects

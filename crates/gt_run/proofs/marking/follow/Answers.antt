@@ -1,5 +1,5 @@
 use Rattle.std.proofs.Common.{◌≡◌, length, arith}
-use Rattle.gt_heap.specs.Heap.{fields_of, graph_of}
+use Rattle.gt_first_heap.specs.Heap.{fields_of, graph_of}
 use Rattle.gt_run.proofs.Marks.{marking_field, marking_followed, target_named}
 use Rattle.gt_run.proofs.ShowSpots.{fields_of-there}
 use Rattle.gt_run.proofs.Waiting.{waiting-target}

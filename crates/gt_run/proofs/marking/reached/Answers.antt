@@ -1,5 +1,5 @@
 use Rattle.std.proofs.Common.{◌<◌, ◌∙◌, length, sym, arith}
-use Rattle.gt_heap.specs.Heap.{graph_of}
+use Rattle.gt_first_heap.specs.Heap.{graph_of}
 use Rattle.gt_run.specs.Marking.{waiting}
 use Rattle.gt_run.proofs.Marks.{marking_ends, marking_follows}
 use Rattle.gt_run.proofs.Waiting.{waiting-follow}

@@ -1,5 +1,5 @@
 use Rattle.std.proofs.Common.{None, length}
-use Rattle.gt_heap.specs.Heap.{graph_of}
+use Rattle.gt_first_heap.specs.Heap.{graph_of}
 use Rattle.gt_run.specs.Marking.{IsMarking, waiting}
 use Rattle.gt_run.proofs.marking.reached.Given as goal
 

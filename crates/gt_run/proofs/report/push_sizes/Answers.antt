@@ -1,5 +1,5 @@
 use Rattle.std.proofs.Common.{get_or, refl}
-use Rattle.gt_heap.specs.Heap.{graph_of}
+use Rattle.gt_first_heap.specs.Heap.{graph_of}
 use Rattle.gt_run.proofs.ShowSizes.{size_lines-none, size_lines-more}
 use Rattle.gt_run.proofs.report.push_sizes.Goals as goal
 

@@ -1,5 +1,5 @@
 use Rattle.std.proofs.Common.{◌≡◌, ◌++◌, take}
-use Rattle.gt_heap.specs.Heap.{graph_of}
+use Rattle.gt_first_heap.specs.Heap.{graph_of}
 use Rattle.gt_run.specs.Text.{size_lines}
 use Rattle.gt_run.proofs.report.push_sizes.Given as goal
 

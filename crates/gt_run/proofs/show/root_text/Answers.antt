@@ -1,6 +1,6 @@
 use Rattle.gt_run.proofs.ShowSpots.{shown_root}
-use Rattle.gt_heap.specs.Tree.{part_at}
-use Rattle.gt_heap.specs.Heap.{graph_of}
+use Rattle.gt_first_heap.specs.Tree.{part_at}
+use Rattle.gt_first_heap.specs.Heap.{graph_of}
 use Rattle.std.proofs.Common.{[], ◌∷◌, ◌++◌, ◌∙◌, ap}
 use Rattle.gt_run.specs.Added.{pointer_text}
 use Rattle.gt_run.proofs.show.root_text.Goals as goal

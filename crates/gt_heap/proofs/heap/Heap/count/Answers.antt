@@ -1,15 +1,14 @@
-use Rattle.std.proofs.Common.{ap}
-use Rattle.gt_heap.specs.Heap.{Places}
-use Rattle.gt_heap.proofs.Counting.{count_of_all, count_of_none}
+use Rattle.std.proofs.Common.{ℕ, List, length, ap, ◌∙◌}
+use Rattle.std.specs.Prelude.{◌==◌, filter}
+use Rattle.gt_heap.specs.Heap.{ledger_of}
+use Rattle.gt_heap.proofs.Placing.{sizes_are}
+use Rattle.gt_heap.proofs.Totals.{count_by_sizes}
 use Rattle.gt_heap.proofs.heap.Heap.count.Goals as goal
 
-pub returns-then-size-self : goal.returns-then-size-self
-returns-then-size-self c =
+pub returns : goal.returns
+returns c =
     λ program range heap.
-    count_of_all program c.args.self.now range c.len.result c.self.inside.size c.args.size (c.len.ensures program range)
-    (ap (λ (p : Places). p.size) c.self.view_is) c.if-size-self.true
-
-pub returns-else-size-self : goal.returns-else-size-self
-returns-else-size-self c =
-    λ program range heap.
-    count_of_none program c.args.self.now range c.self.inside.size c.args.size (ap (λ (p : Places). p.size) c.self.view_is) c.if-size-self.false
+    c.count_of_size.ensures
+    ∙ ap (λ (ns : List ℕ). length (filter (λ n. n == c.args.size) ns))
+    (sizes_are c.self.inside.pages c.self.inside.nodes.items c.args.self.now c.self.invariant c.self.view_is)
+    ∙ count_by_sizes c.args.size (ledger_of c.args.self.now).blocks

@@ -1,50 +1,45 @@
-use Rattle.std.proofs.Common.{◌*◌, ◌/◌, ◌<◌, ap, sym, subst, ◌∙◌, rules}
-use Rattle.std.specs.Prelude.{All}
-use Rattle.gt_heap.specs.Slots.{free_slots}
-use Rattle.gt_heap.specs.Freed.{flagged}
-use Rattle.gt_heap.proofs.Keeping.{AreOpened, Leaves, are_opened, keep_gives}
+use Rattle.std.proofs.Common.{List, length, ap, sym, subst, ◌∙◌}
+use Rattle.gt_types.specs.declared.types.TypeId.{TypeId}
+use Rattle.gt_pages.specs.Lists.{flagged}
+use Rattle.gt_heap.proofs.Keeping.{KeepsSome, kept_places, keeps_some}
+use Rattle.gt_heap.proofs.Placing.{count_is, flagged_count, places_kept, places_of}
 use Rattle.gt_heap.proofs.heap.Heap.keep.Goals as goal
 
--- the pages that are opened, before the free slots are listed
-opened : (c : goal.After-deref-2) → AreOpened c.self.inside.size c.self.inside.pages c.self.inside.touched c.self.inside.slots c.div_ceil-opened.result
-    c.self.inside.live.items c.in_ok-live.live.items
-opened c =
-    are_opened c.args.program.now c.args.self.now c.args.space.now c.args.kept.now c.self.inside.size c.self.inside.pages c.self.inside.touched
-    c.self.inside.slots c.div_ceil-opened.result c.self.inside.live.items c.self.inside.free.items c.in_ok-live.live.items c.self.view_is
-    c.self.invariant c.requires.heap c.div_ceil-opened.ensures
-    (c.in_ok-live.ensures ∙ ap (λ ks. flagged ks c.args.kept.now) c.deref.ensures.value)
+pub flagged_nodes-requires : goal.flagged_nodes-requires
+flagged_nodes-requires c =
+    c.requires.count
+    ∙ count_is c.args.program.now c.self.inside.pages c.self.inside.nodes.items c.args.self.now c.args.space.now c.self.invariant c.self.view_is
+    ∙ sym c.self.invariant
+    ∙ ap (λ (ns : List TypeId). length ns) (sym c.deref.ensures.value)
 
-pub free_slots-requires-clause-below : goal.free_slots-requires-clause-below
-free_slots-requires-clause-below c =
-    subst (All (λ k. k < c.div_ceil-opened.result * (4096 / c.self.inside.size))) (sym c.deref-2.ensures.value) (opened c).below
+pub keep-requires : goal.keep-requires
+keep-requires c =
+    record {
+      count = c.requires.count
+          ∙ count_is c.args.program.now c.self.inside.pages c.self.inside.nodes.items c.args.self.now c.args.space.now c.self.invariant c.self.view_is;
+    }
 
-pub overflow_mul-self : goal.overflow_mul-self
-overflow_mul-self c =
-    let are =
-    are_opened c.args.program.now c.args.self.now c.args.space.now c.args.kept.now c.self.inside.size c.self.inside.pages c.self.inside.touched
-    c.self.inside.slots c.div_ceil-opened.result c.self.inside.live.items c.self.inside.free.items c.in_ok-live.live.items c.self.view_is
-    c.self.invariant c.requires.heap c.div_ceil-opened.ensures
-    (c.in_ok-live.ensures ∙ ap (λ ks. flagged ks c.args.kept.now) c.deref.ensures.value) in
-    let few = are.few in search (rules, few)
+pub invariant_of-self-2 : goal.invariant_of-self-2
+invariant_of-self-2 c =
+    ap (λ (ns : List TypeId). length ns) (c.in_ok-nodes.ensures ∙ ap (λ (ns : List TypeId). flagged ns c.args.kept.now) c.deref.ensures.value)
+    ∙ flagged_count c.self.inside.nodes.items c.self.inside.pages.spans c.args.kept.now c.self.invariant
+    ∙ ap (λ p. length p.spans) (sym c.in_ok-keep.ensures.kept)
 
 -- what is left
-leaves : (c : goal.After-self-1) → Leaves c.args.program.now c.args.self.now c.args.space.now c.args.kept.now c.self.inside.size c.self.inside.pages
-    (c.div_ceil-opened.result * (4096 / c.self.inside.size)) c.self.inside.slots c.in_ok-live.live.items c.in_ok-free.free.items
-leaves c =
-    keep_gives c.args.program.now c.args.self.now c.args.space.now c.args.kept.now c.self.inside.size c.self.inside.pages c.self.inside.touched
-    c.self.inside.slots c.div_ceil-opened.result c.self.inside.live.items c.self.inside.free.items c.in_ok-live.live.items c.in_ok-free.free.items
-    c.self.view_is c.self.invariant c.requires.heap c.requires.closed c.div_ceil-opened.ensures
-    (c.in_ok-live.ensures ∙ ap (λ ks. flagged ks c.args.kept.now) c.deref.ensures.value)
-    (c.in_ok-free.ensures ∙ ap (λ ks. free_slots (4096 / c.self.inside.size) ks (c.div_ceil-opened.result * (4096 / c.self.inside.size))) c.deref-2.ensures.value)
-
-pub invariant_of-self : goal.invariant_of-self
-invariant_of-self c = (leaves c).laid
+left : (c : goal.After-drop-self-inside)
+    → KeepsSome c.args.program.now c.args.self.now c.args.space.now c.args.kept.now (places_of c.keep.new.self c.in_ok-nodes.nodes.items)
+left c =
+    subst (KeepsSome c.args.program.now c.args.self.now c.args.space.now c.args.kept.now)
+    (ap (λ p. kept_places p c.args.kept.now) (sym c.self.view_is)
+    ∙ sym (places_kept c.self.inside.pages c.self.inside.nodes.items c.args.kept.now c.keep.new.self c.in_ok-nodes.nodes.items c.self.invariant
+    c.in_ok-keep.ensures.kept (c.in_ok-nodes.ensures ∙ ap (λ (ns : List TypeId). flagged ns c.args.kept.now) c.deref.ensures.value)))
+    (keeps_some c.args.program.now c.args.self.now c.args.space.now c.args.kept.now c.requires.heap c.requires.closed)
 
 pub returns-clause-kept : goal.returns-clause-kept
-returns-clause-kept c = (leaves c).keeps.graph
+returns-clause-kept c = (left c).graph
 
 pub returns-clause-objects : goal.returns-clause-objects
-returns-clause-objects c = (leaves c).keeps.objects
+returns-clause-objects c = (left c).objects
 
 pub returns-clause-heap : goal.returns-clause-heap
-returns-clause-heap c = (leaves c).keeps.heap
+returns-clause-heap c = (left c).heap

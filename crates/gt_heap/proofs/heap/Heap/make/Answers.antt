@@ -1,43 +1,33 @@
-use Rattle.std.proofs.Common.{◌∙◌, ap}
-use Rattle.gt_heap.specs.Heap.{Places}
-use Rattle.gt_heap.proofs.Counting.{room_to_count}
-use Rattle.gt_heap.proofs.Graphs.{MadeOne, inside_taken, made_one, none_left}
+use Rattle.gt_heap.proofs.Graphs.{MadeOne, inside_taken, made_one}
+use Rattle.gt_heap.proofs.Sizes.{fitting}
 use Rattle.gt_heap.proofs.heap.Heap.make.Goals as goal
 
 pub take-requires : goal.take-requires
-take-requires c = record { few = room_to_count c.args.program.now c.args.self.now c.args.space.now c.requires.heap }
-
-pub returns-in-Ok-None-clause-full : goal.returns-in-Ok-None-clause-full
-returns-in-Ok-None-clause-full c =
-    let none = rw c.in-Ok-None.field-0-is at c.in-Ok-None.ensures in (
-      ap (λ (p : Places). p.size) (c.self.view_is ∙ none.taken.1),
-      none_left c.args.program.now c.args.self.now c.args.space.now c.requires.heap none.taken.0,
-    )
-
--- what is made, from what the code did
-made : (c : goal.After-fill) → MadeOne c.args.program.now c.args.self.now c.args.space.now c.take.new.self c.block_address-addr.result c.self.inside.size c.fill.new.self
-made c =
-    let takes = rw c.in-Ok-Some.field-0-is at c.in-Ok-Some.ensures in
-    made_one c.args.program.now c.args.self.now c.args.space.now c.in-Ok-Some.slot c.take.new.self c.self.inside.size c.block_address-addr.result
-    c.fill.new.self c.requires.heap takes.taken (ap (λ (p : Places). p.size) c.self.view_is) c.block_address-addr.ensures c.fill.ensures.bytes
+take-requires c =
+    record {
+      listed = (fitting c.args.program.now c.args.node c.node_size-size.result c.requires.heap.linked c.requires.node c.node_size-size.ensures.size).listed;
+    }
 
 pub fill-requires : goal.fill-requires
 fill-requires c =
-    let takes = rw c.in-Ok-Some.field-0-is at c.in-Ok-Some.ensures in
-    inside_taken c.args.program.now c.args.self.now c.args.space.now c.in-Ok-Some.slot c.take.new.self c.self.inside.size c.block_address-addr.result
-    c.requires.heap takes.taken (ap (λ (p : Places). p.size) c.self.view_is) c.block_address-addr.ensures
+    inside_taken c.args.program.now c.args.node c.args.self.now c.args.space.now c.in-Ok.addr c.node_size-size.result c.requires.heap
+    c.requires.node c.node_size-size.ensures.size c.in-Ok.ensures.placed
 
-pub returns-clause-made : goal.returns-clause-made
-returns-clause-made c = (made c).made
+-- what is made, from what the code did
+made : (c : goal.After-fill) → MadeOne c.args.program.now c.args.node c.args.self.now c.args.space.now c.take.new.self c.in-Ok.addr c.node_size-size.result
+    c.fill.new.self
+made c =
+    made_one c.args.program.now c.args.node c.args.self.now c.args.space.now c.take.new.self c.in-Ok.addr c.node_size-size.result c.fill.new.self
+    c.requires.heap c.requires.node c.node_size-size.ensures.size c.in-Ok.ensures.placed c.in-Ok.ensures.added c.fill.ensures.bytes
 
-pub returns-clause-object : goal.returns-clause-object
-returns-clause-object c = (made c).object
+pub returns-in-Ok-clause-made : goal.returns-in-Ok-clause-made
+returns-in-Ok-clause-made c = (made c).made
 
-pub returns-clause-room : goal.returns-clause-room
-returns-clause-room c = (made c).room
+pub returns-in-Ok-clause-object : goal.returns-in-Ok-clause-object
+returns-in-Ok-clause-object c = (made c).object
 
-pub returns-clause-heap : goal.returns-clause-heap
-returns-clause-heap c = (made c).heap
+pub returns-in-Ok-clause-heap : goal.returns-in-Ok-clause-heap
+returns-in-Ok-clause-heap c = (made c).heap
 
-pub returns-clause-objects : goal.returns-clause-objects
-returns-clause-objects c = (made c).objects
+pub returns-in-Ok-clause-objects : goal.returns-in-Ok-clause-objects
+returns-in-Ok-clause-objects c = (made c).objects

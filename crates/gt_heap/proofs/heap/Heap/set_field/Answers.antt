@@ -1,4 +1,4 @@
-use Rattle.std.proofs.Common.{refl, ◌∷◌, [], sym, subst, rules}
+use Rattle.std.proofs.Common.{◌∷◌, [], sym, subst, rules}
 use Rattle.gt_heap.specs.Graph.{leaf_of}
 use Rattle.gt_heap.specs.Heap.{IsHeap, SetsOnly, graph_of}
 use Rattle.gt_heap.proofs.Goodness.{objects_kept}
@@ -7,12 +7,12 @@ use Rattle.gt_heap.proofs.heap.Heap.set_field.Goals as goal
 
 pub overflow_add-object : goal.overflow_add-object
 overflow_add-object c =
-    let low = object_low c.args.program.now c.args.self.now c.args.space.now c.requires.heap c.args.object c.args.field c.requires.object c.requires.place in
+    let low = object_low c.args.program.now c.args.self.now c.args.space.now c.requires.heap c.args.object c.args.field c.requires.place in
     search (rules, low)
 
 pub write_pointer-requires : goal.write_pointer-requires
 write_pointer-requires c =
-    inside_object c.args.program.now c.args.self.now c.args.space.now c.requires.heap c.args.object c.args.field c.requires.object c.requires.place
+    inside_object c.args.program.now c.args.self.now c.args.space.now c.requires.heap c.args.object c.args.field c.requires.place
 
 pub returns-clause-written : goal.returns-clause-written
 returns-clause-written c =
@@ -20,15 +20,13 @@ returns-clause-written c =
     (λ space. SetsOnly (graph_of c.args.program.now c.args.self.now c.args.space.now) c.args.object (0 ∷ c.args.field ∷ []) (leaf_of c.args.target)
     (graph_of c.args.program.now c.args.self.now space))
     (sym c.write_pointer.ensures.bytes)
-    (field_written c.args.program.now c.args.self.now c.args.space.now c.requires.heap c.args.object c.args.field c.args.target c.requires.object
-    c.requires.place c.requires.target)
+    (field_written c.args.program.now c.args.self.now c.args.space.now c.requires.heap c.args.object c.args.field c.args.target c.requires.target)
 
 pub returns-clause-heap : goal.returns-clause-heap
 returns-clause-heap c =
     subst (IsHeap c.args.program.now c.args.self.now) (sym c.write_pointer.ensures.bytes)
-    (field_heap c.args.program.now c.args.self.now c.args.space.now c.requires.heap c.args.object c.args.field c.args.target c.requires.object
-    c.requires.place c.requires.target)
+    (field_heap c.args.program.now c.args.self.now c.args.space.now c.requires.heap c.args.object c.args.field c.args.target c.requires.target)
 
 pub returns-clause-objects : goal.returns-clause-objects
 returns-clause-objects c =
-    objects_kept c.args.program.now c.args.self.now c.args.self.now c.args.space.now c.write_pointer.new.space refl (λ k there. there)
+    objects_kept c.args.program.now c.args.self.now c.args.self.now c.args.space.now c.write_pointer.new.space (λ b there. there)

@@ -3,7 +3,7 @@ use Rattle.std.specs.List.{slice_get}
 use Rattle.gt_types.specs.declared.program.Field.{Field}
 use Rattle.gt_types.specs.declared.program.Root.{Root}
 use Rattle.gt_types.specs.declared.program.Structure.{Structure}
-use Rattle.gt_heap.specs.Heap.{the_node}
+use Rattle.gt_first_heap.specs.Heap.{the_node}
 use Rattle.gt_run.proofs.StepPaths.{position_named, position_none, root_steps, field_steps, only_item}
 use Rattle.gt_run.proofs.machine.paths.place_of.Goals as goal
 

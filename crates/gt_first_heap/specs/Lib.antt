@@ -1,0 +1,13 @@
+pub mod Tree
+pub mod Values
+pub mod Ledger
+pub mod Graph
+pub mod Stands
+pub mod Kept
+pub mod Freed
+pub mod Slots
+pub mod Heap
+pub mod Making
+pub mod Unlinked
+pub mod Plain
+pub mod PlainBytes

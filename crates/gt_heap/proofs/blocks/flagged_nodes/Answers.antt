@@ -1,0 +1,21 @@
+use Rattle.std.proofs.Common.{true, false, sym, arith}
+use Rattle.std.proofs.lemmas.List.{append-nil}
+use Rattle.gt_types.specs.declared.types.TypeId.{TypeId}
+use Rattle.gt_heap.proofs.Steps.{flagged_more}
+use Rattle.gt_heap.proofs.blocks.flagged_nodes.Goals as goal
+use Rattle.gt_heap.proofs.blocks.flagged_nodes.Goals.{then-flags-i+in_ok-push, else-flags-i}
+
+-- a structure where there is none
+abbrev none : TypeId
+none = record { 0 = 0 }
+
+pub loop-i-preserved : goal.loop-i-preserved
+loop-i-preserved c =
+    elim c.if-flags-i.branch [
+      | then-flags-i+in_ok-push w ↦
+          flagged_more c.args.nodes.now c.args.flags.now c.loop-i.i none true c.loop-i.some.items c.if-flags-i.some.items (omega arith) (omega arith)
+          w.if-flags-i.true c.loop-i.invariant (rw w.some-is w.in_ok-push.ensures.items)
+      | else-flags-i w ↦
+          flagged_more c.args.nodes.now c.args.flags.now c.loop-i.i none false c.loop-i.some.items c.if-flags-i.some.items (omega arith) (omega arith)
+          w.if-flags-i.false c.loop-i.invariant (rw w.some-is (sym (append-nil c.loop-i.some.items)))
+    ]
