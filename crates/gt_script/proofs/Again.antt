@@ -7,7 +7,7 @@ use Rattle.std.proofs.lemmas.List.{append-nil}
 use Rattle.std.proofs.lemmas.List.Folds.{list_all-append}
 use Rattle.gt_script.specs.declared.command.Line.{Line}
 use Rattle.gt_script.specs.declared.command.Command.{Command}
-use Rattle.gt_script.specs.declared.command.Command.TheVariants.{New, Set, Print, CollectForce, Heap}
+use Rattle.gt_script.specs.declared.command.Command.TheVariants.{New, Array, Text, Block, Set, Get, Drop, Print, Put, Find, Collect, CollectForce, Save, Load, Tables, Heap, Stats}
 use Rattle.gt_script.specs.declared.command.TypeName.{TypeName}
 use Rattle.gt_script.specs.declared.command.Route.{Route}
 use Rattle.gt_script.specs.declared.command.Hop.{Hop}
@@ -16,8 +16,9 @@ use Rattle.gt_script.specs.declared.command.Given.{Given}
 use Rattle.gt_script.specs.declared.command.Given.TheVariants.{Integer, Null, Var}
 use Rattle.gt_script.specs.Name.{is_name_of, starts_name_of, IsName}
 use Rattle.gt_script.specs.Spelling.{path_text, value_text, spelling, IsRoot, IsField, IsValue, HasForm}
-use Rattle.gt_script.specs.Script.{IsLine, AreLines, Parsed, lines_of}
-use Rattle.gt_script.specs.Reading.{behind, route_at, field_at, reference_at, path_at, value_at, new_at, set_at, print_at, worded_at, command_at, said_at, line_at, lines_at, script_at}
+use Rattle.gt_script.specs.Texts.{behind, lines_of}
+use Rattle.gt_script.specs.Script.{IsLine, AreLines, Parsed}
+use Rattle.gt_script.specs.Reading.{route_at, field_at, reference_at, path_at, value_at, new_at, set_at, print_at, worded_at, command_at, said_at, line_at, lines_at, script_at}
 use Rattle.gt_script.proofs.Options.{both}
 use Rattle.gt_script.proofs.Splits.{lacks, parts_again, parts_none}
 use Rattle.gt_script.proofs.Identifiers.{named_again, name_lacks}
@@ -122,6 +123,18 @@ command_again (Set path value) h = ap set_at (append_assoc (path_text path) (cod
 command_again (Print path) h = print_again path h
 command_again CollectForce h = refl
 command_again Heap h = refl
+command_again (Array var ty n) h = absurd h
+command_again (Text var text) h = absurd h
+command_again (Block var n) h = absurd h
+command_again (Get var path) h = absurd h
+command_again (Drop var) h = absurd h
+command_again (Put cache key value) h = absurd h
+command_again (Find cache key) h = absurd h
+command_again Collect h = absurd h
+command_again (Save file page) h = absurd h
+command_again (Load file) h = absurd h
+command_again Tables h = absurd h
+command_again Stats h = absurd h
 
 -- ---- lines
 
@@ -133,6 +146,18 @@ unmarked (Set path value) = refl
 unmarked (Print path) = refl
 unmarked CollectForce = refl
 unmarked Heap = refl
+unmarked (Array var ty n) = refl
+unmarked (Text var text) = refl
+unmarked (Block var n) = refl
+unmarked (Get var path) = refl
+unmarked (Drop var) = refl
+unmarked (Put cache key value) = refl
+unmarked (Find cache key) = refl
+unmarked Collect = refl
+unmarked (Save file page) = refl
+unmarked (Load file) = refl
+unmarked Tables = refl
+unmarked Stats = refl
 
 said_again : (quiet : Bool) (command : Command) → HasForm command → said_at quiet (spelling command) ≡ Some (record { quiet = quiet; command = command })
 unfolding said_at

@@ -1,4 +1,17 @@
 mod Options
+mod Digits
+mod Quoting
+mod Cuts
+mod Walks
+mod Decoding
+mod Comments
+mod Outcomes
+mod WordsSpelled
+mod NamesSpelled
+mod NumbersSpelled
+mod PathsSpelled
+mod FormsSpelled
+mod Settled
 mod Splits
 mod Identifiers
 mod Taken

@@ -3,8 +3,8 @@ use Rattle.std.proofs.Common.{◌≡◌, ◌≢◌, ℕ, ◌+◌, ◌≤◌, ◌
 use Rattle.std.proofs.lemmas.Bool.Decides.{nat_tests}
 use Rattle.std.proofs.lemmas.List.{append-nil, length-append}
 use Rattle.gt_script.specs.declared.command.Line.{Line}
-use Rattle.gt_script.specs.Script.{lines_of}
-use Rattle.gt_script.specs.Reading.{◌>>=◌, line_at, lines_at, script_at}
+use Rattle.gt_script.specs.Texts.{◌>>=◌, lines_of}
+use Rattle.gt_script.specs.Reading.{line_at, lines_at, script_at}
 
 -- what was read before, and what is still read
 abbrev pub with_front : List Line → Option (List Line) → Option (List Line)

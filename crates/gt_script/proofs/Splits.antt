@@ -7,8 +7,7 @@ use Rattle.std.proofs.lemmas.Bool.{eqb-true}
 use Rattle.std.proofs.lemmas.Option.{cond_some, same_Some}
 use Rattle.std.proofs.lemmas.List.{length-append, length-drop, take_all}
 use Rattle.std.proofs.lemmas.List.Splits.{length-slice_split}
-use Rattle.gt_script.specs.Reading.{◌>>=◌, parts_at}
-use Rattle.gt_script.specs.Script.{without_empty_last, lines_of}
+use Rattle.gt_script.specs.Texts.{◌>>=◌, parts_at, without_empty_last, lines_of}
 use Rattle.gt_script.proofs.Options.{bind_some, both}
 
 -- the first place of the byte, as `position` finds it

@@ -18,8 +18,9 @@ use Rattle.gt_script.specs.declared.command.Given.{Given}
 use Rattle.gt_script.specs.declared.command.Given.TheVariants.{Null, Var}
 use Rattle.gt_script.specs.Name.{IsName}
 use Rattle.gt_script.specs.Spelling.{path_text, value_text, spelling, line_text, IsRoot, IsVariable, IsField, IsValue, HasForm}
-use Rattle.gt_script.specs.Script.{IsLine, AreLines, Parsed, lines_of}
-use Rattle.gt_script.specs.Reading.{◌>>=◌, behind, parts_at, named_at, route_at, field_at, reference_at, path_at, value_at, new_at, set_at, print_at, worded_at, command_at, said_at, line_at, lines_at, script_at}
+use Rattle.gt_script.specs.Texts.{◌>>=◌, behind, parts_at, lines_of}
+use Rattle.gt_script.specs.Script.{IsLine, AreLines, Parsed}
+use Rattle.gt_script.specs.Reading.{named_at, route_at, field_at, reference_at, path_at, value_at, new_at, set_at, print_at, worded_at, command_at, said_at, line_at, lines_at, script_at}
 use Rattle.gt_script.proofs.Options.{bind_some, map_or_some, passed, chosen}
 use Rattle.gt_script.proofs.Splits.{parts_taken}
 use Rattle.gt_script.proofs.Identifiers.{named_taken}

@@ -2,3 +2,11 @@ pub mod Name
 pub mod Spelling
 pub mod Script
 pub mod Reading
+pub mod Texts
+pub mod Cutting
+pub mod Values
+pub mod Steps
+pub mod Commands
+pub mod Language
+pub mod Outcome
+pub mod Scanning

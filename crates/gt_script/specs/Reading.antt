@@ -1,5 +1,5 @@
 -- Reading a line from left to right: the one value that a text spells, or None.
-use Rattle.std.specs.Prelude.{ℕ, Bool, true, false, ◌&&◌, ◌==◌, nat_le, if◌then◌else◌, List, [], ◌∷◌, length, take, drop, Option, Some, None, codes}
+use Rattle.std.specs.Prelude.{ℕ, Bool, true, false, ◌&&◌, ◌==◌, nat_le, if◌then◌else◌, List, [], ◌∷◌, length, Option, Some, None, codes}
 use Rattle.std.specs.Option.{option_map_or}
 use Rattle.std.specs.Str.{bytes_eq}
 use Rattle.std.specs.Str.Lines.{strip_carriage_return}
@@ -12,23 +12,7 @@ use Rattle.gt_script.specs.declared.command.Hop.TheVariants.{Name}
 use Rattle.gt_script.specs.declared.command.Given.{Given}
 use Rattle.gt_script.specs.declared.command.Given.TheVariants.{Null, Var}
 use Rattle.gt_script.specs.Name.{is_name_of}
-use Rattle.gt_script.specs.Script.{lines_of}
-
-infixl 10 ◌>>=◌
-abbrev pub ◌>>=◌ : {A B : Type 0} → Option A → (A → Option B) → Option B
-(Some x) >>= f = f x
-None >>= f = None
-
--- what stands behind a literal
-unfoldable pub behind : List ℕ → List ℕ → Option (List ℕ)
-behind literal text = if bytes_eq (take (length literal) text) literal then Some (drop (length literal) text) else None
-
--- what stands before and behind the first of a byte
-unfoldable pub parts_at : ℕ → List ℕ → Option (List ℕ × List ℕ)
-parts_at byte [] = None
-parts_at byte (c ∷ cs) = if c == byte then Some ([], cs) else (do
-  parts ← parts_at byte cs
-  Some (c ∷ parts.0, parts.1))
+use Rattle.gt_script.specs.Texts.{◌>>=◌, behind, parts_at, lines_of}
 
 -- a name, all of the text
 unfoldable pub named_at : List ℕ → Option (List ℕ)

@@ -1,19 +1,9 @@
 -- A script is the lines of its text.
-use Rattle.std.specs.Prelude.{◌≡◌, ℕ, ◌≤◌, ◌==◌, List, [], ◌∷◌, length, if◌then◌else◌}
-use Rattle.std.specs.List.{slice_split}
+use Rattle.std.specs.Prelude.{◌≡◌, ℕ, ◌≤◌, List, [], ◌∷◌, length}
 use Rattle.std.specs.Str.Lines.{strip_carriage_return}
 use Rattle.gt_script.specs.declared.command.Line.{Line}
+use Rattle.gt_script.specs.Texts.{lines_of}
 use Rattle.gt_script.specs.Spelling.{line_text, HasForm}
-
--- of the parts between newlines the last is a line only where it has a byte, since a newline ends a line
-abbrev pub without_empty_last : List (List ℕ) → List (List ℕ)
-without_empty_last [] = []
-without_empty_last (part ∷ []) = if length part == 0 then [] else part ∷ []
-without_empty_last (part ∷ next ∷ parts) = part ∷ without_empty_last (next ∷ parts)
-
--- the lines of a text, without their newlines (10)
-abbrev pub lines_of : List ℕ → List (List ℕ)
-lines_of text = without_empty_last (slice_split (λ c. c == 10) text)
 
 -- a line is the text of a command that has a form, but for one carriage return at its end
 abbrev pub IsLine : List ℕ → Line → Type 0

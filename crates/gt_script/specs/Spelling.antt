@@ -3,7 +3,7 @@ use Rattle.std.specs.Prelude.{◌≡◌, ℕ, true, false, ◌⊎◌, List, [], 
 use Rattle.std.specs.List.{flat_map}
 use Rattle.gt_script.specs.declared.command.Line.{Line}
 use Rattle.gt_script.specs.declared.command.Command.{Command}
-use Rattle.gt_script.specs.declared.command.Command.TheVariants.{New, Set, Print, CollectForce, Heap}
+use Rattle.gt_script.specs.declared.command.Command.TheVariants.{New, Array, Text, Block, Set, Get, Drop, Print, Put, Find, Collect, CollectForce, Save, Load, Tables, Heap, Stats}
 use Rattle.gt_script.specs.declared.command.Route.{Route}
 use Rattle.gt_script.specs.declared.command.Hop.{Hop}
 use Rattle.gt_script.specs.declared.command.Hop.TheVariants.{Name, Index}
@@ -26,13 +26,25 @@ value_text (Var name) = codes "$" ++ name
 value_text Null = codes "null"
 value_text (Integer number) = []
 
--- the words of a command with one space between them
+-- the words of a command with one space between them; the others have no form
 abbrev pub spelling : Command → List ℕ
 spelling (New var ty n) = codes "new $" ++ var ++ codes " " ++ ty.name
 spelling (Set path value) = codes "set " ++ path_text path ++ codes " " ++ value_text value
 spelling (Print path) = codes "print " ++ path_text path
 spelling CollectForce = codes "collect force"
 spelling Heap = codes "heap"
+spelling (Array var ty n) = []
+spelling (Text var text) = []
+spelling (Block var n) = []
+spelling (Get var path) = []
+spelling (Drop var) = []
+spelling (Put cache key value) = []
+spelling (Find cache key) = []
+spelling Collect = []
+spelling (Save file page) = []
+spelling (Load file) = []
+spelling Tables = []
+spelling Stats = []
 
 -- a quiet line has @ directly in front of its command
 abbrev pub line_text : Line → List ℕ
@@ -63,3 +75,15 @@ HasForm (Set path value) = (IsRoot path ⊎ IsField path) × IsValue value
 HasForm (Print path) = IsVariable path ⊎ IsRoot path ⊎ IsField path
 HasForm CollectForce = Unit {0}
 HasForm Heap = Unit {0}
+HasForm (Array var ty n) = ⊥
+HasForm (Text var text) = ⊥
+HasForm (Block var n) = ⊥
+HasForm (Get var path) = ⊥
+HasForm (Drop var) = ⊥
+HasForm (Put cache key value) = ⊥
+HasForm (Find cache key) = ⊥
+HasForm Collect = ⊥
+HasForm (Save file page) = ⊥
+HasForm (Load file) = ⊥
+HasForm Tables = ⊥
+HasForm Stats = ⊥

@@ -1,4 +1,4 @@
-use gt_types::{List, Word};
+use gt_types::{Bytes, List, Word};
 
 /// A line of a script. The answer to a quiet line is printed only where it is a refusal.
 #[derive(Debug, Drop)]
@@ -7,28 +7,80 @@ pub struct Line {
     pub command: Command,
 }
 
-/// What a line asks for.
+/// What a line asks for. The parts of a command are the words of its form, in order.
 #[derive(Debug, Drop)]
 pub enum Command {
-    /// `new $v T`: make a block of the type, of `n` elements where a number stands behind it, and let the variable mean it.
+    /// `new $v T` or `new $v T N`: make an object of the type, with room for `n` elements where it has a tail, and let
+    /// the variable mean it.
     New {
         var: Word,
         ty: TypeName,
         n: Option<i128>,
+    },
+    /// `array $v T N`: make a block of `n` elements of the type.
+    Array {
+        var: Word,
+        ty: TypeName,
+        n: i128,
+    },
+    /// `string $v "text"`: make a block of the text's bytes and one zero.
+    Text {
+        var: Word,
+        text: Bytes,
+    },
+    /// `block $v N`: make a block of `n` bytes that are never scanned.
+    Block {
+        var: Word,
+        n: i128,
     },
     /// `set PATH VALUE`: store the value at the path.
     Set {
         path: Route,
         value: Given,
     },
+    /// `get $v PATH`: answer what stands at the path, and let the variable mean the block that it points to.
+    Get {
+        var: Word,
+        path: Route,
+    },
+    /// `drop $v`: let the variable mean nothing.
+    Drop {
+        var: Word,
+    },
     /// `print PATH`: print what stands at the path.
     Print {
         path: Route,
     },
+    /// `put C $k $v`: let the cache map the object that `key` means to the one that `value` means.
+    Put {
+        cache: Word,
+        key: Word,
+        value: Word,
+    },
+    /// `find C $k`: answer what the cache maps the object to.
+    Find {
+        cache: Word,
+        key: Word,
+    },
+    /// `collect`: collect where enough was allocated since the last collection.
+    Collect,
     /// `collect force`: free the objects that no root reaches.
     CollectForce,
+    /// `save "f" PAGE`: write an image of the heap to the file, with `page` as its preferred page.
+    Save {
+        file: Word,
+        page: i128,
+    },
+    /// `load "f"`: replace the heap by the file's image.
+    Load {
+        file: Word,
+    },
+    /// `tables`: print what the headers declare.
+    Tables,
     /// `heap`: print how many objects there are of each size, and their bytes.
     Heap,
+    /// `stats`: print the numbers of the collector.
+    Stats,
 }
 
 /// A type by its name; with `star`, a pointer to it.

@@ -8,7 +8,7 @@ use crate::{Command, Given, TypeName};
 use std::alloc::{AllocError, Global};
 
 /// The command that the text is, where it has one of the forms.
-#[tactic(auto, unfolding(crate::specs::Reading::command_at, crate::specs::Reading::behind))]
+#[tactic(auto, unfolding(crate::specs::Reading::command_at, crate::specs::Texts::behind))]
 pub fn command_of(alloc: Global, text: &[u8]) -> Result<Option<Command>, AllocError>
     ensures { IfOk result (λ found. found ≡ command_at text.now) }
 {
@@ -87,7 +87,7 @@ fn print_of(alloc: Global, text: &[u8]) -> Result<Option<Command>, AllocError>
     Ok(Some(Command::Print { path }))
 }
 
-#[tactic(auto, unfolding(crate::specs::Reading::value_at, crate::specs::Reading::behind))]
+#[tactic(auto, unfolding(crate::specs::Reading::value_at, crate::specs::Texts::behind))]
 fn value_of(alloc: Global, text: &[u8]) -> Result<Option<Given>, AllocError>
     ensures { IfOk result (λ found. found ≡ value_at text.now) }
 {

@@ -7,7 +7,7 @@ use crate::forms::command_of;
 use std::alloc::{AllocError, Global};
 
 /// The line that the text is, where it is one.
-#[tactic(auto, unfolding(crate::specs::Reading::line_at, crate::specs::Reading::behind))]
+#[tactic(auto, unfolding(crate::specs::Reading::line_at, crate::specs::Texts::behind))]
 pub fn read_line(alloc: Global, text: &[u8]) -> Result<Option<Line>, AllocError>
     ensures { IfOk result (λ found. found ≡ line_at text.now) }
 {

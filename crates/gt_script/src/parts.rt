@@ -1,6 +1,6 @@
-ghost use Rattle.std.specs.Prelude.{◌≡◌, ◌==◌, position};
+ghost use Rattle.std.specs.Prelude.{◌≡◌, ◌<◌, ◌==◌, ◌∷◌, length, position};
 ghost use Rattle.std.specs.Option.{option_map};
-ghost use Rattle.gt_script.specs.Reading.{parts_at};
+ghost use Rattle.gt_script.specs.Texts.{parts_at, lines_of};
 
 /// What stands before and behind the first of a byte.
 pub fn split_once(text: &[u8], byte: u8) -> Option<(&[u8], &[u8])>
@@ -16,4 +16,16 @@ fn place_of(text: &[u8], byte: u8) -> Option<usize>
     ensures { result ≡ position (λ c. c == byte) text.now }
 {
     text.iter().position(|c| *c == byte)
+}
+
+// The first line, without its newline, and what follows it.
+pub fn first_line(text: &[u8]) -> (&[u8], &[u8])
+    requires { 0 < length text.now }
+    ensures line { lines_of text.now ≡ result.0.now ∷ lines_of result.1.now }
+    ensures shorter { length result.1.now < length text.now }
+{
+    match split_once(text, b'\n') {
+        None => (text, &[]),
+        Some(parts) => parts,
+    }
 }

@@ -8,7 +8,7 @@ use gt_types::List;
 use std::alloc::{AllocError, Global};
 
 /// The path that the text is.
-#[tactic(auto, unfolding(crate::specs::Reading::path_at, crate::specs::Reading::reference_at, crate::specs::Reading::behind))]
+#[tactic(auto, unfolding(crate::specs::Reading::path_at, crate::specs::Reading::reference_at, crate::specs::Texts::behind))]
 pub fn path_of(alloc: Global, text: &[u8]) -> Result<Option<Route>, AllocError>
     ensures { IfOk result (λ found. found ≡ path_at text.now) }
 {

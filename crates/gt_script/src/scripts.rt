@@ -1,12 +1,12 @@
-ghost use Rattle.std.specs.Prelude.{◌≡◌, ◌<◌, ◌∷◌, List, length, IfOk, MatchOption};
+ghost use Rattle.std.specs.Prelude.{◌≡◌, List, IfOk, MatchOption};
 ghost use Rattle.std.specs.Option.{option_map};
 ghost use Rattle.gt_script.specs.declared.command.Line.{Line as TheLine};
-ghost use Rattle.gt_script.specs.Script.{Parsed, lines_of};
+ghost use Rattle.gt_script.specs.Script.{Parsed};
 ghost use Rattle.gt_script.specs.Reading.{script_at};
 
 use crate::Line;
 use crate::lines::read_line;
-use crate::parts::split_once;
+use crate::parts::first_line;
 use gt_types::List;
 use std::alloc::{AllocError, Global};
 
@@ -44,16 +44,4 @@ fn read_lines(alloc: Global, text: &[u8]) -> Result<Option<Vec<Line>>, AllocErro
         rest = after;
     }
     Ok(Some(lines))
-}
-
-// The first line, without its newline, and what follows it.
-fn first_line(text: &[u8]) -> (&[u8], &[u8])
-    requires { 0 < length text.now }
-    ensures line { lines_of text.now ≡ result.0.now ∷ lines_of result.1.now }
-    ensures shorter { length result.1.now < length text.now }
-{
-    match split_once(text, b'\n') {
-        None => (text, &[]),
-        Some(parts) => parts,
-    }
 }

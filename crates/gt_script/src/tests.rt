@@ -135,6 +135,7 @@ fn told(alloc: Global, lines: &List<Line>) -> Result<String, Fail> {
             }
             Command::CollectForce => told.push_str("collect by force\n")?,
             Command::Heap => told.push_str("show the heap\n")?,
+            _ => return Err("another form")?,
         }
     }
     Ok(told)

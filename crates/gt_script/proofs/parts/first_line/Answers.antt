@@ -1,6 +1,6 @@
 use Rattle.std.proofs.Common.{sym}
 use Rattle.gt_script.proofs.Splits.{lines_first, lines_last, shorter}
-use Rattle.gt_script.proofs.scripts.first_line.Goals as goal
+use Rattle.gt_script.proofs.parts.first_line.Goals as goal
 
 pub returns-in-None-clause-line : goal.returns-in-None-clause-line
 returns-in-None-clause-line c = lines_last c.args.text.now c.requires (sym c.in-None.ensures)

@@ -1,0 +1,9 @@
+use Rattle.std.proofs.Common.{length}
+use Rattle.gt_script.proofs.Outcomes.{SoFar}
+use Rattle.gt_script.proofs.parsing.read_script.Given as goal
+
+abbrev pub invariant-loop-rest : goal.invariant-loop-rest
+invariant-loop-rest l = SoFar l.text l.lines l.number l.rest
+
+abbrev pub decreases-loop-rest : goal.decreases-loop-rest
+decreases-loop-rest l = length l.rest

@@ -1,0 +1,36 @@
+-- Texts that are cut at bytes, and the lines of a text.
+use Rattle.std.specs.Prelude.{ℕ, ◌==◌, ◌-◌, if◌then◌else◌, List, [], ◌∷◌, length, take, drop, Option, Some, None}
+use Rattle.std.specs.List.{slice_split}
+use Rattle.std.specs.Str.{bytes_eq}
+
+-- a step that needs what the one before gave
+infixl 10 ◌>>=◌
+abbrev pub ◌>>=◌ : {A B : Type 0} → Option A → (A → Option B) → Option B
+(Some x) >>= f = f x
+None >>= f = None
+
+-- what stands behind a literal, where the text begins with it
+unfoldable pub behind : List ℕ → List ℕ → Option (List ℕ)
+behind literal text = if bytes_eq (take (length literal) text) literal then Some (drop (length literal) text) else None
+
+-- what stands before a literal, where the text ends with it
+unfoldable pub before : List ℕ → List ℕ → Option (List ℕ)
+before literal text =
+    if bytes_eq (drop (length text - length literal) text) literal then Some (take (length text - length literal) text) else None
+
+-- what stands before and behind the first of a byte
+unfoldable pub parts_at : ℕ → List ℕ → Option (List ℕ × List ℕ)
+parts_at byte [] = None
+parts_at byte (c ∷ cs) = if c == byte then Some ([], cs) else (do
+  parts ← parts_at byte cs
+  Some (c ∷ parts.0, parts.1))
+
+-- of the parts between newlines the last is a line only where it has a byte, since a newline ends a line
+abbrev pub without_empty_last : List (List ℕ) → List (List ℕ)
+without_empty_last [] = []
+without_empty_last (part ∷ []) = if length part == 0 then [] else part ∷ []
+without_empty_last (part ∷ next ∷ parts) = part ∷ without_empty_last (next ∷ parts)
+
+-- the lines of a text, without their newlines (10)
+abbrev pub lines_of : List ℕ → List (List ℕ)
+lines_of text = without_empty_last (slice_split (λ c. c == 10) text)

@@ -1,0 +1,108 @@
+// The commands of the whole heap, and of all commands the one that words are.
+ghost use Rattle.std.specs.Prelude.{◌≡◌, IfOk};
+ghost use Rattle.gt_script.specs.Commands.{collect_at, save_at, load_at, tables_at, heap_at, stats_at, command_at};
+
+use crate::Command;
+use crate::naming::file_name;
+use crate::numbers::integer;
+use crate::pieces::Piece;
+use crate::place_forms::place_command;
+use std::alloc::{AllocError, Global};
+
+/// The command that a first word and the words behind it are.
+#[tactic(auto, unfolding(crate::specs::Commands::command_at))]
+pub fn command(alloc: Global, verb: &[u8], words: &[Piece]) -> Result<Option<Command>, AllocError>
+    ensures { IfOk result (λ found. found ≡ command_at verb.now words.now) }
+{
+    if verb == b"collect".as_slice() {
+        return Ok(collect(words));
+    }
+    if verb == b"save".as_slice() {
+        return save(alloc, words);
+    }
+    if verb == b"load".as_slice() {
+        return load(alloc, words);
+    }
+    if verb == b"tables".as_slice() {
+        return Ok(tables(words));
+    }
+    if verb == b"heap".as_slice() {
+        return Ok(heap(words));
+    }
+    if verb == b"stats".as_slice() {
+        return Ok(stats(words));
+    }
+    place_command(alloc, verb, words)
+}
+
+#[tactic(auto, unfolding(crate::specs::Commands::collect_at))]
+fn collect(words: &[Piece]) -> Option<Command>
+    ensures { result ≡ collect_at words.now }
+{
+    match words {
+        [] => Some(Command::Collect),
+        [Piece::Plain(word)] if word.as_slice() == b"force".as_slice() => {
+            Some(Command::CollectForce)
+        }
+        _ => None,
+    }
+}
+
+#[tactic(auto, unfolding(crate::specs::Commands::save_at))]
+fn save(alloc: Global, words: &[Piece]) -> Result<Option<Command>, AllocError>
+    ensures { IfOk result (λ found. found ≡ save_at words.now) }
+{
+    let [Piece::Quoted(file), Piece::Plain(page)] = words else {
+        return Ok(None);
+    };
+    let Some(file) = file_name(alloc, file.as_slice())? else {
+        return Ok(None);
+    };
+    let Some(page) = integer(page.as_slice()) else {
+        return Ok(None);
+    };
+    Ok(Some(Command::Save { file, page }))
+}
+
+#[tactic(auto, unfolding(crate::specs::Commands::load_at))]
+fn load(alloc: Global, words: &[Piece]) -> Result<Option<Command>, AllocError>
+    ensures { IfOk result (λ found. found ≡ load_at words.now) }
+{
+    let [Piece::Quoted(file)] = words else {
+        return Ok(None);
+    };
+    let Some(file) = file_name(alloc, file.as_slice())? else {
+        return Ok(None);
+    };
+    Ok(Some(Command::Load { file }))
+}
+
+#[tactic(auto, unfolding(crate::specs::Commands::tables_at))]
+fn tables(words: &[Piece]) -> Option<Command>
+    ensures { result ≡ tables_at words.now }
+{
+    match words {
+        [] => Some(Command::Tables),
+        _ => None,
+    }
+}
+
+#[tactic(auto, unfolding(crate::specs::Commands::heap_at))]
+fn heap(words: &[Piece]) -> Option<Command>
+    ensures { result ≡ heap_at words.now }
+{
+    match words {
+        [] => Some(Command::Heap),
+        _ => None,
+    }
+}
+
+#[tactic(auto, unfolding(crate::specs::Commands::stats_at))]
+fn stats(words: &[Piece]) -> Option<Command>
+    ensures { result ≡ stats_at words.now }
+{
+    match words {
+        [] => Some(Command::Stats),
+        _ => None,
+    }
+}

@@ -1,0 +1,28 @@
+// Laws of the script language, for every text. The functions do nothing.
+ghost use Rattle.std.specs.Prelude.{◌≡◌, ℕ, List, Some, Result};
+ghost use Rattle.gt_script.specs.declared.command.Line.{Line};
+ghost use Rattle.gt_script.specs.declared.stop.ScriptStop.{ScriptStop};
+ghost use Rattle.gt_script.specs.declared.pieces.Piece.{Piece};
+ghost use Rattle.gt_script.specs.Cutting.{words_of};
+ghost use Rattle.gt_script.specs.Language.{AreWords, IsLine};
+ghost use Rattle.gt_script.specs.Outcome.{IsOutcome, HasOutcome};
+ghost use Rattle.gt_script.specs.Scanning.{line_at};
+
+/// Each text has exactly one outcome: lines, a first line that is refused, or more commands than a script may have. So
+/// `parse_script` gives it, unless memory runs out.
+pub fn one_outcome()
+    ensures some { (text : List ℕ) → HasOutcome text }
+    ensures one { (text : List ℕ) (outcome other : Result (List Line) ScriptStop) → IsOutcome text outcome → IsOutcome text other → outcome ≡ other }
+{}
+
+/// Words that are spelled with blanks between them are the words of that text, and each word is spelled so.
+pub fn words_as_spelled()
+    ensures again { (text : List ℕ) (words : List Piece) → AreWords text words → words_of text ≡ Some words }
+    ensures taken { (text : List ℕ) (words : List Piece) → words_of text ≡ Some words → AreWords text words }
+{}
+
+/// What is spelled as a line is read as that line, and what is read as a line is spelled so.
+pub fn lines_as_spelled()
+    ensures again { (text : List ℕ) (line : Line) → IsLine text line → line_at text ≡ Some (Some line) }
+    ensures taken { (text : List ℕ) (line : Line) → line_at text ≡ Some (Some line) → IsLine text line }
+{}

@@ -1,0 +1,72 @@
+// The lines of a script.
+ghost use Rattle.std.specs.Prelude.{◌≡◌, ◌<◌, ◌^◌, length, IfOk, IfErr, MatchResult, Ok, Err};
+ghost use Rattle.gt_script.specs.Outcome.{Parsed, IsScriptStop};
+ghost use Rattle.gt_script.specs.Scanning.{outcome_of, IsOutcomeUnlessMemory};
+
+use crate::Line;
+use crate::parts::first_line;
+use crate::statements::statement;
+use crate::stop::{MAX_COMMANDS, ScriptStop};
+use gt_types::List;
+use std::alloc::Global;
+
+/// The lines of a script of fewer than 2 to the 32 bytes, without its blank lines and comments. Otherwise want of memory;
+/// or `ScriptSyntax` with the number of the first line that is refused, from 1 and with all lines counted; or
+/// `ScriptTooLong` where more than 1,000,000 commands stand and no line up to the 1,000,001st command is refused.
+///
+/// Lines end with a newline, which the last line may lack; one carriage return at a line's end is dropped. A line of
+/// spaces and tabs, and one that is `#` behind spaces alone and anything else, is passed over. Any other line is one of
+/// these commands, with `@` directly in front of its first word where it is quiet. Spaces and tabs part its words, and
+/// may stand at both ends:
+///
+/// ```text
+/// new $v T      array $v T N      block $v N      set PATH VALUE    put C $k $v      collect          save "f" PAGE
+/// new $v T N    string $v "text"  drop $v         get $v PATH       find C $k        collect force    load "f"
+///                                                 print PATH                         tables, heap, stats
+///
+/// variable := "$" NAME         T := NAME | NAME "*"        C := NAME
+/// PATH  := (variable | NAME) { "." NAME | "[" DIGITS "]" }
+/// VALUE := INTEGER | "null" | variable
+/// N, PAGE := INTEGER           "text", "f" := quoted, with \\ \" \n \0
+/// ```
+///
+/// A NAME is an identifier of Unicode's Annex 31, or begins with `_`. An INTEGER is decimal without a leading zero, or
+/// `0x` and hexadecimal digits, with an optional `-`, and is from -2^63 to 2^64 - 1; DIGITS is decimal without a leading
+/// zero and below 2^64. The name of a file is not empty and has no zero. Nothing touches a quoted word. A line that is
+/// not UTF-8 is refused, also a comment.
+pub fn parse_script(alloc: Global, text: &[u8]) -> Result<List<Line>, ScriptStop>
+    requires short { length text.now < 2 ^ 32 }
+    ensures lines { IfOk result (λ lines. Parsed text.now lines) }
+    ensures fault { IfErr result (IsScriptStop text.now) }
+{
+    match read_script(alloc, text) {
+        Ok(lines) => Ok(lines),
+        Err(stop) => Err(stop),
+    }
+}
+
+// The same, as the outcome of reading line by line.
+fn read_script(alloc: Global, text: &[u8]) -> Result<List<Line>, ScriptStop>
+    requires { length text.now < 2 ^ 32 }
+    ensures { IsOutcomeUnlessMemory result (outcome_of text.now) }
+{
+    let mut lines = List::new(alloc);
+    let mut number: u32 = 0;
+    let mut rest = text;
+    while !rest.is_empty() {
+        let (text, after) = first_line(rest);
+        number += 1;
+        rest = after;
+        let Some(said) = statement(alloc, text)? else {
+            return Err(ScriptStop::ScriptSyntax { line: number });
+        };
+        let Some(line) = said else {
+            continue;
+        };
+        if lines.len() == MAX_COMMANDS {
+            return Err(ScriptStop::ScriptTooLong);
+        }
+        lines.push(line)?;
+    }
+    Ok(lines)
+}

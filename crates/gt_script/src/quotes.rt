@@ -1,0 +1,53 @@
+// What stands between quotes.
+ghost use Rattle.std.specs.Prelude.{◌≡◌, false, IfOk};
+ghost use Rattle.std.specs.Option.{option_map};
+ghost use Rattle.gt_script.specs.Cutting.{escape_of, quoted_at};
+
+use crate::front::front;
+use gt_types::Bytes;
+use std::alloc::{AllocError, Global};
+
+// What a character behind a backslash means, if anything.
+#[tactic(auto, unfolding(crate::specs::Cutting::escape_of))]
+fn escape(letter: u8) -> Option<u8>
+    ensures { result ≡ escape_of letter }
+{
+    match letter {
+        b'\\' => Some(b'\\'),
+        b'"' => Some(b'"'),
+        b'n' => Some(b'\n'),
+        b'0' => Some(0),
+        _ => None,
+    }
+}
+
+// Behind an opening quote: the bytes up to the closing one, and what stands behind it.
+pub fn quoted(alloc: Global, text: &[u8]) -> Result<Option<(Bytes, &[u8])>, AllocError>
+    ensures { IfOk result (λ found. option_map (λ r. (r.0, r.1.now)) found ≡ quoted_at false text.now) }
+{
+    let mut bytes = Vec::new(alloc);
+    let mut escaped = false;
+    let mut rest = text;
+    'bytes: loop {
+        match front(rest) {
+            None => return Ok(None),
+            Some((byte, after)) if escaped => {
+                let Some(meant) = escape(byte) else {
+                    return Ok(None);
+                };
+                bytes.push(meant)?;
+                escaped = false;
+                rest = after;
+            }
+            Some((b'"', after)) => return Ok(Some((Bytes::from_vec(bytes), after))),
+            Some((b'\\', after)) => {
+                escaped = true;
+                rest = after;
+            }
+            Some((byte, after)) => {
+                bytes.push(byte)?;
+                rest = after;
+            }
+        }
+    }
+}

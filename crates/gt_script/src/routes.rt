@@ -1,0 +1,142 @@
+// Paths and values.
+ghost use Rattle.std.specs.Prelude.{◌≡◌, ◌≤◌, [], not, length, IfOk};
+ghost use Rattle.std.specs.Option.{option_map};
+ghost use Rattle.std.specs.List.{prefix_len};
+ghost use Rattle.gt_script.specs.Values.{name_at, integer_at, given_at};
+ghost use Rattle.gt_script.specs.declared.command.Hop.TheVariants.{Name};
+ghost use Rattle.gt_script.specs.declared.command.Given.TheVariants.{Integer, Var};
+ghost use Rattle.gt_script.specs.Steps.{begins_step, cut_steps, index_at, hop_at, hops_at, route_at, path_at};
+
+use crate::front::front;
+use crate::naming::name;
+use crate::numbers::{decimal, integer};
+use crate::{Given, Hop, Route};
+use gt_types::List;
+use std::alloc::{AllocError, Global};
+
+#[tactic(auto, unfolding(crate::specs::Steps::begins_step))]
+fn begins_step(byte: u8) -> bool
+    ensures { result ≡ begins_step byte }
+{
+    byte == b'.' || byte == b'['
+}
+
+// How many bytes stand before the first step.
+fn step_place(text: &[u8]) -> usize
+    ensures place { result ≡ prefix_len (λ c. not (begins_step c)) text.now }
+    ensures within { result ≤ length text.now }
+{
+    text.iter().take_while(|byte| !begins_step(**byte)).count()
+}
+
+// The path that a text is.
+#[tactic(auto, unfolding(crate::specs::Steps::path_at, crate::specs::Texts::behind))]
+pub fn path(alloc: Global, text: &[u8]) -> Result<Option<Route>, AllocError>
+    ensures { IfOk result (λ found. found ≡ path_at text.now) }
+{
+    match text.strip_prefix(b"$") {
+        Some(text) => route(alloc, true, text),
+        None => route(alloc, false, text),
+    }
+}
+
+#[tactic(auto, unfolding(crate::specs::Steps::route_at))]
+fn route(alloc: Global, variable: bool, text: &[u8]) -> Result<Option<Route>, AllocError>
+    ensures { IfOk result (λ found. found ≡ route_at variable text.now) }
+{
+    let (start, steps) = text.split_at(step_place(text));
+    let Some(name) = name(alloc, start)? else {
+        return Ok(None);
+    };
+    let Some(steps) = hops(alloc, steps)? else {
+        return Ok(None);
+    };
+    Ok(Some(Route {
+        variable,
+        name,
+        steps,
+    }))
+}
+
+// The steps that a text is, which begins with one where it has a byte.
+fn hops(alloc: Global, text: &[u8]) -> Result<Option<List<Hop>>, AllocError>
+    requires { (cut_steps text.now).0 ≡ [] }
+    ensures { IfOk result (λ found. found ≡ hops_at (cut_steps text.now).1) }
+{
+    let mut hops = List::new(alloc);
+    let mut rest = text;
+    'hops: loop {
+        match front(rest) {
+            None => return Ok(Some(hops)),
+            Some((_, others)) => {
+                let (step, after) = rest.split_at(1 + step_place(others));
+                let Some(hop) = hop(alloc, step)? else {
+                    return Ok(None);
+                };
+                hops.push(hop)?;
+                rest = after;
+            }
+        }
+    }
+}
+
+#[tactic(auto, unfolding(crate::specs::Steps::hop_at, crate::specs::Texts::behind))]
+fn hop(alloc: Global, text: &[u8]) -> Result<Option<Hop>, AllocError>
+    ensures { IfOk result (λ found. found ≡ hop_at text.now) }
+{
+    match text.strip_prefix(b".") {
+        Some(text) => field(alloc, text),
+        None => Ok(index(text)),
+    }
+}
+
+fn field(alloc: Global, text: &[u8]) -> Result<Option<Hop>, AllocError>
+    ensures { IfOk result (λ found. found ≡ option_map Name (name_at text.now)) }
+{
+    let Some(name) = name(alloc, text)? else {
+        return Ok(None);
+    };
+    Ok(Some(Hop::Name(name)))
+}
+
+#[tactic(auto, unfolding(crate::specs::Steps::index_at, crate::specs::Texts::behind, crate::specs::Texts::before))]
+fn index(text: &[u8]) -> Option<Hop>
+    ensures { result ≡ index_at text.now }
+{
+    let inner = text.strip_prefix(b"[")?;
+    let digits = inner.strip_suffix(b"]")?;
+    let place = decimal(digits)?;
+    Some(Hop::Index(place))
+}
+
+// The value that a text gives.
+#[tactic(auto, unfolding(crate::specs::Values::given_at, crate::specs::Texts::behind))]
+pub fn given(alloc: Global, text: &[u8]) -> Result<Option<Given>, AllocError>
+    ensures { IfOk result (λ found. found ≡ given_at text.now) }
+{
+    if text == b"null".as_slice() {
+        return Ok(Some(Given::Null));
+    }
+    match text.strip_prefix(b"$") {
+        Some(text) => given_variable(alloc, text),
+        None => Ok(given_integer(text)),
+    }
+}
+
+fn given_variable(alloc: Global, text: &[u8]) -> Result<Option<Given>, AllocError>
+    ensures { IfOk result (λ found. found ≡ option_map Var (name_at text.now)) }
+{
+    let Some(name) = name(alloc, text)? else {
+        return Ok(None);
+    };
+    Ok(Some(Given::Var(name)))
+}
+
+fn given_integer(text: &[u8]) -> Option<Given>
+    ensures { result ≡ option_map Integer (integer_at text.now) }
+{
+    match integer(text) {
+        None => None,
+        Some(number) => Some(Given::Integer(number)),
+    }
+}
