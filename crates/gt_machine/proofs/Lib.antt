@@ -1,0 +1,2 @@
+mod ShowDigits
+mod VarsEntries

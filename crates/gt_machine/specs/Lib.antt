@@ -1,0 +1,12 @@
+pub mod Built
+pub mod Good
+pub mod Kept
+pub mod Named
+pub mod Next
+pub mod Paths
+pub mod Run
+pub mod Session
+pub mod Show
+pub mod Spots
+pub mod State
+pub mod Text

@@ -1,0 +1,123 @@
+// The text of a line's answer.
+ghost use Rattle.std.specs.Prelude.{◌≡◌, ◌++◌, IfOk, OnOk};
+ghost use Rattle.std.specs.String.{string_bytes};
+ghost use Rattle.gt_machine.specs.Text.{answer_text as answer_text_of, decimal, hexadecimal, text_of};
+
+use crate::{Answer, Why};
+use gt_script::Line;
+use gt_types::{Bytes, Copied};
+use std::alloc::{AllocError, Global};
+
+/// The text of a line's answer, which ends with a newline. Where the line is quiet, there is no text but of a refusal.
+pub fn text(alloc: Global, line: &Line, answer: &Answer) -> Result<Bytes, AllocError>
+    ensures text { IfOk result (λ bytes. bytes ≡ text_of line.now answer.now) }
+{
+    if line.quiet && !answer.is_refusal() {
+        return Ok(Bytes::new(alloc));
+    }
+    let mut text = answer_text(alloc, answer)?;
+    text.push(b'\n')?;
+    Ok(text)
+}
+
+// The line of an answer, without its end.
+fn answer_text(alloc: Global, answer: &Answer) -> Result<Bytes, AllocError>
+    ensures { IfOk result (λ bytes. bytes ≡ answer_text_of answer.now) }
+{
+    match answer {
+        Answer::Done => Bytes::of(alloc, b"ok"),
+        Answer::Made { addr, size } => made_text(alloc, *addr, *size),
+        Answer::Null => Bytes::of(alloc, b"null"),
+        Answer::Ref { addr } => ref_text(alloc, *addr),
+        Answer::Shown(text) => text.copy(alloc),
+        Answer::Collected {
+            kept,
+            freed,
+            dropped,
+        } => collected_text(alloc, *kept, *freed, *dropped),
+        Answer::Heap(text) => text.copy(alloc),
+        Answer::Refused(why) => refused_text(alloc, *why),
+    }
+}
+
+// The line of a block that was made.
+fn made_text(alloc: Global, addr: u64, size: u32) -> Result<Bytes, AllocError>
+    ensures { IfOk result (λ bytes. bytes ≡ answer_text_of (Answer.Made addr size)) }
+{
+    let addr = hexadecimal_text(alloc, addr)?;
+    let mut text = Bytes::of(alloc, b"made 0x")?;
+    text.append(addr.as_bytes())?;
+    text.append(b" ")?;
+    push_decimal(alloc, &mut text, size as u64)?;
+    Ok(text)
+}
+
+// The line of an object.
+fn ref_text(alloc: Global, addr: u64) -> Result<Bytes, AllocError>
+    ensures { IfOk result (λ bytes. bytes ≡ answer_text_of (Answer.Ref addr)) }
+{
+    let addr = hexadecimal_text(alloc, addr)?;
+    let mut text = Bytes::of(alloc, b"ref 0x")?;
+    text.append(addr.as_bytes())?;
+    Ok(text)
+}
+
+// The line of a collection: how many objects it kept and freed, and how many pairs of caches it dropped.
+fn collected_text(alloc: Global, kept: u32, freed: u32, dropped: u32) -> Result<Bytes, AllocError>
+    ensures { IfOk result (λ bytes. bytes ≡ answer_text_of (Answer.Collected kept freed dropped)) }
+{
+    let mut text = Bytes::of(alloc, b"collected kept ")?;
+    push_decimal(alloc, &mut text, kept as u64)?;
+    text.append(b" freed ")?;
+    push_decimal(alloc, &mut text, freed as u64)?;
+    text.append(b" dropped ")?;
+    push_decimal(alloc, &mut text, dropped as u64)?;
+    Ok(text)
+}
+
+// The line of a refusal: its number and name, and its numbers.
+fn refused_text(alloc: Global, why: Why) -> Result<Bytes, AllocError>
+    ensures { IfOk result (λ bytes. bytes ≡ answer_text_of (Answer.Refused why)) }
+{
+    match why {
+        Why::Unbound => Bytes::of(alloc, b"error F1 Unbound"),
+        Why::NoType => Bytes::of(alloc, b"error F2 NoType"),
+        Why::NoField => Bytes::of(alloc, b"error F3 NoField"),
+        Why::WrongType => Bytes::of(alloc, b"error F4 WrongType"),
+        Why::BadIndex => Bytes::of(alloc, b"error F6 BadIndex"),
+        Why::Full { need } => full_text(alloc, need),
+        Why::NullStep => Bytes::of(alloc, b"error F11 NullStep"),
+        Why::TooManyVars => Bytes::of(alloc, b"error F17 TooManyVars"),
+    }
+}
+
+// The line of a refusal for want of so many bytes.
+fn full_text(alloc: Global, need: u32) -> Result<Bytes, AllocError>
+    ensures { IfOk result (λ bytes. bytes ≡ answer_text_of (Answer.Refused (Why.Full need))) }
+{
+    let mut text = Bytes::of(alloc, b"error F10 Full ")?;
+    push_decimal(alloc, &mut text, need as u64)?;
+    Ok(text)
+}
+
+/// Adds a number in decimal.
+pub fn push_decimal(alloc: Global, text: &mut Bytes, n: u64) -> Result<(), AllocError>
+    ensures { OnOk result (text.new ≡ text.old ++ decimal n) }
+{
+    let digits = decimal_text(alloc, n)?;
+    text.append(digits.as_bytes())
+}
+
+// A number in decimal.
+fn decimal_text(alloc: Global, n: u64) -> Result<String, AllocError>
+    ensures { IfOk result (λ text. string_bytes text ≡ decimal n) }
+{
+    format!(in alloc; "{n}")
+}
+
+// A number in hexadecimal, with eight digits at least.
+fn hexadecimal_text(alloc: Global, n: u64) -> Result<String, AllocError>
+    ensures { IfOk result (λ text. string_bytes text ≡ hexadecimal n) }
+{
+    format!(in alloc; "{n:08x}")
+}

@@ -1,0 +1,90 @@
+// The variables of a script.
+ghost use Rattle.std.specs.Prelude.{◌≡◌, ℕ, OnOk, OnErr, IsSome, IsTrue};
+ghost use Rattle.std.specs.Ordering.{nat_cmp};
+ghost use Rattle.std.specs.BTreeSet.{contains};
+ghost use Rattle.gt_machine.specs.State.{Variables, no_variables, meaning, with_variable};
+ghost use Rattle.gt_machine.specs.Next.{KeepsBound};
+
+use gt_types::{Copied, Word};
+use std::alloc::{AllocError, Global};
+use std::collections::{BTreeMap, BTreeSet};
+use std::marker::Model;
+
+/// Variables, which contracts see as a finite map from names to the addresses of objects.
+#[derive(Drop)]
+pub struct Vars {
+    alloc: Global,
+    addresses: BTreeMap<Word, u64>,
+}
+
+impl Model for Vars {
+    ghost use Rattle.std.specs.FinMap as fin;
+    ghost use Rattle.std.specs.Coded.{coded_list, coded_ℕ};
+    ghost use Rattle.gt_machine.specs.State.{Variables, variables_of};
+
+    ghost Value = { Variables };
+
+    ghost coded = { fin.code (coded_list coded_ℕ) coded_ℕ };
+
+    ghost view = { λ v. variables_of v.addresses.entries };
+}
+
+impl Vars {
+    /// No variables. It takes no memory.
+    pub fn new(alloc: Global) -> Vars
+        ensures empty { result ≡ no_variables }
+    {
+        Vars {
+            alloc,
+            addresses: BTreeMap::new(alloc),
+        }
+    }
+
+    /// The address that a variable means, or None where it is not bound.
+    pub fn get(&self, name: &Word) -> Option<u64>
+        ensures meaning { result ≡ meaning self.now name.now }
+    {
+        self.addresses.get(name).copied()
+    }
+
+    /// Binds a variable. For want of memory nothing changed.
+    pub fn bind(&mut self, name: &Word, address: u64) -> Result<(), AllocError>
+        ensures bound { OnOk result (self.new ≡ with_variable self.old name.now address) }
+        ensures unchanged { OnErr result (self.new ≡ self.old) }
+    {
+        let name = name.copy(self.alloc)?;
+        self.addresses.insert(name, address)?;
+        Ok(())
+    }
+
+    /// Binds a variable that is bound already to another address. It takes no memory.
+    pub fn rebind(&mut self, name: &Word, address: u64)
+        requires bound { IsSome (meaning self.old name.now) }
+        ensures bound { self.new ≡ with_variable self.old name.now address }
+    {
+        if let Some(place) = self.addresses.get_mut(name) {
+            *place = address;
+        }
+    }
+
+    /// Takes back the binding of a variable that had this meaning, or none, before. It takes no memory.
+    pub fn take_back(&mut self, name: &Word, before: Option<u64>)
+        requires bound { IsSome (meaning self.old name.now) }
+        ensures as_before { (v : Variables) (address : ℕ) → self.old ≡ with_variable v name.now address → before ≡ meaning v name.now → self.new ≡ v }
+    {
+        match before {
+            Some(address) => self.rebind(name, address),
+            None => {
+                let _ = self.addresses.remove(name);
+            }
+        }
+    }
+
+    /// Keeps the variables of these objects, and unbinds the others. It takes no memory.
+    pub fn keep(&mut self, addresses: &BTreeSet<u64>)
+        ensures kept { KeepsBound (λ id. IsTrue (contains nat_cmp addresses.now id)) self.old self.new }
+    {
+        self.addresses
+            .retain(|_, address| addresses.contains(&*address));
+    }
+}
