@@ -1,5 +1,5 @@
 -- What the expressions of options may read, and where a structure may stand alone.
-use Rattle.std.specs.Prelude.{◌≡◌, ◌⊎◌, ℕ, Bool, true, IsTrue, List, [], ◌∷◌, ◌++◌, Option, Some, IsSome, slice_get, All, Any, Contains, filter_map, option_to_list}
+use Rattle.std.specs.Prelude.{◌≡◌, ◌≢◌, ◌⊎◌, ℕ, Bool, true, IsTrue, List, [], ◌∷◌, ◌++◌, Option, Some, IsSome, slice_get, All, Any, Contains, filter_map, option_to_list}
 use Rattle.gt_types.specs.declared.expressions.Base.{Base}
 use Rattle.gt_types.specs.declared.expressions.Base.TheVariants.{Here, Outer, Outermost}
 use Rattle.gt_types.specs.declared.expressions.Expr.{Expr}
@@ -14,6 +14,7 @@ use Rattle.gt_types.specs.declared.program.Field.{Field}
 use Rattle.gt_types.specs.declared.program.Structure.{Structure}
 use Rattle.gt_types.specs.declared.program.Root.{Root as RootOf}
 use Rattle.gt_types.specs.declared.program.Program.{Program}
+use Rattle.gt_types.specs.Names.{IsName}
 use Rattle.gt_types.specs.Operators.{HasOperators}
 use Rattle.gt_types.specs.Shapes.{count_of, is_number}
 use Rattle.gt_types.specs.Contains.{HasStructure, ContainsStructure, ContainsAtDepth}
@@ -119,6 +120,10 @@ DescPathFits program node union Here steps = LeadsToNumber program union steps
 DescPathFits program node union Outer steps = LeadsToNumber program node steps
 DescPathFits program node union Outermost steps = PathFits program node Outermost steps
 
+-- the steps of a path: one at least, each of which is a name
+abbrev pub AreSteps : List (List ℕ) → Type 0
+AreSteps steps = (steps ≢ []) × All IsName steps
+
 -- a root is a number
 abbrev pub IsScalarRoot : Program → ℕ → Type 0
 IsScalarRoot program i = (r : RootOf) × (slice_get program.roots i ≡ Some r) × IsTrue (is_number r.ty)
@@ -127,12 +132,14 @@ IsScalarRoot program i = (r : RootOf) × (slice_get program.roots i ≡ Some r) 
 pub record IsOption (program : Program) (node : TypeId) (e : Expr) : Type 0 where
   pub operators : HasOperators e
   pub no_roots : roots_of e ≡ []
+  pub steps : All (λ path. AreSteps path.1) (paths_of e)
   pub paths : All (λ path. PathFits program node path.0 path.1) (paths_of e)
 
 -- the `desc` of a field of a structure that holds a union
 pub record IsFieldDesc (program : Program) (node union : TypeId) (e : Expr) : Type 0 where
   pub operators : HasOperators e
   pub no_roots : roots_of e ≡ []
+  pub steps : All (λ path. AreSteps path.1) (paths_of e)
   pub paths : All (λ path. DescPathFits program node union path.0 path.1) (paths_of e)
 
 -- the length of a root, which has no paths

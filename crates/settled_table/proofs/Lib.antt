@@ -1,0 +1,10 @@
+pub mod Beginnings
+pub mod Chains
+pub mod Depths
+pub mod Expressions
+pub mod Globals
+pub mod Lists
+pub mod Structures
+pub mod TailDepths
+pub mod Walks
+pub mod Ways

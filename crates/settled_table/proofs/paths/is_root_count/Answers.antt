@@ -1,0 +1,11 @@
+use Rattle.settled_table.proofs.paths.is_root_count.Goals as goal
+
+pub returns : goal.returns
+returns c = (
+  λ e. record {
+    operators = c.has_operators.ensures.0 c.if-not-has_operators.false;
+    roots = c.all_roots_are_scalars.ensures.0 c.if-not-all_roots_are_scalars.false;
+    no_paths = c.has_no_paths.ensures.0 e;
+  },
+  λ count. c.has_no_paths.ensures.1 count.no_paths,
+)

@@ -1,0 +1,11 @@
+use Rattle.std.proofs.Common.{length}
+use Rattle.std.specs.Prelude.{◌≢◌}
+use Rattle.gt_types.specs.declared.program.Root.{Root}
+use Rattle.settled_table.proofs.Lists.{IsLeft}
+use Rattle.settled_table.proofs.settled.are_distinct_roots.Given as goal
+
+abbrev pub invariant-loop-rest : goal.invariant-loop-rest
+invariant-loop-rest l = IsLeft (λ (x y : Root). x.name ≢ y.name) l.roots l.rest
+
+abbrev pub decreases-loop-rest : goal.decreases-loop-rest
+decreases-loop-rest l = length l.rest
