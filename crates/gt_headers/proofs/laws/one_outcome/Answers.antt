@@ -1,0 +1,20 @@
+use Rattle.gt_headers.proofs.ReadOutcomes.{one_reading, read_no_reading_fault, one_reading_fault}
+use Rattle.gt_headers.proofs.Outcomes.{one_declared, one_first_fault, one_not_built, declared_no_fault, declared_built, fault_built}
+use Rattle.gt_headers.proofs.laws.one_outcome.Goals as goal
+
+pub returns : goal.returns
+returns c =
+    let lexed = c.one_answer.ensures in
+    let search = c.one_search.ensures in
+    let resolved = c.one_outcome.ensures in
+    let one = one_reading search lexed.tokens lexed.not_both lexed.fault in
+    let none = read_no_reading_fault search lexed.tokens lexed.not_both lexed.fault in
+    let same = one_reading_fault search lexed.tokens lexed.not_both lexed.fault in
+    record {
+      program = one_declared one none same resolved.not_both resolved.draft resolved.fault;
+      fault = one_first_fault one none same resolved.not_both resolved.draft resolved.fault;
+      file = one_not_built one none same resolved.not_both resolved.draft resolved.fault;
+      no_fault = declared_no_fault one none same resolved.not_both resolved.draft resolved.fault;
+      built = declared_built one none same resolved.not_both resolved.draft resolved.fault;
+      fault_first = fault_built one none same resolved.not_both resolved.draft resolved.fault;
+    }

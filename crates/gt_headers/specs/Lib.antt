@@ -1,0 +1,9 @@
+pub mod Reading
+pub mod Built
+pub mod Programs
+pub mod Headers
+pub mod Pointers
+pub mod Stops
+pub mod Deciding
+pub mod Making
+pub mod Halting

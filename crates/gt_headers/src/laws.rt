@@ -1,0 +1,47 @@
+//! What follows from the words of the contracts. These calls do nothing but call the laws of the layers below, from which their
+//! own follow.
+ghost use Rattle.std.specs.Prelude.{◌≡◌, ℕ, List, pos};
+ghost use Rattle.gt_types.specs.declared.faults.Fault.{Fault};
+ghost use Rattle.gt_types.specs.declared.program.Program.{Program};
+ghost use Rattle.gt_headers.specs.Headers.{Declares, IsFirstFault, IsNotBuilt};
+ghost use Rattle.gt_headers.specs.Pointers.{IsOfPointers};
+ghost use Rattle.gt_lex.specs.declared.faults.TheConstants.{BAD_UTF8, OPEN_COMMENT, OPEN_STRING, BAD_NUMBER};
+ghost use Rattle.gt_expr.specs.declared.TheConstants.{BAD_EXPR, EXPR_TOO_LARGE, MAX_PARTS};
+ghost use Rattle.gt_parse.specs.declared.faults.TheConstants.{UNCLOSED, UNEXPECTED, UNSUPPORTED, BAD_MARKER_PLACE};
+ghost use Rattle.gt_resolve.specs.declared.TheConstants.{REDEFINED, UNDEFINED, BY_VALUE_CYCLE, BAD_BOUND, TOO_MANY, MAX_STRUCTURES, MAX_FIELDS, MAX_ROOTS, MAX_CACHES, MAX_DEPTH, MAX_DIMENSIONS, MAX_BOUND};
+
+use gt_lex::one_answer;
+use gt_parse::one_search;
+use gt_resolve::few;
+
+/// Headers declare at most one program, have at most one first fault, and at most one of them is the first with something that
+/// is not built; and never two of these hold.
+pub fn one_outcome()
+    ensures program { (texts : List (List ℕ)) (program other : Program) → Declares texts program → Declares texts other → program ≡ other }
+    ensures fault { (texts : List (List ℕ)) (fault other : Fault) → IsFirstFault texts fault → IsFirstFault texts other → fault ≡ other }
+    ensures file { (texts : List (List ℕ)) (file other : ℕ) → IsNotBuilt texts file → IsNotBuilt texts other → file ≡ other }
+    ensures no_fault { (texts : List (List ℕ)) (program : Program) (fault : Fault) → Declares texts program → IsFirstFault texts fault → ⊥ }
+    ensures built { (texts : List (List ℕ)) (program : Program) (file : ℕ) → Declares texts program → IsNotBuilt texts file → ⊥ }
+    ensures fault_first { (texts : List (List ℕ)) (fault : Fault) (file : ℕ) → IsFirstFault texts fault → IsNotBuilt texts file → ⊥ }
+{
+    one_answer();
+    one_search();
+    gt_resolve::one_outcome();
+}
+
+/// What headers declare so far is few structures of plain pointers to one another, and few such roots.
+pub fn is_of_pointers()
+    ensures { (texts : List (List ℕ)) (program : Program) → Declares texts program → IsOfPointers program }
+{
+    few();
+}
+
+/// The numbers of the faults and the limits, of which the definitions speak by name.
+pub fn numbers()
+    ensures tokens { (BAD_UTF8 ≡ 1) × (OPEN_COMMENT ≡ 2) × (OPEN_STRING ≡ 3) × (BAD_NUMBER ≡ 4) }
+    ensures options { (BAD_EXPR ≡ 5) × (EXPR_TOO_LARGE ≡ 6) }
+    ensures items { (UNCLOSED ≡ 7) × (UNEXPECTED ≡ 8) × (UNSUPPORTED ≡ 9) × (BAD_MARKER_PLACE ≡ 10) }
+    ensures names { (REDEFINED ≡ 11) × (UNDEFINED ≡ 12) × (BY_VALUE_CYCLE ≡ 13) × (BAD_BOUND ≡ 14) × (TOO_MANY ≡ 15) }
+    ensures counts { (MAX_STRUCTURES ≡ 4096) × (MAX_FIELDS ≡ 1024) × (MAX_ROOTS ≡ 4096) × (MAX_CACHES ≡ 64) }
+    ensures shapes { (MAX_DEPTH ≡ 32) × (MAX_DIMENSIONS ≡ 4) × (MAX_BOUND ≡ pos 1048576) × (MAX_PARTS ≡ 256) }
+{}

@@ -1,0 +1,18 @@
+//! All headers of a call: the program that they declare, their first fault, or the first of them that declares something that
+//! is not built so far. The layer above uses `declare`.
+#![tactic(auto)]
+
+mod built;
+mod declaring;
+mod laws;
+mod program;
+mod reading;
+
+pub use declaring::{HeaderStop, declare};
+pub use laws::{is_of_pointers, numbers, one_outcome};
+
+/// The most headers of a call.
+pub const MAX_HEADERS: usize = 64;
+
+#[cfg(test)]
+mod tests;
