@@ -79,7 +79,6 @@ node_of_row program s row no_union are is =
     let plain : All (IsPlain program) (types_of s.fields) = pointers_plain program (types_of s.fields) row are is.2 in
     record {
       no_union = no_union;
-      some_field = omega (arith, count, is.0);
       few_fields = omega (arith, count, is.1);
       fields = All-items (λ (f : Field). IsPlain program f.ty) s.fields
           (λ f there. All-contains (IsPlain program) (types_of s.fields) f.ty plain (Contains-each (λ f. f.ty) s.fields f there));

@@ -5,10 +5,10 @@ use Rattle.std.proofs.lemmas.Bool.{cases_Bool}
 use Rattle.gt_types.specs.declared.types.TypeId.{TypeId}
 use Rattle.gt_types.specs.declared.program.Program.{Program}
 use Rattle.gt_pages.specs.Ledger.{sizes}
+use Rattle.gt_pages.proofs.SizeList.{listed_size}
 use Rattle.gt_heap.specs.Values.{MayStand}
 use Rattle.gt_heap.specs.Heap.{BlockFits, IsLinked, NodeSize, Placed, fields_of}
 use Rattle.gt_heap.proofs.Items.{contains_head, contains_tail, some_is}
-use Rattle.gt_heap.proofs.Programs.{known}
 
 pub at_most_when : (m n : ℕ) → nat_le m n ≡ true → m ≤ n
 at_most_when m n e = search rules
@@ -36,11 +36,10 @@ pub record Fitting (program : Program) (node : TypeId) (size : ℕ) : Type 0 whe
 pub fitting : (program : Program) (node : TypeId) (size : ℕ) → IsLinked program → MayStand program node → NodeSize program node size → Fitting program node size
 fitting program node size linked stands is =
     let found = found_passes (8 * fields_of program node) sizes size is in
-    let here = known program node linked stands in
     record {
       listed = found.0;
       room = found.1;
-      some = omega (arith, found.1, here.count, here.known.some_field);
+      some = (listed_size size found.0).some;
     }
 
 pub block_fits : (program : Program) (b : Placed) → IsLinked program → BlockFits program b → Fitting program b.node b.span.size

@@ -34,10 +34,9 @@ abbrev pub IsPlain : Program → Ty → Type 0
 IsPlain program type =
     (node : TypeId) × (reorder : Bool) × (type ≡ Ptr (Some (Node node)) Plain reorder) × (node.0 < length program.structures)
 
--- a structure of 1 to 1024 plain pointers
+-- a structure of at most 1024 plain pointers
 pub record IsNode (program : Program) (s : Structure) : Type 0 where
   pub no_union : s.is_union ≡ false
-  pub some_field : 1 ≤ length s.fields
   pub few_fields : length s.fields ≤ 1024
   pub fields : All (λ f. IsPlain program f.ty) s.fields
 

@@ -82,11 +82,11 @@ generated_within : (digits : Text) → IfSome (generated_of digits) (Within 0 10
 unfolding generated_of
 generated_within digits = tested _ _ (Within 0 100000) (λ e. digits_within 0 MAX_GENERATED digits)
 
-generated_call_in : (settings : Settings) (digits : Text) (headers : List Text) → AreInRange settings → IfSome (generated_call settings digits headers) IsInRange
+generated_call_in : (settings : Settings) (word digits : Text) (headers : List Text) → AreInRange settings → IfSome (generated_call settings word digits headers) IsInRange
 unfolding generated_call
-generated_call_in settings digits [] are =
+generated_call_in settings word digits [] are =
     both_steps (generated_of digits) _ (Within 0 100000) IsInRange (generated_within digits) (λ n h. record { settings = are; headers = (h.1, refl) })
-generated_call_in settings digits (header ∷ headers) are = tt
+generated_call_in settings word digits (header ∷ headers) are = tt
 
 file_call_in : (settings : Settings) (text : Text) (headers : List Text) → AreInRange settings → IfSome (file_call settings text headers) IsInRange
 unfolding file_call
@@ -103,7 +103,7 @@ script_call_in : (settings : Settings) (text : Text) (headers : List Text) → A
 unfolding script_call
 script_call_in settings [] headers are = tt
 script_call_in settings (c ∷ text) headers are =
-    either (c == 58) _ _ IsInRange (generated_call_in settings text headers are) (file_call_in settings (c ∷ text) headers are)
+    either (c == 58) _ _ IsInRange (generated_call_in settings (c ∷ text) text headers are) (file_call_in settings (c ∷ text) headers are)
 
 found_call_in : (rows : List Row) → IfSome (found_call rows) IsInRange
 unfolding found_call

@@ -51,11 +51,11 @@ unfoldable pub generated_of : Text → Option ℕ
 generated_of digits = if nat_le (length digits) MAX_GENERATED_DIGITS then digits_in 0 MAX_GENERATED digits else None
 
 -- a generated script brings its own header, so that none may be given
-unfoldable pub generated_call : Settings → Text → List Text → Option Call
-generated_call settings digits [] = do
+unfoldable pub generated_call : Settings → (word digits : Text) → List Text → Option Call
+generated_call settings word digits [] = do
   n ← generated_of digits
-  Some (record { settings = settings; script = Generated n; headers = [] })
-generated_call settings digits (header ∷ headers) = None
+  Some (record { settings = settings; script = Generated (chars word) n; headers = [] })
+generated_call settings word digits (header ∷ headers) = None
 
 -- a script that is a file has headers
 unfoldable pub file_call : Settings → Text → List Text → Option Call
@@ -67,7 +67,7 @@ file_call settings text headers = do
 -- with `:` (58) in front the script is generated, else it is a file
 unfoldable pub script_call : Settings → Text → List Text → Option Call
 script_call settings [] headers = None
-script_call settings (c ∷ text) headers = if c == 58 then generated_call settings text headers else file_call settings (c ∷ text) headers
+script_call settings (c ∷ text) headers = if c == 58 then generated_call settings (c ∷ text) text headers else file_call settings (c ∷ text) headers
 
 -- what the matches of the command ask for: the settings, the script and the headers
 unfoldable pub found_call : List Row → Option Call

@@ -15,7 +15,7 @@ pub record AreInRange (settings : Settings) : Type 0 where
 -- a file has from 1 to 64 headers, and a generated script none, and at most 100000 nodes
 abbrev pub HasHeaders : Script → List (List ℕ) → Type 0
 HasHeaders (File name) headers = (1 ≤ length headers) × (length headers ≤ 64)
-HasHeaders (Generated n) headers = (n ≤ 100000) × (headers ≡ [])
+HasHeaders (Generated word n) headers = (n ≤ 100000) × (headers ≡ [])
 
 -- both hold of a call
 pub record IsInRange (call : Call) : Type 0 where

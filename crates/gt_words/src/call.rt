@@ -25,6 +25,6 @@ pub struct Settings {
 pub enum Script {
     /// The file of this name, which is the word as given.
     File(Word),
-    /// `:N`: the script that is generated for a list of N nodes, under its own header.
-    Generated(u32),
+    /// `:N`, which is the word as given: the script that is generated for a list of N nodes, under its own header.
+    Generated { word: Word, n: u32 },
 }

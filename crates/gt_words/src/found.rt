@@ -92,7 +92,7 @@ fn script_call(
 {
     match script.as_bytes() {
         [] => Ok(None),
-        [b':', digits @ ..] => Ok(generated_call(alloc, settings, digits, headers)),
+        [b':', digits @ ..] => generated_call(alloc, settings, script, digits, headers),
         _ => file_call(alloc, settings, script, headers),
     }
 }
@@ -101,20 +101,24 @@ fn script_call(
 fn generated_call(
     alloc: Global,
     settings: Settings,
+    word: &str,
     digits: &[u8],
     headers: &[&str],
-) -> Option<Call>
-    ensures { result ≡ generated_call_of settings digits.now (texts_behind headers.now) }
+) -> Result<Option<Call>, AllocError>
+    ensures { IfOk result (λ found. found ≡ generated_call_of settings word.now digits.now (texts_behind headers.now)) }
 {
     if !headers.is_empty() {
-        return None;
+        return Ok(None);
     }
-    let n = generated(digits)?;
-    Some(Call {
+    let Some(n) = generated(digits) else {
+        return Ok(None);
+    };
+    let word = Word::of(alloc, word)?;
+    Ok(Some(Call {
         settings,
-        script: Script::Generated(n),
+        script: Script::Generated { word, n },
         headers: List::new(alloc),
-    })
+    }))
 }
 
 #[tactic(auto, unfolding(crate::specs::Calls::generated_of))]

@@ -35,14 +35,14 @@ fn are_names(names: &List<Word>, wanted: &[&str]) -> bool {
 fn has_files(call: &Call, script: &str, headers: &[&str]) -> bool {
     match &call.script {
         Script::File(name) => name.as_str() == script && are_names(&call.headers, headers),
-        Script::Generated(_) => false,
+        Script::Generated { .. } => false,
     }
 }
 
 fn is_generated(call: &Call, nodes: u32) -> bool {
     match &call.script {
         Script::File(_) => false,
-        Script::Generated(n) => *n == nodes && call.headers.is_empty(),
+        Script::Generated { n, .. } => *n == nodes && call.headers.is_empty(),
     }
 }
 
