@@ -1,5 +1,5 @@
 -- The commands that are built so far.
-use Rattle.std.specs.Prelude.{Option, Some, None}
+use Rattle.std.specs.Prelude.{None}
 use Rattle.gt_script.specs.declared.command.Command.{Command}
 use Rattle.gt_script.specs.declared.command.Command.TheVariants.{New, Set, Get, Drop, Print, CollectForce, Heap}
 

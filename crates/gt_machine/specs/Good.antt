@@ -16,8 +16,3 @@ pub record IsGoodState (program : Program) (s : State) : Type 0 where
   pub min_expand : s.min_expand ≤ MAX_MIN_EXPAND
   pub min_heapsize : s.min_heapsize ≤ MAX_MIN_HEAPSIZE
   pub last : s.last ≤ MAX_ALLOCATED
-
--- the same settings stand in both states
-pub record HasSameSettings (s t : State) : Type 0 where
-  pub min_expand : t.min_expand ≡ s.min_expand
-  pub min_heapsize : t.min_heapsize ≡ s.min_heapsize

@@ -21,7 +21,7 @@ use Rattle.gt_machine.specs.Text.{heap_text}
 use Rattle.gt_machine.specs.declared.answer.Answer.{Answer}
 use Rattle.gt_machine.specs.declared.answer.Answer.TheVariants.{Done, Made, Null as NullAnswer, Ref, Shown, Collected, Heap, Refused}
 use Rattle.gt_machine.specs.declared.answer.Why.{Why}
-use Rattle.gt_machine.specs.declared.answer.Why.TheVariants.{Unbound, NoType, NoField, WrongType, BadIndex, NullStep, Full, TooManyVars}
+use Rattle.gt_machine.specs.declared.answer.Why.TheVariants.{Unbound, NoType, WrongType, Full, TooManyVars}
 
 -- new: no such type; else a variable too many; else no room for the type's rounded size; else one more zero object, bound to the
 -- variable

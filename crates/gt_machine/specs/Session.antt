@@ -4,7 +4,7 @@ use Rattle.gt_space.specs.Range.{Range}
 use Rattle.gt_io.specs.Held.{Held}
 use Rattle.gt_heap.specs.Heap.{graph_of, IsHeap, IsObject}
 use Rattle.gt_machine.specs.State.{State, meaning, count_of_variables}
-use Rattle.gt_machine.specs.declared.TheConstants.{MAX_ALLOCATED, MAX_VARIABLES}
+use Rattle.gt_machine.specs.declared.TheConstants.{MAX_MIN_EXPAND, MAX_MIN_HEAPSIZE, MAX_ALLOCATED, MAX_VARIABLES}
 use Rattle.gt_machine.specs.declared.session.Session.{Session}
 
 -- the state of a session over these bytes and these files
@@ -20,10 +20,12 @@ state_of s range told =
       files = told;
     }
 
--- what holds of a session between two commands: the bytes stand for its heap, each variable means an object, and the last
--- collection left no more bytes than a space can have
+-- what holds of a session between two commands: the bytes stand for its heap, each variable means an object, the settings are
+-- in their ranges, and the last collection left no more bytes than a space can have
 pub record IsSession (s : Session) (range : Range) : Type 0 where
   pub heap : IsHeap s.program s.heap range
   pub variables : (name : List ℕ) (id : ℕ) → meaning s.vars name ≡ Some id → IsObject s.program s.heap range id
   pub few_variables : count_of_variables s.vars ≤ MAX_VARIABLES
+  pub min_expand : s.min_expand ≤ MAX_MIN_EXPAND
+  pub min_heapsize : s.min_heapsize ≤ MAX_MIN_HEAPSIZE
   pub last : s.last ≤ MAX_ALLOCATED

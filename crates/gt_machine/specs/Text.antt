@@ -1,7 +1,6 @@
 -- The text of each answer.
-use Rattle.std.specs.Prelude.{ℕ, ◌-◌, ◌==◌, Bool, true, false, not, ◌&&◌, if◌then◌else◌, List, [], ◌∷◌, ◌++◌, codes, length, map, replicate}
-use Rattle.std.specs.Char.{digit_char}
-use Rattle.std.specs.Int.Digits.{digits_of}
+use Rattle.std.specs.Prelude.{ℕ, ◌==◌, Bool, true, false, not, ◌&&◌, if◌then◌else◌, List, [], ◌∷◌, ◌++◌, codes, length}
+use Rattle.gt_digits.specs.Digits.{decimal, hexadecimal}
 use Rattle.gt_script.specs.declared.command.Line.{Line}
 use Rattle.gt_pages.specs.Ledger.{Block, Ledger, sizes}
 use Rattle.gt_heap.specs.Kept.{allocated_of, count_of_size}
@@ -9,14 +8,6 @@ use Rattle.gt_machine.specs.declared.answer.Answer.{Answer}
 use Rattle.gt_machine.specs.declared.answer.Answer.TheVariants.{Done, Made, Null, Ref, Shown, Collected, Heap, Refused}
 use Rattle.gt_machine.specs.declared.answer.Why.{Why}
 use Rattle.gt_machine.specs.declared.answer.Why.TheVariants.{Unbound, NoType, NoField, WrongType, BadIndex, Full, NullStep, TooManyVars}
-
--- a number in decimal
-abbrev pub decimal : ℕ → List ℕ
-decimal n = if n == 0 then codes "0" else map digit_char (digits_of 10 n)
-
--- a number as eight hexadecimal digits in lower case, or more where it has more
-abbrev pub hexadecimal : ℕ → List ℕ
-hexadecimal n = let digits = map digit_char (digits_of 16 n) in replicate (8 - length digits) 48 ++ digits
 
 -- the number and the name of a refusal, with its numbers
 abbrev pub why_text : Why → List ℕ

@@ -1,16 +1,32 @@
-//! The typed-object machine for programs of any number of structures: which answer a command has in a state, and what it leaves
-//! (`Next`), over paths of any length. Today the crate has these definitions, the answers with their texts, and variables; the
-//! call that answers a command on the raw bytes is still that of `gt_run`, for one structure.
+//! The typed-object machine for programs of any number of structures: `step` answers a command on the raw bytes as the machine
+//! may answer it (`Next`), over paths of any length. The layer above begins a session with `opening`, answers line after line
+//! with `step`, and writes what `text` gives.
 #![tactic(auto)]
 
 mod answer;
+mod collecting;
+mod dropping;
+mod getting;
+mod laws;
+mod making;
+mod marking;
+mod paths;
+mod printing;
+mod report;
 mod session;
+mod setting;
+mod show;
+mod starting;
+mod stepping;
 mod texts;
 mod vars;
 
 pub use answer::{Answer, Why};
+pub use laws::{good_state, next_keeps_good};
 pub use session::Session;
-pub use texts::{push_decimal, text};
+pub use starting::opening;
+pub use stepping::step;
+pub use texts::text;
 pub use vars::Vars;
 
 /// The most hundredths by which a heap may grow before a collection.

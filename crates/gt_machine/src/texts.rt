@@ -1,9 +1,9 @@
 // The text of a line's answer.
-ghost use Rattle.std.specs.Prelude.{◌≡◌, ◌++◌, IfOk, OnOk};
-ghost use Rattle.std.specs.String.{string_bytes};
-ghost use Rattle.gt_machine.specs.Text.{answer_text as answer_text_of, decimal, hexadecimal, text_of};
+ghost use Rattle.std.specs.Prelude.{◌≡◌, IfOk};
+ghost use Rattle.gt_machine.specs.Text.{answer_text as answer_text_of, text_of};
 
 use crate::{Answer, Why};
+use gt_digits::{push_decimal, push_hexadecimal};
 use gt_script::Line;
 use gt_types::{Bytes, Copied};
 use std::alloc::{AllocError, Global};
@@ -44,9 +44,8 @@ fn answer_text(alloc: Global, answer: &Answer) -> Result<Bytes, AllocError>
 fn made_text(alloc: Global, addr: u64, size: u32) -> Result<Bytes, AllocError>
     ensures { IfOk result (λ bytes. bytes ≡ answer_text_of (Answer.Made addr size)) }
 {
-    let addr = hexadecimal_text(alloc, addr)?;
     let mut text = Bytes::of(alloc, b"made 0x")?;
-    text.append(addr.as_bytes())?;
+    push_hexadecimal(alloc, &mut text, addr)?;
     text.append(b" ")?;
     push_decimal(alloc, &mut text, size as u64)?;
     Ok(text)
@@ -56,9 +55,8 @@ fn made_text(alloc: Global, addr: u64, size: u32) -> Result<Bytes, AllocError>
 fn ref_text(alloc: Global, addr: u64) -> Result<Bytes, AllocError>
     ensures { IfOk result (λ bytes. bytes ≡ answer_text_of (Answer.Ref addr)) }
 {
-    let addr = hexadecimal_text(alloc, addr)?;
     let mut text = Bytes::of(alloc, b"ref 0x")?;
-    text.append(addr.as_bytes())?;
+    push_hexadecimal(alloc, &mut text, addr)?;
     Ok(text)
 }
 
@@ -98,26 +96,4 @@ fn full_text(alloc: Global, need: u32) -> Result<Bytes, AllocError>
     let mut text = Bytes::of(alloc, b"error F10 Full ")?;
     push_decimal(alloc, &mut text, need as u64)?;
     Ok(text)
-}
-
-/// Adds a number in decimal.
-pub fn push_decimal(alloc: Global, text: &mut Bytes, n: u64) -> Result<(), AllocError>
-    ensures { OnOk result (text.new ≡ text.old ++ decimal n) }
-{
-    let digits = decimal_text(alloc, n)?;
-    text.append(digits.as_bytes())
-}
-
-// A number in decimal.
-fn decimal_text(alloc: Global, n: u64) -> Result<String, AllocError>
-    ensures { IfOk result (λ text. string_bytes text ≡ decimal n) }
-{
-    format!(in alloc; "{n}")
-}
-
-// A number in hexadecimal, with eight digits at least.
-fn hexadecimal_text(alloc: Global, n: u64) -> Result<String, AllocError>
-    ensures { IfOk result (λ text. string_bytes text ≡ hexadecimal n) }
-{
-    format!(in alloc; "{n:08x}")
 }

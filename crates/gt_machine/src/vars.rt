@@ -1,10 +1,12 @@
 // The variables of a script.
-ghost use Rattle.std.specs.Prelude.{◌≡◌, ℕ, OnOk, OnErr, IsSome, IsTrue};
+ghost use Rattle.std.specs.Prelude.{◌≡◌, ◌≤◌, ℕ, OnOk, OnErr, IsSome, IsTrue};
+ghost use Rattle.std.specs.Bool.{Decides};
 ghost use Rattle.std.specs.Ordering.{nat_cmp};
 ghost use Rattle.std.specs.BTreeSet.{contains};
-ghost use Rattle.gt_machine.specs.State.{Variables, no_variables, meaning, with_variable};
+ghost use Rattle.gt_machine.specs.State.{Variables, no_variables, meaning, with_variable, without_variable, count_of_variables, IsFullOfVariables};
 ghost use Rattle.gt_machine.specs.Next.{KeepsBound};
 
+use crate::MAX_VARIABLES;
 use gt_types::{Copied, Word};
 use std::alloc::{AllocError, Global};
 use std::collections::{BTreeMap, BTreeSet};
@@ -47,6 +49,13 @@ impl Vars {
         self.addresses.get(name).copied()
     }
 
+    /// Whether as many variables are bound as may be, and this is none of them.
+    pub fn is_full(&self, name: &Word) -> bool
+        ensures full { Decides result (IsFullOfVariables self.now name.now) }
+    {
+        self.addresses.len() >= MAX_VARIABLES && self.addresses.get(name).is_none()
+    }
+
     /// Binds a variable. For want of memory nothing changed.
     pub fn bind(&mut self, name: &Word, address: u64) -> Result<(), AllocError>
         ensures bound { OnOk result (self.new ≡ with_variable self.old name.now address) }
@@ -80,9 +89,17 @@ impl Vars {
         }
     }
 
+    /// Unbinds a variable. It takes no memory.
+    pub fn unbind(&mut self, name: &Word)
+        ensures unbound { self.new ≡ without_variable self.old name.now }
+    {
+        let _ = self.addresses.remove(name);
+    }
+
     /// Keeps the variables of these objects, and unbinds the others. It takes no memory.
     pub fn keep(&mut self, addresses: &BTreeSet<u64>)
         ensures kept { KeepsBound (λ id. IsTrue (contains nat_cmp addresses.now id)) self.old self.new }
+        ensures few { count_of_variables self.new ≤ count_of_variables self.old }
     {
         self.addresses
             .retain(|_, address| addresses.contains(&*address));
