@@ -1,18 +1,16 @@
 -- Runs that go on by one step, and texts that go on by one answer.
-use Rattle.std.proofs.Common.{◌≡◌, ℕ, ◌+◌, ◌<◌, List, [], ◌∷◌, ◌++◌, length, take, drop, get_or, refl, sym, ap, subst, ◌∙◌, append_assoc, append-nil, Some, None, Option, add-one}
+use Rattle.std.proofs.Common.{◌≡◌, ℕ, ◌+◌, ◌<◌, List, [], ◌∷◌, ◌++◌, length, take, get_or, refl, sym, ap, subst, ◌∙◌, append_assoc, append-nil, Some, None, Option}
 use Rattle.std.proofs.lemmas.List.{take_more}
-use Rattle.std.proofs.Math.Seq.{drop-cons}
-use Rattle.std.specs.List.{AllByRecursion}
 use Rattle.gt_types.specs.declared.program.Program.{Program}
 use Rattle.gt_io.specs.Appends.{Adds, AddsFront, IsFrontOf}
 use Rattle.gt_script.specs.declared.command.Line.{Line}
-use Rattle.gt_run.specs.State.{State}
-use Rattle.gt_run.specs.Next.{Next}
-use Rattle.gt_run.specs.Run.{Run}
-use Rattle.gt_run.specs.Text.{text_of, texts_of}
+use Rattle.gt_machine.specs.State.{State}
+use Rattle.gt_machine.specs.Next.{Next}
+use Rattle.gt_machine.specs.Run.{Run}
+use Rattle.gt_machine.specs.Text.{text_of, texts_of}
 use Rattle.gt_run.specs.Ended.{AddsAllBut, IsNothing}
-use Rattle.gt_run.specs.Lines.{Answers, IsFormed}
-use Rattle.gt_run.specs.declared.answer.Answer.{Answer}
+use Rattle.gt_run.specs.Lines.{Answers}
+use Rattle.gt_machine.specs.declared.answer.Answer.{Answer}
 
 -- a run goes on by one step
 pub Run-step : (p : Program) (s m t : State) (lines : List Line) (line : Line) (answers : List Answer) (answer : Answer)
@@ -99,10 +97,3 @@ pub AddsAllBut-nothing : (old mid new : Option (List ℕ)) (lines : List Line) (
     → Adds old (texts_of (take i lines) answers) mid → new ≡ mid → AddsAllBut old (take (i + 1) lines) now IsNothing new
 AddsAllBut-nothing old mid new lines i line answers now answer within at e g h =
     (take i lines, line, take-line lines i line within at, answers, answer, e, [], refl, λ before t. h ∙ g before t ∙ ap (λ x. Some (before ++ x)) (sym (append-nil (texts_of (take i lines) answers))))
-
--- what holds of the lines from one on holds of those from the next on
-pub forms-drop : (lines : List Line) (i : ℕ) (d : Line) → i < length lines → AllByRecursion IsFormed (drop i lines) → AllByRecursion IsFormed (drop (i + 1) lines)
-forms-drop lines i d h all =
-    let A : List Line → Type 0 = λ x. AllByRecursion IsFormed x in
-    let split : drop i lines ≡ get_or lines i d ∷ drop (i + 1) lines = rw (add-one, drop-cons lines i d) in
-    (subst A split all).1

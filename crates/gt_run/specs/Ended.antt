@@ -4,14 +4,15 @@ use Rattle.std.specs.List.{list_any}
 use Rattle.gt_space.specs.Range.{Range}
 use Rattle.gt_io.specs.Held.{Held}
 use Rattle.gt_io.specs.Appends.{Adds, AddsFront, IsFrontOf}
-use Rattle.gt_run.specs.Comes.{Comes}
-use Rattle.gt_run.specs.Asks.{Runs}
 use Rattle.gt_script.specs.declared.command.Line.{Line}
-use Rattle.gt_run.specs.Text.{is_refusal, text_of, texts_of}
-use Rattle.gt_run.specs.Refused.{IsRefusalLine}
-use Rattle.gt_run.specs.declared.answer.Answer.{Answer}
-use Rattle.gt_run.specs.declared.refusal.Refusal.{Refusal}
-use Rattle.gt_run.specs.declared.refusal.Refusal.TheVariants.{Words, Header, Script, NotBuilt, File as InFile}
+use Rattle.gt_front.specs.Texts.{Texts}
+use Rattle.gt_front.specs.Refused.{IsRefusalLine}
+use Rattle.gt_front.specs.declared.refusal.Refusal.{Refusal}
+use Rattle.gt_front.specs.declared.refusal.Refusal.TheVariants.{Words, Header, Script, NotBuilt, File as InFile}
+use Rattle.gt_machine.specs.Text.{is_refusal, text_of, texts_of}
+use Rattle.gt_machine.specs.declared.answer.Answer.{Answer}
+use Rattle.gt_run.specs.Comes.{IsRefusedFirst}
+use Rattle.gt_run.specs.Runs.{Runs}
 use Rattle.gt_run.specs.declared.ending.Ending.{Ending}
 use Rattle.gt_run.specs.declared.ending.Ending.TheVariants.{Finished, Refused, SinkFailed, NoMemory}
 use Rattle.gt_run.specs.declared.outcome.Outcome.{Outcome}
@@ -26,6 +27,13 @@ AddsAllBut old lines answers Last new = (first : List Line) × (line : Line) × 
 abbrev pub IsNothing : List ℕ → List ℕ → Type 0
 IsNothing front text = front ≡ []
 
+-- the refusal's line is written; or a front of it, where the sink failed; or nothing, for want of memory
+abbrev pub Refuses : Refusal → List ℕ → (taken takes : Option (List ℕ)) → Ending → Type 0
+Refuses refusal line taken takes (Refused told) = (told ≡ refusal) × Adds taken line takes
+Refuses refusal line taken takes SinkFailed = AddsFront taken line takes
+Refuses refusal line taken takes NoMemory = takes ≡ taken
+Refuses refusal line taken takes Finished = ⊥
+
 -- how the program ends, with its answers, what the sink took, and the bytes of the space
 -- finished: a run of all lines, and the text of its answers
 -- refused: what comes first in the order of work, and its line
@@ -33,10 +41,10 @@ IsNothing front text = front ≡ []
 -- want of memory: the text of the answers, or of all but the last; the answers are those to the lines that were run
 abbrev pub Ended : List (List ℕ) → Option Held → Option (List ℕ) → Ending → List Answer → Option (List ℕ) → Range → Type 0
 Ended words told old Finished answers new range = (r : Runs words told answers range) × (r.left ≡ []) × Adds old (texts_of r.done answers) new
-Ended words told old (Refused refusal) answers new range = (answers ≡ []) × (headers : List (List ℕ)) × Comes words told headers refusal
-    × (line : List ℕ) × IsRefusalLine words headers refusal line × Adds old line new
+Ended words told old (Refused refusal) answers new range = (answers ≡ []) × (texts : Texts) × IsRefusedFirst words told texts refusal
+    × (line : List ℕ) × IsRefusalLine words texts refusal line × Adds old line new
 Ended words told old SinkFailed answers new range =
-    ((answers ≡ []) × (refusal : Refusal) × (headers : List (List ℕ)) × Comes words told headers refusal × (line : List ℕ) × IsRefusalLine words headers refusal line × AddsFront old line new)
+    ((answers ≡ []) × (refusal : Refusal) × (texts : Texts) × IsRefusedFirst words told texts refusal × (line : List ℕ) × IsRefusalLine words texts refusal line × AddsFront old line new)
     ⊎ ((r : Runs words told answers range) × AddsAllBut old r.done answers IsFrontOf new)
 Ended words told old NoMemory answers new range =
     ((answers ≡ []) × (new ≡ old))

@@ -5,24 +5,20 @@ use Rattle.gt_io.specs.Appends.{Adds, AddsFront, IsFrontOf}
 use Rattle.gt_script.specs.declared.command.Line.{Line}
 use Rattle.gt_space.specs.Range.{Range, IsSized}
 use Rattle.gt_io.specs.Held.{Held}
-use Rattle.gt_script.specs.Spelling.{HasForm}
-use Rattle.gt_first_heap.specs.Stands.{Stands}
-use Rattle.gt_run.specs.Call.{default_settings}
-use Rattle.gt_run.specs.State.{State, IsOpening}
-use Rattle.gt_run.specs.Good.{IsGoodState}
-use Rattle.gt_run.specs.Next.{Next}
-use Rattle.gt_run.specs.Run.{Run}
-use Rattle.gt_run.specs.Text.{text_of, texts_of}
+use Rattle.gt_words.specs.declared.call.Settings.{Settings}
+use Rattle.gt_heap.specs.Stands.{Stands}
+use Rattle.gt_machine.specs.State.{State}
+use Rattle.gt_machine.specs.Good.{IsGoodState}
+use Rattle.gt_machine.specs.Next.{Next}
+use Rattle.gt_machine.specs.Run.{Run}
+use Rattle.gt_machine.specs.Text.{text_of, texts_of}
+use Rattle.gt_machine.specs.declared.answer.Answer.{Answer}
+use Rattle.gt_run.specs.Runs.{Opens}
 use Rattle.gt_run.specs.Ended.{AddsAllBut, IsNothing}
-use Rattle.gt_run.specs.declared.answer.Answer.{Answer}
 use Rattle.gt_run.specs.declared.ending.Ending.{Ending}
 use Rattle.gt_run.specs.declared.ending.Ending.TheVariants.{Finished, Refused, SinkFailed, NoMemory}
 use Rattle.gt_run.specs.declared.lines.LineStop.{LineStop}
 use Rattle.gt_run.specs.declared.lines.LineStop.TheVariants.{NoAnswer, NoText, NotWritten}
-
--- a line of a script, whose command has a form
-abbrev pub IsFormed : Line → Type 0
-IsFormed line = HasForm line.command
 
 -- a line was answered: one more answer, by the machine
 abbrev pub Answers : Program → Line → (old new : State) → (before now : List Answer) → Answer → Type 0
@@ -50,9 +46,9 @@ RunsLines program lines old new answers taken takes NoMemory =
 RunsLines program lines old new answers taken takes (Refused refusal) = ⊥
 
 -- the first of a script's lines were run from the opening state, and the bytes of the space stand for the state that came out
-pub record Opened (program : Program) (lines : List Line) (told : Option Held) (answers : List Answer) (left : List Line) (range : Range) : Type 0 where
+pub record Opened (program : Program) (settings : Settings) (lines : List Line) (told : Option Held) (answers : List Answer) (left : List Line) (range : Range) : Type 0 where
   pub opening : State
-  pub opens : IsOpening program default_settings told opening
+  pub opens : Opens program settings told opening
   pub state : State
   pub ran : RanFirst program opening state lines answers left
   pub good : IsGoodState program state
@@ -60,13 +56,13 @@ pub record Opened (program : Program) (lines : List Line) (told : Option Held) (
   pub sized : IsSized range state.graph.ledger.pages (8 * length program.roots)
 
 -- what a script leaves: a run of all lines and their text; or of the first; or nothing, where there was no memory for the space
-abbrev pub RunsScript : Program → List Line → Option Held → List Answer → (taken takes : Option (List ℕ)) → Range → Ending → Type 0
-RunsScript program lines told answers taken takes range Finished =
-    (o : Opened program lines told answers [] range) × Adds taken (texts_of o.ran.0 answers) takes
-RunsScript program lines told answers taken takes range SinkFailed =
-    (left : List Line) × (o : Opened program lines told answers left range) × AddsAllBut taken o.ran.0 answers IsFrontOf takes
-RunsScript program lines told answers taken takes range NoMemory =
+abbrev pub RunsScript : Program → Settings → List Line → Option Held → List Answer → (taken takes : Option (List ℕ)) → Range → Ending → Type 0
+RunsScript program settings lines told answers taken takes range Finished =
+    (o : Opened program settings lines told answers [] range) × Adds taken (texts_of o.ran.0 answers) takes
+RunsScript program settings lines told answers taken takes range SinkFailed =
+    (left : List Line) × (o : Opened program settings lines told answers left range) × AddsAllBut taken o.ran.0 answers IsFrontOf takes
+RunsScript program settings lines told answers taken takes range NoMemory =
     ((answers ≡ []) × (takes ≡ taken))
-    ⊎ ((left : List Line) × (o : Opened program lines told answers left range)
+    ⊎ ((left : List Line) × (o : Opened program settings lines told answers left range)
     × (Adds taken (texts_of o.ran.0 answers) takes ⊎ AddsAllBut taken o.ran.0 answers IsNothing takes))
-RunsScript program lines told answers taken takes range (Refused refusal) = ⊥
+RunsScript program settings lines told answers taken takes range (Refused refusal) = ⊥

@@ -1,4 +1,4 @@
-use crate::Refusal;
+use gt_front::Refusal;
 
 /// How the program ends.
 #[derive(Clone, Copy, Debug, PartialEq, Eq)]

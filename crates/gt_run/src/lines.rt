@@ -1,13 +1,13 @@
 // The lines of a script, one after another.
-ghost use Rattle.std.specs.Prelude.{◌≡◌, ◌≤◌, [], IsErrOf, List};
-ghost use Rattle.std.specs.List.{AllByRecursion};
+ghost use Rattle.std.specs.Prelude.{◌≡◌, ◌≤◌, [], All, IsErrOf, List};
 ghost use Rattle.gt_io.specs.Counts.{Rose};
-ghost use Rattle.gt_run.specs.Session.{state_of, IsSession};
-ghost use Rattle.gt_run.specs.Lines.{IsFormed, RunsLine, RunsLines};
+ghost use Rattle.gt_machine.specs.Built.{IsBuilt};
+ghost use Rattle.gt_machine.specs.Session.{state_of, IsSession};
+ghost use Rattle.gt_run.specs.Lines.{RunsLine, RunsLines};
 
 use crate::ending::Ending;
-use crate::{Answer, Session, step, text};
 use gt_io::{Files, Sink, WriteFail};
+use gt_machine::{Answer, Session, step, text};
 use gt_script::Line;
 use gt_space::Space;
 use std::alloc::Global;
@@ -34,7 +34,7 @@ pub fn run_line<F: Files, K: Sink>(
     line: &Line,
 ) -> Result<(), LineStop>
     requires session { IsSession s.old space.old }
-    requires form { IsFormed line.now }
+    requires built { IsBuilt line.now.command }
     ensures ran { RunsLine s.old.program line.now (state_of s.old space.old (F.told files.old)) (state_of s.new space.new (F.told files.new)) answers.old.items answers.new.items (K.written out.old) (K.written out.new) result }
     ensures session { IsSession s.new space.new }
     ensures program { s.new.program ≡ s.old.program }
@@ -74,7 +74,7 @@ pub fn run_lines<F: Files, K: Sink>(
     lines: &[Line],
 ) -> Ending
     requires session { IsSession s.old space.old }
-    requires forms { AllByRecursion IsFormed lines.now }
+    requires built { All (λ line. IsBuilt line.command) lines.now }
     requires none_yet { answers.old.items ≡ [] }
     ensures ran { RunsLines s.old.program lines.now (state_of s.old space.old (F.told files.old)) (state_of s.new space.new (F.told files.new)) answers.new.items (K.written out.old) (K.written out.new) result }
     ensures session { IsSession s.new space.new }

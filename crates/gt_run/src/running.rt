@@ -1,32 +1,36 @@
 // The program as one call.
-ghost use Rattle.std.specs.Prelude.{◌≡◌, ◌≤◌, ◌⊎◌, ℕ, ◌*◌, [], length, Option, Some};
-ghost use Rattle.std.specs.List.{AllByRecursion};
-ghost use Rattle.gt_space.specs.Range.{empty_range, fresh_range};
+ghost use Rattle.std.specs.Prelude.{◌≡◌, ◌≤◌, ◌⊎◌, ℕ, [], All, IfSome, List, Option, Some};
+ghost use Rattle.gt_space.specs.Range.{Range, empty_range};
 ghost use Rattle.gt_io.specs.Counts.{Rose};
 ghost use Rattle.gt_io.specs.Held.{Held};
-ghost use Rattle.gt_first_heap.specs.Heap.{IsFirst};
-ghost use Rattle.gt_run.specs.Call.{default_settings};
-ghost use Rattle.gt_run.specs.State.{IsOpening};
-ghost use Rattle.gt_run.specs.Session.{state_of, IsSession};
-ghost use Rattle.gt_run.specs.Lines.{IsFormed, RunsScript};
+ghost use Rattle.gt_words.specs.Calls.{call_of};
+ghost use Rattle.gt_words.specs.Ranges.{AreInRange, IsInRange};
+ghost use Rattle.gt_front.specs.Asks.{Asks};
+ghost use Rattle.gt_front.specs.Refused.{IsRefusalLine};
+ghost use Rattle.gt_front.specs.Texts.{Texts};
+ghost use Rattle.gt_heap.specs.Heap.{IsLinked};
+ghost use Rattle.gt_machine.specs.Built.{IsBuilt};
+ghost use Rattle.gt_run.specs.Comes.{IsRefusedFirst};
+ghost use Rattle.gt_run.specs.Lines.{RunsScript};
 ghost use Rattle.gt_run.specs.Ended.{Ends};
 ghost use Rattle.gt_run.specs.Complete.{IsWell};
 
+use crate::built::are_built;
 use crate::ending::Ending;
-use crate::inputs::{Halt, Ready, prepare};
 use crate::lines::run_lines;
-use crate::refuse::{refuse, refuse_fault};
-use crate::{
-    Answer, DEFAULT_MIN_EXPAND, DEFAULT_MIN_HEAPSIZE, DEFAULT_PAGES, FileWhy, Outcome, Refusal,
-    Session, Vars,
-};
-use gt_first_heap::Heap;
+use crate::outcome::Outcome;
+use crate::refuse::refuse;
+use gt_front::{FileWhy, Halt, Ready, Refusal, not_built_line, prepare};
+use gt_headers::{is_of_pointers, one_outcome as headers_outcome};
 use gt_io::{Files, Sink};
+use gt_machine::{Answer, good_state, opening};
+use gt_script::Line;
 use gt_space::Space;
 use gt_types::{List, Program, Word};
+use gt_words::{Call, Settings};
 use std::alloc::Global;
 
-/// Runs the program: reads the words, the files that they name, the header and the script, and then answers each line of
+/// Runs the program: reads the words, the files that they name, the headers and the script, and then answers each line of
 /// the script and writes its answer. The words are those behind the program's name.
 pub fn top<F: Files, K: Sink>(
     alloc: Global,
@@ -52,79 +56,120 @@ pub fn top<F: Files, K: Sink>(
         → (Rose (F.faults files.old) (F.faults files.new) → ⊥) → (Rose (K.faults out.old) (K.faults out.new) → ⊥)
         → (result.status ≡ 0) ⊎ (result.status ≡ 1) ⊎ (result.status ≡ 9) }
 {
+    is_of_pointers();
+    well_is_not_refused();
     match prepare(alloc, words, files) {
-        Ok(ready) => {
-            let mut answers = Vec::new(alloc);
-            let ending = run(alloc, ready, files, out, space, &mut answers);
-            Outcome::of(ending, List::of(answers))
-        }
+        Ok(ready) => run_ready(alloc, ready, files, out, space),
         Err(Halt::Memory) => Outcome::of(Ending::NoMemory, List::new(alloc)),
-        Err(Halt::Refused(refusal)) => {
-            let ending = refuse(alloc, words, refusal, out);
-            Outcome::of(ending, List::new(alloc))
-        }
-        Err(
-            Halt::Faulty {
-                fault,
-                line,
-                column,
-            },
-        ) => {
-            let ending = refuse_fault(alloc, words, fault, line, column, out);
-            Outcome::of(ending, List::new(alloc))
-        }
+        Err(Halt::Refused { refusal, line }) => refused_outcome(
+            alloc,
+            refusal,
+            line.as_slice(),
+            out,
+        ),
     }
 }
 
-// Runs the lines from the opening state.
-fn run<F: Files, K: Sink>(
+// Where all is well, nothing is refused first but a file whose reading failed. It does nothing: its clause is a law.
+fn well_is_not_refused()
+    ensures { (words : List (List ℕ)) (held : Held) (told : Option Held) (texts : Texts) (refusal : Refusal) → told ≡ Some held → IsWell words held → IsRefusedFirst words told texts refusal → (word : ℕ) × (refusal ≡ Refusal.File word FileWhy.Fault) }
+{
+    gt_script::one_outcome();
+    headers_outcome();
+}
+
+// Runs the lines from the opening state, where all of their commands are built.
+fn run_ready<F: Files, K: Sink>(
     alloc: Global,
     ready: Ready,
     files: &mut F,
     out: &mut K,
     space: &mut Space,
+) -> Outcome
+    requires linked { IsLinked ready.program }
+    requires ranges { IsInRange ready.call }
+    ensures ended { (words : List (List ℕ)) → Asks words (F.told files.old) ready.call ready.program ready.lines → Ends words (F.told files.old) (K.written out.old) (K.written out.new) result space.new }
+    ensures refusal { IfSome result.refusal (λ refusal. refusal ≡ Refusal.NotBuilt 0) }
+    ensures files { files.new ≡ files.old }
+    ensures later { K.faults out.old ≤ K.faults out.new }
+    ensures cause { result.status ≡ 4 → Rose (K.faults out.old) (K.faults out.new) }
+{
+    if !are_built(ready.lines.as_slice()) {
+        return refuse_unbuilt(alloc, &ready.call, out);
+    }
+    let mut answers = Vec::new(alloc);
+    let ending = run(
+        alloc,
+        ready.program,
+        ready.call.settings,
+        ready.lines.as_slice(),
+        files,
+        out,
+        space,
+        &mut answers,
+    );
+    Outcome::of(ending, List::of(answers))
+}
+
+// Says that the script asks for what is not built so far.
+fn refuse_unbuilt<K: Sink>(alloc: Global, call: &Call, out: &mut K) -> Outcome
+    ensures ended { (words : List (List ℕ)) (told : Option Held) (texts : Texts) (range : Range) → call_of words ≡ Some call.now → IsRefusedFirst words told texts (Refusal.NotBuilt 0) → Ends words told (K.written out.old) (K.written out.new) result range }
+    ensures refusal { IfSome result.refusal (λ refusal. refusal ≡ Refusal.NotBuilt 0) }
+    ensures later { K.faults out.old ≤ K.faults out.new }
+    ensures cause { result.status ≡ 4 → Rose (K.faults out.old) (K.faults out.new) }
+{
+    match not_built_line(alloc, call) {
+        Ok(line) => refused_outcome(alloc, Refusal::NotBuilt { word: 0 }, line.as_slice(), out),
+        Err(_) => Outcome::of(Ending::NoMemory, List::new(alloc)),
+    }
+}
+
+// Writes the line of a refusal, and ends with it.
+fn refused_outcome<K: Sink>(alloc: Global, refusal: Refusal, line: &[u8], out: &mut K) -> Outcome
+    ensures ended { (words : List (List ℕ)) (told : Option Held) (texts : Texts) (range : Range) → IsRefusedFirst words told texts refusal → IsRefusalLine words texts refusal line.now → Ends words told (K.written out.old) (K.written out.new) result range }
+    ensures refusal { IfSome result.refusal (λ told. told ≡ refusal) }
+    ensures later { K.faults out.old ≤ K.faults out.new }
+    ensures cause { result.status ≡ 4 → Rose (K.faults out.old) (K.faults out.new) }
+{
+    Outcome::of(refuse(refusal, line, out), List::new(alloc))
+}
+
+// Runs the lines from the opening state.
+fn run<F: Files, K: Sink>(
+    alloc: Global,
+    program: Program,
+    settings: Settings,
+    lines: &[Line],
+    files: &mut F,
+    out: &mut K,
+    space: &mut Space,
     answers: &mut Vec<Answer>,
 ) -> Ending
-    requires first { IsFirst ready.program }
-    requires forms { AllByRecursion IsFormed ready.lines }
+    requires linked { IsLinked program }
+    requires settings { AreInRange settings }
+    requires built { All (λ line. IsBuilt line.command) lines.now }
     requires none_yet { answers.old.items ≡ [] }
-    ensures ran { RunsScript ready.program ready.lines (F.told files.old) answers.new.items (K.written out.old) (K.written out.new) space.new result }
+    ensures ran { RunsScript program settings lines.now (F.told files.old) answers.new.items (K.written out.old) (K.written out.new) space.new result }
     ensures files { files.new ≡ files.old }
     ensures later { K.faults out.old ≤ K.faults out.new }
     ensures cause { result ≡ Ending.SinkFailed → Rose (K.faults out.old) (K.faults out.new) }
 {
-    let Ready { program, lines } = ready;
     let statics = 8 * program.roots.len() as u32;
-    let Ok(()) = space.resize_fresh(DEFAULT_PAGES, statics) else {
+    let Ok(()) = space.resize_fresh(settings.pages, statics) else {
         return Ending::NoMemory;
     };
-    let mut session = opening(alloc, program);
-    run_lines(
+    let Ok(session) = opening(
         alloc,
-        &mut session,
-        files,
-        out,
-        space,
-        answers,
-        lines.as_slice(),
-    )
-}
-
-// The session from which a run begins, over a fresh space.
-fn opening(alloc: Global, program: Program) -> Session
-    requires first { IsFirst program }
-    ensures session { IsSession result (fresh_range DEFAULT_PAGES (8 * length program.roots)) }
-    ensures program { result.program ≡ program }
-    ensures opens { (told : Option Held) → IsOpening program default_settings told (state_of result (fresh_range DEFAULT_PAGES (8 * length program.roots)) told) }
-{
-    let heap = Heap::new(alloc, &program, DEFAULT_PAGES);
-    Session {
         program,
-        heap,
-        vars: Vars::new(alloc),
-        min_expand: DEFAULT_MIN_EXPAND,
-        min_heapsize: DEFAULT_MIN_HEAPSIZE,
-        last: 0,
-        rounds: 0,
-    }
+        settings.pages,
+        settings.min_expand,
+        settings.min_heapsize,
+    ) else {
+        return Ending::NoMemory;
+    };
+    let mut session = session;
+
+    // The state that the lines leave is that of a session, so it is good.
+    good_state();
+    run_lines(alloc, &mut session, files, out, space, answers, lines)
 }

@@ -13,7 +13,3 @@ mod PathsSpelled
 mod FormsSpelled
 mod Settled
 mod Splits
-mod Identifiers
-mod Taken
-mod Again
-mod Progress

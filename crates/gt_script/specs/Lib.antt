@@ -1,7 +1,3 @@
-pub mod Name
-pub mod Spelling
-pub mod Script
-pub mod Reading
 pub mod Texts
 pub mod Cutting
 pub mod Values

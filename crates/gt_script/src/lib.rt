@@ -3,22 +3,17 @@
 #![tactic(auto)]
 
 mod command;
-mod forms;
 mod front;
 mod heap_forms;
 mod laws;
-mod lines;
-mod names;
 mod naming;
 mod numbers;
 mod parsing;
 mod parts;
-mod paths;
 mod pieces;
 mod place_forms;
 mod quotes;
 mod routes;
-mod scripts;
 mod statements;
 mod stop;
 mod variable_forms;
@@ -26,10 +21,7 @@ mod variable_forms;
 pub use command::{Command, Given, Hop, Line, Route, TypeName};
 pub use laws::{lines_as_spelled, one_outcome, words_as_spelled};
 pub use parsing::parse_script;
-pub use scripts::first_lines;
 pub use stop::{MAX_COMMANDS, ScriptStop};
 
 #[cfg(test)]
 mod script_tests;
-#[cfg(test)]
-mod tests;

@@ -1,6 +1,6 @@
 use Rattle.std.proofs.Common.{◌≡◌, ℕ, List, subst, rules}
 use Rattle.gt_io.specs.Appends.{AddsFront}
-use Rattle.gt_run.specs.Text.{text_of}
+use Rattle.gt_machine.specs.Text.{text_of}
 use Rattle.gt_run.proofs.lines.run_line.Goals as goal
 
 pub returns-in-Err-Failed-clause-ran : goal.returns-in-Err-Failed-clause-ran

@@ -1,6 +1,6 @@
 use Rattle.std.proofs.Common.{◌≡◌, ◌+◌, take, drop, ◌∙◌, arith, append-nil, rules, inl, inr}
 use Rattle.std.proofs.lemmas.List.{take-append-drop, take_all}
-use Rattle.gt_run.proofs.RunLemmas.{Run-more, Run-unchanged, Adds-same, Adds-texts, AddsAllBut-front, AddsAllBut-nothing, forms-drop}
+use Rattle.gt_run.proofs.RunLemmas.{Run-more, Run-unchanged, Adds-same, Adds-texts, AddsAllBut-front, AddsAllBut-nothing}
 use Rattle.gt_run.proofs.lines.run_lines.Goals as goal
 
 pub returns-in-Err-NotWritten-clause-ran : goal.returns-in-Err-NotWritten-clause-ran
@@ -50,7 +50,6 @@ loop-line-preserved g c =
       program = search rules;
       files = search rules;
       later = search rules;
-      forms = forms-drop c.args.lines.now c.loop-line.line-index c.line-item.result c.loop-line-test.true inv.forms;
     }
 
 pub returns-clause-ran : goal.returns-clause-ran

@@ -1,10 +1,8 @@
-use Rattle.std.proofs.Common.{◌≡◌, ◌≤◌, take, drop}
-use Rattle.std.specs.List.{AllByRecursion}
+use Rattle.std.proofs.Common.{◌≡◌, ◌≤◌, take}
 use Rattle.gt_io.specs.Appends.{Adds}
-use Rattle.gt_run.specs.Lines.{IsFormed}
-use Rattle.gt_run.specs.Session.{state_of, IsSession}
-use Rattle.gt_run.specs.Run.{Run}
-use Rattle.gt_run.specs.Text.{texts_of}
+use Rattle.gt_machine.specs.Session.{state_of, IsSession}
+use Rattle.gt_machine.specs.Run.{Run}
+use Rattle.gt_machine.specs.Text.{texts_of}
 use Rattle.gt_run.proofs.lines.run_lines.Given as goal
 
 -- the lines so far were run, and the text of their answers was written
@@ -17,5 +15,4 @@ invariant-loop-line g l =
       program : l.s.program ≡ l.fn.s.program;
       files : l.files ≡ l.fn.files;
       later : g.K.Sink.faults l.fn.out ≤ g.K.Sink.faults l.out;
-      forms : AllByRecursion IsFormed (drop l.line-index l.lines);
     }

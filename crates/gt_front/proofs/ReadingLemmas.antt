@@ -1,0 +1,77 @@
+-- What the reading of files comes to, one file more.
+use Rattle.std.proofs.Common.{◌≡◌, ℕ, ◌+◌, ◌<◌, List, [], ◌∷◌, ◌++◌, length, get_or, take, drop, ap, sym, subst, ◌∙◌, Option, arith}
+use Rattle.std.proofs.lemmas.List.{take_more, drop_more, length-take-le, take-append-drop}
+use Rattle.std.specs.List.{AllByRecursion}
+use Rattle.gt_io.specs.Held.{Held}
+use Rattle.gt_front.specs.declared.TheConstants.{MAX_HEADER_BYTES}
+use Rattle.gt_front.specs.Texts.{File, headers_from, IsTextOf, AreTextsOf}
+use Rattle.gt_front.specs.Comes.{IsRead}
+use Rattle.gt_front.specs.Reading.{IsStopAt, IsStopIn, AreHeadersRead}
+use Rattle.gt_front.specs.declared.reading.ReadStop.{ReadStop}
+use Rattle.gt_front.specs.declared.reading.ReadStop.TheVariants.{Memory, Refused}
+
+-- the file of a header
+abbrev pub header_file : ℕ → List ℕ → File
+header_file word name = record { word = word; name = name; limit = MAX_HEADER_BYTES }
+
+-- the files of names, and then those of the names behind them
+headers-append : (word at : ℕ) (front back : List (List ℕ)) → at ≡ word + length front → headers_from word (front ++ back) ≡ headers_from word front ++ headers_from at back
+headers-append word at [] back is = let same : at ≡ word = omega arith in ap (λ w. headers_from w back) (sym same)
+headers-append word at (name ∷ front) back is =
+    let next : at ≡ word + 1 + length front = omega arith in ap (λ fs. header_file word name ∷ fs) (headers-append (word + 1) at front back next)
+
+-- the files of headers up to one, which is the next
+headers-take : (k word : ℕ) (names : List (List ℕ)) (name : List ℕ) → k < length names → name ≡ get_or names k name → word ≡ k + 1
+    → headers_from 1 (take (k + 1) names) ≡ headers_from 1 (take k names) ++ header_file word name ∷ []
+headers-take k word names name l is at =
+    let size : length (take k names) ≡ k = length-take-le k names (omega arith) in
+    let more : take (k + 1) names ≡ take k names ++ name ∷ [] = take_more names k name l ∙ ap (λ x. take k names ++ x ∷ []) (sym is) in
+    ap (headers_from 1) more ∙ headers-append 1 word (take k names) (name ∷ []) (omega (arith, size))
+
+-- the files of all headers, around the one at a place
+headers-split : (k word : ℕ) (names : List (List ℕ)) (name : List ℕ) → k < length names → name ≡ get_or names k name → word ≡ k + 1
+    → headers_from 1 names ≡ headers_from 1 (take k names) ++ header_file word name ∷ headers_from (word + 1) (drop (k + 1) names)
+headers-split k word names name l is at =
+    let size : length (take k names) ≡ k = length-take-le k names (omega arith) in
+    let rest : drop k names ≡ name ∷ drop (k + 1) names = drop_more names k name l ∙ ap (λ x. x ∷ drop (k + 1) names) (sym is) in
+    let whole : names ≡ take k names ++ name ∷ drop (k + 1) names = sym (take-append-drop k names) ∙ ap (λ x. take k names ++ x) rest in
+    ap (headers_from 1) whole ∙ headers-append 1 word (take k names) (name ∷ drop (k + 1) names) (omega (arith, size))
+
+-- one file more has its text
+pub AreTextsOf-push : (told : Option Held) (files : List File) (texts : List (List ℕ)) (file : File) (text : List ℕ) → AreTextsOf told files texts → IsTextOf told file text
+    → AreTextsOf told (files ++ file ∷ []) (texts ++ text ∷ [])
+AreTextsOf-push told [] [] file text all one = (one, tt)
+AreTextsOf-push told [] (t ∷ texts) file text all one = absurd all
+AreTextsOf-push told (f ∷ files) [] file text all one = absurd all
+AreTextsOf-push told (f ∷ files) (t ∷ texts) file text all one = (all.0, AreTextsOf-push told files texts file text all.1 one)
+
+-- files with texts were read
+pub were_read : (told : Option Held) (files : List File) (texts : List (List ℕ)) → AreTextsOf told files texts → AllByRecursion (IsRead told) files
+were_read told [] [] all = tt
+were_read told [] (t ∷ texts) all = absurd all
+were_read told (f ∷ files) [] all = absurd all
+were_read told (f ∷ files) (t ∷ texts) all = ((t, all.0), were_read told files texts all.1)
+
+-- one header more was read
+pub read_more : (told : Option Held) (names texts : List (List ℕ)) (k word : ℕ) (name text : List ℕ) → k < length names → name ≡ get_or names k name → word ≡ k + 1
+    → AreHeadersRead told (take k names) texts → IsTextOf told (header_file word name) text → AreHeadersRead told (take (k + 1) names) (texts ++ text ∷ [])
+read_more told names texts k word name text l is at all one =
+    let P : List File → Type 0 = λ files. AreTextsOf told files (texts ++ text ∷ []) in
+    subst P (sym (headers-take k word names name l is at)) (AreTextsOf-push told (headers_from 1 (take k names)) texts (header_file word name) text all one)
+
+-- what stopped the reading of a header stopped that of all
+pub stop_in : (told : Option Held) (names texts : List (List ℕ)) (k word : ℕ) (name : List ℕ) (stop : ReadStop) → k < length names → name ≡ get_or names k name → word ≡ k + 1
+    → AreHeadersRead told (take k names) texts → IsStopAt told (header_file word name) stop → IsStopIn told names stop
+stop_in told names texts k word name Memory l is at all stops = tt
+stop_in told names texts k word name (Refused place why) l is at all stops = (
+  let same : place ≡ word = stops.0 in omega arith,
+  record {
+    before = headers_from 1 (take k names);
+    file = header_file word name;
+    after = headers_from (word + 1) (drop (k + 1) names);
+    split = headers-split k word names name l is at;
+    were_read = were_read told (headers_from 1 (take k names)) texts all;
+    word_is = sym stops.0;
+    refused = stops.1;
+  },
+)

@@ -1,0 +1,29 @@
+-- What words and told files ask for.
+use Rattle.std.specs.Prelude.{◌≡◌, ℕ, List, Option, Some}
+use Rattle.gt_types.specs.declared.program.Program.{Program}
+use Rattle.gt_io.specs.Held.{Held}
+use Rattle.gt_words.specs.declared.call.Call.{Call}
+use Rattle.gt_words.specs.declared.call.Script.TheVariants.{File}
+use Rattle.gt_words.specs.Calls.{call_of}
+use Rattle.gt_script.specs.declared.command.Line.{Line}
+use Rattle.gt_script.specs.Outcome.{Parsed}
+use Rattle.gt_headers.specs.Headers.{Declares}
+use Rattle.gt_front.specs.Texts.{Texts, AreTexts}
+
+-- the words ask for a script in the file of this name
+pub record Calls (words : List (List ℕ)) (call : Call) (name : List ℕ) : Type 0 where
+  pub called : call_of words ≡ Some call
+  pub script : call.script ≡ File name
+
+-- the words ask for these headers and this script, and each of the files was read with its text
+pub record Reads (words : List (List ℕ)) (told : Option Held) (call : Call) (texts : Texts) : Type 0 where
+  pub name : List ℕ
+  pub calls : Calls words call name
+  pub texts_are : AreTexts told name call.headers texts
+
+-- the words and the files ask for the lines of the script under the program that the headers declare
+pub record Asks (words : List (List ℕ)) (told : Option Held) (call : Call) (program : Program) (lines : List Line) : Type 0 where
+  pub texts : Texts
+  pub reads : Reads words told call texts
+  pub declares : Declares texts.headers program
+  pub parsed : Parsed texts.script lines

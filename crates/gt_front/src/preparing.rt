@@ -1,0 +1,65 @@
+// The order of work up to the first command.
+ghost use Rattle.std.specs.Prelude.{◌≡◌, ◌≤◌, ℕ, List, Err, IfErr, IfOk};
+ghost use Rattle.gt_io.specs.Counts.{Rose};
+ghost use Rattle.gt_words.specs.Ranges.{IsInRange};
+ghost use Rattle.gt_front.specs.Asks.{Asks};
+ghost use Rattle.gt_front.specs.Halts.{Halts};
+
+use crate::stages::{called, lines_of, program_of, read_files};
+use crate::{FileWhy, Refusal};
+use gt_io::Files;
+use gt_script::Line;
+use gt_types::{Bytes, List, Program, Word};
+use gt_words::Call;
+use std::alloc::Global;
+
+/// What the words ask for, the program of the headers, and the lines of the script.
+#[derive(Drop)]
+pub struct Ready {
+    pub call: Call,
+    pub program: Program,
+    pub lines: List<Line>,
+}
+
+/// Why nothing runs: want of memory, or a refusal and the line that says it, which ends with a newline.
+#[derive(Drop)]
+pub enum Halt {
+    Memory,
+    Refused { refusal: Refusal, line: Bytes },
+}
+
+/// The order of work up to the first command: the words; each header read in order, and then the script; the faults of the
+/// headers and their program; the lines of the script. What is refused first ends it. The words are those behind the
+/// program's name. No file changes.
+pub fn prepare<F: Files>(alloc: Global, words: &[Word], files: &mut F) -> Result<Ready, Halt>
+    ensures ready { IfOk result (λ ready. Asks words.now (F.told files.old) ready.call ready.program ready.lines) }
+    ensures ranges { IfOk result (λ ready. IsInRange ready.call) }
+    ensures halted { IfErr result (Halts words.now (F.told files.old)) }
+    ensures told { F.told files.new ≡ F.told files.old }
+    ensures later { F.faults files.old ≤ F.faults files.new }
+
+    // A file is answered as failed only where the outside failed.
+    ensures cause { (word : ℕ) (line : List ℕ) → result ≡ Err (Halt.Refused (Refusal.File word FileWhy.Fault) line) → Rose (F.faults files.old) (F.faults files.new) }
+{
+    let call = match called(alloc, words) {
+        Ok(call) => call,
+        Err(halt) => return Err(halt),
+    };
+    let found = match read_files(alloc, &call, files) {
+        Ok(found) => found,
+        Err(halt) => return Err(halt),
+    };
+    let program = match program_of(alloc, &call, found.headers.as_slice()) {
+        Ok(program) => program,
+        Err(halt) => return Err(halt),
+    };
+    let lines = match lines_of(alloc, &call, found.script.as_slice()) {
+        Ok(lines) => lines,
+        Err(halt) => return Err(halt),
+    };
+    Ok(Ready {
+        call,
+        program,
+        lines,
+    })
+}

@@ -1,0 +1,27 @@
+use gt_types::Fault;
+
+/// Why no command was run.
+#[derive(Clone, Copy, Debug, PartialEq, Eq)]
+pub enum Refusal {
+    /// The words ask for nothing.
+    Words,
+    /// A header has a fault.
+    Header(Fault),
+    /// The script has a fault: `SCRIPT_SYNTAX` at a line counted from 1, or `SCRIPT_TOO_LONG` with 0 as its line.
+    Script { number: u8, line: u32 },
+    /// A file: 0 is the script, i the i-th header.
+    File { word: u32, why: FileWhy },
+    /// A header (by its place from 1) or the script (0) asks for what is not built yet.
+    NotBuilt { word: u32 },
+}
+
+/// Why a file was not read.
+#[derive(Clone, Copy, Debug, PartialEq, Eq)]
+pub enum FileWhy {
+    /// There is no such file.
+    Missing,
+    /// It is longer than its limit.
+    TooLong,
+    /// The outside failed.
+    Fault,
+}

@@ -1,0 +1,159 @@
+// The one line of a refusal: the word as it was given, what is said of it, and a newline.
+ghost use Rattle.std.specs.Prelude.{◌≡◌, ◌≤◌, ◌++◌, All, IfOk, List, codes, length, ℕ, Some};
+ghost use Rattle.gt_words.specs.Calls.{call_of};
+ghost use Rattle.gt_front.specs.Refused.{IsFaultLine, IsLineOf, IsRefusalLine, fault_name, fault_text, script_text, script_word as script_word_of, why_text, word_at};
+ghost use Rattle.gt_front.specs.Texts.{Texts};
+
+use crate::places::{Place, place_in};
+use crate::{FileWhy, MAX_HEADER_BYTES, Refusal, SCRIPT_SYNTAX};
+use gt_digits::push_decimal;
+use gt_types::{Bytes, Fault, Word};
+use gt_words::{Call, Script};
+use std::alloc::{AllocError, Global};
+
+/// The line of words that ask for nothing.
+pub fn words_line(alloc: Global) -> Result<Bytes, AllocError>
+    ensures line { (words : List (List ℕ)) (texts : Texts) → IfOk result (IsRefusalLine words texts Refusal.Words) }
+{
+    Bytes::of(alloc, b"words: refused\n")
+}
+
+/// The line of a script that asks for what is not built yet.
+pub fn not_built_line(alloc: Global, call: &Call) -> Result<Bytes, AllocError>
+    ensures line { (words : List (List ℕ)) (texts : Texts) → call_of words ≡ Some call.now → IfOk result (IsRefusalLine words texts (Refusal.NotBuilt 0)) }
+{
+    file_line(alloc, call, 0, b": not built")
+}
+
+/// The line of a header's fault, at its place in the header's text.
+pub fn fault_line(
+    alloc: Global,
+    call: &Call,
+    texts: &[Bytes],
+    fault: Fault,
+) -> Result<Bytes, AllocError>
+    requires counted { 1 ≤ fault.file }
+    requires there { fault.file ≤ length texts.now }
+    requires each { length texts.now ≤ length call.now.headers }
+    requires short { All (λ text. length text ≤ MAX_HEADER_BYTES) texts.now }
+    ensures line { (words : List (List ℕ)) (script : List ℕ) → call_of words ≡ Some call.now
+        → IfOk result (IsFaultLine words (record { headers = texts.now; script = script }) fault) }
+{
+    let text = texts[fault.file as usize - 1].as_slice();
+    let place = place_in(text, fault.at);
+    let said = fault_text(alloc, place, fault.number)?;
+    file_line(alloc, call, fault.file, said.as_slice())
+}
+
+/// The line of a fault of the script.
+pub fn script_line(alloc: Global, call: &Call, number: u8, line: u32) -> Result<Bytes, AllocError>
+    ensures line { (words : List (List ℕ)) → call_of words ≡ Some call.now → IfOk result (IsLineOf words 0 (script_text number line)) }
+{
+    let said = script_text(alloc, number, line)?;
+    file_line(alloc, call, 0, said.as_slice())
+}
+
+/// The line that begins with the word of a file, 0 for the script and i for the i-th header, and goes on with what is said.
+pub fn file_line(alloc: Global, call: &Call, word: u32, said: &[u8]) -> Result<Bytes, AllocError>
+    requires there { word ≤ length call.now.headers }
+    ensures line { (words : List (List ℕ)) → call_of words ≡ Some call.now → IfOk result (IsLineOf words word said.now) }
+{
+    let mut line = Bytes::of(alloc, word_at(call, word).as_str().as_bytes())?;
+    line.append(said)?;
+    line.append(b"\n")?;
+    Ok(line)
+}
+
+/// What is said of a file that was not read.
+pub fn why_text(why: FileWhy) -> &'static [u8]
+    ensures { result.now ≡ why_text why }
+{
+    match why {
+        FileWhy::Missing => b": missing",
+        FileWhy::TooLong => b": too long",
+        FileWhy::Fault => b": read fault",
+    }
+}
+
+// The word of a file as it was given.
+fn word_at(call: &Call, word: u32) -> &Word
+    requires there { word ≤ length call.now.headers }
+    ensures { word_at call.now word ≡ Some result.now }
+{
+    if word == 0 {
+        return script_word(&call.script);
+    }
+    &call.headers.as_slice()[word as usize - 1]
+}
+
+// The word of the script as it was given.
+fn script_word(script: &Script) -> &Word
+    ensures { result.now ≡ script_word_of script.now }
+{
+    match script {
+        Script::File(name) => name,
+        Script::Generated { word, .. } => word,
+    }
+}
+
+// What is said of a fault: its place in its text, and its number and name.
+fn fault_text(alloc: Global, place: Place, number: u8) -> Result<Bytes, AllocError>
+    ensures { IfOk result (λ bytes. bytes ≡ fault_text place.line place.column number) }
+{
+    let mut said = Bytes::of(alloc, b":")?;
+    push_decimal(alloc, &mut said, place.line as u64)?;
+    said.append(b":")?;
+    push_decimal(alloc, &mut said, place.column as u64)?;
+    said.append(b": fault ")?;
+    push_decimal(alloc, &mut said, number as u64)?;
+    said.append(b" ")?;
+    said.append(fault_name(number))?;
+    Ok(said)
+}
+
+// The name of a header's fault.
+#[tactic(auto, unfolding(crate::specs::Refused::fault_name))]
+fn fault_name(number: u8) -> &'static [u8]
+    ensures { result.now ≡ fault_name number }
+{
+    match number {
+        1 => b"BadUtf8",
+        2 => b"OpenComment",
+        3 => b"OpenString",
+        4 => b"BadNumber",
+        5 => b"BadExpr",
+        6 => b"ExprTooLarge",
+        7 => b"Unclosed",
+        8 => b"Unexpected",
+        9 => b"Unsupported",
+        10 => b"BadMarkerPlace",
+        11 => b"Redefined",
+        12 => b"Undefined",
+        13 => b"ByValueCycle",
+        14 => b"BadBound",
+        15 => b"TooMany",
+        16 => b"UnknownOption",
+        17 => b"WrongPlace",
+        18 => b"MissingDesc",
+        19 => b"DuplicateTag",
+        20 => b"BadPath",
+        21 => b"ChainNotOwnPointer",
+        22 => b"UnknownHook",
+        23 => b"CacheShape",
+        24 => b"TypeTooLarge",
+        _ => b"",
+    }
+}
+
+// What is said of a fault of the script.
+fn script_text(alloc: Global, number: u8, line: u32) -> Result<Bytes, AllocError>
+    ensures { IfOk result (λ bytes. bytes ≡ script_text number line) }
+{
+    if number != SCRIPT_SYNTAX {
+        return Bytes::of(alloc, b": fault 26 ScriptTooLong");
+    }
+    let mut said = Bytes::of(alloc, b":")?;
+    push_decimal(alloc, &mut said, line as u64)?;
+    said.append(b": fault 25 ScriptSyntax")?;
+    Ok(said)
+}

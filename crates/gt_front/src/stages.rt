@@ -1,0 +1,162 @@
+// The stages of the work up to the first command. Each gives what it is for, or why nothing runs.
+ghost use Rattle.std.specs.Prelude.{◌≡◌, ◌≤◌, IfErr, IfOk, IsErrOf, List, Option, Some, length, ℕ};
+ghost use Rattle.gt_io.specs.Counts.{Rose};
+ghost use Rattle.gt_io.specs.Held.{Held};
+ghost use Rattle.gt_headers.specs.Headers.{Declares};
+ghost use Rattle.gt_script.specs.Outcome.{Parsed};
+ghost use Rattle.gt_types.specs.declared.program.Program.{Program};
+ghost use Rattle.gt_words.specs.Calls.{call_of};
+ghost use Rattle.gt_words.specs.Ranges.{IsInRange};
+ghost use Rattle.gt_front.specs.Asks.{Calls, Reads};
+ghost use Rattle.gt_front.specs.Comes.{Comes};
+ghost use Rattle.gt_front.specs.Halts.{Halts};
+ghost use Rattle.gt_front.specs.Reading.{HasWord, IsStopOf};
+ghost use Rattle.gt_front.specs.Refused.{IsRefusalLine};
+ghost use Rattle.gt_front.specs.Stages.{AreWithin, texts_of};
+ghost use Rattle.gt_front.specs.Texts.{Texts};
+
+use crate::preparing::Halt;
+use crate::reading::{ReadStop, read_file, read_headers};
+use crate::refused::{fault_line, file_line, not_built_line, script_line, why_text, words_line};
+use crate::{FileWhy, MAX_SCRIPT_BYTES, Refusal, SCRIPT_SYNTAX, SCRIPT_TOO_LONG};
+use gt_headers::{HeaderStop, declare};
+use gt_io::Files;
+use gt_script::{Line, ScriptStop, parse_script};
+use gt_types::{Bytes, List, Program, Word};
+use gt_words::{Call, Script, read_words};
+use std::alloc::{AllocError, Global};
+
+/// The texts of the files that a call names.
+#[derive(Drop)]
+pub struct Found {
+    pub headers: Vec<Bytes>,
+    pub script: Bytes,
+}
+
+/// What the words ask for.
+pub fn called(alloc: Global, words: &[Word]) -> Result<Call, Halt>
+    ensures called { IfOk result (λ call. call_of words.now ≡ Some call) }
+    ensures ranges { IfOk result IsInRange }
+    ensures halted { (told : Option Held) → IfErr result (Halts words.now told) }
+    ensures no_file { (word : ℕ) (line : List ℕ) → IsErrOf result (Halt.Refused (Refusal.File word FileWhy.Fault) line) → ⊥ }
+{
+    match read_words(alloc, words) {
+        Ok(Some(call)) => Ok(call),
+        Ok(None) => Err(refused(Refusal::Words, words_line(alloc))),
+        Err(_) => Err(Halt::Memory),
+    }
+}
+
+/// The texts of the files, read in their order.
+pub fn read_files<F: Files>(alloc: Global, call: &Call, files: &mut F) -> Result<Found, Halt>
+    requires ranges { IsInRange call.now }
+    ensures read { (words : List (List ℕ)) → call_of words ≡ Some call.now → IfOk result (λ found. Reads words (F.told files.old) call.now (texts_of found)) }
+    ensures within { IfOk result (λ found. AreWithin call.now found.headers.items) }
+    ensures short { IfOk result (λ found. length found.script ≤ MAX_SCRIPT_BYTES) }
+    ensures halted { (words : List (List ℕ)) → call_of words ≡ Some call.now → IfErr result (Halts words (F.told files.old)) }
+    ensures told { F.told files.new ≡ F.told files.old }
+    ensures later { F.faults files.old ≤ F.faults files.new }
+    ensures cause { (word : ℕ) (line : List ℕ) → IsErrOf result (Halt.Refused (Refusal.File word FileWhy.Fault) line) → Rose (F.faults files.old) (F.faults files.new) }
+{
+    let name = match &call.script {
+        Script::File(name) => name,
+        Script::Generated { .. } => return Err(generated(alloc, call)),
+    };
+    let headers = match read_headers(alloc, files, call.headers.as_slice()) {
+        Ok(texts) => texts,
+        Err(stop) => return Err(not_read(alloc, call, stop)),
+    };
+    match read_file(alloc, files, name, 0, MAX_SCRIPT_BYTES) {
+        Ok(script) => Ok(Found { headers, script }),
+        Err(stop) => Err(not_read(alloc, call, stop)),
+    }
+}
+
+/// The program that the headers with these texts declare.
+pub fn program_of(alloc: Global, call: &Call, texts: &[Bytes]) -> Result<Program, Halt>
+    requires within { AreWithin call.now texts.now }
+    ensures declared { IfOk result (Declares texts.now) }
+    ensures halted { (words : List (List ℕ)) (told : Option Held) (script : List ℕ)
+        → Reads words told call.now (record { headers = texts.now; script = script }) → IfErr result (Halts words told) }
+    ensures no_file { (word : ℕ) (line : List ℕ) → IsErrOf result (Halt.Refused (Refusal.File word FileWhy.Fault) line) → ⊥ }
+{
+    match declare(alloc, texts) {
+        Ok(program) => Ok(program),
+        Err(HeaderStop::Memory) => Err(Halt::Memory),
+        Err(HeaderStop::Faulty(fault)) => Err(refused(
+            Refusal::Header(fault),
+            fault_line(alloc, call, texts, fault),
+        )),
+        Err(HeaderStop::NotBuilt { file }) => Err(refused(
+            Refusal::NotBuilt { word: file },
+            file_line(alloc, call, file, b": not built"),
+        )),
+    }
+}
+
+/// The lines of the script with this text.
+pub fn lines_of(alloc: Global, call: &Call, text: &[u8]) -> Result<List<Line>, Halt>
+    requires short { length text.now ≤ MAX_SCRIPT_BYTES }
+    ensures parsed { IfOk result (Parsed text.now) }
+    ensures halted { (words : List (List ℕ)) (told : Option Held) (headers : List (List ℕ)) (program : Program)
+        → Reads words told call.now (record { headers = headers; script = text.now }) → Declares headers program → IfErr result (Halts words told) }
+    ensures no_file { (word : ℕ) (line : List ℕ) → IsErrOf result (Halt.Refused (Refusal.File word FileWhy.Fault) line) → ⊥ }
+{
+    match parse_script(alloc, text) {
+        Ok(lines) => Ok(lines),
+        Err(ScriptStop::Memory) => Err(Halt::Memory),
+        Err(ScriptStop::ScriptSyntax { line }) => {
+            Err(faulty_script(alloc, call, SCRIPT_SYNTAX, line))
+        }
+        Err(ScriptStop::ScriptTooLong) => Err(faulty_script(alloc, call, SCRIPT_TOO_LONG, 0)),
+    }
+}
+
+// The halt at a generated script, which is not built so far.
+fn generated(alloc: Global, call: &Call) -> Halt
+    ensures halted { (words : List (List ℕ)) (told : Option Held) (texts : Texts)
+        → Comes words told texts (Refusal.NotBuilt 0) → call_of words ≡ Some call.now → Halts words told result }
+    ensures same { (other : Refusal) (bytes : List ℕ) → result ≡ Halt.Refused other bytes → other ≡ Refusal.NotBuilt 0 }
+{
+    refused(Refusal::NotBuilt { word: 0 }, not_built_line(alloc, call))
+}
+
+// The halt at a file that was not read.
+fn not_read(alloc: Global, call: &Call, stop: ReadStop) -> Halt
+    requires there { HasWord call.now stop }
+    ensures halted { (words : List (List ℕ)) (told : Option Held) (name : List ℕ)
+        → Calls words call.now name → IsStopOf told name call.now.headers stop → Halts words told result }
+    ensures same { (word : ℕ) (line : List ℕ) → result ≡ Halt.Refused (Refusal.File word FileWhy.Fault) line → stop ≡ ReadStop.Refused word FileWhy.Fault }
+{
+    match stop {
+        ReadStop::Memory => Halt::Memory,
+        ReadStop::Refused { word, why } => refused(
+            Refusal::File { word, why },
+            file_line(alloc, call, word, why_text(why)),
+        ),
+    }
+}
+
+// The halt at a fault of the script.
+fn faulty_script(alloc: Global, call: &Call, number: u8, line: u32) -> Halt
+    ensures halted { (words : List (List ℕ)) (told : Option Held) (texts : Texts)
+        → Comes words told texts (Refusal.Script number line) → call_of words ≡ Some call.now → Halts words told result }
+    ensures same { (other : Refusal) (bytes : List ℕ) → result ≡ Halt.Refused other bytes → other ≡ Refusal.Script number line }
+{
+    refused(
+        Refusal::Script { number, line },
+        script_line(alloc, call, number, line),
+    )
+}
+
+// The halt with a refusal and its line, where there was memory for the line.
+fn refused(refusal: Refusal, line: Result<Bytes, AllocError>) -> Halt
+    ensures halted { (words : List (List ℕ)) (told : Option Held) (texts : Texts)
+        → Comes words told texts refusal → IfOk line (IsRefusalLine words texts refusal) → Halts words told result }
+    ensures same { (other : Refusal) (bytes : List ℕ) → result ≡ Halt.Refused other bytes → other ≡ refusal }
+{
+    match line {
+        Ok(line) => Halt::Refused { refusal, line },
+        Err(_) => Halt::Memory,
+    }
+}

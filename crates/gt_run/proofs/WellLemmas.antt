@@ -1,0 +1,200 @@
+-- Where all is well, nothing is refused.
+use Rattle.std.proofs.Common.{◌≡◌, ℕ, ◌<◌, ◌≤◌, ◌⊎◌, List, [], ◌∷◌, ◌++◌, length, All, refl, sym, ap, subst, ◌∙◌, Some, None, Option, Result, Ok, Err, inl, inr, arith, Bool, true, false, cond}
+use Rattle.std.specs.Prelude.{IsSomeAnd}
+use Rattle.std.specs.List.{list_any}
+use Rattle.std.proofs.lemmas.List.Elements.{All-contains}
+use Rattle.gt_types.specs.declared.faults.Fault.{Fault as HeaderFault}
+use Rattle.gt_types.specs.declared.program.Program.{Program}
+use Rattle.gt_space.specs.Range.{Range}
+use Rattle.gt_io.specs.Held.{Held, contents}
+use Rattle.gt_script.specs.declared.command.Line.{Line}
+use Rattle.gt_script.specs.declared.stop.ScriptStop.{ScriptStop}
+use Rattle.gt_script.specs.declared.stop.ScriptStop.TheVariants.{ScriptSyntax, ScriptTooLong}
+use Rattle.gt_script.specs.Outcome.{Parsed, IsOutcome}
+use Rattle.gt_words.specs.declared.call.Call.{Call}
+use Rattle.gt_words.specs.declared.call.Script.{Script as ScriptWord}
+use Rattle.gt_words.specs.declared.call.Script.TheVariants.{File as NamedFile, Generated}
+use Rattle.gt_headers.specs.Headers.{Declares, IsFirstFault, IsNotBuilt}
+use Rattle.gt_front.specs.Texts.{File, Texts, AreTextsOf, files_in_order}
+use Rattle.gt_front.specs.Asks.{Asks, Calls, Reads}
+use Rattle.gt_front.specs.Comes.{Comes, IsGenerated, IsRefusedFile, IsRefusedFor, IsScriptFault}
+use Rattle.gt_front.specs.declared.refusal.FileWhy.{FileWhy}
+use Rattle.gt_front.specs.declared.refusal.FileWhy.TheVariants.{Missing, TooLong, Fault}
+use Rattle.gt_front.specs.declared.refusal.Refusal.{Refusal}
+use Rattle.gt_front.specs.declared.refusal.Refusal.TheVariants.{Words, Header, Script, NotBuilt, File as InFile}
+use Rattle.gt_machine.specs.Built.{IsBuilt}
+use Rattle.gt_machine.specs.Text.{is_refusal}
+use Rattle.gt_run.specs.Comes.{HasUnbuilt, IsRefusedFirst}
+use Rattle.gt_run.specs.Complete.{AreHeld, IsWell}
+use Rattle.gt_run.specs.Ended.{Ended, Ends, status_of, refusal_of}
+use Rattle.gt_run.specs.declared.ending.Ending.{Ending}
+use Rattle.gt_run.specs.declared.ending.Ending.TheVariants.{Finished, Refused, SinkFailed, NoMemory}
+use Rattle.gt_run.specs.declared.outcome.Outcome.{Outcome}
+
+-- the reading of some file failed
+abbrev IsReadFault : Refusal → Type 0
+IsReadFault refusal = (word : ℕ) × (refusal ≡ InFile word Fault)
+
+same_call : (a b : Call) → Some a ≡ Some b → a ≡ b
+same_call a b e = cc
+
+same_text : (a b : List ℕ) → Some a ≡ Some b → a ≡ b
+same_text a b e = cc
+
+same_name : (script : ScriptWord) (a b : List ℕ) → script ≡ NamedFile a → script ≡ NamedFile b → a ≡ b
+same_name script a b e f = cc
+
+same_lines : (a b : List Line) → ◌≡◌ {A = Result (List Line) ScriptStop} (Ok a) (Ok b) → a ≡ b
+same_lines a b e = cc
+
+-- a script in a file is not generated
+no_generated : (script : ScriptWord) (name word : List ℕ) (n : ℕ) → script ≡ NamedFile name → script ≡ Generated word n → ⊥
+no_generated script name word n e f = cc
+
+-- each of the files is held
+held_one : (held : Held) (before : List File) (file : File) (after : List File) (texts : List (List ℕ)) → AreHeld held (before ++ file ∷ after) texts
+    → (text : List ℕ) × (contents held file.name ≡ Some text) × (length text ≤ file.limit)
+held_one held [] file after [] h = absurd h
+held_one held [] file after (text ∷ texts) h = (text, h.0, h.1)
+held_one held (f ∷ before) file after [] h = absurd h
+held_one held (f ∷ before) file after (text ∷ texts) h = held_one held before file after texts h.2
+
+-- the texts that are told are those that are held
+held_texts : (held : Held) (told : Option Held) → told ≡ Some held → (files : List File) (texts others : List (List ℕ)) → AreHeld held files texts → AreTextsOf told files others → others ≡ texts
+held_texts held told e [] [] [] h t = refl
+held_texts held told e [] [] (o ∷ others) h t = absurd t
+held_texts held told e [] (text ∷ texts) others h t = absurd h
+held_texts held told e (file ∷ files) [] others h t = absurd h
+held_texts held told e (file ∷ files) (text ∷ texts) [] h t = absurd t
+held_texts held told e (file ∷ files) (text ∷ texts) (o ∷ others) h t =
+    let here : o ≡ text = same_text o text (sym (t.0.1 held e) ∙ h.0) in
+    let rest : others ≡ texts = held_texts held told e files texts others h.2 t.1 in
+    cc
+
+-- a list with one more at its end gives both
+parts : (xs ys : List (List ℕ)) (x y : List ℕ) → xs ++ x ∷ [] ≡ ys ++ y ∷ [] → (xs ≡ ys) × (x ≡ y)
+parts [] [] x y e = (refl, cc)
+parts [] (b ∷ []) x y e = absurd (cc)
+parts [] (b ∷ c ∷ ys) x y e = absurd (cc)
+parts (a ∷ []) [] x y e = absurd (cc)
+parts (a ∷ c ∷ xs) [] x y e = absurd (cc)
+parts (a ∷ xs) (b ∷ ys) x y e =
+    let rest : xs ++ x ∷ [] ≡ ys ++ y ∷ [] = cc in
+    let head : a ≡ b = cc in
+    let w = parts xs ys x y rest in
+    let tail : xs ≡ ys = w.0 in
+    (cc, w.1)
+
+-- a file that is held within its limit is refused only for a fault
+no_refusal : (held : Held) (told : Option Held) → told ≡ Some held → (file : File) (text : List ℕ) → contents held file.name ≡ Some text → length text ≤ file.limit
+    → (why : FileWhy) → IsRefusedFor told file why → why ≡ Fault
+no_refusal held told e file text at within Missing h = let none : None ≡ Some text = sym (h held e) ∙ at in absurd (cc)
+no_refusal held told e file text at within TooLong h =
+    let P : Option (List ℕ) → Type 0 = λ o. IsSomeAnd o (λ bytes. file.limit < length bytes) in
+    let longer : file.limit < length text = subst P at (h held e) in
+    absurd (omega arith)
+no_refusal held told e file text at within Fault h = refl
+
+-- so that of files that are held each refusal is a fault
+refused_file : (held : Held) (told : Option Held) → told ≡ Some held → (files : List File) (texts : List (List ℕ)) → AreHeld held files texts
+    → (word : ℕ) (why : FileWhy) → IsRefusedFile told files word why → why ≡ Fault
+refused_file held told e files texts there word why r =
+    let H : List File → Type 0 = λ xs. AreHeld held xs texts in
+    let one = held_one held r.before r.file r.after texts (subst H r.split there) in
+    no_refusal held told e r.file one.0 one.1 one.2 why r.refused
+
+-- each script has one outcome
+abbrev OneOutcome : Type 0
+OneOutcome = (text : List ℕ) (outcome other : Result (List Line) ScriptStop) → IsOutcome text outcome → IsOutcome text other → outcome ≡ other
+
+-- headers that declare a program have no fault
+abbrev NoFault : Type 0
+NoFault = (texts : List (List ℕ)) (program : Program) (fault : HeaderFault) → Declares texts program → IsFirstFault texts fault → ⊥
+
+-- and all that they declare is built
+abbrev AllBuilt : Type 0
+AllBuilt = (texts : List (List ℕ)) (program : Program) (file : ℕ) → Declares texts program → IsNotBuilt texts file → ⊥
+
+-- a script with lines has no fault
+no_script_fault : OneOutcome → (text : List ℕ) (lines : List Line) (number line : ℕ) → Parsed text lines → IsScriptFault text number line → ⊥
+no_script_fault one text lines number line parsed (inl h) = let e = one text (Ok lines) (Err (ScriptSyntax line)) parsed h.1 in absurd (cc)
+no_script_fault one text lines number line parsed (inr h) = let e = one text (Ok lines) (Err ScriptTooLong) parsed h.2 in absurd (cc)
+
+module _ (one : OneOutcome) (no_fault : NoFault) (all_built : AllBuilt) (words : List (List ℕ)) (held : Held) (told : Option Held) (e : told ≡ Some held) (well : IsWell words held) where
+  -- the texts that were read are those that are held
+  read_texts : (call : Call) (texts : Texts) → Reads words told call texts → (texts.headers ≡ well.texts.headers) × (texts.script ≡ well.texts.script)
+  read_texts call texts reads =
+      let same : call ≡ well.call = same_call _ _ (sym reads.calls.called ∙ well.calls.called) in
+      let name : reads.name ≡ well.name = same_name well.call.script _ _ (ap (λ (c : Call). c.script) (sym same) ∙ reads.calls.script) well.calls.script in
+      let order : files_in_order reads.name call.headers ≡ files_in_order well.name well.call.headers =
+      ap (λ n. files_in_order n call.headers) name ∙ ap (λ (c : Call). files_in_order well.name c.headers) same in
+      let F : List File → Type 0 = λ files. AreTextsOf told files (texts.headers ++ texts.script ∷ []) in
+      parts texts.headers well.texts.headers texts.script well.texts.script
+      (held_texts held told e (files_in_order well.name well.call.headers) _ _ well.there (subst F order reads.texts_are))
+
+  -- so the headers that were read declare the program
+  declares : (call : Call) (texts : Texts) → Reads words told call texts → Declares texts.headers well.program
+  declares call texts reads =
+      let D : List (List ℕ) → Type 0 = λ headers. Declares headers well.program in
+      subst D (sym (read_texts call texts reads).0) well.declares
+
+  -- and the script that was read has the lines
+  parsed : (call : Call) (texts : Texts) → Reads words told call texts → Parsed texts.script well.lines
+  parsed call texts reads =
+      let P : List ℕ → Type 0 = λ script. Parsed script well.lines in
+      subst P (sym (read_texts call texts reads).1) well.parsed
+
+  -- all of its commands are built
+  no_unbuilt : (call : Call) (program : Program) (lines : List Line) → Asks words told call program lines → HasUnbuilt lines → ⊥
+  no_unbuilt call program lines asks has =
+      let same : lines ≡ well.lines = same_lines _ _ (one asks.texts.script (Ok lines) (Ok well.lines) asks.parsed (parsed call asks.texts asks.reads)) in
+      let A : List Line → Type 0 = λ x. All (λ (line : Line). IsBuilt line.command) x in
+      has.2 (All-contains (λ (line : Line). IsBuilt line.command) lines has.0 (subst A (sym same) well.built) has.1)
+
+  -- the files that the words name are those that are held
+  called_file : (call : Call) (name : List ℕ) → Calls words call name → (word : ℕ) (why : FileWhy) → IsRefusedFile told (files_in_order name call.headers) word why → why ≡ Fault
+  called_file call name calls word why r =
+      let same : well.call ≡ call = same_call _ _ (sym well.calls.called ∙ calls.called) in
+      let named : well.name ≡ name = same_name call.script _ _ (ap (λ (c : Call). c.script) (sym same) ∙ well.calls.script) calls.script in
+      let order : files_in_order well.name well.call.headers ≡ files_in_order name call.headers =
+      ap (λ n. files_in_order n well.call.headers) named ∙ ap (λ (c : Call). files_in_order name c.headers) same in
+      let H : List File → Type 0 = λ files. AreHeld held files (well.texts.headers ++ well.texts.script ∷ []) in
+      refused_file held told e (files_in_order name call.headers) _ (subst H order well.there) word why r
+
+  -- the script is in a file
+  no_generated_call : (call : Call) → ◌≡◌ (Some call) (Some well.call) → IsGenerated call → ⊥
+  no_generated_call call f g = no_generated well.call.script well.name g.0 g.1 well.calls.script (ap (λ (c : Call). c.script) (sym (same_call _ _ f)) ∙ g.2)
+
+  -- up to the lines of the script, a refusal is one for a fault of a file
+  Comes-well : (texts : Texts) (refusal : Refusal) → Comes words told texts refusal → IsReadFault refusal
+  Comes-well texts Words comes = let none : None ≡ Some well.call = sym comes ∙ well.calls.called in absurd (cc)
+  Comes-well texts (InFile word why) comes = (word, ap (InFile word) (called_file comes.0 comes.1 comes.2 word why comes.3))
+  Comes-well texts (Header fault) comes = absurd (no_fault texts.headers well.program fault (declares comes.0 texts comes.1) comes.2)
+  Comes-well texts (NotBuilt word) (inl comes) = absurd (no_generated_call comes.1 (sym comes.2 ∙ well.calls.called) comes.3)
+  Comes-well texts (NotBuilt word) (inr comes) = absurd (all_built texts.headers well.program word (declares comes.0 texts comes.1) comes.2)
+  Comes-well texts (Script number line) comes = absurd (no_script_fault one texts.script well.lines number line (parsed comes.0 texts comes.1) comes.3)
+
+  -- and so it is behind them
+  pub refused_well : (texts : Texts) (refusal : Refusal) → IsRefusedFirst words told texts refusal → IsReadFault refusal
+  refused_well texts refusal (inl comes) = Comes-well texts refusal comes
+  refused_well texts refusal (inr unbuilt) = absurd (no_unbuilt unbuilt.1 unbuilt.2 unbuilt.3 unbuilt.4 unbuilt.5)
+
+one_or_none : (b : Bool) (n : ℕ) → n ≡ cond b 1 0 → (n ≡ 0) ⊎ (n ≡ 1) ⊎ (n ≡ 9)
+one_or_none true n e = inr (inl e)
+one_or_none false n e = inl e
+
+-- where nothing is refused and nothing outside failed, the script is run to its end, or there is want of memory
+pub Ends-well : (words : List (List ℕ)) (told : Option Held) (old new : Option (List ℕ)) (outcome : Outcome) (range : Range) (FileRose SinkRose : Type 0)
+    → ((texts : Texts) (refusal : Refusal) → IsRefusedFirst words told texts refusal → IsReadFault refusal) → (FileRose → ⊥) → (SinkRose → ⊥)
+    → ((word : ℕ) → outcome.refusal ≡ Some (InFile word Fault) → FileRose) → (outcome.status ≡ 4 → SinkRose)
+    → Ends words told old new outcome range → (outcome.status ≡ 0) ⊎ (outcome.status ≡ 1) ⊎ (outcome.status ≡ 9)
+Ends-well words told old new outcome range FileRose SinkRose nothing no_file no_sink file_cause sink_cause ends =
+    ends_well ends.ending ends.status ends.refusal ends.ended where
+      ends_well : (ending : Ending) → outcome.status ≡ status_of ending outcome.answers → outcome.refusal ≡ refusal_of ending
+          → Ended words told old ending outcome.answers new range → (outcome.status ≡ 0) ⊎ (outcome.status ≡ 1) ⊎ (outcome.status ≡ 9)
+      ends_well Finished s r h = one_or_none (list_any is_refusal outcome.answers) outcome.status s
+      ends_well (Refused refusal) s r h =
+          let w = nothing h.1 refusal h.2 in
+          absurd (no_file (file_cause w.0 (r ∙ ap (λ x. Some x) w.1)))
+      ends_well SinkFailed s r h = absurd (no_sink (sink_cause s))
+      ends_well NoMemory s r h = inr (inr s)
