@@ -2,3 +2,4 @@ mod RunLemmas
 mod EndLemmas
 mod Linked
 mod WellLemmas
+mod RefusalOnce

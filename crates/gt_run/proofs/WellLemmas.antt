@@ -35,20 +35,20 @@ use Rattle.gt_run.specs.declared.outcome.Outcome.{Outcome}
 abbrev IsReadFault : Refusal → Type 0
 IsReadFault refusal = (word : ℕ) × (refusal ≡ InFile word Fault)
 
-same_call : (a b : Call) → Some a ≡ Some b → a ≡ b
+pub same_call : (a b : Call) → Some a ≡ Some b → a ≡ b
 same_call a b e = cc
 
 same_text : (a b : List ℕ) → Some a ≡ Some b → a ≡ b
 same_text a b e = cc
 
-same_name : (script : ScriptWord) (a b : List ℕ) → script ≡ NamedFile a → script ≡ NamedFile b → a ≡ b
+pub same_name : (script : ScriptWord) (a b : List ℕ) → script ≡ NamedFile a → script ≡ NamedFile b → a ≡ b
 same_name script a b e f = cc
 
-same_lines : (a b : List Line) → ◌≡◌ {A = Result (List Line) ScriptStop} (Ok a) (Ok b) → a ≡ b
+pub same_lines : (a b : List Line) → ◌≡◌ {A = Result (List Line) ScriptStop} (Ok a) (Ok b) → a ≡ b
 same_lines a b e = cc
 
 -- a script in a file is not generated
-no_generated : (script : ScriptWord) (name word : List ℕ) (n : ℕ) → script ≡ NamedFile name → script ≡ Generated word n → ⊥
+pub no_generated : (script : ScriptWord) (name word : List ℕ) (n : ℕ) → script ≡ NamedFile name → script ≡ Generated word n → ⊥
 no_generated script name word n e f = cc
 
 -- each of the files is held
@@ -60,7 +60,7 @@ held_one held (f ∷ before) file after [] h = absurd h
 held_one held (f ∷ before) file after (text ∷ texts) h = held_one held before file after texts h.2
 
 -- the texts that are told are those that are held
-held_texts : (held : Held) (told : Option Held) → told ≡ Some held → (files : List File) (texts others : List (List ℕ)) → AreHeld held files texts → AreTextsOf told files others → others ≡ texts
+pub held_texts : (held : Held) (told : Option Held) → told ≡ Some held → (files : List File) (texts others : List (List ℕ)) → AreHeld held files texts → AreTextsOf told files others → others ≡ texts
 held_texts held told e [] [] [] h t = refl
 held_texts held told e [] [] (o ∷ others) h t = absurd t
 held_texts held told e [] (text ∷ texts) others h t = absurd h
@@ -72,7 +72,7 @@ held_texts held told e (file ∷ files) (text ∷ texts) (o ∷ others) h t =
     cc
 
 -- a list with one more at its end gives both
-parts : (xs ys : List (List ℕ)) (x y : List ℕ) → xs ++ x ∷ [] ≡ ys ++ y ∷ [] → (xs ≡ ys) × (x ≡ y)
+pub parts : (xs ys : List (List ℕ)) (x y : List ℕ) → xs ++ x ∷ [] ≡ ys ++ y ∷ [] → (xs ≡ ys) × (x ≡ y)
 parts [] [] x y e = (refl, cc)
 parts [] (b ∷ []) x y e = absurd (cc)
 parts [] (b ∷ c ∷ ys) x y e = absurd (cc)
@@ -86,7 +86,7 @@ parts (a ∷ xs) (b ∷ ys) x y e =
     (cc, w.1)
 
 -- a file that is held within its limit is refused only for a fault
-no_refusal : (held : Held) (told : Option Held) → told ≡ Some held → (file : File) (text : List ℕ) → contents held file.name ≡ Some text → length text ≤ file.limit
+pub no_refusal : (held : Held) (told : Option Held) → told ≡ Some held → (file : File) (text : List ℕ) → contents held file.name ≡ Some text → length text ≤ file.limit
     → (why : FileWhy) → IsRefusedFor told file why → why ≡ Fault
 no_refusal held told e file text at within Missing h = let none : None ≡ Some text = sym (h held e) ∙ at in absurd (cc)
 no_refusal held told e file text at within TooLong h =
@@ -96,7 +96,7 @@ no_refusal held told e file text at within TooLong h =
 no_refusal held told e file text at within Fault h = refl
 
 -- so that of files that are held each refusal is a fault
-refused_file : (held : Held) (told : Option Held) → told ≡ Some held → (files : List File) (texts : List (List ℕ)) → AreHeld held files texts
+pub refused_file : (held : Held) (told : Option Held) → told ≡ Some held → (files : List File) (texts : List (List ℕ)) → AreHeld held files texts
     → (word : ℕ) (why : FileWhy) → IsRefusedFile told files word why → why ≡ Fault
 refused_file held told e files texts there word why r =
     let H : List File → Type 0 = λ xs. AreHeld held xs texts in
@@ -104,19 +104,19 @@ refused_file held told e files texts there word why r =
     no_refusal held told e r.file one.0 one.1 one.2 why r.refused
 
 -- each script has one outcome
-abbrev OneOutcome : Type 0
+abbrev pub OneOutcome : Type 0
 OneOutcome = (text : List ℕ) (outcome other : Result (List Line) ScriptStop) → IsOutcome text outcome → IsOutcome text other → outcome ≡ other
 
 -- headers that declare a program have no fault
-abbrev NoFault : Type 0
+abbrev pub NoFault : Type 0
 NoFault = (texts : List (List ℕ)) (program : Program) (fault : HeaderFault) → Declares texts program → IsFirstFault texts fault → ⊥
 
 -- and all that they declare is built
-abbrev AllBuilt : Type 0
+abbrev pub AllBuilt : Type 0
 AllBuilt = (texts : List (List ℕ)) (program : Program) (file : ℕ) → Declares texts program → IsNotBuilt texts file → ⊥
 
 -- a script with lines has no fault
-no_script_fault : OneOutcome → (text : List ℕ) (lines : List Line) (number line : ℕ) → Parsed text lines → IsScriptFault text number line → ⊥
+pub no_script_fault : OneOutcome → (text : List ℕ) (lines : List Line) (number line : ℕ) → Parsed text lines → IsScriptFault text number line → ⊥
 no_script_fault one text lines number line parsed (inl h) = let e = one text (Ok lines) (Err (ScriptSyntax line)) parsed h.1 in absurd (cc)
 no_script_fault one text lines number line parsed (inr h) = let e = one text (Ok lines) (Err ScriptTooLong) parsed h.2 in absurd (cc)
 

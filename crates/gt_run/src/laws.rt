@@ -1,9 +1,19 @@
-//! The numbers of which the definitions speak, each as it is. The call does nothing: its clauses are laws.
-ghost use Rattle.std.specs.Prelude.{◌≡◌};
+//! The numbers of which the definitions speak, each as it is, and that one refusal comes first. The calls do nothing: their
+//! clauses are laws.
+ghost use Rattle.std.specs.Prelude.{◌≡◌, ℕ, List, Some};
 ghost use Rattle.gt_words.specs.declared.TheConstants.{DEFAULT_PAGES, MIN_PAGES, MAX_PAGES, DEFAULT_MIN_EXPAND, MAX_MIN_EXPAND, DEFAULT_MIN_HEAPSIZE, MAX_MIN_HEAPSIZE, MAX_GENERATED, MAX_GENERATED_DIGITS, MAX_HEADERS};
 ghost use Rattle.gt_front.specs.declared.TheConstants.{MAX_HEADER_BYTES, MAX_SCRIPT_BYTES, SCRIPT_SYNTAX, SCRIPT_TOO_LONG};
 ghost use Rattle.gt_space.specs.declared.TheConstants.{PAGE_BYTES, HEAP_START};
+ghost use Rattle.gt_io.specs.Held.{Held};
+ghost use Rattle.gt_space.specs.Range.{Range};
+ghost use Rattle.gt_front.specs.Texts.{Texts};
 ghost use Rattle.gt_machine.specs.declared.TheConstants.{MAX_VARIABLES};
+ghost use Rattle.gt_run.specs.Comes.{IsRefusedFirst, IsTold};
+ghost use Rattle.gt_run.specs.Runs.{Runs};
+
+use gt_front::Refusal;
+use gt_headers::one_outcome as headers_outcome;
+use gt_machine::Answer;
 
 /// The ranges and defaults of the words, the limits of files in bytes, the numbers of the faults of a script, where the pages
 /// begin and how large they are, and how many variables may be bound.
@@ -18,3 +28,13 @@ pub fn numbers()
     ensures space { (HEAP_START ≡ 268435456) × (PAGE_BYTES ≡ 4096) }
     ensures variables { MAX_VARIABLES ≡ 65536 }
 {}
+
+/// Where the files are told, at most one refusal comes first but for read faults, which no file tells; and where one does, no
+/// command is run.
+pub fn one_refusal()
+    ensures refusal { (words : List (List ℕ)) (held : Held) (texts others : Texts) (refusal other : Refusal) → IsRefusedFirst words (Some held) texts refusal → IsRefusedFirst words (Some held) others other → IsTold refusal → IsTold other → refusal ≡ other }
+    ensures no_run { (words : List (List ℕ)) (held : Held) (texts : Texts) (refusal : Refusal) (answers : List Answer) (range : Range) → IsRefusedFirst words (Some held) texts refusal → IsTold refusal → Runs words (Some held) answers range → ⊥ }
+{
+    gt_script::one_outcome();
+    headers_outcome();
+}

@@ -12,7 +12,7 @@ mod running;
 
 pub use gt_front::{FileWhy, Refusal};
 pub use gt_machine::{Answer, Session, Vars, Why, next_keeps_good, step, text};
-pub use laws::numbers;
+pub use laws::{numbers, one_refusal};
 pub use outcome::Outcome;
 pub use running::top;
 
