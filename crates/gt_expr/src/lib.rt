@@ -27,6 +27,3 @@ pub const BAD_EXPR: u8 = 5;
 
 /// The number of the fault of a text with more than `MAX_PARTS` parts.
 pub const EXPR_TOO_LARGE: u8 = 6;
-
-#[cfg(test)]
-mod tests;

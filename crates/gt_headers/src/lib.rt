@@ -13,6 +13,3 @@ pub use laws::{is_of_pointers, numbers, one_outcome};
 
 /// The most headers of a call.
 pub const MAX_HEADERS: usize = 64;
-
-#[cfg(test)]
-mod tests;

@@ -18,6 +18,3 @@ pub use faults::{BAD_NUMBER, BAD_UTF8, OPEN_COMMENT, OPEN_STRING};
 pub use laws::{constant_names, one_answer, token_slices};
 pub use lexing::lex;
 pub use tokens::{Define, Kind, Lexed, Token};
-
-#[cfg(test)]
-mod tests;

@@ -35,8 +35,3 @@ pub use laws::{
     type_rules,
 };
 pub use parsing::parse;
-
-#[cfg(test)]
-mod search_tests;
-#[cfg(test)]
-mod tests;

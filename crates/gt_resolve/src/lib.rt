@@ -79,8 +79,3 @@ pub const MAX_DIMENSIONS: usize = 4;
 
 /// The greatest bound of an array, in elements.
 pub const MAX_BOUND: i64 = 1048576;
-
-#[cfg(test)]
-mod declaring_tests;
-#[cfg(test)]
-mod scope_tests;

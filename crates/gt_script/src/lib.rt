@@ -22,6 +22,3 @@ pub use command::{Command, Given, Hop, Line, Route, TypeName};
 pub use laws::{lines_as_spelled, one_outcome, words_as_spelled};
 pub use parsing::parse_script;
 pub use stop::{MAX_COMMANDS, ScriptStop};
-
-#[cfg(test)]
-mod script_tests;

@@ -29,6 +29,3 @@ pub use reader::Reader;
 pub use sqlite_items::Boxed;
 pub use types::{PtrKind, Scalar, Target, Ty, TypeId, Width};
 pub use word::Word;
-
-#[cfg(test)]
-mod tests;

@@ -41,6 +41,3 @@ pub const MAX_GENERATED_DIGITS: usize = 6;
 
 /// How many headers may be given.
 pub const MAX_HEADERS: usize = 64;
-
-#[cfg(test)]
-mod tests;

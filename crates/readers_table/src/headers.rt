@@ -1,0 +1,89 @@
+// What sets of headers declare, in one line: structures with the places of the structs to which their fields point, roots, and
+// names of typedefs.
+ghost use Rattle.std.specs.Prelude.{◌≡◌, ◌<◌, ◌^◌, All, true, length};
+
+use gt_headers::{HeaderStop, MAX_HEADERS, declare};
+use gt_types::{Bytes, Fault, Program, PtrKind, Root, Structure, Target, Ty, TypeId, TypeWord};
+use std::alloc::{AllocError, Global};
+
+/// What the headers declare, or the first fault, or the first header that is not built.
+pub fn answer(alloc: Global, texts: &[Bytes]) -> Result<String, AllocError> {
+    if texts.len() > MAX_HEADERS || !are_short(texts) {
+        return String::from_str(alloc, "more than headers may be");
+    }
+    match declare(alloc, texts) {
+        Ok(program) => program_text(alloc, &program),
+        Err(stop) => stop_text(alloc, stop),
+    }
+}
+
+fn pointer_text(alloc: Global, name: &str, ty: &Ty) -> Result<String, AllocError> {
+    match ty {
+        Ty::Ptr {
+            target: Some(Target::Node(TypeId(id))),
+            kind: PtrKind::Plain,
+            reorder: false,
+        } => format!(in alloc; "{name}={id}"),
+        _ => format!(in alloc; "{name} is no plain pointer"),
+    }
+}
+
+fn structure_text(alloc: Global, structure: &Structure) -> Result<String, AllocError> {
+    let mut line = format!(in alloc; "{} {{", structure.name.as_str())?;
+    for field in structure.fields.as_slice() {
+        if !line.as_str().ends_with('{') {
+            line.push_str(", ")?;
+        }
+        line.push_str(pointer_text(alloc, field.name.as_str(), &field.ty)?.as_str())?;
+    }
+    line.push_str("}")?;
+    Ok(line)
+}
+
+fn root_text(alloc: Global, root: &Root) -> Result<String, AllocError> {
+    let pointer = pointer_text(alloc, root.name.as_str(), &root.ty)?;
+    format!(in alloc; "root {}", pointer.as_str())
+}
+
+fn word_text(alloc: Global, word: &TypeWord) -> Result<String, AllocError> {
+    let star = if word.pointer { "*" } else { "" };
+    format!(in alloc; "word {}={star}{}", word.name.as_str(), word.id.0)
+}
+
+// Adds a part to a line, after a bar where it is not the first.
+fn add(line: &mut String, part: &str) -> Result<(), AllocError> {
+    line.push_str(if line.is_empty() { "" } else { " | " })?;
+    line.push_str(part)?;
+    Ok(())
+}
+
+fn program_text(alloc: Global, program: &Program) -> Result<String, AllocError> {
+    let mut line = String::new(alloc);
+    for structure in program.structures.as_slice() {
+        add(&mut line, structure_text(alloc, structure)?.as_str())?;
+    }
+    for root in program.roots.as_slice() {
+        add(&mut line, root_text(alloc, root)?.as_str())?;
+    }
+    for word in program.words.as_slice() {
+        add(&mut line, word_text(alloc, word)?.as_str())?;
+    }
+    Ok(line)
+}
+
+fn stop_text(alloc: Global, stop: HeaderStop) -> Result<String, AllocError> {
+    match stop {
+        HeaderStop::Memory => String::from_str(alloc, "out of memory"),
+        HeaderStop::Faulty(Fault { number, file, at }) => {
+            format!(in alloc; "fault {number} in {file} at {at}")
+        }
+        HeaderStop::NotBuilt { file } => format!(in alloc; "not built {file}"),
+    }
+}
+
+// Whether each of the texts is short.
+fn are_short(texts: &[Bytes]) -> bool
+    ensures { result ≡ true → All (λ text. length text < 2 ^ 32) texts.now }
+{
+    texts.iter().all(|text| text.len() < 1_000_000)
+}
