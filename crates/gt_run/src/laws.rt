@@ -3,7 +3,7 @@
 ghost use Rattle.std.specs.Prelude.{◌≡◌, ℕ, List, Some};
 ghost use Rattle.gt_words.specs.declared.TheConstants.{DEFAULT_PAGES, MIN_PAGES, MAX_PAGES, DEFAULT_MIN_EXPAND, MAX_MIN_EXPAND, DEFAULT_MIN_HEAPSIZE, MAX_MIN_HEAPSIZE, MAX_GENERATED, MAX_GENERATED_DIGITS, MAX_HEADERS};
 ghost use Rattle.gt_front.specs.declared.TheConstants.{MAX_HEADER_BYTES, MAX_SCRIPT_BYTES, SCRIPT_SYNTAX, SCRIPT_TOO_LONG};
-ghost use Rattle.gt_space.specs.declared.TheConstants.{PAGE_BYTES, HEAP_START};
+ghost use Rattle.gt_space.specs.declared.TheConstants.{PAGE_BYTES, HEAP_START, MAX_STATICS, MIN_PAGES as least_pages, MAX_PAGES as most_pages};
 ghost use Rattle.gt_io.specs.Held.{Held};
 ghost use Rattle.gt_space.specs.Range.{Range};
 ghost use Rattle.gt_front.specs.Texts.{Texts};
@@ -16,7 +16,7 @@ use gt_headers::one_outcome as headers_outcome;
 use gt_machine::Answer;
 
 /// The ranges and defaults of the words, the limits of files in bytes, the numbers of the faults of a script, where the pages
-/// begin and how large they are, and how many variables may be bound.
+/// begin, how large they are and how many a space has, how large the static record may be, and how many variables may be bound.
 pub fn numbers()
     ensures pages { (MIN_PAGES ≡ 16) × (MAX_PAGES ≡ 16384) × (DEFAULT_PAGES ≡ 4096) }
     ensures min_expand { (MAX_MIN_EXPAND ≡ 1000) × (DEFAULT_MIN_EXPAND ≡ 30) }
@@ -25,7 +25,8 @@ pub fn numbers()
     ensures headers { MAX_HEADERS ≡ 64 }
     ensures files { (MAX_HEADER_BYTES ≡ 1048576) × (MAX_SCRIPT_BYTES ≡ 33554432) }
     ensures faults { (SCRIPT_SYNTAX ≡ 25) × (SCRIPT_TOO_LONG ≡ 26) }
-    ensures space { (HEAP_START ≡ 268435456) × (PAGE_BYTES ≡ 4096) }
+    ensures space { (HEAP_START ≡ 268435456) × (PAGE_BYTES ≡ 4096) × (MAX_STATICS ≡ 1048576) }
+    ensures space_pages { (least_pages ≡ 16) × (most_pages ≡ 16384) }
     ensures variables { MAX_VARIABLES ≡ 65536 }
 {}
 
