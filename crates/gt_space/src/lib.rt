@@ -4,6 +4,7 @@
 #![tactic(auto)]
 
 mod laws;
+mod memory;
 mod space;
 
 pub use laws::{static_pages_hold_the_record, writes_read_back};

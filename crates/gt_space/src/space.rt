@@ -4,19 +4,25 @@ ghost use Rattle.std.specs.Prelude.{◌≡◌, ◌≤◌, ◌∷◌, [], length,
 ghost use Rattle.gt_space.specs.Range.{IsInside, IsSpace, IsSized, KeepsAddresses, bytes_at, with_bytes, empty_range, fresh_range};
 ghost use Rattle.gt_space.specs.Numbers.{u8_at, u16_at, u32_at, u64_at, with_u8, with_u16, with_u32, with_u64};
 
+use crate::memory::{Bytes, Deed, allocate, deallocate};
 use crate::{HEAP_START, MAX_PAGES, MAX_STATICS, MIN_PAGES, PAGE_BYTES};
 use std::alloc::{AllocError, Global};
 use std::marker::Model;
 
-/// Bytes at addresses: the one at `start` is the first of `bytes`.
-#[derive(Drop)]
+/// Bytes at addresses: the one at `start` is the first of `bytes`. They lie in one block, which is
+/// given back at the end.
 pub struct Space {
     start: u64,
-    bytes: Vec<u8>,
+    ptr: *mut u8,
+    len: usize,
+    bytes: Bytes,
+    // The right to give the block back. A space with no bytes has none.
+    deed: Option<Deed<Global>>,
     alloc: Global,
 }
 
 impl Model for Space {
+    ghost use Rattle.std.specs.Prelude.{◌≡◌, length, IfSome};
     ghost use Rattle.gt_space.specs.Range.{Range, range_code, IsSpace};
 
     ghost Value = { Range };
@@ -25,7 +31,25 @@ impl Model for Space {
 
     ghost view = { λ s. record { start = s.start; bytes = s.bytes.items } };
 
-    ghost invariant = { λ s. IsSpace (record { start = s.start; bytes = s.bytes.items }) };
+    ghost invariant = { λ s. IsSpace (record { start = s.start; bytes = s.bytes.items })
+        × (s.bytes.at ≡ s.ptr) × (length s.bytes.items ≡ s.len)
+        × IfSome s.deed (λ d. (d.at ≡ s.ptr) × (d.len ≡ s.len) × (d.alloc ≡ s.alloc)) };
+}
+
+impl Drop for Space {
+    fn drop(self) {
+        let Space {
+            start: _,
+            ptr,
+            len,
+            bytes,
+            deed,
+            alloc,
+        } = self;
+        if let Some(deed) = deed {
+            deallocate(&alloc, ptr, len, bytes, deed);
+        }
+    }
 }
 
 impl Space {
@@ -33,9 +57,13 @@ impl Space {
     pub fn empty(alloc: Global) -> Space
         ensures { result ≡ empty_range }
     {
+        let (ptr, bytes) = Bytes::none();
         Space {
             start: HEAP_START,
-            bytes: Vec::new(alloc),
+            ptr,
+            len: 0,
+            bytes,
+            deed: None,
             alloc,
         }
     }
@@ -54,7 +82,7 @@ impl Space {
     pub fn len(&self) -> u64
         ensures { result ≡ length self.now.bytes }
     {
-        self.bytes.len() as u64
+        self.len as u64
     }
 
     /// Makes it `pages` pages from `HEAP_START` and the whole pages below that hold `statics` bytes,
@@ -69,9 +97,16 @@ impl Space {
     {
         let below = (statics as u64).div_ceil(PAGE_BYTES) * PAGE_BYTES;
         let len = below + pages as u64 * PAGE_BYTES;
-        let fresh = vec![in self.alloc; 0u8; len as usize]?;
-        self.start = HEAP_START - below;
-        self.bytes = fresh;
+        let (ptr, room, deed) = allocate(&self.alloc, len as usize)?;
+        let bytes = room.zeroed(ptr, len as usize);
+        *self = Space {
+            start: HEAP_START - below,
+            ptr,
+            len: len as usize,
+            bytes,
+            deed: Some(deed),
+            alloc: self.alloc,
+        };
         Ok(())
     }
 
@@ -80,7 +115,7 @@ impl Space {
         requires { IsInside self.now addr 1 }
         ensures { result ≡ u8_at self.now addr }
     {
-        self.bytes[(addr - self.start) as usize]
+        self.bytes.as_slice(self.ptr, self.len)[(addr - self.start) as usize]
     }
 
     /// The number in the two bytes at the address, the low byte first.
@@ -159,7 +194,7 @@ impl Space {
         ensures addresses { KeepsAddresses self.old self.new }
     {
         let at = (addr - self.start) as usize;
-        self.bytes[at..at + len as usize].fill(v);
+        self.bytes.as_mut_slice(self.ptr, self.len)[at..at + len as usize].fill(v);
     }
 
     /// Writes the bytes at the address.
@@ -169,7 +204,7 @@ impl Space {
         ensures addresses { KeepsAddresses self.old self.new }
     {
         let at = (addr - self.start) as usize;
-        self.bytes[at..at + bytes.len()].copy_from_slice(bytes);
+        self.bytes.as_mut_slice(self.ptr, self.len)[at..at + bytes.len()].copy_from_slice(bytes);
     }
 
     /// Reads as many bytes at the address as `bytes` has.
@@ -178,7 +213,7 @@ impl Space {
         ensures { bytes.new ≡ bytes_at self.now addr (length bytes.old) }
     {
         let at = (addr - self.start) as usize;
-        bytes.copy_from_slice(&self.bytes[at..at + bytes.len()]);
+        bytes.copy_from_slice(&self.bytes.as_slice(self.ptr, self.len)[at..at + bytes.len()]);
     }
 
     /// Writes the `len` bytes at `from`, as they are before the call, at `to`. The two ranges may
@@ -191,6 +226,8 @@ impl Space {
     {
         let at = (from - self.start) as usize;
         let dest = (to - self.start) as usize;
-        self.bytes.copy_within(at..at + len as usize, dest);
+        self.bytes
+            .as_mut_slice(self.ptr, self.len)
+            .copy_within(at..at + len as usize, dest);
     }
 }

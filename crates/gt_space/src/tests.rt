@@ -61,6 +61,20 @@ fn a_move_over_itself_in_both_directions(rt: HostRuntime) -> Result<(), Fail> {
         space.read_u64(HEAP_START),
         u64::from_le_bytes(*b"bcdefghh")
     );
+
+    // Ranges of four bytes that have one in common.
+    space.copy_in(HEAP_START, b"abcdefgh");
+    space.move_within(HEAP_START, HEAP_START + 3, 4);
+    assert_eq!(rt;
+        space.read_u64(HEAP_START),
+        u64::from_le_bytes(*b"abcabcdh")
+    );
+    space.copy_in(HEAP_START, b"abcdefgh");
+    space.move_within(HEAP_START + 3, HEAP_START, 4);
+    assert_eq!(rt;
+        space.read_u64(HEAP_START),
+        u64::from_le_bytes(*b"defgefgh")
+    );
     Ok(())
 }
 
