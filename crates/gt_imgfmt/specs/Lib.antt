@@ -1,0 +1,4 @@
+pub mod Layout
+pub mod Widths
+pub mod Kinds
+pub mod Laws
