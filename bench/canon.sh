@@ -1,0 +1,119 @@
+#!/usr/bin/env bash
+# Writes the canonical text of a program of 4,096 structures of 1,024 fields and of one of 409 such structures, and compares the
+# times. Run by hand, from any folder; the ratio should stay under 12. The program that does it is written and built in a copy of
+# the crates that it needs.
+set -eu
+root=$(cd "$(dirname "$0")/.." && pwd)
+work=$(mktemp -d)
+trap 'rm -rf "$work"' EXIT
+names='gt_types gt_digits gt_canon'
+mkdir -p "$work/crates/write_canon/src"
+for name in $names; do
+  (cd "$root/crates" && tar -c --exclude=out "$name") | tar -x -C "$work/crates"
+  grep "^$name:" "$root/crates.txt" >>"$work/crates.txt"
+done
+echo 'write_canon: gt_types gt_canon' >>"$work/crates.txt"
+cat >"$work/crates/write_canon/src/main.rt" <<'RT'
+//! Makes a program of as many structures as the first line says, each of 1,024 fields, and as many canonical texts of it as the
+//! second line says, which it keeps; then it prints how many bytes they have together.
+#![tactic(auto)]
+
+use gt_canon::canon;
+use gt_types::{
+    Active, Field, List, Program, Scalar, Structure, Ty, Width, Word,
+};
+use std::alloc::{AllocError, Global};
+use std::io;
+
+fn field(alloc: Global, i: u64) -> Result<Field, AllocError> {
+    let name = format!(in alloc; "field{i}")?;
+    Ok(Field {
+        name: Word::of(alloc, name.as_str())?,
+        ty: Ty::Num(Scalar::Int {
+            width: Width::W4,
+            signed: true,
+        }),
+        active: Active::Always,
+    })
+}
+
+fn structure(alloc: Global, i: u64) -> Result<Structure, AllocError> {
+    let name = format!(in alloc; "structure{i}")?;
+    let mut fields = List::new(alloc);
+    for k in 0..1024u64 {
+        fields.push(field(alloc, k)?)?;
+    }
+    Ok(Structure {
+        name: Word::of(alloc, name.as_str())?,
+        is_union: false,
+        desc: None,
+        fields,
+        chains: List::new(alloc),
+    })
+}
+
+fn program(alloc: Global, count: u64) -> Result<Program, AllocError> {
+    let mut structures = List::new(alloc);
+    for i in 0..count {
+        structures.push(structure(alloc, i)?)?;
+    }
+    Ok(Program {
+        structures,
+        roots: List::new(alloc),
+        caches: List::new(alloc),
+        words: List::new(alloc),
+    })
+}
+
+fn texts(alloc: Global, count: u64, times: u64) -> Result<u64, AllocError> {
+    let program = program(alloc, count)?;
+    let mut texts = Vec::new(alloc);
+    for _ in 0..times {
+        texts.push(canon(alloc, &program)?)?;
+    }
+    let mut bytes = 0u64;
+    for text in &texts {
+        bytes = bytes.saturating_add(text.len() as u64);
+    }
+    Ok(bytes)
+}
+
+fn main(rt: HostRuntime) -> io::Result<()> {
+    let mut count = 0u64;
+    let mut times = 1u64;
+    let mut words = 0u64;
+    for line in rt.lines(rt.alloc()) {
+        if let Ok(n) = line?.as_str().parse::<u64>() {
+            if words == 0 {
+                count = n;
+            } else {
+                times = n;
+            }
+            words = words.saturating_add(1);
+        }
+    }
+    let bytes = texts(rt.alloc(), count, times)?;
+    println!(rt; "{bytes}")
+}
+RT
+for name in $names; do (cd "$work/crates/$name" && rt lib) >"$work/log" 2>&1 || { cat "$work/log" >&2; exit 2; }; done
+printf '1\n1\n' >"$work/crates/write_canon/stdin"
+(cd "$work/crates/write_canon" && rt run) >"$work/log" 2>&1 || { cat "$work/log" >&2; exit 2; }
+program=$work/crates/write_canon/out/write_canon
+
+# The processor time of the best of five runs: so many structures, and so many texts. All texts are kept, so that both sizes
+# take as much new memory.
+seconds() {
+  local best=999999 took
+  for _ in 1 2 3 4 5; do
+    TIMEFORMAT='%U %S'
+    took=$({ time printf '%s\n%s\n' "$1" "$2" | "$program" >"$work/bytes"; } 2>&1 | awk '{ print $1 + $2 }')
+    best=$(awk -v a="$best" -v b="$took" 'BEGIN { print (b < a) ? b : a }')
+  done
+  echo "$best"
+}
+# The seconds that a text of each size takes, without those that its program takes.
+small=$(awk -v a="$(seconds 409 20)" -v b="$(seconds 409 0)" 'BEGIN { print (a - b) / 20 }')
+large=$(awk -v a="$(seconds 4096 2)" -v b="$(seconds 4096 0)" 'BEGIN { print (a - b) / 2 }')
+awk -v s="$small" -v l="$large" \
+  'BEGIN { printf "409 structures in %.4f s, 4096 structures in %.4f s, ratio %.1f\n", s, l, l / s }'

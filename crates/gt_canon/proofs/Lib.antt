@@ -1,0 +1,13 @@
+pub mod Runs
+pub mod Integers
+pub mod Trees
+pub mod Forms
+pub mod Document
+pub mod Inductions
+pub mod ExprTrees
+pub mod TypeForms
+pub mod Knowing
+pub mod KnownTypes
+pub mod ProgramText
+pub mod ProgramBack
+pub mod SameTexts
