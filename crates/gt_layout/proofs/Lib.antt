@@ -1,0 +1,12 @@
+pub mod Multiples
+pub mod Placing
+pub mod PlaneOf
+pub mod Drafting
+pub mod Agreement
+pub mod Types
+pub mod Laying
+pub mod Ideal
+pub mod Beyond
+pub mod Whole
+pub mod Placed
+pub mod Capacities

@@ -1,0 +1,48 @@
+use Rattle.std.proofs.Common.{◌≡◌, ℕ, IsTrue, List, Some, sym, subst}
+use Rattle.std.specs.List.{All}
+use Rattle.gt_types.specs.declared.program.Root.{Root}
+use Rattle.gt_layout.specs.declared.planes.Plane.{Plane}
+use Rattle.gt_layout.specs.declared.layouts.Statics.{Statics}
+use Rattle.gt_layout.specs.Storages.{storage_of}
+use Rattle.gt_layout.specs.Planes.{is_placeable}
+use Rattle.gt_layout.specs.Excess.{IsFirst}
+use Rattle.gt_layout.specs.Progress.{IsLargeAt, IsStatics}
+use Rattle.gt_layout.proofs.Whole.{placeable_roots, stop_beyond, stop_some, all_laid_out, all_within}
+use Rattle.gt_layout.proofs.layouts.layout.Goals as goal
+
+-- what a call says of the slices of the planes and the roots, said of these
+statics_of : (slice known : List Plane) (items roots : List Root) (result variant : Statics) → slice ≡ known → items ≡ roots → result ≡ variant → IsStatics slice items result → IsStatics known roots variant
+statics_of slice known items roots result variant a b c is =
+    subst (λ (ps : List Plane). IsStatics ps roots variant) a (subst (λ (rs : List Root). IsStatics slice rs variant) b (subst (IsStatics slice items) c is))
+
+pub lay_out_roots-requires-clause-placeable : goal.lay_out_roots-requires-clause-placeable
+lay_out_roots-requires-clause-placeable c =
+    subst (λ (ps : List Plane). All (λ (r : Root). IsTrue (is_placeable (storage_of ps r.ty))) c.as_slice-2.result.now) (sym c.as_slice-3.ensures.value)
+    (subst (λ (rs : List Root). All (λ (r : Root). IsTrue (is_placeable (storage_of c.in_ok-known.known.items r.ty))) rs) (sym c.as_slice-2.ensures.items)
+    (placeable_roots c.args.program.now c.in_ok-known.known.items c.requires c.in_ok-known.ensures))
+
+pub returns-in-Beyond-clause-stop : goal.returns-in-Beyond-clause-stop
+returns-in-Beyond-clause-stop c =
+    stop_beyond c.args.program.now c.in_ok-known.known.items c.first_too_large-structure.result c.in-Beyond.root c.requires c.in_ok-known.ensures
+    (subst (λ (ps : List Plane). IsFirst (IsLargeAt c.args.program.now ps) c.first_too_large-structure.result) c.as_slice.ensures.value c.first_too_large-structure.ensures)
+    (statics_of c.as_slice-3.result.now c.in_ok-known.known.items c.as_slice-2.result.now c.args.program.now.roots c.in_ok-plane.field-0 _ c.as_slice-3.ensures.value c.as_slice-2.ensures.items c.in-Beyond.is c.in_ok-plane.ensures)
+
+pub returns-in-None-clause-laid_out : goal.returns-in-None-clause-laid_out
+returns-in-None-clause-laid_out c =
+    all_laid_out c.args.program.now c.in_ok-known.known.items c.of.result c.in-Within.plane c.requires c.in_ok-known.ensures
+    (subst (λ (ps : List Plane). (place : ℕ) → ¬ IsLargeAt c.args.program.now ps place) c.as_slice.ensures.value c.in-None.ensures)
+    (statics_of c.as_slice-3.result.now c.in_ok-known.known.items c.as_slice-2.result.now c.args.program.now.roots c.in_ok-plane.field-0 _ c.as_slice-3.ensures.value c.as_slice-2.ensures.items c.in-Within.is c.in_ok-plane.ensures)
+    c.of.ensures.items
+
+pub returns-in-None-clause-within : goal.returns-in-None-clause-within
+returns-in-None-clause-within c =
+    all_within c.args.program.now c.in_ok-known.known.items c.of.result c.in-Within.plane c.in_ok-known.ensures
+    (subst (λ (ps : List Plane). (place : ℕ) → ¬ IsLargeAt c.args.program.now ps place) c.as_slice.ensures.value c.in-None.ensures)
+    (statics_of c.as_slice-3.result.now c.in_ok-known.known.items c.as_slice-2.result.now c.args.program.now.roots c.in_ok-plane.field-0 _ c.as_slice-3.ensures.value c.as_slice-2.ensures.items c.in-Within.is c.in_ok-plane.ensures)
+    c.of.ensures.items
+
+pub returns-in-Some-clause-stop : goal.returns-in-Some-clause-stop
+returns-in-Some-clause-stop c =
+    stop_some c.args.program.now c.in_ok-known.known.items c.in-Some.place c.in-Within.plane c.requires c.in_ok-known.ensures
+    (subst (λ (ps : List Plane). IsFirst (IsLargeAt c.args.program.now ps) (Some c.in-Some.place)) c.as_slice.ensures.value c.in-Some.ensures)
+    (statics_of c.as_slice-3.result.now c.in_ok-known.known.items c.as_slice-2.result.now c.args.program.now.roots c.in_ok-plane.field-0 _ c.as_slice-3.ensures.value c.as_slice-2.ensures.items c.in-Within.is c.in_ok-plane.ensures)

@@ -1,0 +1,7 @@
+pub mod Storages
+pub mod Places
+pub mod Planes
+pub mod Excess
+pub mod Laws
+pub mod Progress
+pub mod Capacity

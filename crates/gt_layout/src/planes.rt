@@ -1,0 +1,60 @@
+// The types of a layout.
+use gt_types::List;
+use std::alloc::AllocError;
+
+/// The most bytes that a structure without its tail elements, one of its tail elements, or the static record may take.
+pub const MAX_SIZE: u32 = 1048576;
+
+/// The size and the alignment of a type, in bytes. A size above [`MAX_SIZE`] is held as one more than it.
+#[derive(Clone, Copy, Debug, PartialEq, Eq)]
+pub struct Extent {
+    pub size: u32,
+    pub align: u32,
+}
+
+/// Where a field begins: `offset` is in bytes from the start of the structure. For a bit-field it is the offset of its
+/// aligned storage unit, and `bit` its first bit in that unit, counted from the lowest; for any other field `bit` is 0.
+#[derive(Clone, Copy, Debug, PartialEq, Eq)]
+pub struct Spot {
+    pub offset: u32,
+    pub bit: u8,
+}
+
+/// The layout of a structure: its size and alignment in bytes, and where each field begins, in the order of the fields.
+/// An array with a length at its end adds nothing to the size. A structure that is larger than [`MAX_SIZE`] is held with
+/// one more than that, its alignment and no fields. Alignment 0 marks what is not laid out yet.
+#[derive(Debug, Drop)]
+pub struct Plane {
+    pub size: u32,
+    pub align: u32,
+    pub fields: List<Spot>,
+}
+
+/// The layouts of the structures of a program, by place, and of the static record, which is a struct of the roots.
+#[derive(Debug, Drop)]
+pub struct Layouts {
+    pub structures: List<Plane>,
+    pub statics: Plane,
+}
+
+/// Why a program is not laid out: want of memory, or something is too large. That is the first structure which is too
+/// large, or has a tail element which is, and the first root whose end is beyond the limit, where there are such.
+#[derive(Clone, Copy, Debug, PartialEq, Eq, Drop)]
+pub enum LayoutStop {
+    Memory,
+    TooLarge {
+        structure: Option<u32>,
+        root: Option<u32>,
+    },
+}
+
+impl From<AllocError> for LayoutStop {
+    ghost use Rattle.std.specs.Prelude.{◌≡◌};
+    ghost use Rattle.gt_layout.specs.declared.planes.LayoutStop.TheVariants.{Memory};
+
+    ghost from_gives = { λ _ stop. stop ≡ Memory };
+
+    fn from(_: AllocError) -> LayoutStop {
+        LayoutStop::Memory
+    }
+}
