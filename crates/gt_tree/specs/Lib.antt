@@ -1,0 +1,11 @@
+pub mod Trees
+pub mod Numbers
+pub mod Blocks
+pub mod Scopes
+pub mod Fits
+pub mod Reshapes
+pub mod Leaves
+pub mod LeafLaws
+pub mod BlockLeaves
+pub mod PathLaws
+pub mod FixedLaws
