@@ -7,7 +7,7 @@ ghost use Rattle.gt_space.specs.declared.TheConstants.{PAGE_BYTES, HEAP_START, M
 ghost use Rattle.gt_io.specs.Held.{Held};
 ghost use Rattle.gt_space.specs.Range.{Range};
 ghost use Rattle.gt_front.specs.Texts.{Texts};
-ghost use Rattle.gt_machine.specs.declared.TheConstants.{MAX_VARIABLES};
+ghost use Rattle.gt_machine.specs.declared.TheConstants.{MAX_ALLOCATED, MAX_MIN_EXPAND as most_expand, MAX_MIN_HEAPSIZE as most_heapsize, MAX_VARIABLES};
 ghost use Rattle.gt_run.specs.Comes.{IsRefusedFirst, IsTold};
 ghost use Rattle.gt_run.specs.Runs.{Runs};
 
@@ -16,7 +16,8 @@ use gt_headers::one_outcome as headers_outcome;
 use gt_machine::Answer;
 
 /// The ranges and defaults of the words, the limits of files in bytes, the numbers of the faults of a script, where the pages
-/// begin, how large they are and how many a space has, how large the static record may be, and how many variables may be bound.
+/// begin, how large they are and how many a space has, how large the static record may be, how many variables may be bound, and
+/// the limits of a good state.
 pub fn numbers()
     ensures pages { (MIN_PAGES ≡ 16) × (MAX_PAGES ≡ 16384) × (DEFAULT_PAGES ≡ 4096) }
     ensures min_expand { (MAX_MIN_EXPAND ≡ 1000) × (DEFAULT_MIN_EXPAND ≡ 30) }
@@ -28,6 +29,7 @@ pub fn numbers()
     ensures space { (HEAP_START ≡ 268435456) × (PAGE_BYTES ≡ 4096) × (MAX_STATICS ≡ 1048576) }
     ensures space_pages { (least_pages ≡ 16) × (most_pages ≡ 16384) }
     ensures variables { MAX_VARIABLES ≡ 65536 }
+    ensures settings { (most_expand ≡ 1000) × (most_heapsize ≡ 1048576) × (MAX_ALLOCATED ≡ 67108864) }
 {}
 
 /// Where the files are told, at most one refusal comes first but for read faults, which no file tells; and where one does, no

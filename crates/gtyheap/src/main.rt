@@ -26,7 +26,7 @@ fn main(rt: HostRuntime) -> ExitCode {
     ExitCode::from(outcome.status)
 }
 
-// The words behind the program's name. Words of which one is no text ask for nothing, as no words do.
+// The arguments after the program's name. If any of them is not valid UTF-8, there are none, and the command line is refused.
 fn read_words<R: Env + AllocGlobal>(rt: &R) -> Result<Vec<Word>, AllocError> {
     let alloc = rt.alloc();
     let mut words = Vec::new(alloc);

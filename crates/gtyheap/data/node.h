@@ -1,1 +1,0 @@
-struct GTY(()) node { struct node *next; struct node *other; }; static GTY(()) struct node *head;
