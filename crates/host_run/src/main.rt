@@ -1,0 +1,104 @@
+//! The machine's own files and output, tried: files that are absent, empty, as long as the limit and one byte longer, and a folder
+//! are read, and files are written and read back. Each answer is a line of the standard output. No contract can say what a file
+//! of the machine holds; here a run shows it.
+#![tactic(auto)]
+
+use gt_io::{Files, HostFiles, HostOut, ReadFail, Sink, WriteFail};
+use gt_types::{Bytes, Word};
+use std::alloc::{AllocError, Global};
+use std::process::ExitCode;
+
+/// The most bytes that are read of a file.
+const LIMIT: u64 = 4;
+
+/// The status where memory or the output fails.
+const FAILED: u8 = 1;
+
+fn main(rt: HostRuntime) -> ExitCode {
+    let alloc = rt.alloc();
+    let mut out = HostOut::new(rt.stdout());
+    let mut files = HostFiles::new(rt);
+    match try_all(alloc, &mut files, &mut out) {
+        Ok(()) => ExitCode::SUCCESS,
+        Err(_) => ExitCode::from(FAILED),
+    }
+}
+
+// Reads and writes one file after another.
+fn try_all(alloc: Global, files: &mut HostFiles, out: &mut HostOut) -> Result<(), WriteFail> {
+    for name in [
+        "absent",
+        "empty",
+        "four",
+        "five",
+        "folder",
+        "folder/inside",
+        "four/inside",
+    ] {
+        read_one(alloc, files, out, name)?;
+    }
+    for (name, bytes) in [
+        ("new", b"xyz".as_slice()),
+        ("new", b"q"),
+        ("new", b""),
+        ("folder", b"xyz"),
+    ] {
+        write_one(alloc, files, out, name, bytes)?;
+        read_one(alloc, files, out, name)?;
+    }
+    Ok(())
+}
+
+// Reads a file, and writes what it answered.
+fn read_one(
+    alloc: Global,
+    files: &mut HostFiles,
+    out: &mut HostOut,
+    name: &str,
+) -> Result<(), WriteFail> {
+    let Ok(word) = Word::of(alloc, name) else {
+        return Err(WriteFail::Memory);
+    };
+    let answer = files.read(alloc, &word, LIMIT);
+    match answer_line(alloc, name, &answer) {
+        Ok(line) => out.write_all(line.as_str().as_bytes()),
+        Err(_) => Err(WriteFail::Memory),
+    }
+}
+
+// The line of an answer to a read.
+fn answer_line(
+    alloc: Global,
+    name: &str,
+    answer: &Result<Option<Bytes>, ReadFail>,
+) -> Result<String, AllocError> {
+    match answer {
+        Ok(Some(bytes)) => format!(in alloc; "read {name}: {:?}\n", bytes.as_slice()),
+        Ok(None) => format!(in alloc; "read {name}: absent\n"),
+        Err(ReadFail::TooLong) => format!(in alloc; "read {name}: too long\n"),
+        Err(ReadFail::Failed) => format!(in alloc; "read {name}: failed\n"),
+        Err(ReadFail::Memory) => Err(AllocError),
+    }
+}
+
+// Writes a file, and writes what it answered.
+fn write_one(
+    alloc: Global,
+    files: &mut HostFiles,
+    out: &mut HostOut,
+    name: &str,
+    bytes: &[u8],
+) -> Result<(), WriteFail> {
+    let Ok(word) = Word::of(alloc, name) else {
+        return Err(WriteFail::Memory);
+    };
+    let answer = match files.write(&word, bytes) {
+        Ok(()) => "written",
+        Err(WriteFail::Failed) => "failed",
+        Err(WriteFail::Memory) => return Err(WriteFail::Memory),
+    };
+    match format!(in alloc; "write {name}: {answer}\n") {
+        Ok(line) => out.write_all(line.as_str().as_bytes()),
+        Err(_) => Err(WriteFail::Memory),
+    }
+}
