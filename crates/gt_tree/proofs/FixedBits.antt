@@ -86,13 +86,6 @@ half (suc k) h =
     let e : suc k - 1 ≡ k = omega arith in
     pow-succ' 2 k ∙ ap (λ n. 2 * 2 ^ n) (sym e)
 
--- where two numbers with a sign have one two's complement
-one-complement : (p a b : ℕ) → a < p → b < p → 2 * p - (a + 1) ≡ 2 * p - (b + 1) → a ≡ b
-one-complement p a b x y e = omega arith
-
-other-sign : (p a b : ℕ) → a < p → b < p → a ≡ 2 * p - (b + 1) → ⊥
-other-sign p a b x y e = omega arith
-
 room-less : (n width : ℕ) → IsTrue (nat_lt n (2 ^ (width - 1))) → n < 2 ^ (width - 1)
 room-less n width h = ltb-true n (2 ^ (width - 1)) h
 

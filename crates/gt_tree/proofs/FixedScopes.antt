@@ -1,7 +1,7 @@
 -- What the expressions of options read in two scopes of twins.
-use Rattle.std.proofs.Common.{◌≡◌, ℕ, suc, List, refl, ap, sym, subst, ◌∙◌, Option, Some, None, inl, inr}
+use Rattle.std.proofs.Common.{◌≡◌, ℕ, suc, List, [], refl, ap, sym, subst, ◌∙◌, Option, Some, None, inl, inr}
 use Rattle.std.specs.Prelude.{All}
-use Rattle.std.proofs.lemmas.List.Elements.{All-weaker}
+use Rattle.std.proofs.lemmas.List.Elements.{All-nil, All-same, All-weaker}
 use Rattle.gt_types.specs.declared.expressions.Base.{Base}
 use Rattle.gt_types.specs.declared.expressions.Base.TheVariants.{Here, Outer, Outermost}
 use Rattle.gt_types.specs.declared.expressions.Expr.{Expr}
@@ -15,7 +15,7 @@ use Rattle.gt_types.specs.declared.types.Ty.TheVariants.{outs-Num, outs-Bits, ou
 use Rattle.gt_types.specs.declared.program.Program.{Program}
 use Rattle.gt_types.specs.Shapes.{innermost, innermost_step, count_of}
 use Rattle.gt_types.specs.Contains.{ContainsStructure, ContainsAtDepth, Nests, once, deeper}
-use Rattle.gt_types.specs.Paths.{paths_of, IsInner, IsOutermost, LeadsToNumber, PathFits, DescPathFits, IsOption, IsFieldDesc}
+use Rattle.gt_types.specs.Paths.{paths_of, roots_of, IsScalarRoot, IsRootDesc, IsInner, IsOutermost, LeadsToNumber, PathFits, DescPathFits, IsOption, IsFieldDesc}
 use Rattle.gt_tree.specs.Trees.{Tree}
 use Rattle.gt_tree.specs.Scopes.{Held, Scope, inside, first_of}
 use Rattle.gt_tree.specs.PathLaws.{LeadsInScope}
@@ -69,11 +69,20 @@ option-path program scope node value Here steps a fits = λ h e. subst (λ n. Le
 option-path program scope node value Outer steps a fits = λ h e. fits h.node (a.within h e)
 option-path program scope node value Outermost steps a fits = λ h e. outermost-leads program scope.here scope.outermost node value steps a fits h e
 
--- the paths of an option of a structure lead to numbers inside its value
-pub option-leads : (program : Program) (scope : Scope) (node : TypeId) (value : Tree) (e : Expr) → IsAround program scope.here scope.outermost node → IsOption program node e
-    → All (LeadsInScope program (inside scope node value)) (paths_of e)
-option-leads program scope node value e a option =
-    All-weaker (λ path. PathFits program node path.0 path.1) (LeadsInScope program (inside scope node value)) (λ path fits. option-path program scope node value path.0 path.1 a fits) (paths_of e) option.paths
+-- the paths of an expression lead to numbers in a scope, and its roots are numbers
+pub record IsReadable (program : Program) (scope : Scope) (e : Expr) : Type 0 where
+  pub leads : All (LeadsInScope program scope) (paths_of e)
+  pub roots : All (IsScalarRoot program) (roots_of e)
+
+no-roots : (program : Program) (e : Expr) → roots_of e ≡ [] → All (IsScalarRoot program) (roots_of e)
+no-roots program e none = All-same (IsScalarRoot program) (roots_of e) [] none (All-nil (IsScalarRoot program))
+
+-- an option of a structure is so inside its value
+pub option-leads : (program : Program) (scope : Scope) (node : TypeId) (value : Tree) (e : Expr) → IsAround program scope.here scope.outermost node → IsOption program node e → IsReadable program (inside scope node value) e
+option-leads program scope node value e a option = record {
+  leads = All-weaker (λ path. PathFits program node path.0 path.1) (LeadsInScope program (inside scope node value)) (λ path fits. option-path program scope node value path.0 path.1 a fits) (paths_of e) option.paths;
+  roots = no-roots program e option.no_roots;
+}
 
 first-first : (a : Option Held) (b c : Held) → first_of (first_of a (Some b)) (Some c) ≡ first_of a (Some b)
 first-first None b c = refl
@@ -87,12 +96,30 @@ desc-path program scope node union value inner Outermost steps a fits = λ h e.
     outermost-leads program scope.here scope.outermost node value steps a fits h
     (sym (first-first scope.outermost (record { node = node; value = value }) (record { node = union; value = inner })) ∙ e)
 
--- so do those of the `desc` of a field
+-- so is the `desc` of a field
 pub desc-leads : (program : Program) (scope : Scope) (node union : TypeId) (value inner : Tree) (e : Expr) → IsAround program scope.here scope.outermost node → IsFieldDesc program node union e
-    → All (LeadsInScope program (inside (inside scope node value) union inner)) (paths_of e)
-desc-leads program scope node union value inner e a desc =
-    All-weaker (λ path. DescPathFits program node union path.0 path.1) (LeadsInScope program (inside (inside scope node value) union inner))
-    (λ path fits. desc-path program scope node union value inner path.0 path.1 a fits) (paths_of e) desc.paths
+    → IsReadable program (inside (inside scope node value) union inner) e
+desc-leads program scope node union value inner e a desc = record {
+  leads =
+      All-weaker (λ path. DescPathFits program node union path.0 path.1) (LeadsInScope program (inside (inside scope node value) union inner))
+      (λ path fits. desc-path program scope node union value inner path.0 path.1 a fits) (paths_of e) desc.paths;
+  roots = no-roots program e desc.no_roots;
+}
+
+-- and the `desc` of a root
+root_desc-path : (program : Program) (scope : Scope) (union : TypeId) (inner : Tree) (base : Base) (steps : List (List ℕ)) → base ≡ Here → LeadsToNumber program union steps
+    → LeadsInScope program (inside scope union inner) (base, steps)
+root_desc-path program scope union inner Here steps is fits = λ h e. subst (λ n. LeadsToNumber program n steps) (some-node union inner h e) fits
+root_desc-path program scope union inner Outer steps is fits = absurd (cc)
+root_desc-path program scope union inner Outermost steps is fits = absurd (cc)
+
+pub root_desc-leads : (program : Program) (scope : Scope) (union : TypeId) (inner : Tree) (e : Expr) → IsRootDesc program union e → IsReadable program (inside scope union inner) e
+root_desc-leads program scope union inner e desc = record {
+  leads =
+      All-weaker (λ path. (path.0 ≡ Here) × LeadsToNumber program union path.1) (LeadsInScope program (inside scope union inner))
+      (λ path fits. root_desc-path program scope union inner path.0 path.1 fits.0 fits.1) (paths_of e) desc.paths;
+  roots = desc.roots;
+}
 
 -- ---- types
 

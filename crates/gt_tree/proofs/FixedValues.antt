@@ -92,6 +92,19 @@ count-same value n m a b = cc
 and-same : (v w : Tree) (vs ws : Trees) → v ≡ w → vs ≡ ws → And v vs ≡ And w ws
 and-same v w vs ws e f = cc
 
+-- ---- numbers
+
+module _ (g : Given) where
+  pub same-num : {t : Scope} (number : Scalar) (n : ℤ) (w : Tree) (whole : Bool) (at : ℕ) → IsTrue (has_room (is_signed number) (bits_of number) n) → Fits g.program g.blocks g.capacity t (ty.Num number) w
+      → IsRead g.program g.planes (Got g.address g.bits whole) at (ty.Num number) (Num n) → IsRead g.program g.planes (Got g.address g.bits whole) at (ty.Num number) w → Num n ≡ w
+  same-num number n w whole at room other read other_read =
+      let found = is-number number w other in
+      let theirs = subst (λ x. IsRead g.program g.planes (Got g.address g.bits whole) at (ty.Num number) x) found.1 other_read in
+      ap Num (same-number g.address g.bits whole number at n found.0 room found.2 (read-number (Got g.address g.bits whole) number n read.0 read.1 read.2) (read-number (Got g.address g.bits whole) number found.0 theirs.0 theirs.1 theirs.2))
+      ∙ sym found.1
+
+-- ---- types
+
 module _ (g : Given) (Start : Scope → Scope → Ty → Type 0) (types : (s t : Scope) (type : Ty) → Start s t type → IsTypeIn g.program type) where
   -- what stands in such scopes is a type of the program or a common structure
   pub typed : {s t : Scope} {type : Ty} → Alike g Start s t type → IsTypeIn g.program type ⊎ (is_structure type ≡ true)
@@ -115,14 +128,6 @@ module _ (g : Given) (Start : Scope → Scope → Ty → Type 0) (h : Assumed g 
       (All-weaker (Contains x.fields) (λ f. Alike g Start (inside s node v) (inside t node w) f.ty) (λ f c. Alike.in_field a twins has c) x.fields (All-contains_itself x.fields))
 
   -- ---- leaves
-
-  same-num : {t : Scope} (number : Scalar) (n : ℤ) (w : Tree) (whole : Bool) (at : ℕ) → IsTrue (has_room (is_signed number) (bits_of number) n) → Fits g.program g.blocks g.capacity t (ty.Num number) w
-      → IsRead g.program g.planes (held whole) at (ty.Num number) (Num n) → IsRead g.program g.planes (held whole) at (ty.Num number) w → Num n ≡ w
-  same-num number n w whole at room other read other_read =
-      let found = is-number number w other in
-      let theirs = subst (λ x. IsRead g.program g.planes (held whole) at (ty.Num number) x) found.1 other_read in
-      ap Num (same-number g.address g.bits whole number at n found.0 room found.2 (read-number (held whole) number n read.0 read.1 read.2) (read-number (held whole) number found.0 theirs.0 theirs.1 theirs.2))
-      ∙ sym found.1
 
   same-field_bits : {t : Scope} (unit : Scalar) (width : ℕ) (n : ℤ) (w : Tree) (whole : Bool) (at : ℕ) → 1 ≤ width → IsTrue (has_room (is_signed unit) width n)
       → Fits g.program g.blocks g.capacity t (ty.Bits unit width) w
@@ -311,7 +316,7 @@ module _ (g : Given) (Start : Scope → Scope → Ty → Type 0) (h : Assumed g 
   mutual
     pub fixed : {s : Scope} {type : Ty} {v : Tree} → Fits g.program g.blocks g.capacity s type v → (t : Scope) (w : Tree) (whole : Bool) (at : ℕ) → Alike g Start s t type
         → Fits g.program g.blocks g.capacity t type w → IsRead g.program g.planes (held whole) at type v → IsRead g.program g.planes (held whole) at type w → v ≡ w
-    fixed (Fits.number {scalar} {n} room) t w whole at a other read other_read = same-num scalar n w whole at room other read other_read
+    fixed (Fits.number {scalar} {n} room) t w whole at a other read other_read = same-num g scalar n w whole at room other read other_read
     fixed (Fits.bits {unit} {width} {n} room) t w whole at a other read other_read = same-field_bits unit width n w whole at (wide-bits unit width a) room other read other_read
     fixed (Fits.opaque {size} {align} {bytes} long small) t w whole at a other read other_read = same-opaque size align bytes w whole at long small other read other_read
     fixed (Fits.null {type} p) t w whole at a other read other_read = same-null type w whole at (is-pointer type w p other) read other_read

@@ -32,3 +32,5 @@ pub mod FixedValues
 pub mod FixedScopes
 pub mod FixedTwins
 pub mod FixedElements
+pub mod FixedExprs
+pub mod FixedRecord

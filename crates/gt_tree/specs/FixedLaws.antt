@@ -1,5 +1,5 @@
--- What the bytes that stand for leaves say of each leaf.
-use Rattle.std.specs.Prelude.{◌≡◌, ◌≤◌, ◌<◌, ℕ, ◌+◌, ◌*◌, ◌/◌, ◌%◌, ◌^◌, Bool, ℤ, IsTrue, List, length, Some, slice_index, All}
+-- What the bytes that stand for leaves say of each leaf, and of whole values.
+use Rattle.std.specs.Prelude.{◌≡◌, ◌≤◌, ◌<◌, ℕ, ◌+◌, ◌*◌, ◌/◌, ◌%◌, ◌^◌, Bool, ℤ, IsTrue, List, map, length, Some, slice_index, All}
 use Rattle.gt_types.specs.declared.program.Program.{Program}
 use Rattle.gt_types.specs.Paths.{MayStand}
 use Rattle.gt_layout.specs.declared.planes.Layouts.{Layouts}
@@ -7,8 +7,8 @@ use Rattle.gt_tree.specs.Numbers.{has_room, two's_complement}
 use Rattle.gt_tree.specs.Trees.{Tree, Trees, count}
 use Rattle.gt_tree.specs.Blocks.{Kind, Nodes, Pointers, Block, Blocks, element_type}
 use Rattle.gt_tree.specs.Scopes.{outside}
-use Rattle.gt_tree.specs.Fits.{Fits, EachFits}
-use Rattle.gt_tree.specs.Leaves.{Leaf, HasLeaves, EachHasLeaves, content_bits, bit_of, Stand}
+use Rattle.gt_tree.specs.Fits.{Fits, EachFits, StaticsFit}
+use Rattle.gt_tree.specs.Leaves.{Leaf, HasLeaves, FieldsHaveLeaves, EachHasLeaves, content_bits, bit_of, Stand}
 use Rattle.gt_tree.specs.LeafLaws.{LieInOrder, IsWidth}
 
 -- a bit of bytes, counted from the lowest of each byte
@@ -43,18 +43,40 @@ MayHold program (Nodes node) = MayStand program node
 MayHold program (Pointers node) = MayStand program node
 MayHold program kind = Unit {0}
 
--- where blocks have addresses, two values that an element of a block may have and for which the same bytes stand are one value
-abbrev pub ValueIsFixed : Program → Layouts → Type 0
-ValueIsFixed program layouts = (blocks : Blocks) (statics : Trees) (kind : Kind) (capacity width at : ℕ) (a b : Tree) (leaves others : List Leaf) (address : ℕ → ℕ) (bytes : List ℕ)
-    → MayHold program kind → AreAddresses blocks address → IsWidth program layouts.structures capacity (element_type program kind) width → at + width ≤ 8 * length bytes
-    → Fits program blocks capacity (outside statics) (element_type program kind) a → Fits program blocks capacity (outside statics) (element_type program kind) b
-    → HasLeaves program layouts.structures at (element_type program kind) a leaves → HasLeaves program layouts.structures at (element_type program kind) b others
-    → Stand address leaves bytes → Stand address others bytes → a ≡ b
+-- a value of an element of a block, for which these bytes stand from a bit on
+pub record IsValueOf (program : Program) (layouts : Layouts) (blocks : Blocks) (statics : Trees) (kind : Kind) (capacity : ℕ) (address : ℕ → ℕ) (at : ℕ) (bytes : List ℕ) (value : Tree) : Type 0 where
+  pub leaves : List Leaf
+  pub fits : Fits program blocks capacity (outside statics) (element_type program kind) value
+  pub has : HasLeaves program layouts.structures at (element_type program kind) value leaves
+  pub stand : Stand address leaves bytes
 
--- so are as many elements of a block, one after another
+-- values of elements of a block, each so many bits after the one before it, for which these bytes stand from a bit on
+pub record AreValuesOf (program : Program) (layouts : Layouts) (blocks : Blocks) (statics : Trees) (kind : Kind) (capacity stride : ℕ) (address : ℕ → ℕ) (at : ℕ) (bytes : List ℕ) (values : Trees) : Type 0 where
+  pub leaves : List Leaf
+  pub fit : EachFits program blocks capacity (outside statics) (element_type program kind) values
+  pub have : EachHasLeaves program layouts.structures stride at (element_type program kind) values leaves
+  pub stand : Stand address leaves bytes
+
+-- values of the roots, each at its place, for which these bytes stand
+pub record AreStaticsOf (program : Program) (layouts : Layouts) (blocks : Blocks) (address : ℕ → ℕ) (bytes : List ℕ) (values : Trees) : Type 0 where
+  pub leaves : List Leaf
+  pub fit : StaticsFit program blocks values
+  pub have : FieldsHaveLeaves program layouts.structures 0 (map (λ r. r.ty) program.roots) layouts.statics.fields values leaves
+  pub stand : Stand address leaves bytes
+
+-- two values of an element for which the same bytes stand, as many as it has, are one value
+abbrev pub ValueIsFixed : Program → Layouts → Type 0
+ValueIsFixed program layouts = (blocks : Blocks) (statics : Trees) (kind : Kind) (capacity width at : ℕ) (address : ℕ → ℕ) (bytes : List ℕ) (a b : Tree)
+    → MayHold program kind → AreAddresses blocks address → IsWidth program layouts.structures capacity (element_type program kind) width → at + width ≤ 8 * length bytes
+    → IsValueOf program layouts blocks statics kind capacity address at bytes a → IsValueOf program layouts blocks statics kind capacity address at bytes b → a ≡ b
+
+-- so it is for as many elements, one after another
 abbrev pub ElementsAreFixed : Program → Layouts → Type 0
-ElementsAreFixed program layouts = (blocks : Blocks) (statics : Trees) (kind : Kind) (capacity width at : ℕ) (a b : Trees) (leaves others : List Leaf) (address : ℕ → ℕ) (bytes : List ℕ)
+ElementsAreFixed program layouts = (blocks : Blocks) (statics : Trees) (kind : Kind) (capacity width at : ℕ) (address : ℕ → ℕ) (bytes : List ℕ) (a b : Trees)
     → MayHold program kind → AreAddresses blocks address → IsWidth program layouts.structures capacity (element_type program kind) width → count a ≡ count b → at + count a * width ≤ 8 * length bytes
-    → EachFits program blocks capacity (outside statics) (element_type program kind) a → EachFits program blocks capacity (outside statics) (element_type program kind) b
-    → EachHasLeaves program layouts.structures width at (element_type program kind) a leaves → EachHasLeaves program layouts.structures width at (element_type program kind) b others
-    → Stand address leaves bytes → Stand address others bytes → a ≡ b
+    → AreValuesOf program layouts blocks statics kind capacity width address at bytes a → AreValuesOf program layouts blocks statics kind capacity width address at bytes b → a ≡ b
+
+-- and for the static record
+abbrev pub RecordIsFixed : Program → Layouts → Type 0
+RecordIsFixed program layouts = (blocks : Blocks) (address : ℕ → ℕ) (bytes : List ℕ) (a b : Trees) → AreAddresses blocks address → layouts.statics.size ≤ length bytes
+    → AreStaticsOf program layouts blocks address bytes a → AreStaticsOf program layouts blocks address bytes b → a ≡ b
