@@ -12,8 +12,6 @@ pub mod Keeping
 pub mod Singles
 pub mod AfterFlags
 pub mod Closing
-pub mod Unlinking
 pub mod Placing
 pub mod Totals
 pub mod PlainBytes
-pub mod Shaping

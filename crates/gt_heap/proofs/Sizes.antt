@@ -1,5 +1,5 @@
 -- The size of the block of a structure: it is listed, and has room for the fields.
-use Rattle.std.proofs.Common.{◌≡◌, ℕ, ◌*◌, ◌<◌, ◌≤◌, true, cond, inl, inr, List, [], ◌∷◌, Some, ap, sym, subst, ◌∙◌, arith, rules}
+use Rattle.std.proofs.Common.{◌≡◌, ℕ, ◌*◌, ◌<◌, ◌≤◌, true, cond, inl, inr, List, [], ◌∷◌, Some, ap, sym, subst, ◌∙◌, rules}
 use Rattle.std.specs.Prelude.{Contains, find, nat_le}
 use Rattle.std.proofs.lemmas.Bool.{cases_Bool}
 use Rattle.gt_types.specs.declared.types.TypeId.{TypeId}

@@ -6,6 +6,4 @@ pub mod Kept
 pub mod Freed
 pub mod Heap
 pub mod Making
-pub mod Unlinked
-pub mod Shapes
 pub mod PlainBytes

@@ -14,6 +14,3 @@ pub use pages::{Pages, SlotFail};
 pub use plain::is_sound;
 pub use sizes::{SIZES, all_sizes, rounded_size};
 pub use span::Span;
-
-#[cfg(test)]
-mod tests;

@@ -3,6 +3,9 @@
 /// The word that stands for any address.
 const ANY_ADDRESS: &str = "A";
 
+/// The character that stands for any digit of an address, as in `0x10002___` for any place in page 2.
+const ANY_DIGIT: u8 = b'_';
+
 /// Whether a text is the expected one, byte for byte, but for the words that stand for an address.
 pub fn is_expected(expected: &str, came: &str) -> bool {
     let mut lines = came.split('\n');
@@ -31,7 +34,16 @@ fn is_line(expected: &str, came: &str) -> bool {
 }
 
 fn is_word(expected: &str, came: &str) -> bool {
-    came == expected || expected == ANY_ADDRESS && is_address(came)
+    came == expected || is_address(came) && (expected == ANY_ADDRESS || is_in_page(expected, came))
+}
+
+// Whether an address is the expected one but for digits that are left open.
+fn is_in_page(expected: &str, came: &str) -> bool {
+    expected.len() == came.len()
+        && expected
+            .bytes()
+            .zip(came.bytes())
+            .all(|(wanted, digit)| wanted == digit || wanted == ANY_DIGIT)
 }
 
 // Whether a word is `0x` and eight hexadecimal digits in lower case.

@@ -1,5 +1,5 @@
 use Rattle.std.proofs.Common.{◌≡◌, length}
-use Rattle.gt_pages.proofs.tests.flags.Given as goal
+use Rattle.pages_table.proofs.requests.flags.Given as goal
 
 abbrev pub invariant-loop-i : goal.invariant-loop-i
 invariant-loop-i l = length l.flags.items ≡ l.i
