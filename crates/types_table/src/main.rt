@@ -7,7 +7,7 @@
 
 mod leaves;
 
-use gt_types::{Bytes, Copied, Word, eval};
+use gt_types::{Bytes, Copied, Ty, Word, eval};
 use leaves::Leaves;
 use program_notation::{Refusal, expression_of, type_of};
 use std::alloc::{AllocError, Global};
@@ -26,19 +26,19 @@ fn main(rt: HostRuntime) -> io::Result<()> {
     let alloc = rt.alloc();
     let table = io::read_to_string(alloc, rt.stdin())?;
     let mut subject = Subject::Values;
-    let mut row = "";
+    let mut row = String::new(alloc);
     let mut count = 0u64;
     let mut differ = 0u64;
     for line in table.lines() {
         if let Some(wanted) = line.strip_prefix("      = ") {
             count = count.saturating_add(1);
-            let found = answer(alloc, subject, row)?;
+            let found = answer(alloc, subject, row.as_str())?;
             if found.as_str() != wanted {
                 differ = differ.saturating_add(1);
                 println!(rt; "row {count}: {row} gives {found}")?;
             }
         } else if let Some(text) = line.strip_prefix("    ") {
-            row = text;
+            row = String::from_str(alloc, text)?;
         } else {
             subject = subject_of(line).unwrap_or(subject);
         }
@@ -87,10 +87,15 @@ fn value(alloc: Global, row: &str) -> Result<String, Refusal> {
 // Whether a type and its copy are shown as one text.
 fn copy(alloc: Global, row: &str) -> Result<String, Refusal> {
     let ty = type_of(alloc, row)?;
-    let shown = format!(in alloc; "{ty:?}")?;
     let copied = ty.copy(alloc)?;
-    let same = shown.as_str() == format!(in alloc; "{copied:?}")?.as_str();
+    let same = are_alike(alloc, &ty, &copied)?;
     Ok(String::from_str(alloc, if same { "same" } else { "other" })?)
+}
+
+fn are_alike(alloc: Global, ty: &Ty, other: &Ty) -> Result<bool, AllocError> {
+    let shown = format!(in alloc; "{ty:?}")?;
+    let shown_other = format!(in alloc; "{other:?}")?;
+    Ok(shown.as_str() == shown_other.as_str())
 }
 
 // How many characters a text has; of a copy of its bytes how many there are, and the last of them.
