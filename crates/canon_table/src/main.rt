@@ -2,7 +2,8 @@
 //! that come out otherwise are printed.
 //!
 //! A row of the input is a comment, which says what the row shows, the lines of a program, a line `=`, and the lines of its
-//! text. A line `sha256` with the digest in hexadecimal may follow. A blank line ends the row. The head of the input says how a
+//! text. A line `sha256` with the digest in hexadecimal may follow. A blank line ends the row. A line `digest TEXT
+//! HEX` is a row of its own, a published digest, by which the function under the fingerprint is tried. The head of the input says how a
 //! program is written.
 #![tactic(auto)]
 

@@ -3,6 +3,7 @@ use crate::notation::program;
 use crate::words::Refusal;
 use gt_canon::{canon, fingerprint};
 use gt_types::Program;
+use sha2::{Digest, Sha256};
 use std::alloc::{AllocError, Global};
 use std::fmt::Write;
 use std::io;
@@ -32,7 +33,7 @@ impl Table {
         }
     }
 
-    /// Takes a line: a comment, a line of the program or of its text, the digest, or the end of the row.
+    /// Takes a line: a comment, a line of the program or of its text, the digest, a published digest, or the end of the row.
     pub fn take<R: Print + AllocGlobal>(&mut self, rt: &R, line: String) -> io::Result<()> {
         match line.as_str() {
             "" => self.close(rt),
@@ -43,6 +44,8 @@ impl Table {
             text => {
                 if text.starts_with("#") {
                     self.comment = line;
+                } else if let Some(vector) = text.strip_prefix("digest ") {
+                    self.try_vector(rt, vector)?;
                 } else if let Some(digest) = text.strip_prefix("sha256 ") {
                     self.digest.push_str(digest)?;
                 } else if self.in_text {
@@ -54,6 +57,18 @@ impl Table {
                 Ok(())
             }
         }
+    }
+
+    // Tries a published digest: a text without spaces, and its SHA-256.
+    fn try_vector<R: Print + AllocGlobal>(&mut self, rt: &R, vector: &str) -> io::Result<()> {
+        self.rows = self.rows.saturating_add(1);
+        let (text, wanted) = vector.split_once(' ').unwrap_or((vector, ""));
+        let found = hexadecimal(rt.alloc(), &Sha256::digest(text.as_bytes()))?;
+        if found.as_str() != wanted {
+            self.differ = self.differ.saturating_add(1);
+            println!(rt; "digest {text}: {found}")?;
+        }
+        Ok(())
     }
 
     // Tries the row, and begins the next one. Without a text there is no row.
@@ -108,8 +123,13 @@ impl Table {
 
 // The fingerprint in hexadecimal.
 fn digest_of(alloc: Global, program: &Program) -> Result<String, AllocError> {
+    hexadecimal(alloc, &fingerprint(alloc, program)?)
+}
+
+// Bytes in hexadecimal.
+fn hexadecimal(alloc: Global, bytes: &[u8]) -> Result<String, AllocError> {
     let mut text = String::new(alloc);
-    for byte in fingerprint(alloc, program)? {
+    for byte in bytes {
         write!(text, "{byte:02x}")?;
     }
     Ok(text)
