@@ -23,27 +23,59 @@ enum Subject {
 }
 
 fn main(rt: HostRuntime) -> io::Result<()> {
-    let alloc = rt.alloc();
-    let table = io::read_to_string(alloc, rt.stdin())?;
-    let mut subject = Subject::Values;
-    let mut row = String::new(alloc);
-    let mut count = 0u64;
-    let mut differ = 0u64;
-    for line in table.lines() {
-        if let Some(wanted) = line.strip_prefix("      = ") {
-            count = count.saturating_add(1);
-            let found = answer(alloc, subject, row.as_str())?;
-            if found.as_str() != wanted {
-                differ = differ.saturating_add(1);
-                println!(rt; "row {count}: {row} gives {found}")?;
-            }
-        } else if let Some(text) = line.strip_prefix("    ") {
-            row = String::from_str(alloc, text)?;
-        } else {
-            subject = subject_of(line).unwrap_or(subject);
+    let mut table = Table::new(rt.alloc());
+    for line in rt.lines(rt.alloc()) {
+        table.take(&rt, line?)?;
+    }
+    table.finish(&rt)
+}
+
+/// What is tried, the row that is being read, and how the rows before it came out.
+#[derive(Drop)]
+struct Table {
+    subject: Subject,
+    row: String,
+    rows: u64,
+    differ: u64,
+}
+
+impl Table {
+    fn new(alloc: Global) -> Table {
+        Table {
+            subject: Subject::Values,
+            row: String::new(alloc),
+            rows: 0,
+            differ: 0,
         }
     }
-    println!(rt; "{count} rows, {differ} differ")
+
+    // Takes a line: the answer that ends a row, the row itself, or what is tried from here on.
+    fn take<R: Print + AllocGlobal>(&mut self, rt: &R, line: String) -> io::Result<()> {
+        match line.as_str().strip_prefix("    ") {
+            None => self.subject = subject_of(line.as_str()).unwrap_or(self.subject),
+            Some(text) => match text.strip_prefix("  = ") {
+                None => self.row = String::from_str(rt.alloc(), text)?,
+                Some(wanted) => self.close(rt, wanted)?,
+            },
+        }
+        Ok(())
+    }
+
+    // Tries the row.
+    fn close<R: Print + AllocGlobal>(&mut self, rt: &R, wanted: &str) -> io::Result<()> {
+        self.rows = self.rows.saturating_add(1);
+        let found = answer(rt.alloc(), self.subject, self.row.as_str())?;
+        if found.as_str() != wanted {
+            self.differ = self.differ.saturating_add(1);
+            println!(rt; "{}: {found}", self.row)?;
+        }
+        Ok(())
+    }
+
+    // Says how many rows there were.
+    fn finish(&self, rt: &impl Print) -> io::Result<()> {
+        println!(rt; "{} rows, {} differ", self.rows, self.differ)
+    }
 }
 
 // What a line in square brackets names.
