@@ -34,3 +34,5 @@ pub mod FixedTwins
 pub mod FixedElements
 pub mod FixedExprs
 pub mod FixedRecord
+pub mod WriteLeaves
+pub mod WriteZeros

@@ -9,3 +9,4 @@ pub mod LeafLaws
 pub mod BlockLeaves
 pub mod PathLaws
 pub mod FixedLaws
+pub mod WriteLaws

@@ -5,6 +5,7 @@
 mod fixed;
 mod laws;
 mod paths;
+mod writes;
 
 pub use fixed::{leaves_are_read, numbers_are_fixed, values_are_fixed};
 pub use laws::{
@@ -12,3 +13,4 @@ pub use laws::{
     leaves_are_apart, leaves_are_one_list, leaves_have_one_form, sizes_are_one,
 };
 pub use paths::{paths_are_one, paths_read_leaves, reading_is_same};
+pub use writes::zero_is_one;
