@@ -36,3 +36,9 @@ pub mod FixedExprs
 pub mod FixedRecord
 pub mod WriteLeaves
 pub mod WriteZeros
+pub mod WriteScopes
+pub mod WritePlain
+pub mod WriteReads
+pub mod WriteAlike
+pub mod WriteParts
+pub mod WriteSame

@@ -13,4 +13,4 @@ pub use laws::{
     leaves_are_apart, leaves_are_one_list, leaves_have_one_form, sizes_are_one,
 };
 pub use paths::{paths_are_one, paths_read_leaves, reading_is_same};
-pub use writes::zero_is_one;
+pub use writes::{writes_are_one, zero_is_one};

@@ -1,5 +1,5 @@
-//! Zero is one value. These calls do nothing: their clauses are laws.
-ghost use Rattle.gt_tree.specs.WriteLaws.{ZeroIsOne, ZeroRecordIsOne};
+//! Zero is one value, and a write has one result. These calls do nothing: their clauses are laws.
+ghost use Rattle.gt_tree.specs.WriteLaws.{ZeroIsOne, ZeroRecordIsOne, WriteIsOne};
 ghost use Rattle.gt_types.specs.Settled.{Settled};
 ghost use Rattle.gt_types.specs.declared.program.Program.{Program};
 
@@ -8,4 +8,9 @@ ghost use Rattle.gt_types.specs.declared.program.Program.{Program};
 pub fn zero_is_one()
     ensures value { (program : Program) → Settled program → ZeroIsOne program }
     ensures statics { (program : Program) → Settled program → ZeroRecordIsOne program }
+{}
+
+/// A write has one result: two values that an element of a block may become, where one leaf of it is written, are one value.
+pub fn writes_are_one()
+    ensures { (program : Program) → Settled program → WriteIsOne program }
 {}
