@@ -282,20 +282,34 @@ int main(int words, char **word) {
 END
 gcc -O2 -fno-builtin -o "$work/memmove" "$work/memmove.c"
 
-# The fewest seconds of the processor that one of five runs takes.
+# The seconds of the processor that a run takes.
 seconds() {
   local TIMEFORMAT='%U %S'
-  for _ in 1 2 3 4 5; do { time "$@" >/dev/null; } 2>&1 | awk '{ print $1 + $2 }'; done | sort -n | head -n 1
+  { time "$@" >/dev/null; } 2>&1 | awk '{ print $1 + $2 }'
 }
-# The seconds of so many calls, without those of a run that makes none.
-calls() { awk -v a="$(seconds "$1" none 0 0)" -v b="$(seconds "$1" "$2" "$3" "${4:-0}")" 'BEGIN { print b - a }'; }
+# The fewest seconds of so many calls in twenty runs of each body, by turns, so that both meet the same machine.
+fewest() {
+  for _ in $(seq 20); do echo "$(seconds "$work/time_vector" "$@") $(seconds "$work/time_block" "$@")"; done |
+    awk 'NR == 1 || $1 < a { a = $1 } NR == 1 || $2 < b { b = $2 } END { print a, b }'
+}
+# The instructions of a run, where valgrind is there: the same each time, whatever else the machine does.
+instructions() { valgrind --tool=callgrind --callgrind-out-file=/dev/null "$@" 2>&1 >/dev/null | awk '/Collected/ { print $4 }'; }
 count=100000000
+none=$(fewest none 0 0)
 for call in read_u64 write_u64 fill copy_in copy_out move_within; do
-  awk -v c=$call -v n=$count -v a="$(calls "$work/time_vector" $call $count)" -v b="$(calls "$work/time_block" $call $count)" \
-    'BEGIN { printf "%-12s vector: %5.2f ns, block: %5.2f ns a call\n", c, a * 1e9 / n, b * 1e9 / n }'
+  echo "$call $count $none $(fewest $call $count 0)" |
+    awk '{ printf "%-12s vector: %5.2f ns, block: %5.2f ns a call\n", $1, ($5 - $3) * 1e9 / $2, ($6 - $4) * 1e9 / $2 }'
+  if command -v valgrind >/dev/null; then
+    echo "  instructions of 1,000,000 calls: vector $(instructions "$work/time_vector" $call 1000000 0), block $(instructions "$work/time_block" $call 1000000 0)"
+  fi
 done
+# The seconds of so many moves, without those of a run that makes none, the fewest of five.
+moves() {
+  for _ in 1 2 3 4 5; do echo "$(seconds "$1" none 0 0) $(seconds "$1" move_all "$2" "$3")"; done |
+    awk 'NR == 1 || $1 < a { a = $1 } NR == 1 || $2 < b { b = $2 } END { print b - a }'
+}
 # Up by so many bytes and down again, 64 MiB each time.
 for by in 1 8 4096; do
-  awk -v d=$by -v a="$(calls "$work/time_vector" move_all 10 $by)" -v b="$(calls "$work/time_block" move_all 10 $by)" -v m="$(calls "$work/memmove" move_all 10 $by)" \
+  awk -v d=$by -v a="$(moves "$work/time_vector" 10 $by)" -v b="$(moves "$work/time_block" 10 $by)" -v m="$(moves "$work/memmove" 10 $by)" \
     'BEGIN { printf "64 MiB by %-4d vector: %.4f s, block: %.4f s, memmove: %.4f s a move\n", d, a / 20, b / 20, m / 20 }'
 done
