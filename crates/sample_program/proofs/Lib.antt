@@ -1,0 +1,10 @@
+pub mod Lists
+pub mod Types
+pub mod Facts
+pub mod Orders
+pub mod TailTypes
+pub mod Structures
+pub mod Fields
+pub mod Keeps
+pub mod Whole
+pub mod Texts

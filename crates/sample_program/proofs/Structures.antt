@@ -1,0 +1,93 @@
+-- Each structure of the sample keeps the rules.
+use Rattle.std.proofs.Common.{◌≡◌, ℕ, Bool, true, false, List, [], ◌∷◌, ap, sym, subst, ◌∙◌, arith, refl}
+use Rattle.std.specs.Prelude.{Option, Some, None, is_some, IsTrue, All, Any, Contains}
+use Rattle.std.proofs.lemmas.List.Elements.{All-from_recursion, All-contains}
+use Rattle.gt_types.specs.declared.expressions.Base.{Base}
+use Rattle.gt_types.specs.declared.expressions.Expr.{Expr}
+use Rattle.gt_types.specs.declared.expressions.Expr.TheFolds.{fold-Expr, fold-roll-Expr}
+use Rattle.gt_types.specs.declared.expressions.Expr.TheOpen as part
+use Rattle.gt_types.specs.declared.expressions.Expr.TheVariants as expr
+use Rattle.gt_types.specs.declared.types.TypeId.{TypeId}
+use Rattle.gt_types.specs.declared.types.Ty.{Ty}
+use Rattle.gt_types.specs.declared.types.Ty.TheVariants as ty
+use Rattle.gt_types.specs.declared.program.Field.{Field}
+use Rattle.gt_types.specs.declared.program.Structure.{Structure}
+use Rattle.gt_types.specs.Operators.{HasOperators, operators_step}
+use Rattle.gt_types.specs.Contains.{ContainsStructure, Nests, once, deeper}
+use Rattle.gt_types.specs.Tails.{tail_of}
+use Rattle.gt_types.specs.Unions.{may_be_active, BeginsWith, IsCommon}
+use Rattle.gt_types.specs.Paths.{Way, paths_of, paths_step, roots_of, roots_step, own_expressions, NamesOuter, IsInner, MayStand}
+use Rattle.sample_program.specs.Sample.{sample, structures, item, base, node}
+use Rattle.sample_program.proofs.Lists.{all_from, at_index, place_of, fact_of, none_in}
+use Rattle.sample_program.proofs.Facts.{held_of, HoldsAsTold, IsTold, all_told}
+
+-- ---- expressions
+
+at-path : {A : Type 0} (step : part.Expr-F A → A) (b : Base) (steps : List (List ℕ)) → fold-Expr A step (expr.Path b steps) ≡ step (part.Path b steps)
+at-path {A} step b steps = ap (fold-Expr A step) (sym (expr.rolls-Path b steps)) ∙ fold-roll-Expr A step (part.Path b steps)
+
+-- what an expression that is a path alone is
+pub path-operators : (b : Base) (steps : List (List ℕ)) → HasOperators (expr.Path b steps)
+path-operators b steps = at-path operators_step b steps
+
+pub path-paths : (b : Base) (steps : List (List ℕ)) → paths_of (expr.Path b steps) ≡ (b, steps) ∷ []
+path-paths b steps = at-path paths_step b steps
+
+pub path-roots : (b : Base) (steps : List (List ℕ)) → roots_of (expr.Path b steps) ≡ []
+path-roots b steps = at-path roots_step b steps
+
+-- one path of names is good where it is so for that path
+pub one-path : (P : Way → Type 0) (b : Base) (steps : List (List ℕ)) → P (b, steps) → All P (paths_of (expr.Path b steps))
+one-path P b steps p = subst (All P) (sym (path-paths b steps)) (All-from_recursion P ((b, steps) ∷ []) (p, tt))
+
+-- ---- item may stand alone, and is all that pointers name
+
+own-item : own_expressions item ≡ []
+own-item = refl
+
+pub item_stands : MayStand sample (node 0)
+item_stands = (item, refl, not_inner, λ u. absurd (cc))
+  where
+    not_inner : ¬ IsInner sample (node 0)
+    not_inner (s, has, some) =
+        let same : item ≡ s = cc in
+        none_in NamesOuter (subst (λ t. Any NamesOuter (own_expressions t)) (sym same) some)
+
+-- ---- base is what unions begin with
+
+abbrev is_none_of : Option TypeId → Bool
+is_none_of None = true
+is_none_of (Some n) = false
+
+base_holds_none : all_from (λ i f. is_none_of (held_of f.ty)) 0 base.fields ≡ true
+base_holds_none = refl
+
+base_contains_none : (inner : TypeId) → ¬ ContainsStructure sample (node 1) inner
+base_contains_none inner (s, f, has, c, h) =
+    let same : base ≡ s = cc in
+    let in_base : Contains base.fields f = subst (λ t. Contains t.fields f) (sym same) c in
+    let at = place_of base.fields f in_base in
+    let none = at_index (λ i g. is_none_of (held_of g.ty)) base.fields base_holds_none at.0 f at.1 in
+    let told = All-contains HoldsAsTold base.fields f (fact_of IsTold structures all_told 1 base refl).held in_base in
+    let some : held_of f.ty ≡ Some inner = sym told ∙ h in
+    let wrong : is_none_of (Some inner) ≡ true = subst (λ o. is_none_of o ≡ true) some none in
+    absurd (cc)
+
+base_nests_none : (n : ℕ) (inner : TypeId) → ¬ Nests sample n (node 1) inner
+base_nests_none n inner (once c) = base_contains_none inner c
+base_nests_none n inner (deeper {next = next} c rest) = base_contains_none next c
+
+no_tail : (o : Option Ty) → is_some o ≡ false → o ≡ None
+no_tail None h = refl
+no_tail (Some t) h = absurd (cc)
+
+-- each of two members of a union begins with base
+pub common_base : (s : Structure) (f g : Field) (desc : Option Expr) → s.is_union ≡ true → s.fields ≡ f ∷ g ∷ [] → f.ty ≡ ty.Node (node 1) desc → BeginsWith sample f.ty (node 1) → BeginsWith sample g.ty (node 1)
+    → IsCommon sample s (node 1)
+common_base s f g desc union fields is first second = record {
+  union = union;
+  member = (f, desc, subst (λ fs. Contains fs f) (sym fields) (0, omega arith, refl), is);
+  plain = (base, refl, refl, no_tail (tail_of base.fields) (fact_of IsTold structures all_told 1 base refl).tail);
+  plain_inside = λ inner inside. absurd (base_nests_none inside.0 inner inside.1);
+  begun = subst (All (λ h. IsTrue (may_be_active h.active) → BeginsWith sample h.ty (node 1))) (sym fields) (All-from_recursion (λ h. IsTrue (may_be_active h.active) → BeginsWith sample h.ty (node 1)) (f ∷ g ∷ []) (λ a. first, (λ a. second, tt)));
+}
