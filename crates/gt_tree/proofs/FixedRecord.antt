@@ -32,7 +32,7 @@ use Rattle.gt_tree.proofs.FixedTwins.{Outside, given, assumed}
 
 -- ---- roots that are numbers
 
-number-root : (type : Ty) → IsTrue (is_number type) → IsTrue (is_root_type type) → (number : Scalar) × (type ≡ ty.Num number)
+pub number-root : (type : Ty) → IsTrue (is_number type) → IsTrue (is_root_type type) → (number : Scalar) × (type ≡ ty.Num number)
 number-root (ty.Num number) h k = (number, refl)
 number-root (ty.Bits unit width) h k = let none = ap root_type_at (outs-Bits unit width) in absurd (cc)
 number-root type h k = absurd (cc)

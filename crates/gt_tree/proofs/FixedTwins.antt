@@ -63,7 +63,7 @@ kind-alone program Strings inner may e = let none = ap itself (innermost-layer (
 kind-alone program Chars inner may e = let none = ap itself (innermost-layer (ty.Num (scalar.Int W1 false)) _ (outs-Num (scalar.Int W1 false))) in absurd (cc)
 kind-alone program Raw inner may e = let none = ap itself (innermost-layer (ty.Num (scalar.Int W1 false)) _ (outs-Num (scalar.Int W1 false))) in absurd (cc)
 
-kind-no_tail : (program : Program) (kind : Kind) (elem : Ty) (length : Expr) → ¬ (out-Ty (element_type program kind) ≡ part.Tail length elem)
+pub kind-no_tail : (program : Program) (kind : Kind) (elem : Ty) (length : Expr) → ¬ (out-Ty (element_type program kind) ≡ part.Tail length elem)
 kind-no_tail program (Nodes node) elem length e = let o = outs-Node node (desc_of (slice_get program.structures node.0)) in cc
 kind-no_tail program (Pointers node) elem length e = let o = outs-Ptr (Some (target.Node node)) pointer.Plain false in cc
 kind-no_tail program Strings elem length e = let o = outs-Str None in cc
@@ -75,7 +75,7 @@ own-desc program node x e settled has union is =
     let u : IsUnion program node x = subst (IsOfItsKind program node x) union (settled.structures node x has).sort in
     subst (λ d. IfSome d (IsOption program node)) is u.desc
 
-kind-desc : (program : Program) (kind : Kind) (union : TypeId) (x : Structure) (e : Expr) → Settled program → HasStructure program union x → x.is_union ≡ true
+pub kind-desc : (program : Program) (kind : Kind) (union : TypeId) (x : Structure) (e : Expr) → Settled program → HasStructure program union x → x.is_union ≡ true
     → innermost (element_type program kind) ≡ ty.Node union (Some e) → (held_by (element_type program kind) ≡ Some union) × IsOption program union e
 kind-desc program (Nodes node) union x e settled has is h =
     let same = sym (innermost-node node (desc_of (slice_get program.structures node.0))) ∙ h in
@@ -106,7 +106,7 @@ module _ (g : Given) (settled : Settled g.program) (a b : Trees) where
   is-root : (r : Root) → Contains g.program.roots r → IsRoot g.program r
   is-root r contains = All-contains (IsRoot g.program) g.program.roots r settled.roots contains
 
-  around : {s t : Scope} {type : Ty} → Alike g (Outside g.program a b) s t type → (inner : TypeId) → held_by type ≡ Some inner → IsAround g.program s.here s.outermost inner
+  pub around : {s t : Scope} {type : Ty} → Alike g (Outside g.program a b) s t type → (inner : TypeId) → held_by type ≡ Some inner → IsAround g.program s.here s.outermost inner
   around (Alike.at_start (Outside.of_block kind may)) inner e = none-around g.program inner (kind-alone g.program kind inner may e)
   around (Alike.at_start (Outside.of_root r contains)) inner e = none-around g.program inner ((is-root r contains).whole inner e).0
   around (Alike.in_field {s} {node} {desc} {v} {x} {f} p twins has contains) inner e =
@@ -117,12 +117,12 @@ module _ (g : Given) (settled : Settled g.program) (a b : Trees) where
   around (Alike.in_array {type} {elem} {n} p e) inner h = around p inner (held-array type elem n e ∙ h)
   around (Alike.in_tail {type} {elem} {length} p e) inner h = around p inner (held-tail type elem length e ∙ h)
 
-  field-count : (node : TypeId) (x : Structure) (f : Field) (elem : Ty) (length : Expr) → HasStructure g.program node x → Contains x.fields f → out-Ty f.ty ≡ part.Tail length elem → IsOption g.program node length
+  pub field-count : (node : TypeId) (x : Structure) (f : Field) (elem : Ty) (length : Expr) → HasStructure g.program node x → Contains x.fields f → out-Ty f.ty ≡ part.Tail length elem → IsOption g.program node length
   field-count node x f elem length has contains e =
       subst (λ c. IfSome c (IsOption g.program node)) (count-tail f.ty elem length e) (All-contains (IsField g.program node x) x.fields f (settled.structures node x has).fields contains).count
 
   -- the paths of a length lead to numbers
-  count-leads : {s t : Scope} {type : Ty} → Alike g (Outside g.program a b) s t type → (elem : Ty) (length : Expr) → out-Ty type ≡ part.Tail length elem → IsReadable g.program s length
+  pub count-leads : {s t : Scope} {type : Ty} → Alike g (Outside g.program a b) s t type → (elem : Ty) (length : Expr) → out-Ty type ≡ part.Tail length elem → IsReadable g.program s length
   count-leads (Alike.at_start (Outside.of_block kind may)) elem length e = absurd (kind-no_tail g.program kind elem length e)
   count-leads (Alike.at_start (Outside.of_root r contains)) elem length e = absurd (root-no_tail_at (out-Ty r.ty) elem length e (is-root r contains).shape)
   count-leads (Alike.in_field {s} {node} {desc} {v} {x} {f} p twins has contains) elem length e =
@@ -133,7 +133,7 @@ module _ (g : Given) (settled : Settled g.program) (a b : Trees) where
   count-leads (Alike.in_tail {type} {elem = row} {length = long} p e) elem length tail =
       elim (typed g (Outside g.program a b) (outside-types g.program a b) p) [ inl i ↦ absurd (tail_element-no_tail g.program type row long settled i e length elem tail) | inr i ↦ absurd (in-tail type row long i e) ]
 
-  field-desc : (node union : TypeId) (x : Structure) (f : Field) (e : Expr) → HasStructure g.program node x → Contains x.fields f → innermost f.ty ≡ ty.Node union (Some e) → IsFieldDesc g.program node union e
+  pub field-desc : (node union : TypeId) (x : Structure) (f : Field) (e : Expr) → HasStructure g.program node x → Contains x.fields f → innermost f.ty ≡ ty.Node union (Some e) → IsFieldDesc g.program node union e
   field-desc node union x f e has contains is =
       let names = (All-contains (IsField g.program node x) x.fields f (settled.structures node x has).fields contains).names in
       let found = subst (NamesDescribed g.program (λ u y d. IsFieldDesc g.program node u d)) is names.described in
@@ -152,7 +152,7 @@ module _ (g : Given) (settled : Settled g.program) (a b : Trees) where
       ]
 
   -- so do those of a `desc`
-  desc-known : {s t : Scope} {type : Ty} → Alike g (Outside g.program a b) s t type → (union : TypeId) (y : Structure) (e : Expr) → HasStructure g.program union y → y.is_union ≡ true
+  pub desc-known : {s t : Scope} {type : Ty} → Alike g (Outside g.program a b) s t type → (union : TypeId) (y : Structure) (e : Expr) → HasStructure g.program union y → y.is_union ≡ true
       → innermost type ≡ ty.Node union (Some e) → (inner : Tree) → IsReadable g.program (inside s union inner) e
   desc-known (Alike.at_start (Outside.of_root r contains)) union y e has is h inner = root-desc r contains union y e has is h inner
   desc-known (Alike.at_start (Outside.of_block kind may)) union y e has is h inner =

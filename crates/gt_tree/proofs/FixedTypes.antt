@@ -1,4 +1,4 @@
--- Bit-fields of a program have a bit at least, and are no elements.
+-- Bit-fields of a program have a bit at least, and no more than their unit, and are no elements.
 use Rattle.std.proofs.Common.{◌≡◌, ℕ, ◌≤◌, Bool, true, false, ◌&&◌, IsTrue, nat_le, refl, ap, subst, ◌∙◌, None}
 use Rattle.std.specs.Prelude.{slice_get}
 use Rattle.std.proofs.lemmas.Bool.{leb-true}
@@ -17,9 +17,9 @@ use Rattle.gt_types.specs.Settled.{Settled, IsField, IsRoot}
 use Rattle.gt_tree.specs.Blocks.{Kind, Nodes, Pointers, Strings, Chars, Raw, desc_of, element_type}
 use Rattle.gt_tree.specs.LeafLaws.{IsTypeIn}
 
--- a bit-field has a bit, and the elements of an array are elements
-abbrev sound_at : Ty-F Ty → Bool
-sound_at (part.Bits unit width) = nat_le 1 width
+-- a bit-field has a bit and no more than its unit, and the elements of an array are elements
+abbrev pub sound_at : Ty-F Ty → Bool
+sound_at (part.Bits unit width) = nat_le 1 width && nat_le width (bits_of unit)
 sound_at (part.Arr n elem) = is_element elem
 sound_at (part.Tail length elem) = is_element elem
 sound_at layer = true
@@ -34,7 +34,7 @@ repeated elem h = (both (is_element elem) _ h).0
 
 sound-field : (x : Ty-F Ty) → IsTrue (field_type_at x) → IsTrue (sound_at x)
 sound-field (part.Num scalar) h = refl
-sound-field (part.Bits unit width) h = (both (nat_le 1 width) (nat_le width (bits_of unit)) h).0
+sound-field (part.Bits unit width) h = h
 sound-field (part.Opaque size align) h = refl
 sound-field (part.Str count) h = refl
 sound-field (part.Ptr target kind reorder) h = refl
@@ -62,7 +62,7 @@ sound-element_at (part.Node node desc) h = refl
 sound-element_at (part.Arr n elem) h = (both (is_bound n) (is_element elem) h).1
 sound-element_at (part.Tail length elem) h = absurd (cc)
 
-sound-element : (type : Ty) → IsTrue (is_element type) → IsTrue (sound_at (out-Ty type))
+pub sound-element : (type : Ty) → IsTrue (is_element type) → IsTrue (sound_at (out-Ty type))
 sound-element type h = sound-element_at (out-Ty type) (subst IsTrue (fold_out-Ty Bool is_element_step type) h)
 
 sound-kind : (program : Program) (kind : Kind) → IsTrue (sound_at (out-Ty (element_type program kind)))
@@ -72,7 +72,7 @@ sound-kind program Strings = ap sound_at (outs-Str None)
 sound-kind program Chars = ap sound_at (outs-Num _)
 sound-kind program Raw = ap sound_at (outs-Num _)
 
-sound : (program : Program) → Settled program → {type : Ty} → IsTypeIn program type → IsTrue (sound_at (out-Ty type))
+pub sound : (program : Program) → Settled program → {type : Ty} → IsTypeIn program type → IsTrue (sound_at (out-Ty type))
 sound program settled (IsTypeIn.of_field node s f has contains) = sound-field (out-Ty f.ty) (All-contains (IsField program node s) s.fields f (settled.structures node s has).fields contains).shape
 sound program settled (IsTypeIn.of_root r contains) = sound-root (out-Ty r.ty) (All-contains (IsRoot program) program.roots r settled.roots contains).shape
 sound program settled (IsTypeIn.of_block kind) = sound-kind program kind
@@ -80,7 +80,11 @@ sound program settled (IsTypeIn.of_array {elem} inner e) = sound-element elem (s
 sound program settled (IsTypeIn.of_tail {elem} inner e) = sound-element elem (subst (λ x. IsTrue (sound_at x)) e (sound program settled inner))
 
 pub wide : (program : Program) (unit : Scalar) (width : ℕ) → Settled program → IsTypeIn program (ty.Bits unit width) → 1 ≤ width
-wide program unit width settled is = leb-true 1 width (subst (λ x. IsTrue (sound_at x)) (outs-Bits unit width) (sound program settled is))
+wide program unit width settled is = leb-true 1 width (both (nat_le 1 width) (nat_le width (bits_of unit)) (subst (λ x. IsTrue (sound_at x)) (outs-Bits unit width) (sound program settled is))).0
+
+pub narrow : (program : Program) (unit : Scalar) (width : ℕ) → Settled program → IsTypeIn program (ty.Bits unit width) → width ≤ bits_of unit
+narrow program unit width settled is =
+    leb-true width (bits_of unit) (both (nat_le 1 width) (nat_le width (bits_of unit)) (subst (λ x. IsTrue (sound_at x)) (outs-Bits unit width) (sound program settled is))).1
 
 tail-no_element : (type elem : Ty) (length : Expr) → out-Ty type ≡ part.Tail length elem → ¬ IsTrue (is_element type)
 tail-no_element type elem length e h =

@@ -25,9 +25,9 @@ use Rattle.gt_tree.proofs.Ordered.{chain, chain_each}
 use Rattle.gt_tree.proofs.Placed.{placed}
 
 -- what is known of a type of a program
-record Known (program : Program) (type : Ty) : Type 0 where
-  flat : is_structure type ≡ false → is_bits type ≡ false → is_tail type ≡ false → Plain program type
-  elems : (long : Expr) (elem : Ty) → out-Ty type ≡ part.Tail long elem → Plain program elem
+pub record Known (program : Program) (type : Ty) : Type 0 where
+  pub flat : is_structure type ≡ false → is_bits type ≡ false → is_tail type ≡ false → Plain program type
+  pub elems : (long : Expr) (elem : Ty) → out-Ty type ≡ part.Tail long elem → Plain program elem
 
 no_structure-array : (type elem : Ty) (n : ℕ) → out-Ty type ≡ part.Arr n elem → (is_structure type ≡ false) × (is_bits type ≡ false) × (is_tail type ≡ false)
 no_structure-array (ty.Node node desc) elem n e = let o = outs-Node node desc in absurd (cc)
@@ -56,7 +56,7 @@ known-kind program Strings = Known-plain program (element_type program Strings) 
 known-kind program Chars = Known-plain program (element_type program Chars) (Plain-number program _)
 known-kind program Raw = Known-plain program (element_type program Raw) (Plain-number program _)
 
-known : (program : Program) → Settled program → {type : Ty} → IsTypeIn program type → Known program type
+pub known : (program : Program) → Settled program → {type : Ty} → IsTypeIn program type → Known program type
 known program settled (IsTypeIn.of_field node s f has contains) =
     let field = All-contains (IsField program node s) s.fields f (settled.structures node s has).fields contains in
     let whole : is_structure f.ty ≡ false → (n : TypeId) → held_by f.ty ≡ Some n → ¬ IsTailType program n =
@@ -98,7 +98,7 @@ room-elems : (program : Program) (planes : List Plane) (capacity : ℕ) (type el
 room-elems program planes capacity type elem long width o p e =
     subst (λ n. Room program planes capacity type n) (sym (e ∙ ap (λ x. 8 * bytes_with planes capacity type (elements_at x)) o)) (Room.tail o p)
 
-room-width : (program : Program) (planes : List Plane) (capacity : ℕ) (type : Ty) (width : ℕ) → Known program type → IsWidth program planes capacity type width → Room program planes capacity type width
+pub room-width : (program : Program) (planes : List Plane) (capacity : ℕ) (type : Ty) (width : ℕ) → Known program type → IsWidth program planes capacity type width → Room program planes capacity type width
 room-width program planes capacity (ty.Node node desc) width k (size, sized, e) = subst (λ n. Room program planes capacity (ty.Node node desc) n) (sym e) (Room.sized sized)
 room-width program planes capacity (ty.Bits unit count) width k e = subst (λ n. Room program planes capacity (ty.Bits unit count) n) (sym e) Room.bits
 room-width program planes capacity (ty.Tail' count shape elem) width k e =

@@ -40,7 +40,7 @@ use Rattle.gt_tree.proofs.PathUnions.{common-part}
 -- ---- the field of a name
 
 -- the first field of a name is the only one
-named-place : (program : Program) → Settled program → (node : TypeId) (s : Structure) (f : Field) (name : List ℕ) → HasStructure program node s → Contains s.fields f → f.name ≡ name
+pub named-place : (program : Program) → Settled program → (node : TypeId) (s : Structure) (f : Field) (name : List ℕ) → HasStructure program node s → Contains s.fields f → f.name ≡ name
     → (place : ℕ) × (position_from (λ g. bytes_eq g.name name) 0 s.fields ≡ Some place) × (slice_get s.fields place ≡ Some f)
 named-place program settled node s f name has contains named =
     let named_so = λ (g : Field). bytes_eq g.name name in

@@ -81,7 +81,7 @@ module _ {program : Program} where
   zip AllReshape.none AllReshape.none = AllSame.none
   zip (AllReshape.more r rs) (AllReshape.more q qs) = AllSame.more (Same.reshaped r q) (zip rs qs)
 
-  struct-old : (node : TypeId) (desc : Option Expr) (x : Structure) (o : Tree) (vs : Trees) → HasStructure program node x → Reshapes program (ty.Node node desc) o (Rec vs)
+  pub struct-old : (node : TypeId) (desc : Option Expr) (x : Structure) (o : Tree) (vs : Trees) → HasStructure program node x → Reshapes program (ty.Node node desc) o (Rec vs)
       → (os : Trees) × (o ≡ Rec os) × AllReshape program (types_of x.fields) os vs
   struct-old node desc x o vs has (Reshapes.leaf e) = absurd (cc)
   struct-old node desc x o vs has (Reshapes.struct {s = other} {old} h u all) =
@@ -155,7 +155,7 @@ module _ {program : Program} {blocks : Blocks} {capacity : ℕ} where
       record { v = f.v; w = f.w; there = f.there; other = f.other; same = f.same; fits = f.fits; other_fits = f.other_fits }
 
 -- a path through a field of a struct reads on from there
-read-field : (program : Program) (node : TypeId) (x : Structure) (f : Field) (name : List ℕ) (names : List (List ℕ)) (place : ℕ) (value part : Tree) (trees : Trees) → HasStructure program node x → x.is_union ≡ false
+pub read-field : (program : Program) (node : TypeId) (x : Structure) (f : Field) (name : List ℕ) (names : List (List ℕ)) (place : ℕ) (value part : Tree) (trees : Trees) → HasStructure program node x → x.is_union ≡ false
     → position_from (λ g. bytes_eq g.name name) 0 x.fields ≡ Some place → slice_get x.fields place ≡ Some f → value ≡ Rec trees → tree_at trees place ≡ Some part
     → read_path program (name ∷ names) (ty.Node node None) value ≡ read_path program names f.ty part
 read-field program node x f name names place value part trees has struct first got is there =
@@ -189,7 +189,7 @@ module _ {program : Program} {blocks : Blocks} {capacity : ℕ} where
   -- ---- paths
 
   module _ (settled : Settled program) where
-    zero-number : {s : Scope} (node : TypeId) (desc : Option Expr) (v : Tree) (steps : List (List ℕ)) (type : Ty) → Leads program by_name node steps type → IsTrue (is_number type)
+    pub zero-number : {s : Scope} (node : TypeId) (desc : Option Expr) (v : Tree) (steps : List (List ℕ)) (type : Ty) → Leads program by_name node steps type → IsTrue (is_number type)
         → Fits program blocks capacity s (ty.Node node desc) v → IsZero v → read_path program steps (ty.Node node None) v ≡ within_i64 (pos 0)
     zero-number {s} node desc v steps type leads number fits z =
         let one = one_layout program settled in

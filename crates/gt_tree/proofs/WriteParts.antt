@@ -23,7 +23,7 @@ use Rattle.gt_tree.proofs.WriteAlike.{Same, both-some}
 -- ---- unions
 
 -- the value that a union's value was: with the same member, with none as it is now, or with another
-data CameFrom (program : Program) (x : Structure) (m : Option ℕ) (v o : Tree) : Type 0 where
+pub data CameFrom (program : Program) (x : Structure) (m : Option ℕ) (v o : Tree) : Type 0 where
   stayed : (place : ℕ) (f : Field) (old : Tree) → o ≡ Alt m old → m ≡ Some place → slice_get x.fields place ≡ Some f → Reshapes program f.ty old v → CameFrom program x m v o
   rested : o ≡ Alt m v → m ≡ None → CameFrom program x m v o
   turned : (om : Option ℕ) (old : Tree) → o ≡ Alt om old → om ≢ m → Changes program x om old m v → CameFrom program x m v o
@@ -44,7 +44,7 @@ part-there : (a b : Option Tree) (p q : Tree) → a ≡ Some p → a ≡ Some q 
 part-there a b p q e f = cc
 
 module _ {program : Program} (settled : Settled program) (node : TypeId) (desc : Option Expr) (x : Structure) (has : HasStructure program node x) where
-  came-from : {o : Tree} {m : Option ℕ} {v : Tree} → Reshapes program (ty.Node node desc) o (Alt m v) → CameFrom program x m v o
+  pub came-from : {o : Tree} {m : Option ℕ} {v : Tree} → Reshapes program (ty.Node node desc) o (Alt m v) → CameFrom program x m v o
   came-from (Reshapes.leaf e) = absurd (cc)
   came-from (Reshapes.same {s = other} {place} {f} {old} h u got r) =
       let same : other ≡ x = some-same (slice_get program.structures node.0) other x h has in
@@ -133,12 +133,12 @@ module _ {program : Program} {elem : Ty} where
   each-zip (EachReshapes.one_more r rs) (EachReshapes.one_more q qs) e = EachSame.one_more (Same.reshaped r q) (each-zip rs qs (omega arith))
 
 module _ {program : Program} where
-  array-old : (type elem : Ty) (n : ℕ) → out-Ty type ≡ part.Arr n elem → (o : Tree) (vs : Trees) → Reshapes program type o (Row vs) → (os : Trees) × (o ≡ Row os) × EachReshapes program elem os vs
+  pub array-old : (type elem : Ty) (n : ℕ) → out-Ty type ≡ part.Arr n elem → (o : Tree) (vs : Trees) → Reshapes program type o (Row vs) → (os : Trees) × (o ≡ Row os) × EachReshapes program elem os vs
   array-old type elem n e o vs (Reshapes.leaf f) = absurd (cc)
   array-old type elem n e o vs (Reshapes.array {elem = other} {old} f each) = let same : other ≡ elem = cc in (old, refl, subst (λ t. EachReshapes program t old vs) same each)
   array-old type elem n e o vs (Reshapes.tail f each) = absurd (cc)
 
-  tail-old : (type elem : Ty) (long : Expr) → out-Ty type ≡ part.Tail long elem → (o : Tree) (vs : Trees) → Reshapes program type o (Row vs) → (os : Trees) × (o ≡ Row os) × EachReshapes program elem os vs
+  pub tail-old : (type elem : Ty) (long : Expr) → out-Ty type ≡ part.Tail long elem → (o : Tree) (vs : Trees) → Reshapes program type o (Row vs) → (os : Trees) × (o ≡ Row os) × EachReshapes program elem os vs
   tail-old type elem long e o vs (Reshapes.leaf f) = absurd (cc)
   tail-old type elem long e o vs (Reshapes.array f each) = absurd (cc)
   tail-old type elem long e o vs (Reshapes.tail {elem = other} {old} f each) = let same : other ≡ elem = cc in (old, refl, subst (λ t. EachReshapes program t old vs) same each)

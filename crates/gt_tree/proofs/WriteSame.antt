@@ -25,7 +25,7 @@ use Rattle.gt_tree.proofs.WriteParts.{EachSame, member-same, common-same, array-
 
 -- ---- leaves
 
-old-leaf : {program : Program} {type : Ty} {o v : Tree} → IsTrue (is_leaf v) → Reshapes program type o v → o ≡ v
+pub old-leaf : {program : Program} {type : Ty} {o v : Tree} → IsTrue (is_leaf v) → Reshapes program type o v → o ≡ v
 old-leaf h (Reshapes.leaf e) = refl
 old-leaf h (Reshapes.struct has u all) = absurd (cc)
 old-leaf h (Reshapes.same has u got r) = absurd (cc)

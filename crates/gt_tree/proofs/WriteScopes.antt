@@ -68,7 +68,7 @@ kind-alone program Strings inner may e = let none = ap itself (innermost-layer (
 kind-alone program Chars inner may e = let none = ap itself (innermost-layer (ty.Num (scalar.Int W1 false)) _ (outs-Num (scalar.Int W1 false))) in absurd (cc)
 kind-alone program Raw inner may e = let none = ap itself (innermost-layer (ty.Num (scalar.Int W1 false)) _ (outs-Num (scalar.Int W1 false))) in absurd (cc)
 
-kind-no_tail : (program : Program) (kind : Kind) (elem : Ty) (length : Expr) → ¬ (out-Ty (element_type program kind) ≡ part.Tail length elem)
+pub kind-no_tail : (program : Program) (kind : Kind) (elem : Ty) (length : Expr) → ¬ (out-Ty (element_type program kind) ≡ part.Tail length elem)
 kind-no_tail program (Nodes node) elem length e = let o = outs-Node node (desc_of (slice_get program.structures node.0)) in cc
 kind-no_tail program (Pointers node) elem length e = let o = outs-Ptr (Some (target.Node node)) pointer.Plain false in cc
 kind-no_tail program Strings elem length e = let o = outs-Str None in cc
@@ -80,7 +80,7 @@ own-desc program node x e settled has union is =
     let u : IsUnion program node x = subst (IsOfItsKind program node x) union (settled.structures node x has).sort in
     subst (λ d. IfSome d (IsOption program node)) is u.desc
 
-kind-desc : (program : Program) (kind : Kind) (union : TypeId) (x : Structure) (e : Expr) → Settled program → HasStructure program union x → x.is_union ≡ true
+pub kind-desc : (program : Program) (kind : Kind) (union : TypeId) (x : Structure) (e : Expr) → Settled program → HasStructure program union x → x.is_union ≡ true
     → innermost (element_type program kind) ≡ ty.Node union (Some e) → (held_by (element_type program kind) ≡ Some union) × IsOption program union e
 kind-desc program (Nodes node) union x e settled has is h =
     let same = sym (innermost-node node (desc_of (slice_get program.structures node.0))) ∙ h in
@@ -114,7 +114,7 @@ module _ (program : Program) (settled : Settled program) (a : Trees) where
       subst (λ c. IfSome c (IsOption program node)) (count-tail f.ty elem length e) (All-contains (IsField program node x) x.fields f (settled.structures node x has).fields contains).count
 
   -- the paths of a length lead to numbers
-  count-leads : {s t : Scope} {type : Ty} → Beside program a s t type → (elem : Ty) (length : Expr) → out-Ty type ≡ part.Tail length elem → IsReadable program s length
+  pub count-leads : {s t : Scope} {type : Ty} → Beside program a s t type → (elem : Ty) (length : Expr) → out-Ty type ≡ part.Tail length elem → IsReadable program s length
   count-leads (Beside.at_block kind may) elem length e = absurd (kind-no_tail program kind elem length e)
   count-leads (Beside.in_field {s} {node} {desc} {v} {x} {f} p reads has contains) elem length e =
       option-leads program s node v length (around p node (held-node node desc)) (field-count node x f elem length has contains e)
@@ -124,14 +124,14 @@ module _ (program : Program) (settled : Settled program) (a : Trees) where
   count-leads (Beside.in_tail {type} {elem = row} {length = long} p e) elem length tail =
       elim (typed p) [ inl i ↦ absurd (tail_element-no_tail program type row long settled i e length elem tail) | inr i ↦ absurd (in-tail type row long i e) ]
 
-  field-desc : (node union : TypeId) (x : Structure) (f : Field) (e : Expr) → HasStructure program node x → Contains x.fields f → innermost f.ty ≡ ty.Node union (Some e) → IsFieldDesc program node union e
+  pub field-desc : (node union : TypeId) (x : Structure) (f : Field) (e : Expr) → HasStructure program node x → Contains x.fields f → innermost f.ty ≡ ty.Node union (Some e) → IsFieldDesc program node union e
   field-desc node union x f e has contains is =
       let names = (All-contains (IsField program node x) x.fields f (settled.structures node x has).fields contains).names in
       let found = subst (NamesDescribed program (λ u y d. IsFieldDesc program node u d)) is names.described in
       found.2.1
 
   -- so do those of a `desc`
-  desc-known : {s t : Scope} {type : Ty} → Beside program a s t type → (union : TypeId) (y : Structure) (e : Expr) → HasStructure program union y → y.is_union ≡ true
+  pub desc-known : {s t : Scope} {type : Ty} → Beside program a s t type → (union : TypeId) (y : Structure) (e : Expr) → HasStructure program union y → y.is_union ≡ true
       → innermost type ≡ ty.Node union (Some e) → (inner : Tree) → IsReadable program (inside s union inner) e
   desc-known (Beside.at_block kind may) union y e has is h inner =
       let found = kind-desc program kind union y e settled has is h in

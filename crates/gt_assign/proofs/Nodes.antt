@@ -1,0 +1,29 @@
+-- A structure, made in parts.
+use Rattle.std.proofs.Common.{◌≡◌, true, false, cond, ap, sym, ◌∙◌, Option, Some, None}
+use Rattle.std.specs.Prelude.{slice_get}
+use Rattle.gt_types.specs.declared.expressions.Expr.{Expr}
+use Rattle.gt_types.specs.declared.types.TypeId.{TypeId}
+use Rattle.gt_types.specs.declared.program.Structure.{Structure}
+use Rattle.gt_types.specs.declared.program.Program.{Program}
+use Rattle.gt_tree.specs.Fits.{active_member}
+use Rattle.gt_assign.specs.Pasts.{Was, Past, past_inside, desc_was}
+use Rattle.gt_assign.specs.Turning.{Maker, stays, or_made, node_made, structure_made, member_made, struct_made}
+
+module _ (program : Program) (make : Maker) (past inner : Past) (node : TypeId) (desc : Option Expr) (was : Was) (s : Structure)
+    (moves : stays node was ≡ None) (has : slice_get program.structures node.0 ≡ Some s) where
+  whole : inner ≡ past_inside past node was → node_made program make past node desc was ≡ structure_made program make inner desc was (Some s)
+  whole e =
+      ap (λ o. or_made o (structure_made program make (past_inside past node was) desc was (slice_get program.structures node.0))) moves
+      ∙ ap (structure_made program make (past_inside past node was) desc was) has
+      ∙ ap (λ p. structure_made program make p desc was (Some s)) (sym e)
+
+  pub node-union : s.is_union ≡ true → inner ≡ past_inside past node was
+      → member_made program make inner s was (active_member (desc_was program inner desc) s.fields) ≡ node_made program make past node desc was
+  node-union union e =
+      sym
+      (whole e ∙ ap (λ b. cond b (member_made program make inner s was (active_member (desc_was program inner desc) s.fields)) (struct_made make inner s.fields was)) union)
+
+  pub node-struct : s.is_union ≡ false → inner ≡ past_inside past node was → struct_made make inner s.fields was ≡ node_made program make past node desc was
+  node-struct struct e =
+      sym
+      (whole e ∙ ap (λ b. cond b (member_made program make inner s was (active_member (desc_was program inner desc) s.fields)) (struct_made make inner s.fields was)) struct)

@@ -1,0 +1,114 @@
+-- Fields and elements, made one after another.
+use Rattle.std.proofs.Common.{◌≡◌, ℕ, suc, ◌+◌, ◌-◌, ◌<◌, ◌≤◌, List, [], ◌∷◌, ◌++◌, length, map, drop, get_or, refl, ap, sym, ◌∙◌, arith, add-one, Option, Some, None}
+use Rattle.gt_types.specs.declared.types.Ty.{Ty}
+use Rattle.gt_types.specs.declared.program.Field.{Field}
+use Rattle.gt_tree.specs.Trees.{Tree, Trees, End, And}
+use Rattle.gt_tree.specs.Scopes.{◌then◌}
+use Rattle.gt_tree.specs.Fits.{types_of}
+use Rattle.gt_value.specs.declared.values.Value.{Value}
+use Rattle.gt_value.specs.Values.{trees, tree_of}
+use Rattle.gt_assign.specs.Pasts.{Was, Past}
+use Rattle.gt_assign.specs.Turning.{Maker, field_was, fields_made, element_was, elements_made}
+use Rattle.gt_assign.proofs.Listing.{drop-item, drop-none}
+
+-- values before others
+abbrev pub before : List Value → Trees → Trees
+before [] rest = rest
+before (value ∷ values) rest = And (tree_of value) (before values rest)
+
+before-one : (values : List Value) (value : Value) (rest : Trees) → before (values ++ value ∷ []) rest ≡ before values (And (tree_of value) rest)
+before-one [] value rest = refl
+before-one (first ∷ values) value rest = ap (And (tree_of first)) (before-one values value rest)
+
+pub before-end : (values : List Value) → before values End ≡ trees (map tree_of values)
+before-end [] = refl
+before-end (first ∷ values) = ap (And (tree_of first)) (before-end values)
+
+-- some were made, and the others are left
+abbrev pub behind : List Value → Option Trees → Option Trees
+behind values (Some rest) = Some (before values rest)
+behind values None = None
+
+abbrev more : Tree → Option Trees → Option Trees
+more tree o = o then λ rest. Some (And tree rest)
+
+behind-more : (values : List Value) (value : Value) (o : Option Trees) → behind values (more (tree_of value) o) ≡ behind (values ++ value ∷ []) o
+behind-more values value (Some rest) = ap Some (sym (before-one values value rest))
+behind-more values value None = refl
+
+module _ (make : Maker) (past : Past) (was : Was) where
+  abbrev rest_of : ℕ → List Ty → Tree → Option Trees
+  rest_of i types tree = more tree (fields_made make past was (suc i) types)
+
+  one-made : (i : ℕ) (type : Ty) (types : List Ty) (part : Was) (tree : Tree) → field_was was i ≡ Some part → make past type part ≡ Some tree
+      → fields_made make past was i (type ∷ types) ≡ more tree (fields_made make past was (suc i) types)
+  one-made i type types part tree e f =
+      ap (λ o. o then λ p. make past type p then λ t. fields_made make past was (suc i) types then λ rest. Some (And t rest)) e
+      ∙ ap (λ o. o then λ t. fields_made make past was (suc i) types then λ rest. Some (And t rest)) f
+
+  no-part : (i : ℕ) (type : Ty) (types : List Ty) → field_was was i ≡ None → fields_made make past was i (type ∷ types) ≡ None
+  no-part i type types e = ap (λ o. o then λ p. make past type p then λ t. fields_made make past was (suc i) types then λ rest. Some (And t rest)) e
+
+  no-tree : (i : ℕ) (type : Ty) (types : List Ty) (part : Was) → field_was was i ≡ Some part → make past type part ≡ None → fields_made make past was i (type ∷ types) ≡ None
+  no-tree i type types part e f =
+      ap (λ o. o then λ p. make past type p then λ t. fields_made make past was (suc i) types then λ rest. Some (And t rest)) e
+      ∙ ap (λ o. o then λ t. fields_made make past was (suc i) types then λ rest. Some (And t rest)) f
+
+  -- the fields before a place were made
+  abbrev pub FieldsSoFar : List Field → ℕ → List Value → Type 0
+  FieldsSoFar fields i values = fields_made make past was 0 (types_of fields) ≡ behind values (fields_made make past was i (types_of (drop i fields)))
+
+  module _ (fields : List Field) (i : ℕ) (f : Field) (values : List Value) (inside : i < length fields) (is : f ≡ get_or fields i f) (so : FieldsSoFar fields i values) where
+    here : fields_made make past was 0 (types_of fields) ≡ behind values (fields_made make past was i (f.ty ∷ types_of (drop (i + 1) fields)))
+    here = so ∙ ap (λ fs. behind values (fields_made make past was i (types_of fs))) (drop-item fields i f inside is)
+
+    pub fields-more : (part : Was) (value : Value) → field_was was i ≡ Some part → make past f.ty part ≡ Some (tree_of value) → FieldsSoFar fields (i + 1) (values ++ value ∷ [])
+    fields-more part value e g =
+        here
+        ∙ ap (behind values) (one-made i f.ty (types_of (drop (i + 1) fields)) part (tree_of value) e g)
+        ∙ behind-more values value (fields_made make past was (suc i) (types_of (drop (i + 1) fields)))
+        ∙ ap (λ n. behind (values ++ value ∷ []) (fields_made make past was n (types_of (drop (i + 1) fields)))) (sym (add-one i))
+
+    pub fields-part : field_was was i ≡ None → fields_made make past was 0 (types_of fields) ≡ None
+    fields-part e = here ∙ ap (behind values) (no-part i f.ty (types_of (drop (i + 1) fields)) e)
+
+    pub fields-stop : (part : Was) → field_was was i ≡ Some part → make past f.ty part ≡ None → fields_made make past was 0 (types_of fields) ≡ None
+    fields-stop part e g = here ∙ ap (behind values) (no-tree i f.ty (types_of (drop (i + 1) fields)) part e g)
+
+  pub fields-end : (fields : List Field) (i : ℕ) (values : List Value) → length fields ≤ i → FieldsSoFar fields i values → fields_made make past was 0 (types_of fields) ≡ Some (trees (map tree_of values))
+  fields-end fields i values h so =
+      so ∙ ap (λ fs. behind values (fields_made make past was i (types_of fs))) (drop-none fields i h) ∙ ap Some (before-end values)
+
+  -- ---- elements
+
+  abbrev pub ElementsSoFar : Ty → ℕ → ℕ → List Value → Type 0
+  ElementsSoFar type n i values = elements_made make past type was 0 n ≡ behind values (elements_made make past type was i (n - i))
+
+  module _ (type : Ty) (n i : ℕ) (values : List Value) (inside : i < n) (so : ElementsSoFar type n i values) where
+    next : n - i ≡ suc (n - (i + 1))
+    next = omega (arith, inside)
+
+    there : elements_made make past type was 0 n ≡ behind values (elements_made make past type was i (suc (n - (i + 1))))
+    there = so ∙ ap (λ k. behind values (elements_made make past type was i k)) next
+
+    pub elements-more : (part : Was) (value : Value) → element_was was i ≡ Some part → make past type part ≡ Some (tree_of value) → ElementsSoFar type n (i + 1) (values ++ value ∷ [])
+    elements-more part value e g =
+        there
+        ∙ ap (λ o. behind values (o then λ p. make past type p then λ t. elements_made make past type was (suc i) (n - (i + 1)) then λ rest. Some (And t rest))) e
+        ∙ ap (λ o. behind values (o then λ t. elements_made make past type was (suc i) (n - (i + 1)) then λ rest. Some (And t rest))) g
+        ∙ behind-more values value (elements_made make past type was (suc i) (n - (i + 1)))
+        ∙ ap (λ k. behind (values ++ value ∷ []) (elements_made make past type was k (n - (i + 1)))) (sym (add-one i))
+
+    pub elements-part : element_was was i ≡ None → elements_made make past type was 0 n ≡ None
+    elements-part e = there ∙ ap (λ o. behind values (o then λ p. make past type p then λ t. elements_made make past type was (suc i) (n - (i + 1)) then λ rest. Some (And t rest))) e
+
+    pub elements-stop : (part : Was) → element_was was i ≡ Some part → make past type part ≡ None → elements_made make past type was 0 n ≡ None
+    elements-stop part e g =
+        there
+        ∙ ap (λ o. behind values (o then λ p. make past type p then λ t. elements_made make past type was (suc i) (n - (i + 1)) then λ rest. Some (And t rest))) e
+        ∙ ap (λ o. behind values (o then λ t. elements_made make past type was (suc i) (n - (i + 1)) then λ rest. Some (And t rest))) g
+
+  pub elements-end : (type : Ty) (n i : ℕ) (values : List Value) → n ≤ i → ElementsSoFar type n i values → elements_made make past type was 0 n ≡ Some (trees (map tree_of values))
+  elements-end type n i values h so =
+      let none : n - i ≡ 0 = omega (arith, h) in
+      so ∙ ap (λ k. behind values (elements_made make past type was i k)) none ∙ ap Some (before-end values)

@@ -1,0 +1,9 @@
+pub mod Results
+pub mod Checks
+pub mod Pasts
+pub mod Commons
+pub mod Turning
+pub mod Scoping
+pub mod Rooms
+pub mod InPlace
+pub mod Fitting

@@ -1,0 +1,183 @@
+// Steps from what a value was to what its parts were.
+ghost use Rattle.std.specs.Prelude.{◌≡◌, ◌<◌, IfSome, length, map, option_copied};
+ghost use Rattle.std.specs.List.{position_from};
+ghost use Rattle.gt_tree.specs.Fits.{active_member, is_tag, is_default};
+ghost use Rattle.gt_tree.specs.Trees.{count};
+ghost use Rattle.gt_value.specs.Values.{trees, tree_of};
+ghost use Rattle.gt_assign.specs.Checks.{maybe_tree};
+ghost use Rattle.gt_assign.specs.Pasts.{was_of, maybe_was};
+ghost use Rattle.gt_assign.specs.Commons.{common_of};
+ghost use Rattle.gt_assign.specs.Turning.{field_was, has_fields, is_row, element_was, member_was, begun_by, stays};
+
+use crate::commons::common_of;
+use crate::paths::{beginning, item, member_type};
+use crate::seeing::Seen;
+use gt_types::{Active, Field, Program, Structure, TypeId};
+use gt_value::Value;
+
+/// What the field at a place was. None where a struct had none there, or was no struct.
+pub fn field_of<'a>(seen: Seen<'a>, place: usize) -> Option<Seen<'a>>
+    ensures { maybe_was result ≡ field_was (was_of seen.entry) place }
+{
+    match seen {
+        Seen::Whole(Value::Rec(parts)) => match item(parts.as_slice(), place) {
+            None => None,
+            Some(part) => Some(Seen::Whole(part)),
+        },
+        Seen::Whole(_) => None,
+        Seen::Zero => Some(Seen::Zero),
+        Seen::Begins { .. } => {
+            if place == 0 {
+                Some(seen)
+            } else {
+                Some(Seen::Zero)
+            }
+        }
+    }
+}
+
+// How many values there are.
+fn count_of(parts: &[Value]) -> usize
+    ensures { result ≡ count (trees (map tree_of parts.now)) }
+{
+    parts.len()
+}
+
+/// Whether what a struct was has so many fields.
+pub fn has_fields(seen: Seen, n: usize) -> bool
+    ensures { result ≡ has_fields (was_of seen.entry) n }
+{
+    match seen {
+        Seen::Whole(Value::Rec(parts)) => count_of(parts.as_slice()) == n,
+        Seen::Whole(_) => false,
+        Seen::Zero | Seen::Begins { .. } => true,
+    }
+}
+
+/// Whether what an array was is one, or nothing.
+pub fn is_row(seen: Seen) -> bool
+    ensures { result ≡ is_row (was_of seen.entry) }
+{
+    match seen {
+        Seen::Whole(Value::Row(_)) => true,
+        Seen::Whole(_) => false,
+        Seen::Zero => true,
+        Seen::Begins { .. } => false,
+    }
+}
+
+/// What the element at a place was. None where it was no array.
+pub fn element_of<'a>(seen: Seen<'a>, place: usize) -> Option<Seen<'a>>
+    ensures { maybe_was result ≡ element_was (was_of seen.entry) place }
+{
+    match seen {
+        Seen::Whole(Value::Row(parts)) => match item(parts.as_slice(), place) {
+            None => Some(Seen::Zero),
+            Some(part) => Some(Seen::Whole(part)),
+        },
+        Seen::Whole(_) => None,
+        Seen::Zero => Some(Seen::Zero),
+        Seen::Begins { .. } => None,
+    }
+}
+
+// What the common structure makes of a member that was not active.
+fn begun_by<'a>(
+    program: &Program,
+    structure: &Structure,
+    member: Option<u32>,
+    value: &'a Value,
+) -> Option<Seen<'a>>
+    ensures { maybe_was result ≡ begun_by program.now structure.now member (tree_of value.now) (common_of program.now structure.now) }
+{
+    let Some(id) = common_of(program, structure) else {
+        return Some(Seen::Zero);
+    };
+    let Some(place) = member else {
+        return Some(Seen::Begins { id, value });
+    };
+    match beginning(program, id, member_type(structure, place), value) {
+        None => None,
+        Some(part) => Some(Seen::Begins { id, value: part }),
+    }
+}
+
+/// What the member at a place was, which is active now. None where it was no union.
+pub fn member_of<'a>(
+    program: &Program,
+    structure: &Structure,
+    place: u32,
+    seen: Seen<'a>,
+) -> Option<Seen<'a>>
+    ensures { maybe_was result ≡ member_was program.now structure.now place (was_of seen.entry) }
+{
+    match seen {
+        Seen::Zero => Some(Seen::Zero),
+        Seen::Whole(
+            Value::Alt {
+                member: Some(old),
+                value,
+            },
+        ) if *old == place => Some(Seen::Whole(value.get())),
+        Seen::Whole(Value::Alt { member, value }) => begun_by(
+            program,
+            structure,
+            *member,
+            value.get(),
+        ),
+        _ => None,
+    }
+}
+
+/// The structure with which a part begins, where it is of this type: it stays as it is.
+pub fn stays<'a>(id: TypeId, seen: Seen<'a>) -> Option<&'a Value>
+    ensures { maybe_tree (option_copied result) ≡ stays id (was_of seen.entry) }
+{
+    match seen {
+        Seen::Begins { id: begun, value } if begun.0 == id.0 => Some(value),
+        _ => None,
+    }
+}
+
+fn is_tag(value: Option<i64>, active: Active) -> bool
+    ensures { result ≡ is_tag value active }
+{
+    match (value, active) {
+        (Some(n), Active::Tag(tag)) => n == tag,
+        _ => false,
+    }
+}
+
+fn is_default(active: Active) -> bool
+    ensures { result ≡ is_default active }
+{
+    match active {
+        Active::Other => true,
+        _ => false,
+    }
+}
+
+fn tagged(value: Option<i64>, fields: &[Field]) -> Option<usize>
+    ensures place { result ≡ position_from (λ f. is_tag value f.active) 0 fields.now }
+    ensures within { IfSome result (λ place. place < length fields.now) }
+{
+    fields.iter().position(|f| is_tag(value, f.active))
+}
+
+fn default_member(fields: &[Field]) -> Option<usize>
+    ensures place { result ≡ position_from (λ f. is_default f.active) 0 fields.now }
+    ensures within { IfSome result (λ place. place < length fields.now) }
+{
+    fields.iter().position(|f| is_default(f.active))
+}
+
+/// Which member of a union is active: that of the tag, else the default, else none.
+pub fn active_member(value: Option<i64>, fields: &[Field]) -> Option<usize>
+    ensures place { result ≡ active_member value fields.now }
+    ensures within { IfSome result (λ place. place < length fields.now) }
+{
+    match tagged(value, fields) {
+        Some(place) => Some(place),
+        None => default_member(fields),
+    }
+}

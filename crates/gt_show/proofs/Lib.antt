@@ -1,0 +1,7 @@
+mod Decimals
+mod Quotes
+mod OneText
+mod TreesOf
+mod FitParts
+mod Adding
+mod Showing

@@ -1,0 +1,10 @@
+pub mod BitLemmas
+pub mod OverlayLemmas
+pub mod Forms
+pub mod Walks
+pub mod Narrow
+pub mod Loops
+pub mod Steps
+pub mod Whole
+pub mod Putting
+pub mod Statics

@@ -1,0 +1,5 @@
+use Rattle.gt_store.specs.Overlays.{Writes}
+use Rattle.gt_store.proofs.bits.write_bits.Given as goal
+
+abbrev pub invariant-loop-i : goal.invariant-loop-i
+invariant-loop-i l = Writes l.at l.i l.bits l.initial.space l.space

@@ -1,0 +1,5 @@
+mod Structures
+mod Starts
+mod Plains
+mod Lists
+mod Candidates

@@ -1,0 +1,7 @@
+pub mod Values
+pub mod Bytes
+pub mod Names
+pub mod Noughts
+pub mod Reading
+pub mod Places
+pub mod Finding

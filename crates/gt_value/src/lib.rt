@@ -1,0 +1,18 @@
+//! The values of the typed-object machine: zero, and what the bytes of a space stand for.
+#![tactic(auto)]
+
+mod bits;
+mod names;
+mod places;
+mod reading;
+mod sources;
+mod unions;
+mod values;
+mod zeros;
+
+pub use names::{BlockKind, BlockNames, BlockOf};
+pub use places::{LeafContent, LeafKind, Place, leaf_at, read_leaf};
+pub use reading::{read, read_statics};
+pub use unions::common_structure;
+pub use values::{Value, ValueFail};
+pub use zeros::{zero, zero_statics};

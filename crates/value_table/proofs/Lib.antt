@@ -1,0 +1,4 @@
+pub mod Alone
+pub mod Addresses
+pub mod Told
+pub mod Rereads
