@@ -67,7 +67,7 @@ refl_no_later a = from_pairs a.file a.at a.number a.file a.at a.number (inr (ref
 total_no_later : (a b : Fault) → is_no_later a b ≡ false → IsTrue (is_no_later b a)
 total_no_later a b h = grind (arith, nat_tests)
 
-trans_no_later : (a b c : Fault) → IsTrue (is_no_later a b) → IsTrue (is_no_later b c) → IsTrue (is_no_later a c)
+pub trans_no_later : (a b c : Fault) → IsTrue (is_no_later a b) → IsTrue (is_no_later b c) → IsTrue (is_no_later a c)
 trans_no_later a b c h k =
     from_pairs a.file a.at a.number c.file c.at c.number
     (trans_pairs a.file a.at a.number b.file b.at b.number c.file c.at c.number (by_pairs a.file a.at a.number b.file b.at b.number h)

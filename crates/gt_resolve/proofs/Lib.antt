@@ -1,6 +1,9 @@
 mod Agreements
 mod ChainLemmas
 mod Classes
+mod CycleFaults
+mod CycleFlags
+mod CycleLemmas
 mod DeclaringLemmas
 mod Depths
 mod DraftLemmas

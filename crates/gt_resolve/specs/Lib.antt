@@ -11,6 +11,7 @@ pub mod Placings
 pub mod Redefinitions
 pub mod Resolution
 pub mod Searches
+pub mod Cycles
 pub mod Shapes
 pub mod Spelling
 pub mod Tables

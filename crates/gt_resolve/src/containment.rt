@@ -1,6 +1,8 @@
 // Which structures contain which by value.
-ghost use Rattle.std.specs.Prelude.{◌≡◌, ℕ, ◌<◌, ◌↔◌, true, IsTrue, Some, [], ◌∷◌, ◌++◌, length, map, filter_map, not, slice_get, IfOk, OnOk};
+ghost use Rattle.std.specs.Prelude.{◌≡◌, ◌⊎◌, ℕ, ◌+◌, ◌<◌, ◌↔◌, true, IsTrue, Some, [], ◌∷◌, ◌++◌, length, map, filter_map, not, slice_get, IfOk, OnOk};
 ghost use Rattle.std.specs.List.{list_any};
+ghost use Rattle.gt_resolve.specs.declared.draft.DraftStructure.{DraftStructure};
+ghost use Rattle.gt_resolve.specs.Cycles.{comes_before, FirstSoFar, IsPreceded};
 ghost use Rattle.gt_resolve.specs.Faults.{is_tail_type};
 ghost use Rattle.gt_resolve.specs.Graphs.{Reached, edges_at, nested_flags, one_deeper};
 ghost use Rattle.gt_resolve.specs.Shapes.{held_in, held_type, is_nil};
@@ -103,15 +105,95 @@ fn is_cyclic(
     Ok(flag_at(&reached, place))
 }
 
-/// For each structure whether it contains itself. Only one that is deep can, so that no other is searched from.
-pub fn cyclic(alloc: Global, graph: &[List<usize>], deep: &[bool]) -> Result<Vec<bool>, AllocError>
-    requires deep { (i : ℕ) → Reached graph.now (edges_at graph.now i) i → slice_get deep.now i ≡ Some true }
-    ensures count { IfOk result (λ flags. length flags.items ≡ length graph.now) }
-    ensures cycles { IfOk result (λ flags. (i : ℕ) → i < length graph.now → (slice_get flags.items i ≡ Some true) ↔ Reached graph.now (edges_at graph.now i) i) }
+// Whether the tag of one structure stands before the tag of another.
+fn comes_before(structures: &[DraftStructure], i: usize, j: usize) -> bool
+    requires first { i < length structures.now }
+    requires second { j < length structures.now }
+    ensures same { (s t : DraftStructure) → slice_get structures.now i ≡ Some s → slice_get structures.now j ≡ Some t → result ≡ comes_before s t }
 {
+    let s = &structures[i];
+    let t = &structures[j];
+    s.file < t.file || (s.file == t.file && s.tag.at < t.tag.at)
+}
+
+// The first structure that is too deep among one more than so many, by that among so many.
+fn first_with(
+    structures: &[DraftStructure],
+    deep: &[bool],
+    first: Option<usize>,
+    place: usize,
+) -> Option<usize>
+    requires within { place < length structures.now }
+    requires so_far { FirstSoFar structures.now deep.now place first }
+    ensures so_far { FirstSoFar structures.now deep.now (place + 1) result }
+{
+    if !flag_at(deep, place) {
+        return first;
+    }
+    let Some(other) = first else {
+        return Some(place);
+    };
+    if comes_before(structures, place, other) {
+        Some(place)
+    } else {
+        Some(other)
+    }
+}
+
+// The structure that is too deep and whose tag stands first.
+fn first_deep(structures: &[DraftStructure], deep: &[bool]) -> Option<usize>
+    ensures first { FirstSoFar structures.now deep.now (length structures.now) result }
+{
+    let mut first: Option<usize> = None;
+    for place in 0..structures.len() {
+        first = first_with(structures, deep, first, place);
+    }
+    first
+}
+
+// Whether a structure contains itself, where none that is too deep stands before it.
+fn is_first_cyclic(
+    alloc: Global,
+    graph: &[List<usize>],
+    structures: &[DraftStructure],
+    deep: &[bool],
+    first: Option<usize>,
+    place: usize,
+) -> Result<bool, AllocError>
+    requires deep { Reached graph.now (edges_at graph.now place) place → slice_get deep.now place ≡ Some true }
+    requires within { place < length graph.now }
+    requires same { length graph.now ≡ length structures.now }
+    requires first { FirstSoFar structures.now deep.now (length structures.now) first }
+    ensures only { IfOk result (λ cycle. IsTrue cycle → Reached graph.now (edges_at graph.now place) place) }
+    ensures known { IfOk result (λ cycle. Reached graph.now (edges_at graph.now place) place → IsTrue cycle ⊎ IsPreceded structures.now deep.now place) }
+{
+    let Some(first) = first else {
+        return Ok(false);
+    };
+    if comes_before(structures, first, place) {
+        return Ok(false);
+    }
+    is_cyclic(alloc, graph, deep, place)
+}
+
+/// For each structure whether it contains itself. Where one that is too deep stands before it, this may be left unsaid: a fault stands
+/// at that one. So one structure alone is searched from, where no two have their tags at one place.
+pub fn cyclic(
+    alloc: Global,
+    graph: &[List<usize>],
+    structures: &[DraftStructure],
+    deep: &[bool],
+) -> Result<Vec<bool>, AllocError>
+    requires deep { (i : ℕ) → Reached graph.now (edges_at graph.now i) i → slice_get deep.now i ≡ Some true }
+    requires same { length graph.now ≡ length structures.now }
+    ensures count { IfOk result (λ flags. length flags.items ≡ length graph.now) }
+    ensures only { IfOk result (λ flags. (i : ℕ) → i < length graph.now → slice_get flags.items i ≡ Some true → Reached graph.now (edges_at graph.now i) i) }
+    ensures known { IfOk result (λ flags. (i : ℕ) → i < length graph.now → Reached graph.now (edges_at graph.now i) i → (slice_get flags.items i ≡ Some true) ⊎ IsPreceded structures.now deep.now i) }
+{
+    let first = first_deep(structures, deep);
     let mut flags = Vec::new(alloc);
     for place in 0..graph.len() {
-        flags.push(is_cyclic(alloc, graph, deep, place)?)?;
+        flags.push(is_first_cyclic(alloc, graph, structures, deep, first, place)?)?;
     }
     Ok(flags)
 }

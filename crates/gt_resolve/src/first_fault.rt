@@ -1,7 +1,8 @@
 // The first fault of names and types.
-ghost use Rattle.std.specs.Prelude.{◌≡◌, ◌||◌, ℕ, false, nat_le, List, [], length, IfOk};
+ghost use Rattle.std.specs.Prelude.{◌≡◌, ◌||◌, ℕ, Bool, false, nat_le, List, [], length, IfOk};
 ghost use Rattle.std.specs.List.{list_any};
 ghost use Rattle.std.specs.Str.{bytes_eq};
+ghost use Rattle.gt_resolve.specs.Cycles.{Suffice};
 ghost use Rattle.gt_resolve.specs.Faults.{faults_of, field_faults, fields_faults, structure_faults, structures_faults, root_faults, roots_faults, cache_faults, caches_faults, is_tail_type};
 ghost use Rattle.gt_resolve.specs.FirstFaults.{IsFirstOf, first_from};
 
@@ -28,7 +29,8 @@ pub fn first_fault(
     draft: &Draft,
     shapes: &Shapes,
 ) -> Result<Option<Fault>, AllocError>
-    ensures first { IfOk result (IsFirstOf (faults_of scope.now.declarations.items scope.now.types.items draft.now shapes.now.cyclic.items shapes.now.deep.items shapes.now.tails.items)) }
+    ensures first { IfOk result (λ r. (cyclic : List Bool) → Suffice draft.now.structures shapes.now.deep.items cyclic shapes.now.cyclic.items
+        → IsFirstOf (faults_of scope.now.declarations.items scope.now.types.items draft.now cyclic shapes.now.deep.items shapes.now.tails.items) r) }
 {
     let earliest = redefined(alloc, scope)?;
     let earliest = of_structures(alloc, earliest, shapes, draft.structures.as_slice())?;

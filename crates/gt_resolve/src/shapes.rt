@@ -1,13 +1,14 @@
 // Which structures contain which by value, and which are of a tail type.
 ghost use Rattle.std.specs.Prelude.{IfOk};
-ghost use Rattle.gt_resolve.specs.Shapes.{AreShapes};
+ghost use Rattle.gt_resolve.specs.Cycles.{AreShapesFor};
 
 use crate::DraftStructure;
 use crate::containment::{containments, cyclic, too_deep};
 use crate::tails::tail_types;
 use std::alloc::{AllocError, Global};
 
-/// For each structure: whether it contains itself by value, whether it is too deep, and whether it is of a tail type.
+/// For each structure: whether it contains itself by value, which may be left unsaid where one that is too deep stands before it; whether it is too
+/// deep; and whether it is of a tail type.
 #[derive(Drop)]
 pub struct Shapes {
     pub cyclic: Vec<bool>,
@@ -17,11 +18,11 @@ pub struct Shapes {
 
 /// The shapes of structures.
 pub fn shapes_of(alloc: Global, structures: &[DraftStructure]) -> Result<Shapes, AllocError>
-    ensures shapes { IfOk result (λ s. AreShapes structures.now s.cyclic.items s.deep.items s.tails.items) }
+    ensures shapes { IfOk result (λ s. AreShapesFor structures.now s.cyclic.items s.deep.items s.tails.items) }
 {
     let graph = containments(alloc, structures)?;
     let deep = too_deep(alloc, &graph)?;
-    let cyclic = cyclic(alloc, &graph, &deep)?;
+    let cyclic = cyclic(alloc, &graph, structures, &deep)?;
     let tails = tail_types(alloc, structures)?;
     Ok(Shapes {
         cyclic,

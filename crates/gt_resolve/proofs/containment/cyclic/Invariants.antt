@@ -1,5 +1,6 @@
 use Rattle.std.proofs.Common.{◌≡◌, ℕ, ◌<◌, length, true, Some}
-use Rattle.std.specs.Prelude.{◌↔◌, slice_get}
+use Rattle.std.specs.Prelude.{◌⊎◌, slice_get}
+use Rattle.gt_resolve.specs.Cycles.{IsPreceded}
 use Rattle.gt_resolve.specs.Graphs.{Reached, edges_at}
 use Rattle.gt_resolve.proofs.containment.cyclic.Given as goal
 
@@ -8,5 +9,6 @@ abbrev pub invariant-loop-place : goal.invariant-loop-place
 invariant-loop-place l =
     record {
       count : length l.flags.items ≡ l.place;
-      cycles : (i : ℕ) → i < l.place → (slice_get l.flags.items i ≡ Some true) ↔ Reached l.graph (edges_at l.graph i) i;
+      only : (i : ℕ) → i < l.place → slice_get l.flags.items i ≡ Some true → Reached l.graph (edges_at l.graph i) i;
+      known : (i : ℕ) → i < l.place → Reached l.graph (edges_at l.graph i) i → (slice_get l.flags.items i ≡ Some true) ⊎ IsPreceded l.structures l.deep i;
     }

@@ -5,6 +5,7 @@ use Rattle.gt_resolve.specs.declared.draft.DraftRoot.{DraftRoot}
 use Rattle.gt_resolve.specs.declared.draft.DraftCache.{DraftCache}
 use Rattle.gt_resolve.specs.Faults.{faults_of, redefinitions, structures_faults, roots_faults, caches_faults}
 use Rattle.gt_resolve.specs.FirstFaults.{IsFirstOf, first_from}
+use Rattle.gt_resolve.proofs.CycleFaults.{first_for}
 use Rattle.gt_resolve.proofs.Firsts.{first_from_both, first_from_first}
 use Rattle.gt_resolve.proofs.first_fault.first_fault.Goals as goal
 
@@ -32,4 +33,4 @@ returns c =
     first_from_both None c.of_roots-earliest.result c.of_caches.result (a ++ b ++ d) e
     (first_from_both None c.in_ok-earliest-2.earliest c.of_roots-earliest.result (a ++ b) d
     (first_from_both None c.in_ok-earliest.earliest c.in_ok-earliest-2.earliest a b c.in_ok-earliest.ensures.earliest structures) roots) caches in
-    record { first = subst (λ (r : Option Fault). IsFirstOf faults r) (sym whole) (first_from_first faults) }
+    record { first = λ every suffice. first_for ds types c.args.draft.now every cyclic deep tails suffice c.of_caches.result (subst (λ (r : Option Fault). IsFirstOf faults r) (sym whole) (first_from_first faults)) }

@@ -1,9 +1,12 @@
 use Rattle.std.proofs.Common.{◌≡◌, ◌∙◌, ℕ, ◌<◌, Bool, true, List, length, map, Some, ap, subst}
-use Rattle.std.specs.Prelude.{◌↔◌, slice_get}
+use Rattle.std.specs.Prelude.{◌⊎◌, slice_get}
+use Rattle.std.proofs.lemmas.List.{length-map}
 use Rattle.gt_resolve.specs.declared.TheConstants.{MAX_DEPTH}
+use Rattle.gt_resolve.specs.Cycles.{IsPreceded}
 use Rattle.gt_resolve.specs.Graphs.{Reached, edges_at, nested_flags}
 use Rattle.gt_resolve.specs.Shapes.{held_in}
-use Rattle.gt_resolve.proofs.Depths.{cyclic_deep, are_shapes}
+use Rattle.gt_resolve.proofs.CycleFlags.{are_shapes_for}
+use Rattle.gt_resolve.proofs.Depths.{cyclic_deep}
 use Rattle.gt_resolve.proofs.TailLemmas.{tail_flags}
 use Rattle.gt_resolve.proofs.shapes.shapes_of.Goals as goal
 
@@ -17,19 +20,22 @@ cyclic-requires c =
     record {
       deep = λ i reached.
           ap (λ (flags : List Bool). slice_get flags i) deep ∙ cyclic_deep ss i (subst (λ (graph : List (List ℕ)). Reached graph (edges_at graph i) i) of_cyclic reached);
+      same = ap (λ (graph : List (List ℕ)). length graph) of_cyclic ∙ length-map ss held_in;
     }
 
 pub returns : goal.returns
 returns c =
     let ss = c.args.structures.now in
-    let cyclic = c.in_ok-cyclic.cyclic.items in
+    let told = c.in_ok-cyclic.cyclic.items in
     let of_deep : c.deref.result.now ≡ map held_in ss = c.deref.ensures.value ∙ c.in_ok-graph.ensures.graph in
     let of_cyclic : c.deref-2.result.now ≡ map held_in ss = c.deref-2.ensures.value ∙ c.in_ok-graph.ensures.graph in
     record {
       shapes =
-          are_shapes ss cyclic c.in_ok-deep.deep.items c.in_ok-tails.tails.items
+          are_shapes_for ss told c.in_ok-deep.deep.items c.in_ok-tails.tails.items
           (c.in_ok-deep.ensures.flags ∙ ap (λ (graph : List (List ℕ)). nested_flags graph MAX_DEPTH) of_deep)
           (c.in_ok-cyclic.ensures.count ∙ ap (λ (graph : List (List ℕ)). length graph) of_cyclic)
-          (subst (λ (graph : List (List ℕ)). (i : ℕ) → i < length graph → (slice_get cyclic i ≡ Some true) ↔ Reached graph (edges_at graph i) i) of_cyclic
-          c.in_ok-cyclic.ensures.cycles) (tail_flags ss c.in_ok-tails.tails.items c.in_ok-tails.ensures.tails);
+          (subst (λ (graph : List (List ℕ)). (i : ℕ) → i < length graph → slice_get told i ≡ Some true → Reached graph (edges_at graph i) i) of_cyclic c.in_ok-cyclic.ensures.only)
+          (subst (λ (flags : List Bool). (i : ℕ) → i < length (map held_in ss) → Reached (map held_in ss) (edges_at (map held_in ss) i) i → (slice_get told i ≡ Some true) ⊎ IsPreceded ss flags i) c.deref-3.ensures.value
+          (subst (λ (graph : List (List ℕ)). (i : ℕ) → i < length graph → Reached graph (edges_at graph i) i → (slice_get told i ≡ Some true) ⊎ IsPreceded ss c.deref-3.result.now i) of_cyclic c.in_ok-cyclic.ensures.known))
+          (tail_flags ss c.in_ok-tails.tails.items c.in_ok-tails.ensures.tails);
     }
