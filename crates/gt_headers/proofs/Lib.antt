@@ -9,3 +9,4 @@ mod ItemOutcomes
 mod ReadOutcomes
 mod ProgramOutcomes
 mod Outcomes
+pub mod FaultPlaces

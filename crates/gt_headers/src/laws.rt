@@ -1,14 +1,15 @@
 //! What follows from the words of the contracts. These calls do nothing but call the laws of the layers below, from which their
 //! own follow.
-ghost use Rattle.std.specs.Prelude.{◌≡◌, ℕ, List, pos};
+ghost use Rattle.std.specs.Prelude.{◌≡◌, ◌≤◌, ℕ, List, length, pos};
 ghost use Rattle.gt_types.specs.declared.faults.Fault.{Fault};
 ghost use Rattle.gt_types.specs.declared.program.Program.{Program};
+ghost use Rattle.gt_types.specs.declared.limits.TheConstants.{MAX_STRUCTURES as most_structures, MAX_FIELDS as most_fields, MAX_ROOTS as most_roots, MAX_CACHES as most_caches, MAX_DEPTH as most_depth, MAX_DIMENSIONS as most_dimensions, MAX_BOUND as most_elements, TOO_LARGE};
 ghost use Rattle.gt_headers.specs.Headers.{Declares, IsFirstFault, IsNotBuilt};
 ghost use Rattle.gt_headers.specs.Pointers.{IsOfPointers};
 ghost use Rattle.gt_lex.specs.declared.faults.TheConstants.{BAD_UTF8, OPEN_COMMENT, OPEN_STRING, BAD_NUMBER};
 ghost use Rattle.gt_expr.specs.declared.TheConstants.{BAD_EXPR, EXPR_TOO_LARGE, MAX_PARTS};
 ghost use Rattle.gt_parse.specs.declared.faults.TheConstants.{UNCLOSED, UNEXPECTED, UNSUPPORTED, BAD_MARKER_PLACE};
-ghost use Rattle.gt_resolve.specs.declared.TheConstants.{REDEFINED, UNDEFINED, BY_VALUE_CYCLE, BAD_BOUND, TOO_MANY, MAX_STRUCTURES, MAX_FIELDS, MAX_ROOTS, MAX_CACHES, MAX_DEPTH, MAX_DIMENSIONS, MAX_BOUND};
+ghost use Rattle.gt_resolve.specs.declared.TheConstants.{REDEFINED, UNDEFINED, BY_VALUE_CYCLE, BAD_BOUND, TOO_MANY, TYPE_TOO_LARGE, MAX_STRUCTURES, MAX_FIELDS, MAX_ROOTS, MAX_CACHES, MAX_DEPTH, MAX_DIMENSIONS, MAX_BOUND};
 
 use gt_lex::one_answer;
 use gt_parse::one_search;
@@ -36,12 +37,21 @@ pub fn is_of_pointers()
     few();
 }
 
-/// The numbers of the faults and the limits, of which the definitions speak by name.
+/// The file of a first fault, and that of the first header with something that is not built, is one of the texts, counted from 1.
+pub fn text_places()
+    ensures fault { (texts : List (List ℕ)) (fault : Fault) → IsFirstFault texts fault → (1 ≤ fault.file) × (fault.file ≤ length texts) }
+    ensures file { (texts : List (List ℕ)) (file : ℕ) → IsNotBuilt texts file → (1 ≤ file) × (file ≤ length texts) }
+{}
+
+/// The numbers of the faults and the limits, of which the definitions speak by name: those of the headers, and those of a settled
+/// program.
 pub fn numbers()
     ensures tokens { (BAD_UTF8 ≡ 1) × (OPEN_COMMENT ≡ 2) × (OPEN_STRING ≡ 3) × (BAD_NUMBER ≡ 4) }
     ensures options { (BAD_EXPR ≡ 5) × (EXPR_TOO_LARGE ≡ 6) }
     ensures items { (UNCLOSED ≡ 7) × (UNEXPECTED ≡ 8) × (UNSUPPORTED ≡ 9) × (BAD_MARKER_PLACE ≡ 10) }
-    ensures names { (REDEFINED ≡ 11) × (UNDEFINED ≡ 12) × (BY_VALUE_CYCLE ≡ 13) × (BAD_BOUND ≡ 14) × (TOO_MANY ≡ 15) }
+    ensures names { (REDEFINED ≡ 11) × (UNDEFINED ≡ 12) × (BY_VALUE_CYCLE ≡ 13) × (BAD_BOUND ≡ 14) × (TOO_MANY ≡ 15) × (TYPE_TOO_LARGE ≡ 24) }
     ensures counts { (MAX_STRUCTURES ≡ 4096) × (MAX_FIELDS ≡ 1024) × (MAX_ROOTS ≡ 4096) × (MAX_CACHES ≡ 64) }
     ensures shapes { (MAX_DEPTH ≡ 32) × (MAX_DIMENSIONS ≡ 4) × (MAX_BOUND ≡ pos 1048576) × (MAX_PARTS ≡ 256) }
+    ensures settled_counts { (most_structures ≡ 4096) × (most_fields ≡ 1024) × (most_roots ≡ 4096) × (most_caches ≡ 64) }
+    ensures settled_shapes { (most_depth ≡ 32) × (most_dimensions ≡ 4) × (most_elements ≡ 1048576) × (TOO_LARGE ≡ 1048577) }
 {}

@@ -4,12 +4,12 @@
 
 mod built;
 mod declaring;
-mod laws;
+pub mod laws;
 mod program;
 mod reading;
 
 pub use declaring::{HeaderStop, declare};
-pub use laws::{is_of_pointers, numbers, one_outcome};
+pub use laws::{is_of_pointers, numbers, one_outcome, text_places};
 
 /// The most headers of a call.
 pub const MAX_HEADERS: usize = 64;

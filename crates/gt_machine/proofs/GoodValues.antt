@@ -132,3 +132,12 @@ module _ (program : Program) (objects : List Object) where
   -- a single zero object fits any objects, and is of a structure that may stand alone
   pub object_zero : IsLinked program → (o : Object) → o.count ≡ 1 → ObjectIsZero program o → ObjectFits program objects o × KindStands program o.kind
   object_zero linked o one (trees, is, nulls) = let w = single_zero linked o.kind o.count trees one nulls in ((trees, is, w.0), w.1)
+
+  -- a static record whose roots are null fits any objects
+  pub statics_zero : IsLinked program → (statics : Tree) → (trees : Trees) × (statics ≡ Rec trees) × AllZero program (map (λ r. r.ty) program.roots) trees
+      → StaticsFit program objects statics
+  statics_zero linked statics (trees, is, nulls) = (
+    trees,
+    is,
+    leaves_zero (map (λ r. r.ty) program.roots) trees (All-map (IsPlain program) (λ r. r.ty) program.roots linked.roots) nulls,
+  )

@@ -6,6 +6,7 @@ mod GoodBound
 mod GoodCollected
 mod GoodLists
 mod GoodMade
+mod GoodOpening
 mod GoodSteps
 mod GoodValues
 mod GoodWritten

@@ -7,7 +7,7 @@ mod answer;
 mod collecting;
 mod dropping;
 mod getting;
-mod laws;
+pub mod laws;
 mod making;
 mod marking;
 mod paths;
@@ -22,7 +22,7 @@ mod texts;
 mod vars;
 
 pub use answer::{Answer, Why};
-pub use laws::{good_state, next_keeps_good};
+pub use laws::{good_state, next_keeps_good, opening_is_good, runs_stay_good};
 pub use session::Session;
 pub use starting::opening;
 pub use stepping::step;

@@ -5,8 +5,11 @@ mod CycleFaults
 mod CycleFlags
 mod CycleLemmas
 mod DeclaringLemmas
+mod DeclaredFiles
 mod Depths
 mod DraftLemmas
+pub mod FaultFiles
+pub mod FaultPlaces
 mod FewLemmas
 mod FilterMaps
 mod Firsts

@@ -20,3 +20,8 @@ pub fn one_outcome()
     ensures draft { (files : List Items) (draft other : Draft) → Resolves files draft → Resolves files other → draft ≡ other }
     ensures fault { (files : List Items) (fault other : Fault) → HasFirstFault files fault → HasFirstFault files other → fault ≡ other }
 {}
+
+/// The file of a first fault is one of the files, counted from 1.
+pub fn fault_file()
+    ensures { (files : List Items) (fault : Fault) → HasFirstFault files fault → (1 ≤ fault.file) × (fault.file ≤ length files) }
+{}

@@ -13,7 +13,7 @@ mod draft;
 mod drafting;
 mod earliest;
 mod first_fault;
-mod laws;
+pub mod laws;
 mod link;
 mod meaning;
 mod names;
@@ -36,7 +36,7 @@ mod undefined;
 pub use draft::{
     Draft, DraftCache, DraftConstant, DraftField, DraftRoot, DraftStructure, DraftWord,
 };
-pub use laws::{few, one_outcome};
+pub use laws::{fault_file, few, one_outcome};
 pub use placing::place;
 pub use resolving::resolve;
 pub use types::{Amount, BaseType, DeclaredType, Resolved, Spelled};

@@ -1,7 +1,7 @@
 -- What the program comes to, from what its parts did.
 use Rattle.std.proofs.Common.{◌≡◌, ℕ, ◌*◌, ◌⊎◌, List, [], length, All, refl, sym, ap, subst, ◌∙◌, Option, inl, inr}
 use Rattle.gt_types.specs.declared.program.Program.{Program}
-use Rattle.gt_space.specs.Range.{Range, IsSized}
+use Rattle.gt_space.specs.Range.{Range, IsSized, empty_range}
 use Rattle.gt_io.specs.Held.{Held}
 use Rattle.gt_io.specs.Appends.{Adds, IsFrontOf}
 use Rattle.gt_script.specs.declared.command.Line.{Line}
@@ -100,12 +100,12 @@ Ends-of words told old new ending answers range outcome status same refusal ende
 
 -- what is refused first ends the call with its line
 pub Ended-refused : (words : List (List ℕ)) (told : Option Held) (texts : Texts) (refusal : Refusal) (line : List ℕ)
-    → IsRefusedFirst words told texts refusal → IsRefusalLine words texts refusal line → (old new : Option (List ℕ)) (ending : Ending) (range : Range)
-    → Refuses refusal line old new ending → Ended words told old ending [] new range
-Ended-refused words told texts refusal line first is old new (Refused other) range h =
+    → IsRefusedFirst words told texts refusal → IsRefusalLine words texts refusal line → (old new : Option (List ℕ)) (ending : Ending)
+    → Refuses refusal line old new ending → Ended words told old ending [] new empty_range
+Ended-refused words told texts refusal line first is old new (Refused other) h =
     let F : Refusal → Type 0 = λ r. IsRefusedFirst words told texts r in
     let L : Refusal → Type 0 = λ r. IsRefusalLine words texts r line in
-    (refl, texts, subst F (sym h.0) first, line, subst L (sym h.0) is, h.1)
-Ended-refused words told texts refusal line first is old new SinkFailed range h = inl (refl, refusal, texts, first, line, is, h)
-Ended-refused words told texts refusal line first is old new NoMemory range h = inl (refl, h)
-Ended-refused words told texts refusal line first is old new Finished range h = absurd h
+    (refl, refl, texts, subst F (sym h.0) first, line, subst L (sym h.0) is, h.1)
+Ended-refused words told texts refusal line first is old new SinkFailed h = inl (refl, refl, refusal, texts, first, line, is, h)
+Ended-refused words told texts refusal line first is old new NoMemory h = inl (refl, h, inl refl)
+Ended-refused words told texts refusal line first is old new Finished h = absurd h

@@ -3,3 +3,4 @@ mod EndLemmas
 mod Linked
 mod WellLemmas
 mod RefusalOnce
+mod RefusedEnds

@@ -194,7 +194,7 @@ Ends-well words told old new outcome range FileRose SinkRose nothing no_file no_
           → Ended words told old ending outcome.answers new range → (outcome.status ≡ 0) ⊎ (outcome.status ≡ 1) ⊎ (outcome.status ≡ 9)
       ends_well Finished s r h = one_or_none (list_any is_refusal outcome.answers) outcome.status s
       ends_well (Refused refusal) s r h =
-          let w = nothing h.1 refusal h.2 in
+          let w = nothing h.2 refusal h.3 in
           absurd (no_file (file_cause w.0 (r ∙ ap (λ x. Some x) w.1)))
       ends_well SinkFailed s r h = absurd (no_sink (sink_cause s))
       ends_well NoMemory s r h = inr (inr s)

@@ -1,7 +1,7 @@
 -- How the program ends, and what it has then answered and written.
 use Rattle.std.specs.Prelude.{◌≡◌, ℕ, ◌⊎◌, List, [], ◌∷◌, ◌++◌, Option, Some, None, if◌then◌else◌}
 use Rattle.std.specs.List.{list_any}
-use Rattle.gt_space.specs.Range.{Range}
+use Rattle.gt_space.specs.Range.{Range, empty_range, fresh_range}
 use Rattle.gt_io.specs.Held.{Held}
 use Rattle.gt_io.specs.Appends.{Adds, AddsFront, IsFrontOf}
 use Rattle.gt_script.specs.declared.command.Line.{Line}
@@ -34,20 +34,26 @@ Refuses refusal line taken takes SinkFailed = AddsFront taken line takes
 Refuses refusal line taken takes NoMemory = takes ≡ taken
 Refuses refusal line taken takes Finished = ⊥
 
+-- no command ran: the space is empty, as it came, or has got its pages and its static record, and each byte is zero
+abbrev pub IsUnused : Range → Type 0
+IsUnused range = (range ≡ empty_range) ⊎ ((pages : ℕ) × (statics : ℕ) × (range ≡ fresh_range pages statics))
+
 -- how the program ends, with its answers, what the sink took, and the bytes of the space
 -- finished: a run of all lines, and the text of its answers
--- refused: what comes first in the order of work, and its line
--- the sink failed: a front of a refusal's line, or of the text of the answers with all but the last whole
--- want of memory: the text of the answers, or of all but the last; the answers are those to the lines that were run
+-- refused: what comes first in the order of work, and its line; no command ran, and the space is empty, as it came
+-- the sink failed: a front of a refusal's line, where no command ran and the space is empty, as it came; or of the text of the
+-- answers with all but the last whole
+-- want of memory: no answer, where no command ran; or the text of the answers, or of all but the last: the answers are those to
+-- the lines that were run
 abbrev pub Ended : List (List ℕ) → Option Held → Option (List ℕ) → Ending → List Answer → Option (List ℕ) → Range → Type 0
 Ended words told old Finished answers new range = (r : Runs words told answers range) × (r.left ≡ []) × Adds old (texts_of r.done answers) new
-Ended words told old (Refused refusal) answers new range = (answers ≡ []) × (texts : Texts) × IsRefusedFirst words told texts refusal
+Ended words told old (Refused refusal) answers new range = (answers ≡ []) × (range ≡ empty_range) × (texts : Texts) × IsRefusedFirst words told texts refusal
     × (line : List ℕ) × IsRefusalLine words texts refusal line × Adds old line new
 Ended words told old SinkFailed answers new range =
-    ((answers ≡ []) × (refusal : Refusal) × (texts : Texts) × IsRefusedFirst words told texts refusal × (line : List ℕ) × IsRefusalLine words texts refusal line × AddsFront old line new)
+    ((answers ≡ []) × (range ≡ empty_range) × (refusal : Refusal) × (texts : Texts) × IsRefusedFirst words told texts refusal × (line : List ℕ) × IsRefusalLine words texts refusal line × AddsFront old line new)
     ⊎ ((r : Runs words told answers range) × AddsAllBut old r.done answers IsFrontOf new)
 Ended words told old NoMemory answers new range =
-    ((answers ≡ []) × (new ≡ old))
+    ((answers ≡ []) × (new ≡ old) × IsUnused range)
     ⊎ ((r : Runs words told answers range) × (Adds old (texts_of r.done answers) new ⊎ AddsAllBut old r.done answers IsNothing new))
 
 -- the status of a refusal: 3 for a file, else 2

@@ -14,7 +14,7 @@ use Rattle.gt_machine.specs.Run.{Run}
 use Rattle.gt_machine.specs.Text.{text_of, texts_of}
 use Rattle.gt_machine.specs.declared.answer.Answer.{Answer}
 use Rattle.gt_run.specs.Runs.{Opens}
-use Rattle.gt_run.specs.Ended.{AddsAllBut, IsNothing}
+use Rattle.gt_run.specs.Ended.{AddsAllBut, IsNothing, IsUnused}
 use Rattle.gt_run.specs.declared.ending.Ending.{Ending}
 use Rattle.gt_run.specs.declared.ending.Ending.TheVariants.{Finished, Refused, SinkFailed, NoMemory}
 use Rattle.gt_run.specs.declared.lines.LineStop.{LineStop}
@@ -62,7 +62,7 @@ RunsScript program settings lines told answers taken takes range Finished =
 RunsScript program settings lines told answers taken takes range SinkFailed =
     (left : List Line) × (o : Opened program settings lines told answers left range) × AddsAllBut taken o.ran.0 answers IsFrontOf takes
 RunsScript program settings lines told answers taken takes range NoMemory =
-    ((answers ≡ []) × (takes ≡ taken))
+    ((answers ≡ []) × (takes ≡ taken) × IsUnused range)
     ⊎ ((left : List Line) × (o : Opened program settings lines told answers left range)
     × (Adds taken (texts_of o.ran.0 answers) takes ⊎ AddsAllBut taken o.ran.0 answers IsNothing takes))
 RunsScript program settings lines told answers taken takes range (Refused refusal) = ⊥

@@ -4,14 +4,16 @@
 
 mod built;
 mod ending;
-mod laws;
+pub mod laws;
 mod lines;
 mod outcome;
 mod refuse;
 mod running;
 
 pub use gt_front::{FileWhy, Refusal};
-pub use gt_machine::{Answer, Session, Vars, Why, next_keeps_good, step, text};
+pub use gt_machine::{
+    Answer, Session, Vars, Why, next_keeps_good, opening_is_good, runs_stay_good, step, text,
+};
 pub use laws::{numbers, one_refusal};
 pub use outcome::Outcome;
 pub use running::top;

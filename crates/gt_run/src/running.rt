@@ -10,13 +10,14 @@ ghost use Rattle.gt_front.specs.Refused.{IsRefusalLine};
 ghost use Rattle.gt_front.specs.Texts.{Texts};
 ghost use Rattle.gt_heap.specs.Heap.{IsLinked};
 ghost use Rattle.gt_machine.specs.Built.{IsBuilt};
-ghost use Rattle.gt_run.specs.Comes.{IsRefusedFirst};
+ghost use Rattle.gt_run.specs.Comes.{IsRefusedFirst, IsTold};
 ghost use Rattle.gt_run.specs.Lines.{RunsScript};
-ghost use Rattle.gt_run.specs.Ended.{Ends};
+ghost use Rattle.gt_run.specs.Ended.{Ends, refusal_status};
 ghost use Rattle.gt_run.specs.Complete.{IsWell};
 
 use crate::built::are_built;
 use crate::ending::Ending;
+use crate::laws::one_refusal;
 use crate::lines::run_lines;
 use crate::outcome::Outcome;
 use crate::refuse::refuse;
@@ -55,9 +56,15 @@ pub fn top<F: Files, K: Sink>(
     ensures complete { (held : Held) → F.told files.old ≡ Some held → IsWell words.now held
         → (Rose (F.faults files.old) (F.faults files.new) → ⊥) → (Rose (K.faults out.old) (K.faults out.new) → ⊥)
         → (result.status ≡ 0) ⊎ (result.status ≡ 1) ⊎ (result.status ≡ 9) }
+
+    // Where something is refused first, it is refused, or there is want of memory.
+    ensures refused { (held : Held) (texts : Texts) (refusal : Refusal) → F.told files.old ≡ Some held → IsRefusedFirst words.now (Some held) texts refusal → IsTold refusal
+        → (Rose (F.faults files.old) (F.faults files.new) → ⊥) → (Rose (K.faults out.old) (K.faults out.new) → ⊥)
+        → ((result.refusal ≡ Some refusal) × (result.status ≡ refusal_status refusal)) ⊎ (result.status ≡ 9) }
 {
     is_of_pointers();
     well_is_not_refused();
+    refused_is_told();
     match prepare(alloc, words, files) {
         Ok(ready) => run_ready(alloc, ready, files, out, space),
         Err(Halt::Memory) => Outcome::of(Ending::NoMemory, List::new(alloc)),
@@ -78,6 +85,16 @@ fn well_is_not_refused()
     headers_outcome();
 }
 
+// Where something is refused first, and nothing outside failed, it is what is told, or there is want of memory. It does nothing:
+// its clause is a law.
+fn refused_is_told()
+    ensures { (words : List (List ℕ)) (held : Held) (texts : Texts) (refusal : Refusal) (old new : Option (List ℕ)) (outcome : Outcome) (range : Range) → IsRefusedFirst words (Some held) texts refusal → IsTold refusal
+        → Ends words (Some held) old new outcome range → ((word : ℕ) → outcome.refusal ≡ Some (Refusal.File word FileWhy.Fault) → ⊥) → (outcome.status ≡ 4 → ⊥)
+        → ((outcome.refusal ≡ Some refusal) × (outcome.status ≡ refusal_status refusal)) ⊎ (outcome.status ≡ 9) }
+{
+    one_refusal();
+}
+
 // Runs the lines from the opening state, where all of their commands are built.
 fn run_ready<F: Files, K: Sink>(
     alloc: Global,
@@ -88,6 +105,7 @@ fn run_ready<F: Files, K: Sink>(
 ) -> Outcome
     requires linked { IsLinked ready.program }
     requires ranges { IsInRange ready.call }
+    requires empty { space.old ≡ empty_range }
     ensures ended { (words : List (List ℕ)) → Asks words (F.told files.old) ready.call ready.program ready.lines → Ends words (F.told files.old) (K.written out.old) (K.written out.new) result space.new }
     ensures refusal { IfSome result.refusal (λ refusal. refusal ≡ Refusal.NotBuilt 0) }
     ensures files { files.new ≡ files.old }
@@ -113,7 +131,7 @@ fn run_ready<F: Files, K: Sink>(
 
 // Says that the script asks for what is not built so far.
 fn refuse_unbuilt<K: Sink>(alloc: Global, call: &Call, out: &mut K) -> Outcome
-    ensures ended { (words : List (List ℕ)) (told : Option Held) (texts : Texts) (range : Range) → call_of words ≡ Some call.now → IsRefusedFirst words told texts (Refusal.NotBuilt 0) → Ends words told (K.written out.old) (K.written out.new) result range }
+    ensures ended { (words : List (List ℕ)) (told : Option Held) (texts : Texts) → call_of words ≡ Some call.now → IsRefusedFirst words told texts (Refusal.NotBuilt 0) → Ends words told (K.written out.old) (K.written out.new) result empty_range }
     ensures refusal { IfSome result.refusal (λ refusal. refusal ≡ Refusal.NotBuilt 0) }
     ensures later { K.faults out.old ≤ K.faults out.new }
     ensures cause { result.status ≡ 4 → Rose (K.faults out.old) (K.faults out.new) }
@@ -126,7 +144,7 @@ fn refuse_unbuilt<K: Sink>(alloc: Global, call: &Call, out: &mut K) -> Outcome
 
 // Writes the line of a refusal, and ends with it.
 fn refused_outcome<K: Sink>(alloc: Global, refusal: Refusal, line: &[u8], out: &mut K) -> Outcome
-    ensures ended { (words : List (List ℕ)) (told : Option Held) (texts : Texts) (range : Range) → IsRefusedFirst words told texts refusal → IsRefusalLine words texts refusal line.now → Ends words told (K.written out.old) (K.written out.new) result range }
+    ensures ended { (words : List (List ℕ)) (told : Option Held) (texts : Texts) → IsRefusedFirst words told texts refusal → IsRefusalLine words texts refusal line.now → Ends words told (K.written out.old) (K.written out.new) result empty_range }
     ensures refusal { IfSome result.refusal (λ told. told ≡ refusal) }
     ensures later { K.faults out.old ≤ K.faults out.new }
     ensures cause { result.status ≡ 4 → Rose (K.faults out.old) (K.faults out.new) }
@@ -149,6 +167,7 @@ fn run<F: Files, K: Sink>(
     requires settings { AreInRange settings }
     requires built { All (λ line. IsBuilt line.command) lines.now }
     requires none_yet { answers.old.items ≡ [] }
+    requires empty { space.old ≡ empty_range }
     ensures ran { RunsScript program settings lines.now (F.told files.old) answers.new.items (K.written out.old) (K.written out.new) space.new result }
     ensures files { files.new ≡ files.old }
     ensures later { K.faults out.old ≤ K.faults out.new }

@@ -4,6 +4,7 @@
 //     words WORD WORD ..   the words of the command line, parted by single spaces
 //     file NAME            a file, whose lines follow
 //     filled NAME N        a file of N spaces
+//     bytes ADDRESS N      after the run, a line with the N bytes of the space at a decimal address is written after the output
 //     status N             the status that is expected
 //     output               what is expected to be written, whose lines follow
 //     | LINE               a line of the file or of the output before it
@@ -20,8 +21,16 @@ pub struct Row {
     pub shows: String,
     pub words: Vec<Word>,
     pub files: Vec<File>,
+    pub look: Option<Look>,
     pub status: u8,
     pub output: String,
+}
+
+/// The bytes of the space that a row looks at after its run.
+#[derive(Clone, Copy)]
+pub struct Look {
+    pub address: u64,
+    pub count: u32,
 }
 
 /// A part of the table.
@@ -42,6 +51,7 @@ struct Lines {
     shows: Option<String>,
     words: Option<Vec<Word>>,
     files: Vec<File>,
+    look: Option<Look>,
     status: Option<u8>,
     output: Option<String>,
 }
@@ -52,6 +62,7 @@ pub fn read_part(alloc: Global, text: &str) -> Result<Part, AllocError> {
         shows: None,
         words: None,
         files: Vec::new(alloc),
+        look: None,
         status: None,
         output: None,
     };
@@ -91,6 +102,9 @@ impl Lines {
         } else if keyword == "words" {
             self.words = Some(words_of(alloc, rest)?);
             Ok(true)
+        } else if keyword == "bytes" {
+            self.look = look_of(rest);
+            Ok(self.look.is_some())
         } else if keyword == "status" {
             self.status = rest.parse::<u8>().ok();
             Ok(self.status.is_some())
@@ -152,6 +166,7 @@ impl Lines {
             shows,
             words,
             files,
+            look,
             status,
             output,
         } = self;
@@ -160,6 +175,7 @@ impl Lines {
                 shows,
                 words,
                 files,
+                look,
                 status,
                 output,
             }),
@@ -168,6 +184,15 @@ impl Lines {
             _ => Part::Misspelled,
         }
     }
+}
+
+// An address and how many bytes to look at there.
+fn look_of(rest: &str) -> Option<Look> {
+    let (address, count) = rest.split_once(' ')?;
+    Some(Look {
+        address: address.parse::<u64>().ok()?,
+        count: count.parse::<u32>().ok()?,
+    })
 }
 
 // The words of a line, of which an empty one has none.

@@ -1,5 +1,5 @@
 // One row through the program.
-use crate::rows::Row;
+use crate::rows::{Look, Row};
 use gt_io::{MemFiles, MemSink};
 use gt_run::top;
 use gt_space::Space;
@@ -13,7 +13,7 @@ pub struct File {
     pub text: String,
 }
 
-/// How a run ended, and what it wrote.
+/// How a run ended, and what it wrote, with the bytes that the row looks at.
 #[derive(Drop)]
 pub struct Came {
     pub status: u8,
@@ -34,10 +34,40 @@ pub fn run_row(alloc: Global, shared: &[File], row: &Row) -> Result<Came, AllocE
         &mut out,
         &mut space,
     );
+    let mut output = String::from_utf8_lossy(alloc, out.bytes())?;
+    if let Some(look) = row.look {
+        push_bytes(alloc, &mut output, &space, look)?;
+    }
     Ok(Came {
         status: outcome.status,
-        output: String::from_utf8_lossy(alloc, out.bytes())?,
+        output,
     })
+}
+
+// Adds a line with the bytes at an address, but for those that are no bytes of the space.
+fn push_bytes(
+    alloc: Global,
+    output: &mut String,
+    space: &Space,
+    look: Look,
+) -> Result<(), AllocError> {
+    output.push_str("bytes")?;
+    for place in 0..look.count {
+        if let Some(byte) = byte_at(space, look.address.saturating_add(place as u64)) {
+            output.push_str(format!(in alloc; " {byte:02x}")?.as_str())?;
+        }
+    }
+    output.push('\n')
+}
+
+// The byte at an address, where it is one of the space.
+fn byte_at(space: &Space, address: u64) -> Option<u8> {
+    let start = space.start();
+    if start <= address && address - start < space.len() {
+        Some(space.read_u8(address))
+    } else {
+        None
+    }
 }
 
 fn add_all(files: &mut MemFiles, added: &[File]) -> Result<(), AllocError> {

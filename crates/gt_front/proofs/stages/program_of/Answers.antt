@@ -1,6 +1,6 @@
 use Rattle.std.proofs.Common.{inr, subst, arith}
 use Rattle.gt_headers.specs.Headers.{IsHeaderStop, IsFirstFault, IsNotBuilt}
-use Rattle.gt_front.proofs.FaultPlaces.{fault_within, unbuilt_within}
+use Rattle.gt_headers.proofs.FaultPlaces.{fault_within, unbuilt_within}
 use Rattle.gt_front.proofs.stages.program_of.Goals as goal
 
 pub fault_line-requires-clause-counted : goal.fault_line-requires-clause-counted
@@ -17,7 +17,7 @@ pub file_line-requires : goal.file_line-requires
 file_line-requires c =
     let unbuilt : IsNotBuilt c.args.texts.now c.in-Err-NotBuilt.file = subst (IsHeaderStop c.args.texts.now) c.in-Err-NotBuilt.field-0-is c.in-Err-NotBuilt.ensures.stopped in
     let within = unbuilt_within c.args.texts.now c.in-Err-NotBuilt.file unbuilt in
-    record { there = omega (arith, within, c.requires.within.each) }
+    record { there = omega (arith, within.1, c.requires.within.each) }
 
 pub returns-in-Err-Faulty-clause-halted : goal.returns-in-Err-Faulty-clause-halted
 returns-in-Err-Faulty-clause-halted c =

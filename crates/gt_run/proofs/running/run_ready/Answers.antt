@@ -1,9 +1,10 @@
-use Rattle.std.proofs.Common.{◌≡◌, ◌∙◌, List, All, ap, inr, refl, subst, rules}
+use Rattle.std.proofs.Common.{◌≡◌, ◌∙◌, List, All, ap, inr, refl, sym, subst, rules}
+use Rattle.gt_space.specs.Range.{Range}
 use Rattle.gt_script.specs.declared.command.Line.{Line}
 use Rattle.gt_machine.specs.Built.{IsBuilt}
 use Rattle.gt_run.specs.Comes.{HasUnbuilt}
 use Rattle.gt_run.specs.Lines.{RunsScript}
-use Rattle.gt_run.specs.Ended.{status_of}
+use Rattle.gt_run.specs.Ended.{status_of, Ends}
 use Rattle.gt_run.proofs.EndLemmas.{Ended-script, Ends-of}
 use Rattle.gt_run.proofs.running.run_ready.Goals as goal
 
@@ -12,8 +13,10 @@ returns-then-not-are_built-clause-ended g c = λ words asks.
     let same : c.as_slice.result.now ≡ c.args.ready.lines = search rules in
     let unbuilt : HasUnbuilt c.as_slice.result.now = rw c.if-not-are_built.true at c.are_built.ensures in
     let U : List Line → Type 0 = λ lines. HasUnbuilt lines in
-    c.refuse_unbuilt.ensures.ended words (g.F.Files.told c.args.files.now) asks.texts c.args.space.now asks.reads.calls.called
-    (inr (refl, c.args.ready.call, c.args.ready.program, c.args.ready.lines, asks, subst U same unbuilt))
+    let told = g.F.Files.told c.args.files.now in
+    let E : Range → Type 0 = λ range. Ends words told (g.K.Sink.written c.args.out.now) (g.K.Sink.written c.refuse_unbuilt.new.out) c.refuse_unbuilt.result range in
+    subst E (sym c.requires.empty) (c.refuse_unbuilt.ensures.ended words told asks.texts asks.reads.calls.called
+    (inr (refl, c.args.ready.call, c.args.ready.program, c.args.ready.lines, asks, subst U same unbuilt)))
 
 pub returns-clause-ended : goal.returns-clause-ended
 returns-clause-ended g c = λ words asks.

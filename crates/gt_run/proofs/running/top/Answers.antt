@@ -1,5 +1,7 @@
-use Rattle.std.proofs.Common.{◌≡◌, ℕ, List, Some, inl, sym, subst, rules}
+use Rattle.std.proofs.Common.{◌≡◌, ℕ, List, Option, Some, inl, sym, subst, rules}
+use Rattle.gt_space.specs.Range.{Range}
 use Rattle.gt_io.specs.Counts.{Rose}
+use Rattle.gt_io.specs.Held.{Held}
 use Rattle.gt_front.specs.Halts.{Halts}
 use Rattle.gt_front.specs.Refused.{IsRefusalLine}
 use Rattle.gt_front.specs.declared.preparing.Halt.TheVariants as halt
@@ -23,6 +25,16 @@ returns-in-Ok-clause-complete g c = λ held told well no_file no_sink.
     Ends-well words before _ _ c.run_ready.result c.run_ready.new.space _ _ (λ texts refusal first. c.well_is_not_refused.ensures words held before texts refusal told well first) no_file no_sink
     file_rose c.run_ready.ensures.cause ended
 
+pub returns-in-Ok-clause-refused : goal.returns-in-Ok-clause-refused
+returns-in-Ok-clause-refused g c = λ held texts refusal told first known no_file no_sink.
+    let words = c.args.words.now in
+    let before = g.F.Files.told c.args.files.now in
+    let ended : Ends words before (g.K.Sink.written c.args.out.now) (g.K.Sink.written c.run_ready.new.out) c.run_ready.result c.run_ready.new.space = search rules in
+    let file_rose : (word : ℕ) → c.run_ready.result.refusal ≡ Some (InFile word Fault) → Rose (g.F.Files.faults c.args.files.now) (g.F.Files.faults c.run_ready.new.files) = search rules in
+    let E : Option Held → Type 0 = λ told. Ends words told (g.K.Sink.written c.args.out.now) (g.K.Sink.written c.run_ready.new.out) c.run_ready.result c.run_ready.new.space in
+    c.refused_is_told.ensures words held texts refusal _ _ c.run_ready.result c.run_ready.new.space first known (subst E told ended)
+    (λ word is. no_file (file_rose word is)) (λ is. no_sink (c.run_ready.ensures.cause is))
+
 module _ (g : Over) (c : goal.After-drop-line-inside g) where
   halts : Halts c.args.words.now (g.F.Files.told c.args.files.now) (halt.Refused c.in-Err-Refused.refusal c.in-Err-Refused.line)
   halts = rw c.in-Err-Refused.field-0-is at c.in-Err-Refused.ensures.halted
@@ -31,7 +43,8 @@ module _ (g : Over) (c : goal.After-drop-line-inside g) where
   refused_ends =
       let same : c.as_slice.result.now ≡ c.in-Err-Refused.line = search rules in
       let L : List ℕ → Type 0 = λ line. IsRefusalLine c.args.words.now halts.0 c.in-Err-Refused.refusal line in
-      c.refused_outcome.ensures.ended c.args.words.now (g.F.Files.told c.args.files.now) halts.0 c.args.space.now (inl halts.1) (subst L (sym same) halts.2)
+      let E : Range → Type 0 = λ range. Ends c.args.words.now (g.F.Files.told c.args.files.now) (g.K.Sink.written c.args.out.now) (g.K.Sink.written c.refused_outcome.new.out) c.refused_outcome.result range in
+      subst E (sym c.requires.empty) (c.refused_outcome.ensures.ended c.args.words.now (g.F.Files.told c.args.files.now) halts.0 (inl halts.1) (subst L (sym same) halts.2))
 
 pub returns-in-Err-Refused-clause-ended : goal.returns-in-Err-Refused-clause-ended
 returns-in-Err-Refused-clause-ended g c = refused_ends g c
@@ -43,3 +56,11 @@ returns-in-Err-Refused-clause-complete g c = λ held told well no_file no_sink.
     let file_rose : (word : ℕ) → c.refused_outcome.result.refusal ≡ Some (InFile word Fault) → Rose (g.F.Files.faults c.args.files.now) (g.F.Files.faults c.prepare.new.files) = search rules in
     Ends-well words before _ _ c.refused_outcome.result c.args.space.now _ _ (λ texts refusal first. c.well_is_not_refused.ensures words held before texts refusal told well first) no_file no_sink
     file_rose c.refused_outcome.ensures.cause (refused_ends g c)
+
+pub returns-in-Err-Refused-clause-refused : goal.returns-in-Err-Refused-clause-refused
+returns-in-Err-Refused-clause-refused g c = λ held texts refusal told first known no_file no_sink.
+    let words = c.args.words.now in
+    let file_rose : (word : ℕ) → c.refused_outcome.result.refusal ≡ Some (InFile word Fault) → Rose (g.F.Files.faults c.args.files.now) (g.F.Files.faults c.prepare.new.files) = search rules in
+    let E : Option Held → Type 0 = λ told. Ends words told (g.K.Sink.written c.args.out.now) (g.K.Sink.written c.refused_outcome.new.out) c.refused_outcome.result c.args.space.now in
+    c.refused_is_told.ensures words held texts refusal _ _ c.refused_outcome.result c.args.space.now first known (subst E told (refused_ends g c))
+    (λ word is. no_file (file_rose word is)) (λ is. no_sink (c.refused_outcome.ensures.cause is))

@@ -1,5 +1,5 @@
--- A fault of the headers, and a header that is not built so far, are of one of the texts.
-use Rattle.std.proofs.Common.{◌≡◌, ℕ, suc, ◌+◌, ◌≤◌, List, [], ◌∷◌, length, Option, Some, None, refl, sym, subst, ap, ◌∙◌, inl, inr, length-append, arith}
+-- What is declared, and the faults of names and types, are of the files, which are those from 1 on.
+use Rattle.std.proofs.Common.{ℕ, suc, ◌+◌, ◌≤◌, List, [], ◌∷◌, length, Option, Some, None, sym, subst, arith}
 use Rattle.std.specs.Prelude.{All, IfSome}
 use Rattle.std.specs.List.{cons_option, filter_map}
 use Rattle.std.proofs.lemmas.List.Elements.{All-nil, All-cons, All-append, All-contains}
@@ -12,17 +12,12 @@ use Rattle.gt_resolve.specs.declared.meaning.TypeName.{TypeName}
 use Rattle.gt_resolve.specs.declared.draft.Draft.{Draft}
 use Rattle.gt_resolve.specs.Declarations.{Progress, declare_file, declare_files, nothing_declared, declarations}
 use Rattle.gt_resolve.specs.Drafts.{structure_item, root_item, cache_item, items_from}
-use Rattle.gt_resolve.specs.Resolution.{IsRead, Resolves}
-use Rattle.gt_headers.specs.Reading.{AreRead}
-use Rattle.gt_headers.specs.Built.{HasUnbuilt}
-use Rattle.gt_headers.specs.Headers.{IsFirstFault, IsNotBuilt}
-use Rattle.gt_front.proofs.DeclaredFiles.{Of, Kept, kept-declare_file}
-use Rattle.gt_front.proofs.FaultFiles.{OfFault, OfStructure, OfRoot, OfCache, of_all}
-
--- ---- the files are those from 1 on
+use Rattle.gt_resolve.specs.Resolution.{HasFirstFault, IsRead}
+use Rattle.gt_resolve.proofs.DeclaredFiles.{Of, Kept, kept-declare_file}
+use Rattle.gt_resolve.proofs.FaultFiles.{OfFault, OfStructure, OfRoot, OfCache, of_all}
 
 -- the place of a file, of so many
-abbrev InFiles : ℕ → ℕ → Type 0
+abbrev pub InFiles : ℕ → ℕ → Type 0
 InFiles n file = (1 ≤ file) × (file ≤ n)
 
 -- what is declared in the files from one on
@@ -78,60 +73,27 @@ module _ (files : List Items) (draft : Draft) (faults : List Fault) (is : IsRead
   abbrev count : ℕ
   count = length files
 
-  structures_in : All (OfStructure (InFiles count)) draft.structures
+  pub structures_in : All (OfStructure (InFiles count)) draft.structures
   structures_in =
       let of = items_in count (OfStructure (InFiles count)) (structure_item (declarations files) is.types) 1 files (structure_in (declarations files) is.types count) (omega arith) (omega arith) in
       subst (λ (d : Draft). All (OfStructure (InFiles count)) d.structures) (sym is.drafted) of
 
-  roots_in : All (OfRoot (InFiles count)) draft.roots
+  pub roots_in : All (OfRoot (InFiles count)) draft.roots
   roots_in =
       let of = items_in count (OfRoot (InFiles count)) (root_item (declarations files) is.types) 1 files (root_in (declarations files) is.types count) (omega arith) (omega arith) in
       subst (λ (d : Draft). All (OfRoot (InFiles count)) d.roots) (sym is.drafted) of
 
-  caches_in : All (OfCache (InFiles count)) draft.caches
+  pub caches_in : All (OfCache (InFiles count)) draft.caches
   caches_in =
       let of = items_in count (OfCache (InFiles count)) (cache_item (declarations files) is.types) 1 files (cache_in (declarations files) is.types count) (omega arith) (omega arith) in
       subst (λ (d : Draft). All (OfCache (InFiles count)) d.caches) (sym is.drafted) of
 
-  faults_in : All (OfFault (InFiles count)) faults
+  pub faults_in : All (OfFault (InFiles count)) faults
   faults_in =
       let declared = declared_in count 1 files nothing_declared (omega arith) (omega arith) (All-nil (Of (InFiles count))) in
       subst (λ (fs : List Fault). All (OfFault (InFiles count)) fs) (sym is.faulty)
       (of_all (InFiles count) (declarations files) is.types draft is.cyclic is.deep is.tails declared structures_in roots_in caches_in)
 
--- ---- and there are as many as texts
-
-as_many : (texts : List (List ℕ)) (files : List Items) → AreRead texts files → length files ≡ length texts
-as_many [] [] read = refl
-as_many [] (items ∷ files) read = absurd read
-as_many (text ∷ texts) [] read = absurd read
-as_many (text ∷ texts) (items ∷ files) read = let rest = as_many texts files read.1 in omega (arith, rest)
-
--- the first fault is of one of the texts
-pub fault_within : (texts : List (List ℕ)) (fault : Fault) → IsFirstFault texts fault → (1 ≤ fault.file) × (fault.file ≤ length texts)
-fault_within texts fault (inl r) =
-    let file = r.file in
-    let size : length texts ≡ length r.before + suc (length r.after) = ap length r.split ∙ length-append r.before (r.text ∷ r.after) in
-    (omega (arith, file), omega (arith, file, size))
-fault_within texts fault (inr (files, read, first)) =
-    let in_files : InFiles (length files) fault.file = All-contains (OfFault (InFiles (length files))) first.faults fault (faults_in files first.draft first.faults first.is_read) first.is_first.there in
-    let many = as_many texts files read in
-    (in_files.0, omega (arith, in_files.1, many))
-
--- what is not built is in one of the files
-unbuilt_in : (files : List Items) (draft : Draft) (file : ℕ) → Resolves files draft → HasUnbuilt draft file → file ≤ length files
-unbuilt_in files draft file is (inl (s, there, same, not_built)) =
-    let in_files : InFiles (length files) s.file = All-contains (OfStructure (InFiles (length files))) draft.structures s (structures_in files draft [] is) there in
-    omega (arith, in_files.1, same)
-unbuilt_in files draft file is (inr (inl (r, there, same, not_built))) =
-    let in_files : InFiles (length files) r.file = All-contains (OfRoot (InFiles (length files))) draft.roots r (roots_in files draft [] is) there in
-    omega (arith, in_files.1, same)
-unbuilt_in files draft file is (inr (inr (c, there, same))) =
-    let in_files : InFiles (length files) c.file = All-contains (OfCache (InFiles (length files))) draft.caches c (caches_in files draft [] is) there in
-    omega (arith, in_files.1, same)
-
-pub unbuilt_within : (texts : List (List ℕ)) (file : ℕ) → IsNotBuilt texts file → file ≤ length texts
-unbuilt_within texts file (draft, resolved, first) =
-    let within = unbuilt_in resolved.files draft file resolved.resolved first.0 in
-    let many = as_many texts resolved.files resolved.are_read in
-    omega (arith, within, many)
+-- the first fault is of one of the files
+pub first_fault_in : (files : List Items) (fault : Fault) → HasFirstFault files fault → InFiles (length files) fault.file
+first_fault_in files fault first = All-contains (OfFault (InFiles (length files))) first.faults fault (faults_in files first.draft first.faults first.is_read) first.is_first.there

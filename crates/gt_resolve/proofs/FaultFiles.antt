@@ -14,7 +14,7 @@ use Rattle.gt_resolve.specs.declared.draft.DraftField.{DraftField}
 use Rattle.gt_resolve.specs.declared.draft.DraftRoot.{DraftRoot}
 use Rattle.gt_resolve.specs.declared.draft.DraftStructure.{DraftStructure}
 use Rattle.gt_resolve.specs.Faults.{fault_if, clashes, redefinitions, is_undefined_type, is_bad_type, field_faults, fields_faults, is_tail_type, structure_faults, structures_faults, root_faults, roots_faults, is_nothing, cache_faults, caches_faults, faults_of}
-use Rattle.gt_front.proofs.DeclaredFiles.{Of}
+use Rattle.gt_resolve.proofs.DeclaredFiles.{Of}
 
 -- of a property of files
 module _ (P : ℕ → Type 0) where
