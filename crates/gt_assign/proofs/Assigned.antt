@@ -4,7 +4,7 @@ use Rattle.std.specs.Prelude.{IfOk}
 use Rattle.gt_types.specs.declared.types.Ty.{Ty}
 use Rattle.gt_types.specs.declared.program.Program.{Program}
 use Rattle.gt_types.specs.Settled.{Settled}
-use Rattle.gt_tree.specs.Trees.{Tree, Trees, End, is_leaf, part_at, with_part}
+use Rattle.gt_tree.specs.Trees.{Tree, Trees, End, is_word, part_at, with_part}
 use Rattle.gt_tree.specs.Blocks.{Kind, Blocks, element_type}
 use Rattle.gt_tree.specs.Scopes.{outside}
 use Rattle.gt_tree.specs.Fits.{Fits}
@@ -17,7 +17,7 @@ use Rattle.gt_value.specs.declared.values.ValueFail.{ValueFail}
 use Rattle.gt_value.specs.declared.values.ValueFail.TheVariants.{Shape}
 use Rattle.gt_assign.specs.Pasts.{Whole, past_outside}
 use Rattle.gt_assign.specs.Turning.{Gives, made}
-use Rattle.gt_assign.specs.Checks.{is_leaf_there}
+use Rattle.gt_assign.specs.Checks.{is_word_there}
 use Rattle.gt_assign.specs.Results.{IsMadeWhereFit, NoneElseIsMade, NoneIsMade, IsAssigned, IsMisfit}
 use Rattle.gt_assign.proofs.ComesUnions.{made-sound}
 use Rattle.gt_assign.proofs.CommonFound.{common-is}
@@ -28,27 +28,27 @@ use Rattle.gt_assign.proofs.Refit.{refit-block}
 
 -- ---- where the leaf is
 
-leaf-there : (o : Option Tree) (part : Tree) → o ≡ Some part → is_leaf_there o ≡ is_leaf part
-leaf-there o part e = ap is_leaf_there e
+leaf-there : (o : Option Tree) (part : Tree) → o ≡ Some part → is_word_there o ≡ is_word part
+leaf-there o part e = ap is_word_there e
 
-pub no-leaf : (old : Tree) (path : List ℕ) → is_leaf_there (part_at old path) ≡ false → ¬ LeadsToLeaf old path
+pub no-leaf : (old : Tree) (path : List ℕ) → is_word_there (part_at old path) ≡ false → ¬ LeadsToLeaf old path
 no-leaf old path off (part, e, leaf) = let h = leaf-there (part_at old path) part e in cc
 
-some-leaf : (o : Option Tree) → is_leaf_there o ≡ true → (part : Tree) × (o ≡ Some part) × IsTrue (is_leaf part)
+some-leaf : (o : Option Tree) → is_word_there o ≡ true → (part : Tree) × (o ≡ Some part) × IsTrue (is_word part)
 some-leaf None h = absurd (cc)
 some-leaf (Some part) h = (part, refl, h)
 
-pub a-leaf : (old : Tree) (path : List ℕ) → is_leaf_there (part_at old path) ≡ true → LeadsToLeaf old path
+pub a-leaf : (old : Tree) (path : List ℕ) → is_word_there (part_at old path) ≡ true → LeadsToLeaf old path
 a-leaf old path h = some-leaf (part_at old path) h
 
 module _ (program : Program) (settled : Settled program) (capacity : ℕ) (old : Tree) (path : List ℕ) (leaf : Tree) where
   -- ---- a write
 
-  pub made-where-fit : (depth : ℕ) (type : Ty) (new : Tree) → LeadsToLeaf old path → is_leaf leaf ≡ true
+  pub made-where-fit : (depth : ℕ) (type : Ty) (new : Tree) → LeadsToLeaf old path → is_word leaf ≡ true
       → made program capacity depth (past_outside End) type (Whole (with_part old path leaf)) ≡ Some new → IsMadeWhereFit program capacity type old path leaf new
-  made-where-fit depth type new there is_leaf_so e = λ blocks statics fits. record {
+  made-where-fit depth type new there is_word_so e = λ blocks statics fits. record {
     there = there;
-    is_leaf = is_leaf_so;
+    is_leaf = is_word_so;
     fits = fits;
     reshapes = made-sound program settled (common-is program settled) capacity depth (past_outside End) type (Whole (with_part old path leaf)) new e;
   }
@@ -71,7 +71,7 @@ module _ (program : Program) (settled : Settled program) (capacity : ℕ) (old :
   pub none-by-path : (type : Ty) → ¬ LeadsToLeaf old path → NoneIsMade program capacity type old path leaf
   none-by-path type off = λ blocks statics new a. off a.there
 
-  pub none-by-leaf : (type : Ty) → is_leaf leaf ≡ false → NoneIsMade program capacity type old path leaf
+  pub none-by-leaf : (type : Ty) → is_word leaf ≡ false → NoneIsMade program capacity type old path leaf
   none-by-leaf type off = λ blocks statics new a. let h = a.is_leaf in cc
 
   pub none-made : (depth : ℕ) (type : Ty) → 199 ≤ depth → IsElement program type → made program capacity depth (past_outside End) type (Whole (with_part old path leaf)) ≡ None → NoneIsMade program capacity type old path leaf
@@ -90,10 +90,10 @@ module _ (program : Program) (settled : Settled program) (capacity : ℕ) (old :
 
   -- ---- by what a call gives
 
-  pub given-fits : (depth : ℕ) (type : Ty) (result : Result Value ValueFail) → LeadsToLeaf old path → is_leaf leaf ≡ true
+  pub given-fits : (depth : ℕ) (type : Ty) (result : Result Value ValueFail) → LeadsToLeaf old path → is_word leaf ≡ true
       → Gives result (made program capacity depth (past_outside End) type (Whole (with_part old path leaf))) → IfOk result (λ v. IsMadeWhereFit program capacity type old path leaf (tree_of v))
-  given-fits depth type (Ok v) there is_leaf_so e = made-where-fit depth type (tree_of v) there is_leaf_so e
-  given-fits depth type (Err fail) there is_leaf_so e = tt
+  given-fits depth type (Ok v) there is_word_so e = made-where-fit depth type (tree_of v) there is_word_so e
+  given-fits depth type (Err fail) there is_word_so e = tt
 
   pub given-else : (depth : ℕ) (type : Ty) (result : Result Value ValueFail) → 199 ≤ depth → IsElement program type
       → Gives result (made program capacity depth (past_outside End) type (Whole (with_part old path leaf))) → IfOk result (λ v. NoneElseIsMade program capacity type old path leaf (tree_of v))

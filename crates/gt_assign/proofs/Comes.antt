@@ -176,7 +176,7 @@ module _ (program : Program) (make : Maker) (past : Past) (sound : IsSound progr
   counted End n e = absurd (omega arith)
   counted (And tree rest) n e = (tree, rest, refl)
 
-  each-field : (olds : Trees) (types : List Ty) (i : ℕ) (all : Trees) → count (from olds i) ≡ length types → fields_made make past (Whole (Rec olds)) i types ≡ Some all → AllReshape program types (from olds i) all
+  pub each-field : (olds : Trees) (types : List Ty) (i : ℕ) (all : Trees) → count (from olds i) ≡ length types → fields_made make past (Whole (Rec olds)) i types ≡ Some all → AllReshape program types (from olds i) all
   each-field olds [] i all many e = let same : End ≡ all = cc in subst (λ ts. AllReshape program [] ts all) (sym (is-no_more (from olds i) many)) (subst (AllReshape program [] End) same AllReshape.none)
   each-field olds (type ∷ types) i all many e = go (each-field olds types (suc i)) (tree_at olds i) refl
     where
@@ -206,11 +206,11 @@ module _ (program : Program) (make : Maker) (past : Past) (sound : IsSound progr
       let c = sound past type (Begun common value) b.tree b.is_first in
       record { first = b.tree; rest = b.trees; is = b.is; begins = c.0; outside = c.1; zero_rest = zero-fields (Begun common value) types 1 b.trees refl (λ k. ap (λ x. Some (cond x (Begun common value) Nothing)) (not-nought k (suc k == 0) refl)) b.is_rest }
 
-  rec-of : (o : Option Trees) (new : Tree) → option_map Rec o ≡ Some new → (all : Trees) × (o ≡ Some all) × (Rec all ≡ new)
+  pub rec-of : (o : Option Trees) (new : Tree) → option_map Rec o ≡ Some new → (all : Trees) × (o ≡ Some all) × (Rec all ≡ new)
   rec-of None new e = absurd (cc)
   rec-of (Some all) new e = (all, refl, some-is (Rec all) new e)
 
-  checked : (b : Bool) (o : Option Tree) (new : Tree) → cond b o None ≡ Some new → (b ≡ true) × (o ≡ Some new)
+  pub checked : (b : Bool) (o : Option Tree) (new : Tree) → cond b o None ≡ Some new → (b ≡ true) × (o ≡ Some new)
   checked true o new e = (refl, e)
   checked false o new e = absurd (cc)
 

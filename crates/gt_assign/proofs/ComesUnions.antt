@@ -117,7 +117,7 @@ module _ (program : Program) (make : Maker) (past : Past) (sound : IsSound progr
 
   rest-comes : (old new : Tree) → CommonIs program s (common_of program s) → rest_whole program s old ≡ Some new → Reshapes program (ty.Node node desc) old (Alt None new)
   rest-comes (Alt (Some i) old) new is e = rested i old new (common_of program s) is e
-  rest-comes (Alt None old) new is e = subst (λ t. Reshapes program (ty.Node node desc) (Alt None old) (Alt None t)) (some-is old new e) Reshapes.same_none
+  rest-comes (Alt None old) new is e = subst (λ t. Reshapes program (ty.Node node desc) (Alt None old) (Alt None t)) (some-is (without_pointers old) new e) Reshapes.same_none
   rest-comes (Num n) new is e = absurd (cc)
   rest-comes Null new is e = absurd (cc)
   rest-comes (To id) new is e = absurd (cc)

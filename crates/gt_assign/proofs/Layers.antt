@@ -18,11 +18,11 @@ use Rattle.gt_tree.specs.Trees.{Tree, Num, Null, To, Raw, Rec, Alt, Row, Trees, 
 use Rattle.gt_tree.specs.Blocks.{Blocks, MayName}
 use Rattle.gt_tree.specs.Scopes.{Scope, inside, eval_in}
 use Rattle.gt_tree.specs.Fits.{Fits, EachFits, IsActive}
+use Rattle.gt_tree.specs.PathLaws.{has_room_in}
 use Rattle.gt_value.specs.declared.values.Value.{Value}
 use Rattle.gt_value.specs.Values.{trees, tree_of}
 use Rattle.gt_tree.proofs.Commons.{one-common}
 use Rattle.gt_assign.specs.Commons.{common_of}
-use Rattle.gt_assign.specs.Rooms.{number_fits}
 use Rattle.gt_assign.specs.Fitting.{OpaqueFits, FieldsFit, StructFits, MemberFits, CommonFits, ThereFits, ActiveFits, UnionFits, RecFits, AltFits, RowFits}
 use Rattle.gt_assign.proofs.ComesUnions.{CommonIs}
 use Rattle.gt_assign.proofs.CommonFound.{common-is}
@@ -31,7 +31,7 @@ use Rattle.gt_assign.proofs.Values.{count-trees}
 
 -- a value fits by its form
 abbrev pub LayerFits : Program → Blocks → ℕ → Scope → Ty → Tree → Type 0
-LayerFits program blocks capacity scope type (Num n) = IsTrue (number_fits type n)
+LayerFits program blocks capacity scope type (Num n) = IsTrue (has_room_in type n)
 LayerFits program blocks capacity scope type Null = IsTrue (is_pointer type)
 LayerFits program blocks capacity scope type (To id) = MayName blocks (eval_in program scope) type id
 LayerFits program blocks capacity scope type (Raw bytes) = OpaqueFits type bytes
@@ -145,12 +145,12 @@ module _ (program : Program) (settled : Settled program) (blocks : Blocks) (capa
 
   -- ---- leaves
 
-  num-of : (type : Ty) (n : ℤ) → IsTrue (number_fits type n) → Fits program blocks capacity scope type (Num n)
+  num-of : (type : Ty) (n : ℤ) → IsTrue (has_room_in type n) → Fits program blocks capacity scope type (Num n)
   num-of (ty.Num scalar) n h = Fits.number h
   num-of (ty.Bits unit width) n h = Fits.bits h
   num-of type n h = absurd (cc)
 
-  num-to : (type : Ty) (n : ℤ) → Fits program blocks capacity scope type (Num n) → IsTrue (number_fits type n)
+  num-to : (type : Ty) (n : ℤ) → Fits program blocks capacity scope type (Num n) → IsTrue (has_room_in type n)
   num-to type n (Fits.number h) = h
   num-to type n (Fits.bits h) = h
 

@@ -15,6 +15,7 @@ pub mod Whole
 pub mod Nesting
 pub mod Refit
 pub mod Assigned
+pub mod Records
 pub mod Selves
 pub mod PartsFit
 pub mod Layers

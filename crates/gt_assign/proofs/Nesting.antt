@@ -1,6 +1,6 @@
 -- How deep the parts of a type nest in a settled program.
 use Rattle.std.proofs.Common.{◌≡◌, ℕ, zero, suc, ◌+◌, ◌*◌, ◌≤◌, Bool, true, false, ◌&&◌, IsTrue, refl, ap, sym, subst, ◌∙◌, arith, rules, Option, Some, None, ◌⊎◌, inl, inr}
-use Rattle.std.specs.Prelude.{nat_le, slice_get}
+use Rattle.std.specs.Prelude.{Contains, nat_le, slice_get}
 use Rattle.std.proofs.lemmas.List.Elements.{All-contains}
 use Rattle.gt_types.specs.declared.expressions.Expr.{Expr}
 use Rattle.gt_types.specs.declared.types.TypeId.{TypeId}
@@ -14,10 +14,11 @@ use Rattle.gt_types.specs.declared.types.Ty.TheOpen as part
 use Rattle.gt_types.specs.declared.types.Ty.TheOpen.{Ty-F}
 use Rattle.gt_types.specs.declared.types.Ty.TheVariants as ty
 use Rattle.gt_types.specs.declared.types.Ty.TheVariants.{outs-Num, outs-Bits, outs-Opaque, outs-Str, outs-Ptr, outs-Node, outs-Arr', outs-Tail'}
+use Rattle.gt_types.specs.declared.program.Root.{Root}
 use Rattle.gt_types.specs.declared.program.Program.{Program}
-use Rattle.gt_types.specs.Shapes.{dimensions, dimensions_step, may_repeat, is_element, is_bound, field_type_at}
+use Rattle.gt_types.specs.Shapes.{dimensions, dimensions_step, may_repeat, is_element, is_bound, field_type_at, root_type_at}
 use Rattle.gt_types.specs.Contains.{held_by, Nests, once, deeper, ContainsStructure}
-use Rattle.gt_types.specs.Settled.{Settled, IsField}
+use Rattle.gt_types.specs.Settled.{Settled, IsField, IsRoot}
 use Rattle.gt_tree.specs.Blocks.{Kind, Nodes, Pointers, Strings, Chars, Raw, desc_of, element_type}
 use Rattle.gt_tree.proofs.Types.{held-node, held-array, held-tail}
 use Rattle.gt_assign.proofs.Whole.{IsPart, Deep}
@@ -58,6 +59,16 @@ field-dims_at type (part.Ptr target kind reorder) e h = let d = dims-layer type 
 field-dims_at type (part.Node node desc) e h = let d = dims-layer type (part.Node node desc) e in omega (arith, d)
 field-dims_at type (part.Arr n elem) e h = let d = dims-array type elem n e in let r = repeat-dims elem (true-both (is_bound n) (may_repeat elem) h).1 in omega (arith, d, r)
 field-dims_at type (part.Tail count elem) e h = let d = dims-tail type elem count e in let r = repeat-dims elem h in omega (arith, d, r)
+
+root-dims_at : (type : Ty) (x : Ty-F Ty) → out-Ty type ≡ x → IsTrue (root_type_at x) → dimensions type ≤ 4
+root-dims_at type (part.Num scalar) e h = let d = dims-layer type (part.Num scalar) e in omega (arith, d)
+root-dims_at type (part.Bits unit count) e h = let d = dims-layer type (part.Bits unit count) e in omega (arith, d)
+root-dims_at type (part.Opaque size align) e h = let d = dims-layer type (part.Opaque size align) e in omega (arith, d)
+root-dims_at type (part.Str count) e h = let d = dims-layer type (part.Str count) e in omega (arith, d)
+root-dims_at type (part.Ptr target kind reorder) e h = let d = dims-layer type (part.Ptr target kind reorder) e in omega (arith, d)
+root-dims_at type (part.Node node desc) e h = let d = dims-layer type (part.Node node desc) e in omega (arith, d)
+root-dims_at type (part.Arr n elem) e h = let d = dims-array type elem n e in let r = repeat-dims elem (true-both (is_bound n) (may_repeat elem) h).1 in omega (arith, d, r)
+root-dims_at type (part.Tail count elem) e h = absurd (cc)
 
 -- ---- arrays around a structure
 
@@ -132,3 +143,11 @@ module _ (program : Program) (settled : Settled program) where
   deep-block Strings d h = deep-leaf d (ty.Str None) (omega arith) (ap has_parts (outs-Str None))
   deep-block Chars d h = deep-leaf d (ty.Num (scalar.Int W1 false)) (omega arith) (ap has_parts (outs-Num (scalar.Int W1 false)))
   deep-block Raw d h = deep-leaf d (ty.Num (scalar.Int W1 false)) (omega arith) (ap has_parts (outs-Num (scalar.Int W1 false)))
+
+  -- the types of the roots
+  pub deep-root : (r : Root) → Contains program.roots r → (d : ℕ) → 203 ≤ d → Deep program d r.ty
+  deep-root r contains d h =
+      let shape = (All-contains (IsRoot program) program.roots r settled.roots contains).shape in
+      deep-up program (suc (4 + 198)) d r.ty (omega arith)
+      (flat program 4 198 r.ty (root-dims_at r.ty (out-Ty r.ty) refl shape)
+      (λ node desc held. deep-node 32 199 node desc (λ m inner nests. settled.depth m node inner nests) (omega arith)))

@@ -1,12 +1,11 @@
 -- Values fit one after another: fields, elements, and parts without pointers.
 use Rattle.std.proofs.Common.{◌≡◌, ◌≢◌, ℕ, ◌+◌, ◌<◌, ◌≤◌, true, false, IsTrue, List, [], ◌∷◌, ◌↔◌, refl, ap, sym, subst, ◌∙◌, length, map, drop, get_or, suc, arith}
 use Rattle.gt_types.specs.declared.types.Ty.{Ty}
-use Rattle.gt_types.specs.declared.program.Field.{Field}
 use Rattle.gt_types.specs.declared.program.Program.{Program}
 use Rattle.gt_tree.specs.Trees.{Tree, Rec, Trees, End, And, without_pointers, all_without_pointers}
 use Rattle.gt_tree.specs.Blocks.{Blocks}
 use Rattle.gt_tree.specs.Scopes.{Scope}
-use Rattle.gt_tree.specs.Fits.{Fits, AllFit, EachFits, types_of}
+use Rattle.gt_tree.specs.Fits.{Fits, AllFit, EachFits}
 use Rattle.gt_value.specs.declared.values.Value.{Value}
 use Rattle.gt_value.specs.Values.{trees, tree_of}
 use Rattle.gt_assign.proofs.Listing.{drop-item, drop-none}
@@ -18,45 +17,46 @@ pub always : (P : Type 0) → P → IsTrue true ↔ P
 always P p = ((λ h. p), (λ h. refl))
 
 module _ (program : Program) (blocks : Blocks) (capacity : ℕ) (scope : Scope) where
-  -- ---- fields
+  -- ---- fields or roots, by the type of each
 
-  abbrev pub FieldsDo : List Field → List Value → Type 0
-  FieldsDo fields parts = AllFit program blocks capacity scope (types_of fields) (trees (map tree_of parts))
+  module _ {X : Type 0} (type_of : X → Ty) where
+    abbrev pub FieldsDo : List X → List Value → Type 0
+    FieldsDo fields parts = AllFit program blocks capacity scope (map type_of fields) (trees (map tree_of parts))
 
-  fields-split : (f : Field) (fs : List Field) (p : Value) (ps : List Value) → FieldsDo (f ∷ fs) (p ∷ ps) → Fits program blocks capacity scope f.ty (tree_of p) × FieldsDo fs ps
-  fields-split f fs p ps (AllFit.more first rest) = (first, rest)
+    fields-split : (f : X) (fs : List X) (p : Value) (ps : List Value) → FieldsDo (f ∷ fs) (p ∷ ps) → Fits program blocks capacity scope (type_of f) (tree_of p) × FieldsDo fs ps
+    fields-split f fs p ps (AllFit.more first rest) = (first, rest)
 
-  fields-even : (fs : List Field) (ps : List Value) → FieldsDo fs ps → length ps ≡ length fs
-  fields-even [] [] fit = refl
-  fields-even (f ∷ fs) (p ∷ ps) (AllFit.more first rest) = ap suc (fields-even fs ps rest)
-  fields-even [] (p ∷ ps) fit = elim fit [ ]
-  fields-even (f ∷ fs) [] fit = elim fit [ ]
+    fields-even : (fs : List X) (ps : List Value) → FieldsDo fs ps → length ps ≡ length fs
+    fields-even [] [] fit = refl
+    fields-even (f ∷ fs) (p ∷ ps) (AllFit.more first rest) = ap suc (fields-even fs ps rest)
+    fields-even [] (p ∷ ps) fit = elim fit [ ]
+    fields-even (f ∷ fs) [] fit = elim fit [ ]
 
-  pub fields-uneven : (fs : List Field) (ps : List Value) → length ps ≢ length fs → IsTrue false ↔ FieldsDo fs ps
-  fields-uneven fs ps off = never (FieldsDo fs ps) (λ fit. off (fields-even fs ps fit))
+    pub fields-uneven : (fs : List X) (ps : List Value) → length ps ≢ length fs → IsTrue false ↔ FieldsDo fs ps
+    fields-uneven fs ps off = never (FieldsDo fs ps) (λ fit. off (fields-even fs ps fit))
 
-  module _ (fs : List Field) (ps : List Value) (i : ℕ) where
-    fields-at : (f : Field) (p : Value) → i < length fs → f ≡ get_or fs i f → i < length ps → p ≡ get_or ps i p → (FieldsDo (drop i fs) (drop i ps) ↔ FieldsDo fs ps)
-        → FieldsDo (f ∷ drop (i + 1) fs) (p ∷ drop (i + 1) ps) ↔ FieldsDo fs ps
-    fields-at f p hf ef hp ep so =
-        subst (λ xs. FieldsDo xs (p ∷ drop (i + 1) ps) ↔ FieldsDo fs ps) (drop-item fs i f hf ef) (subst (λ ys. FieldsDo (drop i fs) ys ↔ FieldsDo fs ps) (drop-item ps i p hp ep) so)
+    module _ (fs : List X) (ps : List Value) (i : ℕ) where
+      fields-at : (f : X) (p : Value) → i < length fs → f ≡ get_or fs i f → i < length ps → p ≡ get_or ps i p → (FieldsDo (drop i fs) (drop i ps) ↔ FieldsDo fs ps)
+          → FieldsDo (f ∷ drop (i + 1) fs) (p ∷ drop (i + 1) ps) ↔ FieldsDo fs ps
+      fields-at f p hf ef hp ep so =
+          subst (λ xs. FieldsDo xs (p ∷ drop (i + 1) ps) ↔ FieldsDo fs ps) (drop-item fs i f hf ef) (subst (λ ys. FieldsDo (drop i fs) ys ↔ FieldsDo fs ps) (drop-item ps i p hp ep) so)
 
-    pub fields-more : (f : Field) (p : Value) → i < length fs → f ≡ get_or fs i f → i < length ps → p ≡ get_or ps i p → Fits program blocks capacity scope f.ty (tree_of p)
-        → (FieldsDo (drop i fs) (drop i ps) ↔ FieldsDo fs ps) → FieldsDo (drop (i + 1) fs) (drop (i + 1) ps) ↔ FieldsDo fs ps
-    fields-more f p hf ef hp ep fit so =
-        let at = fields-at f p hf ef hp ep so in
-        ((λ rest. at.0 (AllFit.more fit rest)), (λ all. (fields-split f (drop (i + 1) fs) p (drop (i + 1) ps) (at.1 all)).1))
+      pub fields-more : (f : X) (p : Value) → i < length fs → f ≡ get_or fs i f → i < length ps → p ≡ get_or ps i p → Fits program blocks capacity scope (type_of f) (tree_of p)
+          → (FieldsDo (drop i fs) (drop i ps) ↔ FieldsDo fs ps) → FieldsDo (drop (i + 1) fs) (drop (i + 1) ps) ↔ FieldsDo fs ps
+      fields-more f p hf ef hp ep fit so =
+          let at = fields-at f p hf ef hp ep so in
+          ((λ rest. at.0 (AllFit.more fit rest)), (λ all. (fields-split f (drop (i + 1) fs) p (drop (i + 1) ps) (at.1 all)).1))
 
-    pub fields-stop : (f : Field) (p : Value) → i < length fs → f ≡ get_or fs i f → i < length ps → p ≡ get_or ps i p → ¬ Fits program blocks capacity scope f.ty (tree_of p)
-        → (FieldsDo (drop i fs) (drop i ps) ↔ FieldsDo fs ps) → IsTrue false ↔ FieldsDo fs ps
-    fields-stop f p hf ef hp ep off so =
-        let at = fields-at f p hf ef hp ep so in
-        never (FieldsDo fs ps) (λ all. off (fields-split f (drop (i + 1) fs) p (drop (i + 1) ps) (at.1 all)).0)
+      pub fields-stop : (f : X) (p : Value) → i < length fs → f ≡ get_or fs i f → i < length ps → p ≡ get_or ps i p → ¬ Fits program blocks capacity scope (type_of f) (tree_of p)
+          → (FieldsDo (drop i fs) (drop i ps) ↔ FieldsDo fs ps) → IsTrue false ↔ FieldsDo fs ps
+      fields-stop f p hf ef hp ep off so =
+          let at = fields-at f p hf ef hp ep so in
+          never (FieldsDo fs ps) (λ all. off (fields-split f (drop (i + 1) fs) p (drop (i + 1) ps) (at.1 all)).0)
 
-    pub fields-done : length ps ≡ length fs → length ps ≤ i → (FieldsDo (drop i fs) (drop i ps) ↔ FieldsDo fs ps) → IsTrue true ↔ FieldsDo fs ps
-    fields-done even past so =
-        always (FieldsDo fs ps)
-        (so.0 (subst (λ xs. FieldsDo xs (drop i ps)) (sym (drop-none fs i (omega (arith, even, past)))) (subst (λ ys. FieldsDo [] ys) (sym (drop-none ps i past)) AllFit.none)))
+      pub fields-done : length ps ≡ length fs → length ps ≤ i → (FieldsDo (drop i fs) (drop i ps) ↔ FieldsDo fs ps) → IsTrue true ↔ FieldsDo fs ps
+      fields-done even past so =
+          always (FieldsDo fs ps)
+          (so.0 (subst (λ xs. FieldsDo xs (drop i ps)) (sym (drop-none fs i (omega (arith, even, past)))) (subst (λ ys. FieldsDo [] ys) (sym (drop-none ps i past)) AllFit.none)))
 
   -- ---- elements
 

@@ -1,14 +1,14 @@
 -- Fields and elements, made one after another.
-use Rattle.std.proofs.Common.{◌≡◌, ℕ, suc, ◌+◌, ◌-◌, ◌<◌, ◌≤◌, List, [], ◌∷◌, ◌++◌, length, map, drop, get_or, refl, ap, sym, ◌∙◌, arith, add-one, Option, Some, None}
+use Rattle.std.proofs.Common.{◌≡◌, ℕ, suc, ◌+◌, ◌-◌, ◌<◌, ◌≤◌, List, [], ◌∷◌, ◌++◌, length, map, drop, get_or, refl, ap, sym, ◌∙◌, arith, add-one, Option, Some, None, Err}
 use Rattle.gt_types.specs.declared.types.Ty.{Ty}
-use Rattle.gt_types.specs.declared.program.Field.{Field}
 use Rattle.gt_tree.specs.Trees.{Tree, Trees, End, And}
 use Rattle.gt_tree.specs.Scopes.{◌then◌}
-use Rattle.gt_tree.specs.Fits.{types_of}
 use Rattle.gt_value.specs.declared.values.Value.{Value}
+use Rattle.gt_value.specs.declared.values.ValueFail.{ValueFail}
+use Rattle.gt_value.specs.declared.values.ValueFail.TheVariants.{Shape, Memory}
 use Rattle.gt_value.specs.Values.{trees, tree_of}
 use Rattle.gt_assign.specs.Pasts.{Was, Past}
-use Rattle.gt_assign.specs.Turning.{Maker, field_was, fields_made, element_was, elements_made}
+use Rattle.gt_assign.specs.Turning.{Gives, Maker, field_was, fields_made, element_was, elements_made}
 use Rattle.gt_assign.proofs.Listing.{drop-item, drop-none}
 
 -- values before others
@@ -23,6 +23,11 @@ before-one (first ∷ values) value rest = ap (And (tree_of first)) (before-one 
 pub before-end : (values : List Value) → before values End ≡ trees (map tree_of values)
 before-end [] = refl
 before-end (first ∷ values) = ap (And (tree_of first)) (before-end values)
+
+-- without a part there is no whole
+pub given-stop : (fail : ValueFail) (one all : Option Tree) → Gives (Err fail) one → (one ≡ None → all ≡ None) → Gives (Err fail) all
+given-stop Shape one all none so = so none
+given-stop Memory one all none so = tt
 
 -- some were made, and the others are left
 abbrev pub behind : List Value → Option Trees → Option Trees
@@ -54,30 +59,33 @@ module _ (make : Maker) (past : Past) (was : Was) where
       ap (λ o. o then λ p. make past type p then λ t. fields_made make past was (suc i) types then λ rest. Some (And t rest)) e
       ∙ ap (λ o. o then λ t. fields_made make past was (suc i) types then λ rest. Some (And t rest)) f
 
-  -- the fields before a place were made
-  abbrev pub FieldsSoFar : List Field → ℕ → List Value → Type 0
-  FieldsSoFar fields i values = fields_made make past was 0 (types_of fields) ≡ behind values (fields_made make past was i (types_of (drop i fields)))
+  -- ---- fields or roots, by the type of each
 
-  module _ (fields : List Field) (i : ℕ) (f : Field) (values : List Value) (inside : i < length fields) (is : f ≡ get_or fields i f) (so : FieldsSoFar fields i values) where
-    here : fields_made make past was 0 (types_of fields) ≡ behind values (fields_made make past was i (f.ty ∷ types_of (drop (i + 1) fields)))
-    here = so ∙ ap (λ fs. behind values (fields_made make past was i (types_of fs))) (drop-item fields i f inside is)
+  module _ {X : Type 0} (type_of : X → Ty) where
+    -- the fields before a place were made
+    abbrev pub FieldsSoFar : List X → ℕ → List Value → Type 0
+    FieldsSoFar fields i values = fields_made make past was 0 (map type_of fields) ≡ behind values (fields_made make past was i (map type_of (drop i fields)))
 
-    pub fields-more : (part : Was) (value : Value) → field_was was i ≡ Some part → make past f.ty part ≡ Some (tree_of value) → FieldsSoFar fields (i + 1) (values ++ value ∷ [])
-    fields-more part value e g =
-        here
-        ∙ ap (behind values) (one-made i f.ty (types_of (drop (i + 1) fields)) part (tree_of value) e g)
-        ∙ behind-more values value (fields_made make past was (suc i) (types_of (drop (i + 1) fields)))
-        ∙ ap (λ n. behind (values ++ value ∷ []) (fields_made make past was n (types_of (drop (i + 1) fields)))) (sym (add-one i))
+    module _ (fields : List X) (i : ℕ) (f : X) (values : List Value) (inside : i < length fields) (is : f ≡ get_or fields i f) (so : FieldsSoFar fields i values) where
+      here : fields_made make past was 0 (map type_of fields) ≡ behind values (fields_made make past was i (type_of f ∷ map type_of (drop (i + 1) fields)))
+      here = so ∙ ap (λ fs. behind values (fields_made make past was i (map type_of fs))) (drop-item fields i f inside is)
 
-    pub fields-part : field_was was i ≡ None → fields_made make past was 0 (types_of fields) ≡ None
-    fields-part e = here ∙ ap (behind values) (no-part i f.ty (types_of (drop (i + 1) fields)) e)
+      pub fields-more : (part : Was) (value : Value) → field_was was i ≡ Some part → make past (type_of f) part ≡ Some (tree_of value) → FieldsSoFar fields (i + 1) (values ++ value ∷ [])
+      fields-more part value e g =
+          here
+          ∙ ap (behind values) (one-made i (type_of f) (map type_of (drop (i + 1) fields)) part (tree_of value) e g)
+          ∙ behind-more values value (fields_made make past was (suc i) (map type_of (drop (i + 1) fields)))
+          ∙ ap (λ n. behind (values ++ value ∷ []) (fields_made make past was n (map type_of (drop (i + 1) fields)))) (sym (add-one i))
 
-    pub fields-stop : (part : Was) → field_was was i ≡ Some part → make past f.ty part ≡ None → fields_made make past was 0 (types_of fields) ≡ None
-    fields-stop part e g = here ∙ ap (behind values) (no-tree i f.ty (types_of (drop (i + 1) fields)) part e g)
+      pub fields-part : field_was was i ≡ None → fields_made make past was 0 (map type_of fields) ≡ None
+      fields-part e = here ∙ ap (behind values) (no-part i (type_of f) (map type_of (drop (i + 1) fields)) e)
 
-  pub fields-end : (fields : List Field) (i : ℕ) (values : List Value) → length fields ≤ i → FieldsSoFar fields i values → fields_made make past was 0 (types_of fields) ≡ Some (trees (map tree_of values))
-  fields-end fields i values h so =
-      so ∙ ap (λ fs. behind values (fields_made make past was i (types_of fs))) (drop-none fields i h) ∙ ap Some (before-end values)
+      pub fields-stop : (part : Was) → field_was was i ≡ Some part → make past (type_of f) part ≡ None → fields_made make past was 0 (map type_of fields) ≡ None
+      fields-stop part e g = here ∙ ap (behind values) (no-tree i (type_of f) (map type_of (drop (i + 1) fields)) part e g)
+
+    pub fields-end : (fields : List X) (i : ℕ) (values : List Value) → length fields ≤ i → FieldsSoFar fields i values → fields_made make past was 0 (map type_of fields) ≡ Some (trees (map tree_of values))
+    fields-end fields i values h so =
+        so ∙ ap (λ fs. behind values (fields_made make past was i (map type_of fs))) (drop-none fields i h) ∙ ap Some (before-end values)
 
   -- ---- elements
 

@@ -1,8 +1,9 @@
 -- A value that fits is what it becomes.
-use Rattle.std.proofs.Common.{ℕ, List, refl}
+use Rattle.std.proofs.Common.{ℕ, List, refl, subst, None}
 use Rattle.gt_types.specs.declared.types.Ty.{Ty}
+use Rattle.gt_types.specs.declared.types.Ty.TheVariants as ty
 use Rattle.gt_types.specs.declared.program.Program.{Program}
-use Rattle.gt_tree.specs.Trees.{Tree, Trees}
+use Rattle.gt_tree.specs.Trees.{Tree, Alt, Trees}
 use Rattle.gt_tree.specs.Blocks.{Blocks}
 use Rattle.gt_tree.specs.Scopes.{Scope}
 use Rattle.gt_tree.specs.Fits.{Fits, AllFit, EachFits}
@@ -19,7 +20,7 @@ module _ {program : Program} where
     self (Fits.to m) = Reshapes.leaf refl
     self (Fits.struct has struct all) = Reshapes.struct has struct (selves all)
     self (Fits.member has union active got fits) = Reshapes.same has union got (self fits)
-    self (Fits.common has union active is plain fits) = Reshapes.same_none
+    self (Fits.common {node} {desc} {tree} has union active is plain fits) = subst (λ t. Reshapes program (ty.Node node desc) (Alt None tree) (Alt None t)) plain Reshapes.same_none
     self (Fits.nothing has union active none) = Reshapes.same_none
     self (Fits.array e many each) = Reshapes.array e (each_self each)
     self (Fits.tail e value le many each) = Reshapes.tail e (each_self each)

@@ -104,7 +104,7 @@ pointer-layer program capacity make past type was w p leaf nought comes = absurd
 -- ---- fields and elements
 
 -- each field comes of what it was
-data FieldsCome (program : Program) (was : Was) : ℕ → List Ty → Trees → Type 0 where
+pub data FieldsCome (program : Program) (was : Was) : ℕ → List Ty → Trees → Type 0 where
   no_field : {i : ℕ} → FieldsCome program was i [] End
   a_field : {i : ℕ} {part : Was} {type : Ty} {types : List Ty} {tree : Tree} {trees : Trees} → field_was was i ≡ Some part → Comes program type part tree → FieldsCome program was (suc i) types trees
       → FieldsCome program was i (type ∷ types) (And tree trees)
@@ -126,13 +126,13 @@ at-none (And tree all) zero e = absurd (cc)
 at-none (And tree all) (suc i) e = at-none all i e
 
 module _ (program : Program) where
-  fields-old : {types : List Ty} {rest new : Trees} → AllReshape program types rest new → (olds : Trees) (i : ℕ) → from olds i ≡ rest → FieldsCome program (Whole (Rec olds)) i types new
+  pub fields-old : {types : List Ty} {rest new : Trees} → AllReshape program types rest new → (olds : Trees) (i : ℕ) → from olds i ≡ rest → FieldsCome program (Whole (Rec olds)) i types new
   fields-old AllReshape.none olds i e = FieldsCome.no_field
   fields-old (AllReshape.more {old} {olds = later} r rs) olds i e =
       let f = from-at olds i old later e in
       FieldsCome.a_field (ap (option_map Whole) f.0) r (fields-old rs olds (suc i) f.1)
 
-  fields-long : {types : List Ty} {old new : Trees} → AllReshape program types old new → count old ≡ length types
+  pub fields-long : {types : List Ty} {old new : Trees} → AllReshape program types old new → count old ≡ length types
   fields-long AllReshape.none = refl
   fields-long (AllReshape.more r rs) = ap suc (fields-long rs)
 
@@ -242,7 +242,7 @@ module _ (program : Program) (settled : Settled program) (node : TypeId) (desc :
         is_part = ap (λ y. member_was program s place (Whole y)) is ∙ ap (λ b. cond b (Some (Whole old)) (begun_by program s (Some place) old (common_of program s))) (is-same place);
         comes = subst (λ h. Reshapes program h.ty old tree) fields r;
       }
-  member-came o place f tree got (CameFrom.rested is none) = absurd (cc)
+  member-came o place f tree got (CameFrom.rested old is none bare) = absurd (cc)
   member-came o place f tree got (CameFrom.turned m old is ne changes) = subst (λ y. MemberComes program s place f (Whole y) tree) (sym is) (member-turned m old place f tree got ne changes)
 
   member-comes : (was : Was) (place : ℕ) (f : Field) (tree : Tree) → slice_get s.fields place ≡ Some f → stays node was ≡ None → Comes program (ty.Node node desc) was (Alt (Some place) tree) → MemberComes program s place f was tree
@@ -256,7 +256,7 @@ module _ (program : Program) (settled : Settled program) (node : TypeId) (desc :
   -- what is left of a union without an active member
   rest-came : (o tree : Tree) → CameFrom program s None tree o → (((common : TypeId) → ¬ IsCommon program s common) → tree ≡ Rec End) → rest_whole program s o ≡ Some tree
   rest-came o tree (CameFrom.stayed i g old is e there r) ends = absurd (cc)
-  rest-came o tree (CameFrom.rested is no_member) ends = ap (rest_whole program s) is
+  rest-came o tree (CameFrom.rested old is no_member bare) ends = ap (rest_whole program s) is ∙ ap Some (sym bare)
   rest-came o tree (CameFrom.turned None old is ne changes) ends = absurd (ne refl)
   rest-came o tree (CameFrom.turned (Some i) old is ne (Changes.keeps {old_part} {common} c e g z)) ends =
       let same : tree ≡ without_pointers old_part = some-is tree (without_pointers old_part) (sym (beginning-self program common (ty.Node common None) tree (same-number common.0)) ∙ g) in
@@ -419,7 +419,7 @@ module _ (program : Program) (settled : Settled program) (blocks : Blocks) (capa
         ∙ ap (λ k. option_map Row (elements_made (make d) p elem was 0 k)) (sym many)
         ∙ ap (option_map Row) (makes_each each p was d 0 (Stands.in_tail s e) (deep elem (IsPart.of_tail e)) c.1)
 
-    makes_fields : {t : Scope} {types : List Ty} {trees : Trees} → AllFit program blocks capacity t types trees → (p : Past) (was : Was) (d i : ℕ) → All (λ type. Stands program a p t type) types → All (Deep program d) types
+    pub makes_fields : {t : Scope} {types : List Ty} {trees : Trees} → AllFit program blocks capacity t types trees → (p : Past) (was : Was) (d i : ℕ) → All (λ type. Stands program a p t type) types → All (Deep program d) types
         → FieldsCome program was i types trees → fields_made (make d) p was i types ≡ Some trees
     makes_fields AllFit.none p was d i s deep FieldsCome.no_field = refl
     makes_fields (AllFit.more {scope} {type} {types} {tree} {trees} fits all) p was d i s deep (FieldsCome.a_field {part} here comes rest) =

@@ -4,6 +4,5 @@ pub mod Pasts
 pub mod Commons
 pub mod Turning
 pub mod Scoping
-pub mod Rooms
 pub mod InPlace
 pub mod Fitting

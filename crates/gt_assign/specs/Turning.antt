@@ -1,5 +1,5 @@
 -- What a value is made into, from the outside in: a part is made by its type, by what it was and by what was around it.
-use Rattle.std.specs.Prelude.{◌≡◌, Result, Ok, Err, ℕ, zero, suc, Bool, true, false, cond, ◌==◌, nat_le, ℤ, pos, List, [], ◌∷◌, Option, Some, None, slice_get, replicate, option_map, length}
+use Rattle.std.specs.Prelude.{◌≡◌, Result, Ok, Err, ℕ, zero, suc, Bool, true, false, cond, ◌==◌, nat_le, ℤ, pos, List, [], ◌∷◌, Option, Some, None, slice_get, replicate, option_map, length, map}
 use Rattle.gt_types.specs.declared.expressions.Expr.{Expr}
 use Rattle.gt_types.specs.declared.types.TypeId.{TypeId}
 use Rattle.gt_types.specs.declared.types.Ty.{Ty, out-Ty}
@@ -8,6 +8,7 @@ use Rattle.gt_types.specs.declared.types.Ty.TheOpen.{Ty-F}
 use Rattle.gt_types.specs.declared.types.Ty.TheVariants as ty
 use Rattle.gt_types.specs.declared.program.Field.{Field}
 use Rattle.gt_types.specs.declared.program.Structure.{Structure}
+use Rattle.gt_types.specs.declared.program.Root.{Root}
 use Rattle.gt_types.specs.declared.program.Program.{Program}
 use Rattle.gt_tree.specs.Trees.{Tree, Num, Null, Raw, Rec, Alt, Row, Trees, End, And, count, tree_at, is_leaf, without_pointers}
 use Rattle.gt_tree.specs.Scopes.{◌then◌, beginning, type_there}
@@ -16,7 +17,7 @@ use Rattle.gt_value.specs.declared.values.Value.{Value}
 use Rattle.gt_value.specs.declared.values.ValueFail.{ValueFail}
 use Rattle.gt_value.specs.declared.values.ValueFail.TheVariants.{Shape, Memory}
 use Rattle.gt_value.specs.Values.{tree_of}
-use Rattle.gt_assign.specs.Pasts.{Was, Whole, Nothing, Begun, Past, past_inside, value_was, desc_was}
+use Rattle.gt_assign.specs.Pasts.{Was, Whole, Nothing, Begun, Past, past_outside, past_inside, value_was, desc_was}
 use Rattle.gt_assign.specs.Commons.{common_of}
 
 -- what a call gives that makes a value
@@ -121,7 +122,7 @@ member_was program s place (Whole (Alt member tree)) = cond (is_member member pl
 member_was program s place Nothing = Some Nothing
 member_was program s place was = None
 
--- the common structure without its pointers, where a member was active and none is now
+-- the common structure without its pointers, where no member is active now
 abbrev pub rest_by : Program → Structure → Option ℕ → Tree → Option TypeId → Option Tree
 rest_by program s member tree (Some common) = option_map without_pointers (beginning program common (type_there s common member) tree)
 rest_by program s member tree None = Some (Rec End)
@@ -132,7 +133,7 @@ rest_zero make past None = Some (Rec End)
 
 abbrev pub rest_whole : Program → Structure → Tree → Option Tree
 rest_whole program s (Alt (Some place) tree) = rest_by program s (Some place) tree (common_of program s)
-rest_whole program s (Alt None tree) = Some tree
+rest_whole program s (Alt None tree) = Some (without_pointers tree)
 rest_whole program s tree = None
 
 abbrev pub rest_made : Program → Maker → Past → Structure → Was → Option Tree
@@ -181,3 +182,14 @@ layer_made program capacity make past layer was = leaf_made layer was
 abbrev pub made : Program → ℕ → ℕ → Maker
 made program capacity zero past type was = None
 made program capacity (suc depth) past type was = layer_made program capacity (made program capacity depth) past (out-Ty type) was
+
+-- ---- the static record
+
+-- the roots, each by what it was
+abbrev pub roots_made : Maker → Past → List Root → Was → Option Tree
+roots_made make past roots was = cond (has_fields was (length roots)) (option_map Rec (fields_made make past was 0 (map (λ r. r.ty) roots))) None
+
+-- the static record becomes what its roots do, whose expressions read the record with the new leaf in it
+abbrev pub record_made : Program → ℕ → Tree → Option Tree
+record_made program depth (Rec written) = roots_made (made program 0 depth) (past_outside written) program.roots (Whole (Rec written))
+record_made program depth tree = None

@@ -7,13 +7,13 @@ ghost use Rattle.gt_tree.specs.Fits.{Fits};
 ghost use Rattle.gt_value.specs.Values.{tree_of};
 ghost use Rattle.gt_value.specs.Bytes.{IsElement};
 ghost use Rattle.gt_value.specs.declared.values.ValueFail.TheVariants.{Shape};
-ghost use Rattle.gt_assign.specs.Checks.{is_leaf_there};
+ghost use Rattle.gt_assign.specs.Checks.{is_word_there};
 ghost use Rattle.gt_assign.specs.Pasts.{Whole, past_outside};
 ghost use Rattle.gt_assign.specs.Turning.{Gives, made};
 ghost use Rattle.gt_assign.specs.Results.{FitsBeside, IsAssigned, IsMisfit, IsMadeWhereFit, NoneElseIsMade, NoneIsMade};
 
 use crate::checks::{Checking, fits};
-use crate::copies::is_leaf;
+use crate::copies::is_word;
 use crate::parts::{part_at, with_part};
 use crate::scoping::Within;
 use crate::seeing::{Around, Seen};
@@ -22,16 +22,16 @@ use gt_types::{Program, Ty};
 use gt_value::{BlockNames, Value, ValueFail};
 use std::alloc::Global;
 
-// How deep the parts of a type of a program nest at most: structures in one another, with the fields and the dimensions between them.
-const MAX_NESTING: usize = 256;
+/// How deep the parts of a type of a program nest at most: structures in one another, with the fields and the dimensions between them.
+pub const MAX_NESTING: usize = 256;
 
-// Whether a path leads to a leaf.
-fn leads_to_leaf(value: &Value, path: &[u32]) -> bool
-    ensures { result ≡ is_leaf_there (part_at (tree_of value.now) path.now) }
+/// Whether a path leads to a leaf that can be written.
+pub fn leads_to_leaf(value: &Value, path: &[u32]) -> bool
+    ensures { result ≡ is_word_there (part_at (tree_of value.now) path.now) }
 {
     match part_at(value, path) {
         None => false,
-        Some(part) => is_leaf(part),
+        Some(part) => is_word(part),
     }
 }
 
@@ -104,7 +104,7 @@ pub fn reshape(
     ensures misfit { IfOk result (λ v. NoneElseIsMade program.now capacity ty.now (tree_of value) path.now (tree_of leaf) (tree_of v)) }
     ensures shape { result ≡ Err Shape → NoneIsMade program.now capacity ty.now (tree_of value) path.now (tree_of leaf) }
 {
-    if !is_leaf(&leaf) || !leads_to_leaf(&value, path) {
+    if !is_word(&leaf) || !leads_to_leaf(&value, path) {
         return Err(ValueFail::Shape);
     }
     let old = with_part(alloc, value, path, leaf)?;
@@ -114,6 +114,7 @@ pub fn reshape(
 /// The value that an element of a block becomes, with room for so many elements at its end, where the leaf at a path is written:
 /// places of fields, of the active member and of elements, from the outside in. `Shape` says that no value fits: the path leads
 /// to no leaf, the new leaf does not suit its place, or a length says more than there is room for or other than what a pointer names.
+/// A pointer that is written where no member of a union around it is active becomes null.
 pub fn assign<N: BlockNames>(
     alloc: Global,
     program: &Program,

@@ -13,7 +13,7 @@ ghost use Rattle.gt_assign.specs.Scoping.{scope_of};
 ghost use Rattle.gt_assign.specs.Fitting.{OpaqueFits, RecFits, AltFits, ThereFits, MemberFits, CommonFits, RowFits};
 
 use crate::commons::common_of;
-use crate::naming::may_name;
+use crate::naming::may_name_within;
 use crate::rooms::number_fits;
 use crate::scoping::{Within, desc_in, eval_in};
 use crate::steps::active_member;
@@ -120,7 +120,7 @@ pub fn fits<N: BlockNames>(value: &Value, ty: &Ty, on: &Checking<N>, within: &Wi
     match value {
         Value::Num(n) => number_fits(ty, *n),
         Value::Null => is_pointer(ty),
-        Value::To(addr) => may_name(on.program, on.names, ty, *addr, within),
+        Value::To(addr) => may_name_within(on.program, on.names, ty, *addr, within),
         Value::Raw(bytes) => opaque_fits(bytes.as_slice(), ty),
         Value::Rec(parts) => rec_fits(parts.as_slice(), value, ty, on, within),
         Value::Alt {

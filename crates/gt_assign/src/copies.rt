@@ -1,7 +1,7 @@
 // Copies of values, and leaves.
 ghost use Rattle.std.specs.Prelude.{◌≡◌, IfOk, map};
 ghost use Rattle.gt_types.specs.declared.types.Ty.{out-Ty};
-ghost use Rattle.gt_tree.specs.Trees.{is_leaf, without_pointers, all_without_pointers};
+ghost use Rattle.gt_tree.specs.Trees.{is_leaf, is_word, without_pointers, all_without_pointers};
 ghost use Rattle.gt_value.specs.Values.{trees, tree_of};
 ghost use Rattle.gt_assign.specs.Pasts.{was_of};
 ghost use Rattle.gt_assign.specs.Turning.{Gives, zero_leaf, leaf_made};
@@ -73,8 +73,19 @@ fn all_without_pointers(alloc: Global, parts: &[Value]) -> Result<Vec<Value>, Al
     Ok(made)
 }
 
-/// Whether a value has no parts of its own.
-pub fn is_leaf(value: &Value) -> bool
+/// Whether a value is a leaf that can be written: a number, a pointer, or eight bytes that are never scanned.
+pub fn is_word(value: &Value) -> bool
+    ensures { result ≡ is_word (tree_of value.now) }
+{
+    match value {
+        Value::Num(_) | Value::Null | Value::To(_) => true,
+        Value::Raw(bytes) => bytes.len() == 8,
+        Value::Rec(_) | Value::Alt { .. } | Value::Row(_) => false,
+    }
+}
+
+// Whether a value has no parts of its own.
+fn is_leaf(value: &Value) -> bool
     ensures { result ≡ is_leaf (tree_of value.now) }
 {
     match value {

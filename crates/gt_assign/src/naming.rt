@@ -1,7 +1,9 @@
 // What a pointer may name.
-ghost use Rattle.std.specs.Prelude.{◌≡◌, ◌↔◌, ℕ, IsTrue, Some};
+ghost use Rattle.std.specs.Prelude.{◌≡◌, ◌↔◌, ℕ, ℤ, IsTrue, Option, Some};
+ghost use Rattle.gt_types.specs.declared.expressions.Expr.{Expr};
+ghost use Rattle.gt_types.specs.Shapes.{count_of};
 ghost use Rattle.gt_tree.specs.Blocks.{Raw, Holds, HoldsAsMany, IsString, MayName};
-ghost use Rattle.gt_tree.specs.Scopes.{eval_in};
+ghost use Rattle.gt_tree.specs.Scopes.{eval_in, ◌then◌};
 ghost use Rattle.gt_value.specs.Names.{kind_of};
 ghost use Rattle.gt_assign.specs.Scoping.{scope_of};
 ghost use Rattle.gt_assign.specs.Fitting.{HasChars};
@@ -85,8 +87,61 @@ fn is_string<N: BlockNames>(names: &N, addr: u64) -> bool
     }
 }
 
-/// Whether a pointer of a type may name the block at an address.
-pub fn may_name<N: BlockNames>(
+/// Whether a pointer or string of a type may name the block at an address, where the length in the type has this value.
+pub fn may_name<N: BlockNames>(names: &N, ty: &Ty, length: Option<i64>, addr: u64) -> bool
+    ensures { (value : Expr → Option ℤ) → length ≡ (count_of ty.now then value) → IsTrue result ↔ MayName (N.blocks names.now) value ty.now addr }
+{
+    match ty {
+        Ty::Str(None) => is_string(names, addr),
+        Ty::Str(Some(_)) => holds_as_many(names, addr, BlockKind::Chars, length),
+        Ty::Ptr { target, kind, .. } => match (target, kind) {
+            (Some(Target::Node(id)), PtrKind::Plain) => holds_one(
+                names,
+                addr,
+                BlockKind::Nodes(*id),
+            ),
+            (Some(Target::Node(id)), PtrKind::Length(_)) => holds_as_many(
+                names,
+                addr,
+                BlockKind::Nodes(*id),
+                length,
+            ),
+            (Some(Target::Pointers(id)), PtrKind::Length(_)) => holds_as_many(
+                names,
+                addr,
+                BlockKind::Pointers(*id),
+                length,
+            ),
+            (Some(Target::Strings), PtrKind::Length(_)) => holds_as_many(
+                names,
+                addr,
+                BlockKind::Strings,
+                length,
+            ),
+            (None, PtrKind::Atomic) => is_raw(names, addr),
+            _ => false,
+        },
+        _ => false,
+    }
+}
+
+// The value of the length in a type, where it has one.
+fn length_in(program: &Program, ty: &Ty, within: &Within) -> Option<i64>
+    ensures { result ≡ (count_of ty.now then eval_in program.now (scope_of within.now)) }
+{
+    match ty {
+        Ty::Str(Some(len)) => eval_in(program, len, within),
+        Ty::Ptr {
+            kind: PtrKind::Length(len),
+            ..
+        } => eval_in(program, len, within),
+        Ty::Tail { len, .. } => eval_in(program, len, within),
+        _ => None,
+    }
+}
+
+/// Whether a pointer or string of a type may name the block at an address, by the values around it.
+pub fn may_name_within<N: BlockNames>(
     program: &Program,
     names: &N,
     ty: &Ty,
@@ -95,41 +150,5 @@ pub fn may_name<N: BlockNames>(
 ) -> bool
     ensures { IsTrue result ↔ MayName (N.blocks names.now) (eval_in program.now (scope_of within.now)) ty.now addr }
 {
-    match ty {
-        Ty::Str(None) => is_string(names, addr),
-        Ty::Str(Some(len)) => holds_as_many(
-            names,
-            addr,
-            BlockKind::Chars,
-            eval_in(program, len, within),
-        ),
-        Ty::Ptr { target, kind, .. } => match (target, kind) {
-            (Some(Target::Node(id)), PtrKind::Plain) => holds_one(
-                names,
-                addr,
-                BlockKind::Nodes(*id),
-            ),
-            (Some(Target::Node(id)), PtrKind::Length(len)) => holds_as_many(
-                names,
-                addr,
-                BlockKind::Nodes(*id),
-                eval_in(program, len, within),
-            ),
-            (Some(Target::Pointers(id)), PtrKind::Length(len)) => holds_as_many(
-                names,
-                addr,
-                BlockKind::Pointers(*id),
-                eval_in(program, len, within),
-            ),
-            (Some(Target::Strings), PtrKind::Length(len)) => holds_as_many(
-                names,
-                addr,
-                BlockKind::Strings,
-                eval_in(program, len, within),
-            ),
-            (None, PtrKind::Atomic) => is_raw(names, addr),
-            _ => false,
-        },
-        _ => false,
-    }
+    may_name(names, ty, length_in(program, ty, within), addr)
 }

@@ -2,7 +2,7 @@
 ghost use Rattle.std.specs.Prelude.{◌≡◌, ◌^◌, nat_lt};
 ghost use Rattle.gt_types.specs.Shapes.{bits_of};
 ghost use Rattle.gt_tree.specs.Numbers.{is_signed, has_room};
-ghost use Rattle.gt_assign.specs.Rooms.{number_fits};
+ghost use Rattle.gt_tree.specs.PathLaws.{has_room_in};
 
 use gt_types::{Scalar, Ty, Width};
 
@@ -16,8 +16,8 @@ fn is_below(n: u128, bits: u32) -> bool
     n < 2u128.pow(bits)
 }
 
-// Whether a number can be held in so many bits.
-fn has_room(signed: bool, bits: u32, n: i128) -> bool
+/// Whether a number can be held in so many bits, with a sign or without.
+pub fn has_room(signed: bool, bits: u32, n: i128) -> bool
     ensures { result ≡ has_room signed bits n }
 {
     if n >= 0 {
@@ -63,7 +63,7 @@ fn is_signed(number: Scalar) -> bool
 
 /// Whether a number has room in the bits of a type. It has none in a type that is no number's.
 pub fn number_fits(ty: &Ty, n: i128) -> bool
-    ensures { result ≡ number_fits ty.now n }
+    ensures { result ≡ has_room_in ty.now n }
 {
     match ty {
         Ty::Num(number) => has_room(is_signed(*number), bits_of(*number), n),

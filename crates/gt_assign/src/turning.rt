@@ -258,7 +258,7 @@ fn rest(
     }
 }
 
-// What stays of a union of which no member is active: all of it, where none was; else its common structure without pointers.
+// What stays of a union of which no member is active: its common structure without pointers.
 fn rest_of(on: &Making, structure: &Structure, value: &Value) -> Result<Value, ValueFail>
     ensures { Gives result (rest_whole on.now.program.now structure.now (tree_of value.now)) }
 {
@@ -270,7 +270,7 @@ fn rest_of(on: &Making, structure: &Structure, value: &Value) -> Result<Value, V
         return Err(ValueFail::Shape);
     };
     let Some(place) = member else {
-        return Ok(copy(on.alloc, there.get())?);
+        return Ok(without_pointers(on.alloc, there.get())?);
     };
     let Some(id) = common_of(on.program, structure) else {
         return Ok(Value::Rec(Vec::new(on.alloc)));

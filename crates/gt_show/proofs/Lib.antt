@@ -5,3 +5,5 @@ mod TreesOf
 mod FitParts
 mod Adding
 mod Showing
+mod OneBlock
+mod Elements

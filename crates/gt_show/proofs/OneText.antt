@@ -117,7 +117,7 @@ module _ (program : Program) (blocks : Blocks) (settled : Settled program) where
         let found = inv-next f fs tree trees other d in
         ap₂ (λ (x : List ℕ) (xs : List (List ℕ)). named f.name (codes "=") x ∷ xs) (one-text found.0 part found.2) (one-fields found.1 rest found.3) ∙ sym found.4
 
-    one-each : {type : Ty} {trees : Trees} {texts : List (List ℕ)} (other : List (List ℕ)) → ShowEach program blocks type trees texts → ShowEach program blocks type trees other → texts ≡ other
+    pub one-each : {type : Ty} {trees : Trees} {texts : List (List ℕ)} (other : List (List ℕ)) → ShowEach program blocks type trees texts → ShowEach program blocks type trees other → texts ≡ other
     one-each other (ShowEach.no_more {type}) d = sym (inv-end type other d)
     one-each other (ShowEach.one_more {type} {tree} {trees} {text} {texts} part rest) d =
         let found = inv-one type tree trees other d in

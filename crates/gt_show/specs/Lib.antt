@@ -1,2 +1,4 @@
 pub mod Shown
 pub mod Parts
+pub mod BlockTexts
+pub mod BlockParts

@@ -1,9 +1,11 @@
-//! A value has one text. This call does nothing: its clause is a law.
+//! A value has one text, and so has a block. This call does nothing: its clause is a law.
 ghost use Rattle.gt_types.specs.Settled.{Settled};
 ghost use Rattle.gt_types.specs.declared.program.Program.{Program};
 ghost use Rattle.gt_show.specs.Shown.{TextIsOne};
+ghost use Rattle.gt_show.specs.BlockTexts.{BlockTextIsOne};
 
-/// Two texts of one value of one type are one text.
+/// Two texts of one value of one type are one text, and so are two texts of one block.
 pub fn shown_is_one()
-    ensures { (program : Program) → Settled program → TextIsOne program }
+    ensures values { (program : Program) → Settled program → TextIsOne program }
+    ensures blocks { (program : Program) → Settled program → BlockTextIsOne program }
 {}

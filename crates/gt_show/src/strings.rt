@@ -1,5 +1,6 @@
 // Strings, in quotes.
 ghost use Rattle.std.specs.Prelude.{◌≡◌, ◌++◌, length, Some, OnOk};
+ghost use Rattle.std.specs.List.{flat_map};
 ghost use Rattle.gt_tree.specs.Blocks.{Block, Chars};
 ghost use Rattle.gt_show.specs.Shown.{char_text, string_text};
 ghost use Rattle.gt_show.specs.Parts.{HasChars};
@@ -40,5 +41,24 @@ pub fn push_string<N: BlockNames>(
     for i in 0..count.saturating_sub(1) {
         push_char(text, names.byte(addr, i))?;
     }
+    text.push(b'"')
+}
+
+// Adds bytes of a string.
+fn push_chars(text: &mut Bytes, bytes: &[u8]) -> Result<(), AllocError>
+    ensures added { OnOk result (text.new ≡ text.old ++ flat_map char_text bytes.now) }
+{
+    for byte in bytes {
+        push_char(text, *byte)?;
+    }
+    Ok(())
+}
+
+/// Adds the string that bytes are, with its last zero among them.
+pub fn push_quoted(text: &mut Bytes, bytes: &[u8]) -> Result<(), AllocError>
+    ensures added { OnOk result (text.new ≡ text.old ++ string_text bytes.now) }
+{
+    text.push(b'"')?;
+    push_chars(text, &bytes[..bytes.len().saturating_sub(1)])?;
     text.push(b'"')
 }

@@ -40,16 +40,17 @@ pub fn show<N: BlockNames>(
     Ok(text)
 }
 
-// What values are shown beside: the program, and the blocks that pointers name.
+/// What values are shown beside: the program, and the blocks that pointers name.
 #[derive(Drop)]
-struct Context<'a, N: BlockNames> {
-    alloc: Global,
-    program: &'a Program,
-    names: &'a N,
+pub struct Context<'a, N: BlockNames> {
+    pub alloc: Global,
+    pub program: &'a Program,
+    pub names: &'a N,
 }
 
+/// Adds the text of a value of a type.
 #[cycle(show)]
-fn push_value<N: BlockNames>(
+pub fn push_value<N: BlockNames>(
     text: &mut Bytes,
     value: &Value,
     ty: &Ty,
@@ -173,9 +174,9 @@ fn push_common<N: BlockNames>(
     push_struct(text, parts, structure_at(context.program, common), context)
 }
 
-// Adds the elements of an array.
+/// Adds elements, in brackets.
 #[cycle(show)]
-fn push_row<N: BlockNames>(
+pub fn push_row<N: BlockNames>(
     text: &mut Bytes,
     parts: &[Value],
     elem: &Ty,

@@ -9,7 +9,7 @@ use Rattle.std.proofs.lemmas.List.{places}
 use Rattle.gt_space.specs.Range.{Range, KeepsAddresses, with_bytes}
 use Rattle.gt_tree.specs.Leaves.{bit_of}
 use Rattle.gt_tree.specs.FixedLaws.{bit_in}
-use Rattle.gt_store.specs.Overlays.{AreSmall, Writes}
+use Rattle.gt_store.specs.Writing.{AreSmall, Writes}
 
 -- ---- bits of numbers
 
@@ -106,12 +106,17 @@ module _ (r : Range) (at bits : ℕ) (bs : List ℕ) (whole : at % 8 ≡ 0) (fit
   bytes-small : AreSmall r → AreSmall (with_bytes r (r.start + at / 8) bs)
   bytes-small old = small-with (at / 8) r bs (omega (arith, whole, fits)) small old
 
+  bytes-apart : (k : ℕ) → (8 * k + 8 ≤ at) ⊎ (at + 8 * length bs ≤ 8 * k) → get_or (with_bytes r (r.start + at / 8) bs).bytes k 0 ≡ get_or r.bytes k 0
+  bytes-apart k (inl lt) = let out : k < at / 8 = omega (arith, whole, lt) in get-outside (at / 8) r bs k (omega (arith, whole, fits)) (inl out)
+  bytes-apart k (inr le) = let out : at / 8 + length bs ≤ k = omega (arith, whole, le) in get-outside (at / 8) r bs k (omega (arith, whole, fits)) (inr out)
+
   pub writes-bytes : (new : Range) → new ≡ with_bytes r (r.start + at / 8) bs → KeepsAddresses r new → Writes at (8 * length bs) bits r new
   writes-bytes new is keeps = record {
     addresses = keeps;
     small = λ old. subst AreSmall (sym is) (bytes-small old);
     inside = λ j low high. ap (λ s. bit_in s.bytes j) is ∙ bytes-inside j low high;
     outside = λ j out. ap (λ s. bit_in s.bytes j) is ∙ bytes-outside j out;
+    apart = λ k out. ap (λ s. get_or s.bytes k 0) is ∙ bytes-apart k out;
   }
 
 -- a number of so many bytes
@@ -175,12 +180,17 @@ module _ (r : Range) (at v : ℕ) (set : Bool) (fits : at < 8 * length r.bytes) 
       go (inr le) (inl lt) = let up : at / 8 + 1 ≤ j / 8 = omega (arith, lt) in one-apart j (inr up)
       go (inr le) (inr ge) = let e : j / 8 ≡ at / 8 = omega (arith, le, ge) in one-same j e (apart out e)
 
+  one-far : (k : ℕ) → (8 * k + 8 ≤ at) ⊎ (at + 1 ≤ 8 * k) → get_or (with_bytes r (r.start + at / 8) (v ∷ [])).bytes k 0 ≡ get_or r.bytes k 0
+  one-far k (inl lt) = let out : k < at / 8 = omega (arith, lt) in get-outside (at / 8) r (v ∷ []) k (omega (arith, fits)) (inl out)
+  one-far k (inr le) = let out : at / 8 + 1 ≤ k = omega (arith, le) in get-outside (at / 8) r (v ∷ []) k (omega (arith, fits)) (inr out)
+
   pub writes-bit : (new : Range) → new ≡ with_bytes r (r.start + at / 8) (v ∷ []) → KeepsAddresses r new → Writes at 1 (cond set 1 0) r new
   writes-bit new is keeps = record {
     addresses = keeps;
     small = λ old. subst AreSmall (sym is) (small-with (at / 8) r (v ∷ []) (omega (arith, fits)) below old);
     inside = λ j low high. ap (λ s. bit_in s.bytes j) is ∙ one-inside j low high;
     outside = λ j out. ap (λ s. bit_in s.bytes j) is ∙ one-outside j out;
+    apart = λ k out. ap (λ s. get_or s.bytes k 0) is ∙ one-far k out;
   }
     where
       below : (k : ℕ) → get_or (v ∷ []) k 0 < 256
@@ -195,6 +205,7 @@ writes-none r at bits = record {
   small = λ old. old;
   inside = λ j low high. absurd (omega (arith, low, high));
   outside = λ j out. refl;
+  apart = λ k out. refl;
 }
 
 pub keeps-keeps : {a b c : Range} → KeepsAddresses a b → KeepsAddresses b c → KeepsAddresses a c
@@ -206,8 +217,13 @@ writes-more a b c at i bits set is x y = record {
   small = λ old. y.small (x.small old);
   inside = inside;
   outside = outside;
+  apart = apart;
 }
   where
+    apart : (k : ℕ) → (8 * k + 8 ≤ at) ⊎ (at + (i + 1) ≤ 8 * k) → get_or c.bytes k 0 ≡ get_or a.bytes k 0
+    apart k (inl lt) = y.apart k (inl (omega (arith, lt))) ∙ x.apart k (inl lt)
+    apart k (inr le) = y.apart k (inr (omega (arith, le))) ∙ x.apart k (inr (omega (arith, le)))
+
     inside : (j : ℕ) → at ≤ j → j < at + (i + 1) → bit_in c.bytes j ≡ bit_of bits (j - at)
     inside j low high = go (below-or j (at + i))
       where

@@ -8,3 +8,8 @@ pub mod Steps
 pub mod Whole
 pub mod Putting
 pub mod Statics
+pub mod LeafParts
+pub mod LeafPlaces
+pub mod LeafBits
+pub mod LeafStored
+pub mod Stored

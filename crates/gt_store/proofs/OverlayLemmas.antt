@@ -9,7 +9,8 @@ use Rattle.gt_space.proofs.RangeLemmas.{with_bytes-append, length-with_bytes}
 use Rattle.gt_tree.specs.Leaves.{Leaf, Content, leaf, Number, byte_leaves, content_bits, bit_of, is_set_in}
 use Rattle.gt_tree.specs.FixedLaws.{bit_in}
 use Rattle.gt_value.specs.Bytes.{itself}
-use Rattle.gt_store.specs.Overlays.{Writes, covers, Overlays, is_written, written, Rises, LieIn}
+use Rattle.gt_store.specs.Overlays.{covers, Overlays, is_written, written, Rises, LieIn}
+use Rattle.gt_store.specs.Writing.{Writes}
 use Rattle.gt_store.proofs.BitLemmas.{below-or, keeps-keeps, writes-byte, writes-bytes}
 
 -- ---- which bits a leaf covers
@@ -44,13 +45,13 @@ uncovered l j c = go (below-or j l.at) (below-or j (l.at + l.width))
     go (inr le) (inr far) = inr far
     go (inr le) (inl lt) = let yes = covers-inside l j le lt in absurd (cc)
 
-set-of : (l : Leaf) (j : ℕ) → l.at ≤ j → j < l.at + l.width → is_set_in itself j l ≡ bit_of (content_bits itself l.width l.content) (j - l.at)
+pub set-of : (l : Leaf) (j : ℕ) → l.at ≤ j → j < l.at + l.width → is_set_in itself j l ≡ bit_of (content_bits itself l.width l.content) (j - l.at)
 set-of l j low high = ap (λ b. b && bit_of (content_bits itself l.width l.content) (j - l.at)) (covers-inside l j low high)
 
 unset-of : (l : Leaf) (j : ℕ) → covers j l ≡ false → is_set_in itself j l ≡ false
 unset-of l j c = ap (λ b. b && bit_of (content_bits itself l.width l.content) (j - l.at)) c
 
-or-false : (b : Bool) → (b || false) ≡ b
+pub or-false : (b : Bool) → (b || false) ≡ b
 or-false true = refl
 or-false false = refl
 
@@ -62,7 +63,7 @@ or-right : (a b : Bool) → (a || b) ≡ false → b ≡ false
 or-right true b e = absurd (cc)
 or-right false b e = e
 
-any-append : (p : Leaf → Bool) (xs ys : List Leaf) → list_any p (xs ++ ys) ≡ (list_any p xs || list_any p ys)
+pub any-append : (p : Leaf → Bool) (xs ys : List Leaf) → list_any p (xs ++ ys) ≡ (list_any p xs || list_any p ys)
 any-append p [] ys = refl
 any-append p (x ∷ xs) ys = ap (λ b. p x || b) (any-append p xs ys) ∙ or-assoc (p x) (list_any p xs) (list_any p ys)
   where

@@ -34,7 +34,8 @@ use Rattle.gt_tree.proofs.Known.{value-placed}
 use Rattle.gt_tree.proofs.Sizes.{sizes-one}
 use Rattle.gt_value.specs.Bytes.{itself, IsElement, Takes, FitsSome, IsStored}
 use Rattle.gt_store.specs.declared.stores.TheConstants.{MAX_BITS}
-use Rattle.gt_store.specs.Overlays.{AreSmall, Rises, LieIn, IsWritten, CanStore, is_written, written}
+use Rattle.gt_store.specs.Overlays.{Rises, LieIn, IsWritten, CanStore, is_written, written}
+use Rattle.gt_store.specs.Writing.{AreSmall}
 use Rattle.gt_store.proofs.OverlayLemmas.{rises-from, rises-end}
 use Rattle.gt_store.proofs.Walks.{whole-stands}
 use Rattle.gt_store.proofs.Whole.{shifted, has-shifted, stored-whole}

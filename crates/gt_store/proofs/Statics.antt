@@ -16,7 +16,8 @@ use Rattle.gt_tree.proofs.OneList.{record-one_list}
 use Rattle.gt_tree.proofs.Placed.{record-placed}
 use Rattle.gt_value.specs.Bytes.{StaticsFitSome, AreStaticsStored}
 use Rattle.gt_store.specs.declared.stores.TheConstants.{MAX_BITS}
-use Rattle.gt_store.specs.Overlays.{AreSmall, Rises, LieIn, Overlays, written}
+use Rattle.gt_store.specs.Overlays.{Rises, LieIn, Overlays, written}
+use Rattle.gt_store.specs.Writing.{AreSmall}
 use Rattle.gt_store.proofs.OverlayLemmas.{rises-end}
 use Rattle.gt_store.proofs.Walks.{CanFields, FieldsWritten, follow-stand}
 use Rattle.gt_store.proofs.Whole.{shifted, stored-whole}

@@ -44,7 +44,8 @@ use Rattle.gt_tree.proofs.Commons.{one-common}
 use Rattle.gt_tree.proofs.Fitting.{fits-member, fits-common, fits-array, fits-tail}
 use Rattle.gt_tree.proofs.Structures.{get-as_long}
 use Rattle.gt_tree.proofs.FixedTypes.{wide}
-use Rattle.gt_store.specs.Overlays.{Writes, Overlays, written, Rises, LieIn, StandsAt, CanStore, CanStoreEach, IsWritten, EachIsWritten}
+use Rattle.gt_store.specs.Overlays.{Overlays, written, Rises, LieIn, StandsAt, CanStore, CanStoreEach, IsWritten, EachIsWritten}
+use Rattle.gt_store.specs.Writing.{Writes}
 use Rattle.gt_store.proofs.OverlayLemmas.{overlays-none, overlays-one}
 use Rattle.gt_store.proofs.Forms.{num-leaves, bits-leaves, number-typed, null-leaves, to-leaves, raw-leaves, rec-typed, alt-typed, row-typed, array-leaves, tail-leaves, struct-leaves, member-leaves, number-room, bits-room, rec-struct, alt-union, member-there, pointer-stands, written-bytes, bytes-inside}
 use Rattle.gt_store.proofs.Walks.{CanFields, FieldsWritten, follow-stand, whole-stands, common-written}

@@ -18,7 +18,8 @@ use Rattle.gt_tree.specs.Leaves.{Leaf, Content, leaf, Number, Pointer, byte_leav
 use Rattle.gt_tree.specs.LeafLaws.{AreBytesOf}
 use Rattle.gt_tree.specs.FixedLaws.{bit_in}
 use Rattle.gt_value.specs.Bytes.{itself}
-use Rattle.gt_store.specs.Overlays.{AreSmall, covers, Overlays, is_written, written, Rises}
+use Rattle.gt_store.specs.Overlays.{covers, Overlays, is_written, written, Rises}
+use Rattle.gt_store.specs.Writing.{AreSmall}
 use Rattle.gt_tree.proofs.FixedBits.{same_bits}
 use Rattle.gt_store.proofs.BitLemmas.{below-or, get-inside, get-outside, small-with}
 use Rattle.gt_store.proofs.OverlayLemmas.{none-set, any-low, any-high}
@@ -130,7 +131,7 @@ set-written (l ∷ ls) i = set-kept l ls i (set-written ls i) (is_written l) ref
 
 -- ---- ranges by their bits
 
-same-list : (xs ys : List ℕ) → length xs ≡ length ys → ((k : ℕ) → k < length xs → get_or xs k 0 ≡ get_or ys k 0) → xs ≡ ys
+pub same-list : (xs ys : List ℕ) → length xs ≡ length ys → ((k : ℕ) → k < length xs → get_or xs k 0 ≡ get_or ys k 0) → xs ≡ ys
 same-list [] [] e h = refl
 same-list [] (y ∷ ys) e h = absurd (omega (arith, e))
 same-list (x ∷ xs) [] e h = absurd (omega (arith, e))

@@ -1,1 +1,4 @@
+pub mod Writing
 pub mod Overlays
+pub mod Leaf
+pub mod Stored

@@ -1,5 +1,5 @@
 -- No promise: what becomes of the bits of a space where leaves are written. Places are counted in bits from its lowest address.
-use Rattle.std.specs.Prelude.{◌≡◌, ◌≤◌, ◌<◌, ◌⊎◌, ℕ, ◌+◌, ◌-◌, ◌*◌, ◌%◌, Bool, true, false, ◌&&◌, nat_le, nat_lt, is_some, List, [], ◌∷◌, length, slice_index}
+use Rattle.std.specs.Prelude.{◌≡◌, ◌≤◌, ◌⊎◌, ℕ, ◌+◌, ◌*◌, ◌%◌, Bool, true, false, ◌&&◌, nat_le, nat_lt, is_some, List, [], ◌∷◌, length}
 use Rattle.std.specs.List.{filter, list_any}
 use Rattle.gt_types.specs.declared.types.Width.{Width}
 use Rattle.gt_types.specs.declared.types.Width.TheVariants.{W1, W2, W4, W8}
@@ -16,11 +16,12 @@ use Rattle.gt_tree.specs.Trees.{Tree, Trees}
 use Rattle.gt_tree.specs.Blocks.{Blocks}
 use Rattle.gt_tree.specs.Scopes.{Scope}
 use Rattle.gt_tree.specs.Fits.{Fits, EachFits}
-use Rattle.gt_tree.specs.Leaves.{Leaf, Number, Pointer, bit_of, is_set_in, HasLeaves, EachHasLeaves}
+use Rattle.gt_tree.specs.Leaves.{Leaf, Number, Pointer, is_set_in, HasLeaves, EachHasLeaves}
 use Rattle.gt_tree.specs.LeafLaws.{IsTypeIn}
 use Rattle.gt_tree.specs.FixedLaws.{bit_in}
 use Rattle.gt_value.specs.Bytes.{itself}
 use Rattle.gt_store.specs.declared.stores.TheConstants.{MAX_BITS}
+use Rattle.gt_store.specs.Writing.{AreSmall}
 
 -- how many bytes a number takes
 abbrev pub bytes_in : Width → ℕ
@@ -28,17 +29,6 @@ bytes_in W1 = 1
 bytes_in W2 = 2
 bytes_in W4 = 4
 bytes_in W8 = 8
-
--- each byte is below 256
-abbrev pub AreSmall : Range → Type 0
-AreSmall range = (k : ℕ) → slice_index range.bytes k < 256
-
--- so many bits from a place on are those of a number, and all others are as before
-pub record Writes (at width bits : ℕ) (old new : Range) : Type 0 where
-  pub addresses : KeepsAddresses old new
-  pub small : AreSmall old → AreSmall new
-  pub inside : (j : ℕ) → at ≤ j → j < at + width → bit_in new.bytes j ≡ bit_of bits (j - at)
-  pub outside : (j : ℕ) → (j < at) ⊎ (at + width ≤ j) → bit_in new.bytes j ≡ bit_in old.bytes j
 
 -- whether a bit is one of a leaf
 abbrev pub covers : ℕ → Leaf → Bool

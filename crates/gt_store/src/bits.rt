@@ -1,9 +1,11 @@
 // Numbers and bits in the bytes of a space. Places are counted in bits from its lowest address.
-ghost use Rattle.std.specs.Prelude.{◌≡◌, ◌≢◌, ◌≤◌, ◌<◌, ℕ, ◌+◌, ◌*◌, ◌^◌, ◌%◌, cond, Bool, IsTrue, length};
+ghost use Rattle.std.specs.Prelude.{◌≡◌, ◌≢◌, ◌≤◌, ◌<◌, ℕ, ◌+◌, ◌*◌, ◌^◌, ◌%◌, cond, Bool, IsTrue, length, MatchOption};
+ghost use Rattle.gt_types.specs.declared.types.Width.{Width};
 ghost use Rattle.gt_space.specs.Range.{KeepsAddresses};
 ghost use Rattle.gt_tree.specs.Numbers.{has_room, two's_complement};
 ghost use Rattle.gt_tree.specs.Leaves.{bit_of, byte_leaves};
-ghost use Rattle.gt_store.specs.Overlays.{Writes, Overlays, bytes_in};
+ghost use Rattle.gt_store.specs.Overlays.{Overlays, bytes_in};
+ghost use Rattle.gt_store.specs.Writing.{Writes};
 
 use gt_space::Space;
 use gt_types::Width;
@@ -65,6 +67,19 @@ pub(crate) fn bits_in(width: Width) -> u32
         Width::W2 => 16,
         Width::W4 => 32,
         Width::W8 => 64,
+    }
+}
+
+/// The width of a number that has so many bits; None where no number of whole bytes has so many.
+pub(crate) fn whole_width(bits: u32) -> Option<Width>
+    ensures { MatchOption result ((width : Width) → 8 * bytes_in width ≢ bits) (λ width. 8 * bytes_in width ≡ bits) }
+{
+    match bits {
+        8 => Some(Width::W1),
+        16 => Some(Width::W2),
+        32 => Some(Width::W4),
+        64 => Some(Width::W8),
+        _ => None,
     }
 }
 

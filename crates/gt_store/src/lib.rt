@@ -1,8 +1,12 @@
-//! Values into the bytes of a space.
+//! Values, and single leaves of values, into the bytes of a space.
 #![tactic(auto)]
 
 mod bits;
+mod laws;
+mod leaves;
 mod stores;
 mod storing;
 
+pub use laws::{a_leaf_written_in_place_is_stored, stored_values_stand};
+pub use leaves::store_leaf;
 pub use storing::{store, store_statics};

@@ -77,7 +77,7 @@ rec-same : (vs ws : Trees) (p : Tree) → Rec vs ≡ p → Rec ws ≡ p → vs �
 rec-same vs ws p e f = cc
 
 module _ {program : Program} where
-  zip : {types : List Ty} {os vs ws : Trees} → AllReshape program types os vs → AllReshape program types os ws → AllSame program types vs ws
+  pub zip : {types : List Ty} {os vs ws : Trees} → AllReshape program types os vs → AllReshape program types os ws → AllSame program types vs ws
   zip AllReshape.none AllReshape.none = AllSame.none
   zip (AllReshape.more r rs) (AllReshape.more q qs) = AllSame.more (Same.reshaped r q) (zip rs qs)
 

@@ -12,7 +12,7 @@ use Rattle.gt_types.specs.declared.program.Program.{Program}
 use Rattle.gt_types.specs.Contains.{HasStructure}
 use Rattle.gt_types.specs.Unions.{IsCommon}
 use Rattle.gt_types.specs.Settled.{Settled}
-use Rattle.gt_tree.specs.Trees.{Tree, Alt, Row, Trees, End, And, count, AreZero}
+use Rattle.gt_tree.specs.Trees.{Tree, Alt, Row, Trees, End, And, count, AreZero, without_pointers}
 use Rattle.gt_tree.specs.Scopes.{is_node, beginning, type_of_field, type_there}
 use Rattle.gt_tree.specs.Reshapes.{IsZeroOutside, Reshapes, EachReshapes, Changes, kept}
 use Rattle.gt_tree.proofs.Commons.{one-common}
@@ -22,10 +22,10 @@ use Rattle.gt_tree.proofs.WriteAlike.{Same, both-some}
 
 -- ---- unions
 
--- the value that a union's value was: with the same member, with none as it is now, or with another
+-- the value that a union's value was: with the same member, with none then and now, or with another
 pub data CameFrom (program : Program) (x : Structure) (m : Option ℕ) (v o : Tree) : Type 0 where
   stayed : (place : ℕ) (f : Field) (old : Tree) → o ≡ Alt m old → m ≡ Some place → slice_get x.fields place ≡ Some f → Reshapes program f.ty old v → CameFrom program x m v o
-  rested : o ≡ Alt m v → m ≡ None → CameFrom program x m v o
+  rested : (old : Tree) → o ≡ Alt m old → m ≡ None → v ≡ without_pointers old → CameFrom program x m v o
   turned : (om : Option ℕ) (old : Tree) → o ≡ Alt om old → om ≢ m → Changes program x om old m v → CameFrom program x m v o
 
 alt-member : (o v w : Tree) (m k : Option ℕ) → o ≡ Alt m v → o ≡ Alt k w → m ≡ k
@@ -49,7 +49,7 @@ module _ {program : Program} (settled : Settled program) (node : TypeId) (desc :
   came-from (Reshapes.same {s = other} {place} {f} {old} h u got r) =
       let same : other ≡ x = some-same (slice_get program.structures node.0) other x h has in
       CameFrom.stayed place f old refl refl (subst (λ y. slice_get y.fields place ≡ Some f) same got) r
-  came-from Reshapes.same_none = CameFrom.rested refl refl
+  came-from (Reshapes.same_none {tree}) = CameFrom.rested tree refl refl refl
   came-from (Reshapes.other {s = other} {old_member} {new_member} {old} {new} h u ne changes) =
       let same : other ≡ x = some-same (slice_get program.structures node.0) other x h has in
       CameFrom.turned old_member old refl ne (subst (λ y. Changes program y old_member old new_member new) same changes)
@@ -75,13 +75,13 @@ module _ {program : Program} (settled : Settled program) (node : TypeId) (desc :
         let mine = subst (λ t. Reshapes program t old v) (stays place f e got) r in
         let theirs = subst (λ t. Reshapes program t other w) (stays i g e' got') q in
         Same.reshaped mine (subst (λ u. Reshapes program type u w) (alt-tree o other old m m like is) theirs)
-    part-same (CameFrom.stayed place f old is e got r) (CameFrom.rested like none) = absurd (some-and-none m place e none)
+    part-same (CameFrom.stayed place f old is e got r) (CameFrom.rested other like none bare) = absurd (some-and-none m place e none)
     part-same {o} (CameFrom.stayed place f old is e got r) (CameFrom.turned om other like ne changes) = absurd (ne (alt-member o other old om m like is))
-    part-same (CameFrom.rested is none) (CameFrom.stayed place f old like e got r) = absurd (some-and-none m place e none)
-    part-same {o} {v} {w} (CameFrom.rested is none) (CameFrom.rested like other) = Same.equal (alt-tree o v w m m is like)
-    part-same {o} {v} (CameFrom.rested is none) (CameFrom.turned om other like ne changes) = absurd (ne (alt-member o other v om m like is))
+    part-same (CameFrom.rested other is none bare) (CameFrom.stayed place f old like e got r) = absurd (some-and-none m place e none)
+    part-same {o} (CameFrom.rested old is none bare) (CameFrom.rested other like gone alike) = Same.equal (bare ∙ ap without_pointers (alt-tree o old other m m is like) ∙ sym alike)
+    part-same {o} (CameFrom.rested old is none bare) (CameFrom.turned om other like ne changes) = absurd (ne (alt-member o other old om m like is))
     part-same {o} (CameFrom.turned om old is ne changes) (CameFrom.stayed place f other like e got r) = absurd (ne (alt-member o old other om m is like))
-    part-same {o} {v} {w} (CameFrom.turned om old is ne changes) (CameFrom.rested like none) = absurd (ne (alt-member o old w om m is like))
+    part-same {o} (CameFrom.turned om old is ne changes) (CameFrom.rested other like none bare) = absurd (ne (alt-member o old other om m is like))
     part-same {o} {v} {w} (CameFrom.turned om old is ne changes) (CameFrom.turned k other like more others) =
         let theirs = subst (λ n. Changes program x n other m w) (alt-member o other old k om like is) others in
         changes-same changes (subst (λ u. Changes program x om u m w) (alt-tree o other old k om like is) theirs)

@@ -114,3 +114,9 @@ pub plain-read : (program : Program) (names : List (List ℕ)) (type : Ty) (tree
 plain-read program [] type tree = plain-number tree
 plain-read program (name ∷ names) type tree =
     ap (λ o. o then λ next. read_path program names next.type next.value) (plain-step program type name tree) ∙ plain-rest program names (plain-read program names) (step program type name tree)
+
+-- so does a path through a union
+pub plain-then : (program : Program) (names : List (List ℕ)) (s : Structure) (type : Ty) (tree : Tree)
+    → (member_of program s type (without_pointers tree) then λ next. read_path program names next.type next.value) ≡ (member_of program s type tree then λ next. read_path program names next.type next.value)
+plain-then program names s type tree =
+    ap (λ o. o then λ next. read_path program names next.type next.value) (plain-member program s type tree) ∙ plain-rest program names (plain-read program names) (member_of program s type tree)

@@ -18,15 +18,15 @@ use Rattle.gt_types.specs.Contains.{HasStructure}
 use Rattle.gt_types.specs.Unions.{IsCommon}
 use Rattle.gt_types.specs.Paths.{by_name, Leads, last_step, next_step}
 use Rattle.gt_types.specs.Settled.{Settled}
-use Rattle.gt_tree.specs.Trees.{Tree, Num, Null, To, Raw, Rec, Alt, Row, Trees, tree_at}
-use Rattle.gt_tree.specs.Scopes.{Typed, typed, ◌then◌, is_node, type_of_field, first_field_type, first_type, beginning, beginning_of, type_there, field_of, member_of, step_in, step, number_at, read_path}
+use Rattle.gt_tree.specs.Trees.{Tree, Num, Null, To, Raw, Rec, Alt, Row, Trees, tree_at, without_pointers}
+use Rattle.gt_tree.specs.Scopes.{Typed, typed, outside, root_in, ◌then◌, is_node, type_of_field, first_field_type, first_type, beginning, beginning_of, type_there, field_of, member_of, step_in, step, number_at, read_path}
 use Rattle.gt_tree.specs.Fits.{types_of}
 use Rattle.gt_tree.specs.Reshapes.{Reshapes, AllReshape, Changes, kept}
 use Rattle.gt_tree.proofs.Commons.{one-common}
 use Rattle.gt_tree.proofs.PathBegins.{one-number}
 use Rattle.gt_tree.proofs.PathBits.{some-same, one-place, position-get, position-first}
 use Rattle.gt_tree.proofs.PathParts.{get-map}
-use Rattle.gt_tree.proofs.WritePlain.{plain-read}
+use Rattle.gt_tree.proofs.WritePlain.{plain-read, plain-then}
 
 -- ---- the field of a name
 
@@ -98,7 +98,7 @@ module _ {program : Program} (c : TypeId) where
         (subst (λ t. Kept program c (beginning_of program c t old) (beginning_of program c t new)) (sym (first-types program node desc s has)) (kept-first all))
     kept-begin (Reshapes.same {node} {desc} {place} {old} {new} has u got r) =
         kept-or (ty.Node node desc) (Alt (Some place) old) (Alt (Some place) new) (is_node c (ty.Node node desc)) None None refl (Reshapes.same has u got r) Kept.gone
-    kept-begin (Reshapes.same_none {node} {desc} {tree}) = kept-or (ty.Node node desc) (Alt None tree) (Alt None tree) (is_node c (ty.Node node desc)) None None refl Reshapes.same_none Kept.gone
+    kept-begin (Reshapes.same_none {node} {desc} {tree}) = kept-or (ty.Node node desc) (Alt None tree) (Alt None (without_pointers tree)) (is_node c (ty.Node node desc)) None None refl Reshapes.same_none Kept.gone
     kept-begin (Reshapes.other {node} {desc} {old_member} {new_member} {old} {new} has u ne changes) =
         kept-or (ty.Node node desc) (Alt old_member old) (Alt new_member new) (is_node c (ty.Node node desc)) None None refl (Reshapes.other has u ne changes) Kept.gone
     kept-begin (Reshapes.array {type} {old} {new} e each) = kept-or type (Row old) (Row new) (is_node c type) None None refl (Reshapes.array e each) Kept.gone
@@ -160,6 +160,12 @@ module _ {program : Program} where
   number-kept type o n (Reshapes.array e each) = refl
   number-kept type o n (Reshapes.tail e each) = refl
 
+-- roots read the same
+pub roots-kept : {program : Program} {types : List Ty} {olds news : Trees} → AllReshape program types olds news → (i : ℕ) → root_in (outside olds) i ≡ root_in (outside news) i
+roots-kept AllReshape.none i = refl
+roots-kept (AllReshape.more {type} {old} {new} r rs) zero = number-kept type old new r
+roots-kept (AllReshape.more r rs) (suc i) = roots-kept rs i
+
 -- ---- the common structure of a union
 
 module _ {program : Program} (settled : Settled program) where
@@ -193,7 +199,7 @@ module _ {program : Program} (settled : Settled program) where
       let get : slice_get s.fields place ≡ Some f = subst (λ x. slice_get x.fields place ≡ Some f) same got in
       kept-then c names d rest
       (subst (λ t. Kept program c (beginning program c t old) (beginning program c t new)) (sym (ap type_of_field get)) (kept-begin c r))
-  union-read node desc s c d names o n has is rest Reshapes.same_none = refl
+  union-read node desc s c d names o n has is rest (Reshapes.same_none {tree}) = sym (plain-then program names s (ty.Node c d) (Alt None tree))
   union-read node desc s c d names o n has is rest (Reshapes.other {s = other} {old_member} {new_member} {old} {new} h u ne changes) =
       let same : other ≡ s = some-same (slice_get program.structures node.0) other s h has in
       changes-read node s c d names has is (subst (λ x. Changes program x old_member old new_member new) same changes)

@@ -8,19 +8,21 @@ use Rattle.gt_types.specs.declared.types.TypeId.{TypeId}
 use Rattle.gt_types.specs.declared.types.Ty.{Ty}
 use Rattle.gt_types.specs.declared.types.Ty.TheVariants as ty
 use Rattle.gt_types.specs.declared.program.Structure.{Structure}
+use Rattle.gt_types.specs.declared.program.Root.{Root}
 use Rattle.gt_types.specs.declared.program.Program.{Program}
 use Rattle.gt_types.specs.Contains.{HasStructure}
 use Rattle.gt_types.specs.Settled.{Settled}
 use Rattle.gt_tree.specs.Trees.{Tree, Num, Null, To, Raw, Rec, Alt, Row, Trees, End, And, count, IsZero, is_leaf}
 use Rattle.gt_tree.specs.Blocks.{Block, Blocks}
 use Rattle.gt_tree.specs.Scopes.{Scope, outside, inside, eval_in, is_node, beginning}
-use Rattle.gt_tree.specs.Fits.{Fits, AllFit, EachFits, IsActive, active_member, types_of}
-use Rattle.gt_tree.specs.Reshapes.{Reshapes}
-use Rattle.gt_tree.specs.WriteLaws.{WriteIsOne}
+use Rattle.gt_tree.specs.Fits.{Fits, AllFit, EachFits, IsActive, active_member, types_of, root_types}
+use Rattle.gt_tree.specs.Reshapes.{Reshapes, AllReshape}
+use Rattle.gt_tree.specs.WriteLaws.{WriteIsOne, RecordWriteIsOne}
 use Rattle.gt_tree.proofs.Fitting.{fits-member, fits-common}
 use Rattle.gt_tree.proofs.FixedParts.{may-pointer, is-number, is-bits, is-opaque, is-pointer, is-struct, is-union, is-nothing, is-array, is-tail, is-none, is-no_more}
-use Rattle.gt_tree.proofs.WriteScopes.{ReadSame, Beside, same-count, same-desc}
-use Rattle.gt_tree.proofs.WriteAlike.{Same, AllSame, cond-some, same-num, same-fields, reads-same}
+use Rattle.gt_tree.proofs.WriteReads.{roots-kept}
+use Rattle.gt_tree.proofs.WriteScopes.{ReadSame, RootsSame, Beside, same-count, same-desc}
+use Rattle.gt_tree.proofs.WriteAlike.{Same, AllSame, zip, cond-some, same-num, same-fields, reads-same}
 use Rattle.gt_tree.proofs.WriteParts.{EachSame, member-same, common-same, array-same, tail-same}
 
 -- ---- leaves
@@ -29,7 +31,7 @@ pub old-leaf : {program : Program} {type : Ty} {o v : Tree} → IsTrue (is_leaf 
 old-leaf h (Reshapes.leaf e) = refl
 old-leaf h (Reshapes.struct has u all) = absurd (cc)
 old-leaf h (Reshapes.same has u got r) = absurd (cc)
-old-leaf h Reshapes.same_none = refl
+old-leaf h Reshapes.same_none = absurd (cc)
 old-leaf h (Reshapes.other has u ne changes) = absurd (cc)
 old-leaf h (Reshapes.array e each) = absurd (cc)
 old-leaf h (Reshapes.tail e each) = absurd (cc)
@@ -188,3 +190,18 @@ module _ (program : Program) (settled : Settled program) (a : Trees) (blocks : B
 pub write-one : (program : Program) → Settled program → WriteIsOne program
 write-one program settled blocks statics kind capacity old path leaf v w may x y =
     one-value program settled statics blocks capacity x.fits (outside statics) w (Beside.at_block kind may) y.fits (Same.reshaped x.reshapes y.reshapes)
+
+-- ---- the static record
+
+rec-part : (vs ws : Trees) → Rec vs ≡ Rec ws → vs ≡ ws
+rec-part vs ws e = cc
+
+roots-beside : (program : Program) (a b c : Trees) → RootsSame b c → All (Beside program a (outside b) (outside c)) (root_types program)
+roots-beside program a b c same =
+    All-map (Beside program a (outside b) (outside c)) (λ (r : Root). r.ty) program.roots
+    (All-weaker (Contains program.roots) (λ (r : Root). Beside program a (outside b) (outside c) r.ty) (λ r contains. Beside.at_root r contains same) program.roots (All-contains_itself program.roots))
+
+pub record-write-one : (program : Program) → Settled program → RecordWriteIsOne program
+record-write-one program settled blocks old path leaf v w x y =
+    let theirs = subst (λ us. AllReshape program (root_types program) us w) (rec-part y.written x.written (sym y.with_leaf ∙ x.with_leaf)) y.reshapes in
+    one-value_fields program settled End blocks 0 x.fits (outside w) w (roots-beside program End v w (λ i. sym (roots-kept x.reshapes i) ∙ roots-kept theirs i)) y.fits (zip x.reshapes theirs)

@@ -38,9 +38,9 @@ pub record Block : Type 0 where
   pub count : ℕ
   pub chars : List ℕ
 
--- a block of characters has as many elements as bytes
+-- a block of characters has as many elements as bytes, of which the last is a zero
 abbrev pub IsWhole : Block → Type 0
-IsWhole b = b.kind ≡ Chars → b.count ≡ length b.chars
+IsWhole b = b.kind ≡ Chars → (b.count ≡ length b.chars) × ((text : List ℕ) × (b.chars ≡ text ++ 0 ∷ []))
 
 -- the blocks under their names
 abbrev pub Blocks : Type 0

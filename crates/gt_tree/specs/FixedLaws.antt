@@ -1,5 +1,5 @@
 -- What the bytes that stand for leaves say of each leaf, and of whole values.
-use Rattle.std.specs.Prelude.{◌≡◌, ◌≤◌, ◌<◌, ℕ, ◌+◌, ◌*◌, ◌/◌, ◌%◌, ◌^◌, Bool, ℤ, IsTrue, List, map, length, Some, slice_index, All}
+use Rattle.std.specs.Prelude.{◌≡◌, ◌≤◌, ◌<◌, ℕ, ◌+◌, ◌*◌, ◌/◌, ◌%◌, ◌^◌, Bool, ℤ, IsTrue, List, length, Some, slice_index, All}
 use Rattle.gt_types.specs.declared.program.Program.{Program}
 use Rattle.gt_types.specs.Paths.{MayStand}
 use Rattle.gt_layout.specs.declared.planes.Layouts.{Layouts}
@@ -7,7 +7,7 @@ use Rattle.gt_tree.specs.Numbers.{has_room, two's_complement}
 use Rattle.gt_tree.specs.Trees.{Tree, Trees, count}
 use Rattle.gt_tree.specs.Blocks.{Kind, Nodes, Pointers, Block, Blocks, element_type}
 use Rattle.gt_tree.specs.Scopes.{outside}
-use Rattle.gt_tree.specs.Fits.{Fits, EachFits, StaticsFit}
+use Rattle.gt_tree.specs.Fits.{Fits, EachFits, StaticsFit, root_types}
 use Rattle.gt_tree.specs.Leaves.{Leaf, HasLeaves, FieldsHaveLeaves, EachHasLeaves, content_bits, bit_of, Stand}
 use Rattle.gt_tree.specs.LeafLaws.{LieInOrder, IsWidth}
 
@@ -61,7 +61,7 @@ pub record AreValuesOf (program : Program) (layouts : Layouts) (blocks : Blocks)
 pub record AreStaticsOf (program : Program) (layouts : Layouts) (blocks : Blocks) (address : ℕ → ℕ) (bytes : List ℕ) (values : Trees) : Type 0 where
   pub leaves : List Leaf
   pub fit : StaticsFit program blocks values
-  pub have : FieldsHaveLeaves program layouts.structures 0 (map (λ r. r.ty) program.roots) layouts.statics.fields values leaves
+  pub have : FieldsHaveLeaves program layouts.structures 0 (root_types program) layouts.statics.fields values leaves
   pub stand : Stand address leaves bytes
 
 -- two values of an element for which the same bytes stand, as many as it has, are one value

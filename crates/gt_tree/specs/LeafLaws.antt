@@ -1,5 +1,5 @@
 -- What follows for the leaves of all values.
-use Rattle.std.specs.Prelude.{◌≡◌, ◌≤◌, ◌<◌, ℕ, ◌+◌, ◌*◌, ◌^◌, List, map, length, Option, Some, None, All, AllPairs, Contains}
+use Rattle.std.specs.Prelude.{◌≡◌, ◌≤◌, ◌<◌, ℕ, ◌+◌, ◌*◌, ◌^◌, List, length, Option, Some, None, All, AllPairs, Contains}
 use Rattle.gt_types.specs.declared.expressions.Expr.{Expr}
 use Rattle.gt_types.specs.declared.types.TypeId.{TypeId}
 use Rattle.gt_types.specs.declared.types.Ty.{Ty, out-Ty}
@@ -18,7 +18,7 @@ use Rattle.gt_layout.specs.Capacity.{SizeAt}
 use Rattle.gt_tree.specs.Trees.{Tree, Trees, count}
 use Rattle.gt_tree.specs.Blocks.{Kind, Blocks, element_type}
 use Rattle.gt_tree.specs.Scopes.{Scope}
-use Rattle.gt_tree.specs.Fits.{Fits, EachFits, StaticsFit}
+use Rattle.gt_tree.specs.Fits.{Fits, EachFits, StaticsFit, root_types}
 use Rattle.gt_tree.specs.Leaves.{Leaf, HasLeaves, FieldsHaveLeaves, EachHasLeaves, AreApart, LiesBetween, Stand, content_bits}
 
 -- ---- one list of leaves
@@ -40,7 +40,7 @@ ElementsHaveOneList program layouts = (blocks : Blocks) (capacity : ℕ) (scope 
 -- the static record has one list of leaves
 abbrev pub RecordHasOneList : Program → Layouts → Type 0
 RecordHasOneList program layouts = (blocks : Blocks) (statics : Trees) → StaticsFit program blocks statics
-    → OfExactlyOne (FieldsHaveLeaves program layouts.structures 0 (map (λ r. r.ty) program.roots) layouts.statics.fields statics)
+    → OfExactlyOne (FieldsHaveLeaves program layouts.structures 0 (root_types program) layouts.statics.fields statics)
 
 -- ---- no two leaves share a bit
 
@@ -84,7 +84,7 @@ ElementsArePlaced program layouts = (blocks : Blocks) (capacity : ℕ) (scope : 
 -- the leaves of the static record lie in its size
 abbrev pub RecordIsPlaced : Program → Layouts → Type 0
 RecordIsPlaced program layouts = (blocks : Blocks) (statics : Trees) (leaves : List Leaf) → StaticsFit program blocks statics
-    → FieldsHaveLeaves program layouts.structures 0 (map (λ r. r.ty) program.roots) layouts.statics.fields statics leaves → LieInOrder 0 (8 * layouts.statics.size) leaves
+    → FieldsHaveLeaves program layouts.structures 0 (root_types program) layouts.statics.fields statics leaves → LieInOrder 0 (8 * layouts.statics.size) leaves
 
 -- ---- bytes
 
@@ -123,4 +123,4 @@ ElementsHaveRoom program layouts = (blocks : Blocks) (capacity : ℕ) (scope : S
 -- and of the static record
 abbrev pub RecordHasRoom : Program → Layouts → Type 0
 RecordHasRoom program layouts = (blocks : Blocks) (statics : Trees) (leaves : List Leaf) (address : ℕ → ℕ) → ((id : ℕ) → address id < 2 ^ 64) → StaticsFit program blocks statics
-    → FieldsHaveLeaves program layouts.structures 0 (map (λ r. r.ty) program.roots) layouts.statics.fields statics leaves → All (HasItsRoom address) leaves
+    → FieldsHaveLeaves program layouts.structures 0 (root_types program) layouts.statics.fields statics leaves → All (HasItsRoom address) leaves

@@ -1,5 +1,6 @@
 -- What becomes of a value in which one leaf was replaced. A union whose active member is now another keeps its common structure
--- and is zero elsewhere. A tail becomes as long as its length says.
+-- and is zero elsewhere; where no member is active, the pointers of the common structure become null. A tail becomes as long as
+-- its length says.
 use Rattle.std.specs.Prelude.{◌≡◌, ◌≢◌, ℕ, Bool, true, false, List, [], ◌∷◌, Option, Some, None, slice_get, IsTrue}
 use Rattle.gt_types.specs.declared.expressions.Expr.{Expr}
 use Rattle.gt_types.specs.declared.types.TypeId.{TypeId}
@@ -11,7 +12,7 @@ use Rattle.gt_types.specs.declared.program.Structure.{Structure}
 use Rattle.gt_types.specs.declared.program.Program.{Program}
 use Rattle.gt_types.specs.Contains.{HasStructure}
 use Rattle.gt_types.specs.Unions.{IsCommon}
-use Rattle.gt_tree.specs.Trees.{Tree, Rec, Alt, Row, Trees, End, And, IsZero, AreZero, is_leaf, part_at, with_part, without_pointers}
+use Rattle.gt_tree.specs.Trees.{Tree, Rec, Alt, Row, Trees, End, And, IsZero, AreZero, is_leaf, is_word, part_at, with_part, without_pointers}
 use Rattle.gt_tree.specs.Blocks.{Blocks}
 use Rattle.gt_tree.specs.Scopes.{outside, beginning, first_type_of, is_of_node, type_there}
 use Rattle.gt_tree.specs.Fits.{Fits, StaticsFit, types_of, root_types}
@@ -49,7 +50,7 @@ mutual
         → AllReshape program (types_of s.fields) old new → Reshapes program (ty.Node node desc) (Rec old) (Rec new)
     same : {node : TypeId} {desc : Option Expr} {s : Structure} {place : ℕ} {f : Field} {old new : Tree} → HasStructure program node s → s.is_union ≡ true
         → slice_get s.fields place ≡ Some f → Reshapes program f.ty old new → Reshapes program (ty.Node node desc) (Alt (Some place) old) (Alt (Some place) new)
-    same_none : {node : TypeId} {desc : Option Expr} {tree : Tree} → Reshapes program (ty.Node node desc) (Alt None tree) (Alt None tree)
+    same_none : {node : TypeId} {desc : Option Expr} {tree : Tree} → Reshapes program (ty.Node node desc) (Alt None tree) (Alt None (without_pointers tree))
     other : {node : TypeId} {desc : Option Expr} {s : Structure} {old_member new_member : Option ℕ} {old new : Tree} → HasStructure program node s → s.is_union ≡ true
         → old_member ≢ new_member → Changes program s old_member old new_member new → Reshapes program (ty.Node node desc) (Alt old_member old) (Alt new_member new)
     array : {type elem : Ty} {n : ℕ} {old new : Trees} → out-Ty type ≡ part.Arr n elem → EachReshapes program elem old new → Reshapes program type (Row old) (Row new)
@@ -68,22 +69,22 @@ mutual
     one_more : {type : Ty} {old new : Tree} {olds news : Trees} → Reshapes program type old new → EachReshapes program type olds news
         → EachReshapes program type (And old olds) (And new news)
 
--- a path leads to a leaf of a value
+-- a path leads to a leaf of a value that can be read and written
 abbrev pub LeadsToLeaf : Tree → List ℕ → Type 0
-LeadsToLeaf tree path = (part : Tree) × (part_at tree path ≡ Some part) × IsTrue (is_leaf part)
+LeadsToLeaf tree path = (part : Tree) × (part_at tree path ≡ Some part) × IsTrue (is_word part)
 
 -- One leaf of an element of a block is written: the new value fits, and it is what the old one becomes with this leaf at the path.
 -- Where no value is so, the write does not fit.
 pub record Assigns (program : Program) (blocks : Blocks) (statics : Trees) (capacity : ℕ) (type : Ty) (old : Tree) (path : List ℕ) (leaf new : Tree) : Type 0 where
   pub there : LeadsToLeaf old path
-  pub is_leaf : IsTrue (is_leaf leaf)
+  pub is_leaf : IsTrue (is_word leaf)
   pub fits : Fits program blocks capacity (outside statics) type new
   pub reshapes : Reshapes program type (with_part old path leaf) new
 
 -- one leaf of the static record is written, in which a root may say the length of another
 pub record AssignsStatics (program : Program) (blocks : Blocks) (old : Trees) (path : List ℕ) (leaf : Tree) (new : Trees) : Type 0 where
   pub there : LeadsToLeaf (Rec old) path
-  pub is_leaf : IsTrue (is_leaf leaf)
+  pub is_leaf : IsTrue (is_word leaf)
   pub written : Trees
   pub with_leaf : with_part (Rec old) path leaf ≡ Rec written
   pub fits : StaticsFit program blocks new

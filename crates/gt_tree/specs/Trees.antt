@@ -1,5 +1,5 @@
 -- The values of the typed-object machine, as trees.
-use Rattle.std.specs.Prelude.{◌≡◌, ℕ, zero, suc, ◌==◌, cond, Bool, true, false, ℤ, pos, List, [], ◌∷◌, ◌++◌, Option, Some, None, All}
+use Rattle.std.specs.Prelude.{◌≡◌, ℕ, zero, suc, ◌==◌, cond, Bool, true, false, ℤ, pos, List, [], ◌∷◌, ◌++◌, Option, Some, None, All, length}
 
 mutual
   -- a number; a pointer that is null, or names a block; bytes that are never scanned; a struct's fields in order; a union's
@@ -96,6 +96,14 @@ is_leaf (Rec trees) = false
 is_leaf (Alt member tree) = false
 is_leaf (Row trees) = false
 is_leaf tree = true
+
+-- a leaf that can be read and written: one number or one pointer. Eight bytes that are never scanned are one, other sizes are none.
+abbrev pub is_word : Tree → Bool
+is_word (Num n) = true
+is_word Null = true
+is_word (To id) = true
+is_word (Raw bytes) = length bytes == 8
+is_word tree = false
 
 abbrev mutual
   -- the names in the pointers of a value, in order: its edges. Bytes that are never scanned have none.

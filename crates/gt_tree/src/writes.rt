@@ -1,5 +1,5 @@
 //! Zero is one value, and a write has one result. These calls do nothing: their clauses are laws.
-ghost use Rattle.gt_tree.specs.WriteLaws.{ZeroIsOne, ZeroRecordIsOne, WriteIsOne};
+ghost use Rattle.gt_tree.specs.WriteLaws.{ZeroIsOne, ZeroRecordIsOne, WriteIsOne, RecordWriteIsOne};
 ghost use Rattle.gt_types.specs.Settled.{Settled};
 ghost use Rattle.gt_types.specs.declared.program.Program.{Program};
 
@@ -10,7 +10,9 @@ pub fn zero_is_one()
     ensures statics { (program : Program) → Settled program → ZeroRecordIsOne program }
 {}
 
-/// A write has one result: two values that an element of a block may become, where one leaf of it is written, are one value.
+/// A write has one result: two values that an element of a block may become, where one leaf of it is written, are one value. So it
+/// is for the static record.
 pub fn writes_are_one()
-    ensures { (program : Program) → Settled program → WriteIsOne program }
+    ensures value { (program : Program) → Settled program → WriteIsOne program }
+    ensures statics { (program : Program) → Settled program → RecordWriteIsOne program }
 {}

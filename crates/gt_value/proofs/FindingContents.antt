@@ -6,6 +6,7 @@ use Rattle.std.proofs.lemmas.List.{get_or-drop}
 use Rattle.std.proofs.lemmas.List.Elements.{All-head, All-tail}
 use Rattle.gt_types.specs.declared.types.Ty.{Ty}
 use Rattle.gt_types.specs.declared.types.Ty.TheVariants as ty
+use Rattle.gt_types.specs.declared.program.Program.{Program}
 use Rattle.gt_types.specs.Shapes.{is_number, is_pointer}
 use Rattle.gt_space.specs.Range.{Range}
 use Rattle.gt_tree.specs.Trees.{Tree, Null, To, Raw}
@@ -15,6 +16,7 @@ use Rattle.gt_tree.proofs.PathBegins.{one-number}
 use Rattle.gt_tree.proofs.FixedParts.{is-opaque}
 use Rattle.gt_tree.proofs.FixedRead.{IsRead, read-opaque}
 use Rattle.gt_tree.proofs.FixedSame.{Got}
+use Rattle.gt_value.specs.declared.places.Found.{Found}
 use Rattle.gt_value.specs.declared.places.LeafKind.{LeafKind}
 use Rattle.gt_value.specs.declared.places.LeafKind.TheVariants.{Number, Pointer}
 use Rattle.gt_value.specs.declared.places.LeafContent.TheVariants as content
@@ -22,7 +24,8 @@ use Rattle.gt_value.specs.declared.sources.Around.{Around}
 use Rattle.gt_value.specs.declared.sources.Source.{Source}
 use Rattle.gt_value.specs.Bytes.{itself}
 use Rattle.gt_value.specs.Reading.{Stands, shape_of, bits_from, bits_number, number_from}
-use Rattle.gt_value.specs.Places.{HasBits, IsContentOf, content_of, pointer_of, leaf_kind, kind_of_shape}
+use Rattle.gt_value.specs.Places.{Part, HasBits, IsContentOf, IsPlaceOfPart, content_of, pointer_of, leaf_kind, length_there, kind_of_shape}
+use Rattle.gt_value.specs.Finding.{IsFoundPart, place_at}
 use Rattle.gt_value.proofs.BitNumbers.{bits_number-below, bits_number-bit, bits_number-is, fit}
 use Rattle.gt_value.proofs.LeafReads.{held-number, number-here, pointer-here, no-pointer, opaque-inside}
 
@@ -82,7 +85,7 @@ opaque-holds source around size align at value kind k s =
     let f = fit true 64 n (omega arith) (bits_number-below bits at 64) in
     let inside = opaque-inside source around size align at value s in
     let holds : IsContentOf (content.Num (number_from true 64 n)) (Raw found.0) =
-    (long, λ i lt. ap (λ m. bit_of m i) f.same ∙ bits_number-bit bits at 64 i lt ∙ bytes-bits bits around.whole at found.0 leaves i (omega (arith, long, lt))) in
+    (long, f.room, λ i lt. ap (λ m. bit_of m i) f.same ∙ bits_number-bit bits at 64 i lt ∙ bytes-bits bits around.whole at found.0 leaves i (omega (arith, long, lt))) in
     kind-same source around at value (Number true 64) kind eight.1
     ((64, (refl, omega arith, omega arith), omega (arith, inside, is)), subst (λ v. IsContentOf (content.Num (number_from true 64 n)) v) (sym found.1) holds)
 
@@ -153,3 +156,18 @@ placed-content space range from addr at kind active tree e f low h =
     subst (λ k. IsContentOf (content_of (bits_from range k) (at % 8) kind active) tree) there
     (subst (λ x. IsContentOf x tree) (same-content (bits_from range (addr - range.start)) (bits_from range (addr - range.start + at / 8)) at (at % 8) kind active (shifted-bits range (addr - range.start) at))
     (subst (λ k. IsContentOf (content_of (bits_from range k) at kind active) tree) f (subst (λ r. IsContentOf (content_of (bits_from r from) at kind active) tree) e h)))
+
+-- what was found in a space, at its place there
+pub found-placed : (source : Source) (program : Program) (range : Range) (addr : ℕ) (p : Part) (found : Found) → source.program.now ≡ program → source.space.now ≡ range → source.from ≡ addr - range.start → range.start ≤ addr
+    → IsFoundPart source p found → IsPlaceOfPart program range addr p (place_at addr found)
+found-placed source program range addr p found e f g low is = record {
+  address_is = ap (λ n. addr + n / 8) is.bit_is;
+  bit_is = ap (λ n. n % 8) is.bit_is;
+  kind_is = is.kind_is;
+  active_is = is.active_is;
+  holder_is = is.holder_is;
+  length_is = is.length_is ∙ ap (λ x. length_there x p.scope p.type) e;
+  from_start = omega (arith, low);
+  bits = placed-bits source.space.now range source.from addr found.at found.kind f g low is.bits;
+  holds = placed-content source.space.now range source.from addr found.at found.kind found.active p.tree f g low is.holds;
+}

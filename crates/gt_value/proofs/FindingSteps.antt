@@ -12,7 +12,7 @@ use Rattle.gt_types.specs.Contains.{HasStructure}
 use Rattle.gt_layout.specs.declared.planes.Spot.{Spot}
 use Rattle.gt_layout.specs.Storages.{extent_of}
 use Rattle.gt_layout.specs.Places.{begin_at}
-use Rattle.gt_tree.specs.Trees.{Tree, Trees, End, And, tree_at, part_at, part_of}
+use Rattle.gt_tree.specs.Trees.{Tree, Trees, End, And, tree_at, part_at, part_of, is_word}
 use Rattle.gt_tree.specs.Blocks.{Blocks}
 use Rattle.gt_tree.specs.Scopes.{Scope}
 use Rattle.gt_tree.specs.Fits.{Fits}
@@ -20,9 +20,10 @@ use Rattle.gt_tree.proofs.FixedParts.{is-none, is-no_more, is-opaque}
 use Rattle.gt_value.specs.declared.sources.Around.{Around}
 use Rattle.gt_value.specs.declared.sources.Source.{Source}
 use Rattle.gt_value.specs.Reading.{Stands, FieldsStand, EachStands, shape_of}
-use Rattle.gt_value.specs.Places.{leaf_kind, kind_of_shape, is_word}
+use Rattle.gt_value.specs.Finding.{StandsIn, FieldsStandIn, EachStandIn}
+use Rattle.gt_value.specs.Places.{leaf_kind, kind_of_shape}
 use Rattle.gt_value.proofs.LeafReads.{number-here}
-use Rattle.gt_value.proofs.StandingSteps.{fields-step, each-step, some-spots}
+use Rattle.gt_value.proofs.StandingSteps.{fields-step, fields-first, fields-others, each-step, each-first, each-others, some-spots}
 use Rattle.gt_value.proofs.StandingParts.{array-stands, tail-stands}
 
 -- ---- parts of lists
@@ -39,24 +40,24 @@ part-none (And t ts) (suc i) path e = part-none ts i path e
 
 -- ---- fields
 
-pub record FieldAt (source : Source) (around : Around) (type : Ty) (spots : List Spot) (at : ℕ) (trees : Trees) (i : ℕ) : Type 0 where
+pub record FieldAt (source : Source) (around : Around) (scope : Scope) (type : Ty) (spots : List Spot) (at : ℕ) (trees : Trees) (i : ℕ) : Type 0 where
   pub spot : Spot
   pub tree : Tree
   pub spot_of : slice_get spots i ≡ Some spot
   pub there : tree_at trees i ≡ Some tree
-  pub stands : Stands source around type (at + begin_at spot) tree
+  pub stands : StandsIn source around scope type (at + begin_at spot) tree
 
-pub field-at : (source : Source) (around : Around) (types : List Ty) (spots : List Spot) (at : ℕ) (trees : Trees) (i : ℕ) (type : Ty) → slice_get types i ≡ Some type → FieldsStand source around types spots at trees
-    → FieldAt source around type spots at trees i
-field-at source around [] spots at trees i type e s = absurd (cc)
-field-at source around (t ∷ ts) [] at trees i type e s = let some = some-spots source around t ts [] at trees s in absurd (omega (arith, some))
-field-at source around (t ∷ ts) (p ∷ ps) at trees zero type e s =
-    let step = fields-step source around t ts p ps at trees s in
+pub field-at : (source : Source) (around : Around) (scope : Scope) (types : List Ty) (spots : List Spot) (at : ℕ) (trees : Trees) (i : ℕ) (type : Ty) → slice_get types i ≡ Some type → FieldsStandIn source around scope types spots at trees
+    → FieldAt source around scope type spots at trees i
+field-at source around scope [] spots at trees i type e s = absurd (cc)
+field-at source around scope (t ∷ ts) [] at trees i type e s = let some = some-spots source around t ts [] at trees s.0 in absurd (omega (arith, some))
+field-at source around scope (t ∷ ts) (p ∷ ps) at trees zero type e s =
+    let step = fields-step source around t ts p ps at trees s.0 in
     let same : t ≡ type = cc in
-    record { spot = p; tree = step.tree; spot_of = refl; there = ap (λ x. tree_at x zero) step.is; stands = subst (λ x. Stands source around x (at + begin_at p) step.tree) same step.first }
-field-at source around (t ∷ ts) (p ∷ ps) at trees (suc i) type e s =
-    let step = fields-step source around t ts p ps at trees s in
-    let found = field-at source around ts ps at step.rest i type e step.others in
+    record { spot = p; tree = step.tree; spot_of = refl; there = ap (λ x. tree_at x zero) step.is; stands = subst (λ x. StandsIn source around scope x (at + begin_at p) step.tree) same (step.first, fields-first source around t ts p ps at trees s.0 ∙ s.1) }
+field-at source around scope (t ∷ ts) (p ∷ ps) at trees (suc i) type e s =
+    let step = fields-step source around t ts p ps at trees s.0 in
+    let found = field-at source around scope ts ps at step.rest i type e (step.others, fields-others source around t ts p ps at trees s.0 ∙ s.1) in
     record { spot = found.spot; tree = found.tree; spot_of = found.spot_of; there = ap (λ x. tree_at x (suc i)) step.is ∙ found.there; stands = found.stands }
 
 pub no-field : (source : Source) (around : Around) (types : List Ty) (spots : List Spot) (at : ℕ) (trees : Trees) (i : ℕ) → slice_get types i ≡ None → FieldsStand source around types spots at trees → tree_at trees i ≡ None
@@ -69,23 +70,23 @@ no-field source around (t ∷ ts) (p ∷ ps) at trees (suc i) e s =
 
 -- ---- elements
 
-pub record ElementAt (source : Source) (around : Around) (type : Ty) (at : ℕ) (trees : Trees) (i : ℕ) : Type 0 where
+pub record ElementAt (source : Source) (around : Around) (scope : Scope) (type : Ty) (at : ℕ) (trees : Trees) (i : ℕ) : Type 0 where
   pub tree : Tree
   pub there : tree_at trees i ≡ Some tree
-  pub stands : Stands source around type (at + i * (8 * (extent_of source.layouts.now.structures type).size)) tree
+  pub stands : StandsIn source around scope type (at + i * (8 * (extent_of source.layouts.now.structures type).size)) tree
 
-pub element-at : (source : Source) (around : Around) (type : Ty) (at n : ℕ) (trees : Trees) (i : ℕ) → i < n → EachStands source around type at n trees → ElementAt source around type at trees i
-element-at source around type at zero trees i lt s = absurd (omega arith)
-element-at source around type at (suc n) trees zero lt s =
-    let step = each-step source around type at n trees s in
+pub element-at : (source : Source) (around : Around) (scope : Scope) (type : Ty) (at n : ℕ) (trees : Trees) (i : ℕ) → i < n → EachStandIn source around scope type at n trees → ElementAt source around scope type at trees i
+element-at source around scope type at zero trees i lt s = absurd (omega arith)
+element-at source around scope type at (suc n) trees zero lt s =
+    let step = each-step source around type at n trees s.0 in
     let here : at ≡ at + 0 * (8 * (extent_of source.layouts.now.structures type).size) = omega arith in
-    record { tree = step.tree; there = ap (λ x. tree_at x zero) step.is; stands = subst (λ k. Stands source around type k step.tree) here step.first }
-element-at source around type at (suc n) trees (suc i) lt s =
+    record { tree = step.tree; there = ap (λ x. tree_at x zero) step.is; stands = subst (λ k. StandsIn source around scope type k step.tree) here (step.first, each-first source around type at n trees s.0 ∙ s.1) }
+element-at source around scope type at (suc n) trees (suc i) lt s =
     let stride = 8 * (extent_of source.layouts.now.structures type).size in
-    let step = each-step source around type at n trees s in
-    let found = element-at source around type (at + stride) n step.rest i (omega arith) step.others in
+    let step = each-step source around type at n trees s.0 in
+    let found = element-at source around scope type (at + stride) n step.rest i (omega arith) (step.others, each-others source around type at n trees s.0 ∙ s.1) in
     let here : at + stride + i * stride ≡ at + suc i * stride = omega arith in
-    record { tree = found.tree; there = ap (λ x. tree_at x (suc i)) step.is ∙ found.there; stands = subst (λ k. Stands source around type k found.tree) here found.stands }
+    record { tree = found.tree; there = ap (λ x. tree_at x (suc i)) step.is ∙ found.there; stands = subst (λ k. StandsIn source around scope type k found.tree) here found.stands }
 
 pub no-element : (source : Source) (around : Around) (type : Ty) (at n : ℕ) (trees : Trees) (i : ℕ) → n ≤ i → EachStands source around type at n trees → tree_at trees i ≡ None
 no-element source around type at zero trees i le s = ap (λ x. tree_at x i) (is-no_more trees s.as_many)

@@ -17,3 +17,5 @@ pub mod StandingStarts
 pub mod FindingSteps
 pub mod FindingContents
 pub mod FindingAnswers
+pub mod FindingScopes
+pub mod FindingRoots

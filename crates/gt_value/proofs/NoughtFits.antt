@@ -1,7 +1,7 @@
 -- The zero value of a type, by the type alone, is the zero value that fits it.
-use Rattle.std.proofs.Common.{◌≡◌, ℕ, zero, suc, ◌-◌, ◌^◌, ◌<◌, Bool, true, false, IsTrue, List, [], ◌∷◌, length, replicate, map, refl, ap, sym, subst, ◌∙◌, arith, Option, Some, None, All}
-use Rattle.std.specs.Prelude.{Contains, ℤ, pos, slice_get}
-use Rattle.std.proofs.lemmas.List.Elements.{All-cons, All-nil, All-head, All-tail, All-contains, All-contains_itself, All-map, All-weaker, All-replicate}
+use Rattle.std.proofs.Common.{◌≡◌, ℕ, zero, suc, ◌-◌, ◌^◌, ◌<◌, Bool, true, false, IsTrue, List, [], ◌∷◌, length, replicate, refl, ap, sym, subst, ◌∙◌, arith, Option, Some, None, All}
+use Rattle.std.specs.Prelude.{Contains, pos, slice_get}
+use Rattle.std.proofs.lemmas.List.Elements.{All-head, All-tail, All-contains, All-contains_itself, All-map, All-weaker, All-replicate}
 use Rattle.std.proofs.lemmas.Option.{slice_get_within, get_or_from_slice_get}
 use Rattle.std.proofs.lemmas.Nat.{pow_pos}
 use Rattle.std.proofs.lemmas.Bool.{lt-ltb}
@@ -10,17 +10,12 @@ use Rattle.gt_types.specs.declared.types.TypeId.{TypeId}
 use Rattle.gt_types.specs.declared.types.Ty.{Ty}
 use Rattle.gt_types.specs.declared.types.Ty.TheVariants as ty
 use Rattle.gt_types.specs.declared.types.Ty.TheVariants.{outs-Num, outs-Bits}
-use Rattle.gt_types.specs.declared.types.Scalar.{Scalar}
-use Rattle.gt_types.specs.declared.types.Scalar.TheVariants as scalar
-use Rattle.gt_types.specs.declared.types.Width.TheVariants.{W1, W2, W4, W8}
-use Rattle.gt_types.specs.declared.program.Field.{Field}
 use Rattle.gt_types.specs.declared.program.Structure.{Structure}
 use Rattle.gt_types.specs.declared.program.Root.{Root}
 use Rattle.gt_types.specs.declared.program.Program.{Program}
 use Rattle.gt_types.specs.Shapes.{bits_of, is_number}
 use Rattle.gt_types.specs.Contains.{HasStructure}
 use Rattle.gt_types.specs.Values.{within_i64}
-use Rattle.gt_types.specs.Paths.{IsScalarRoot}
 use Rattle.gt_types.specs.Settled.{Settled}
 use Rattle.gt_layout.proofs.Ideal.{one_layout}
 use Rattle.gt_tree.specs.Trees.{Tree, Num, Null, To, Raw, Rec, Alt, Row, Trees, End, And, count, tree_at, IsZero, AreZero, without_pointers, all_without_pointers}
@@ -28,13 +23,11 @@ use Rattle.gt_tree.specs.Numbers.{is_signed, has_room}
 use Rattle.gt_tree.specs.Blocks.{Blocks}
 use Rattle.gt_tree.specs.Scopes.{Scope, outside, inside, ◌then◌, number_at}
 use Rattle.gt_tree.specs.Fits.{Fits, AllFit, EachFits, StaticsFit, active_member, types_of, root_types}
-use Rattle.gt_tree.specs.Leaves.{leaf, Number}
-use Rattle.gt_tree.specs.PathLaws.{number_width}
 use Rattle.gt_tree.proofs.OneList.{value-one_list}
 use Rattle.gt_tree.proofs.PathParts.{get-map}
 use Rattle.gt_tree.proofs.PathReads.{reads-leaf}
 use Rattle.gt_tree.proofs.WriteLeaves.{HoldsNought, noughts}
-use Rattle.gt_value.specs.Noughts.{IsNought, AreNoughts, AreElements, zero_desc}
+use Rattle.gt_value.specs.Noughts.{IsNought, AreNoughts, AreElements}
 use Rattle.gt_value.proofs.Standing.{ReadsZero, RootsAreZero, Stands, count-worth, active-worth}
 use Rattle.gt_value.proofs.NoughtReads.{nought-at, number-nought, nought-reads}
 

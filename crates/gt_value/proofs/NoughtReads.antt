@@ -1,5 +1,5 @@
 -- Paths to numbers read 0 from zero values.
-use Rattle.std.proofs.Common.{◌≡◌, ℕ, zero, suc, ◌+◌, Bool, true, false, cond, IsTrue, ℤ, List, [], ◌∷◌, map, refl, ap, sym, subst, ◌∙◌, arith, Option, Some, None, ◌⊎◌, inl, inr}
+use Rattle.std.proofs.Common.{◌≡◌, ℕ, zero, suc, Bool, true, false, cond, IsTrue, ℤ, List, [], ◌∷◌, refl, ap, sym, subst, ◌∙◌, arith, Option, Some, None, ◌⊎◌, inl, inr}
 use Rattle.std.specs.Prelude.{Contains, pos, slice_get, ◌==◌}
 use Rattle.std.specs.List.{position_from}
 use Rattle.std.specs.Str.{bytes_eq}
@@ -7,7 +7,6 @@ use Rattle.std.proofs.lemmas.Slice.Eq.{bytes_eq-Decides}
 use Rattle.std.proofs.lemmas.Option.{slice_get-get_or}
 use Rattle.gt_types.specs.declared.expressions.Expr.{Expr}
 use Rattle.gt_types.specs.declared.types.TypeId.{TypeId}
-use Rattle.gt_types.specs.declared.types.Scalar.{Scalar}
 use Rattle.gt_types.specs.declared.types.Ty.{Ty}
 use Rattle.gt_types.specs.declared.types.Ty.TheVariants as ty
 use Rattle.gt_types.specs.declared.types.Ty.TheVariants.{outs-Num, outs-Bits, outs-Node}
@@ -16,7 +15,7 @@ use Rattle.gt_types.specs.declared.program.Structure.{Structure}
 use Rattle.gt_types.specs.declared.program.Program.{Program}
 use Rattle.gt_types.specs.Shapes.{is_number}
 use Rattle.gt_types.specs.Contains.{HasStructure, itself}
-use Rattle.gt_types.specs.Paths.{Leads, last_step, next_step, MayStep, by_name, LeadsToNumber}
+use Rattle.gt_types.specs.Paths.{Leads, last_step, next_step, MayStep, by_name}
 use Rattle.gt_types.specs.Unions.{BeginsWith, is_it, by_first, IsCommon, may_be_active}
 use Rattle.gt_types.specs.declared.program.Active.{Active}
 use Rattle.gt_types.specs.declared.program.Active.TheVariants.{Always, Tag, Other, Never}

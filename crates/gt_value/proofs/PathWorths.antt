@@ -43,7 +43,7 @@ use Rattle.gt_value.proofs.LeafReads.{held-number, room-in_bytes, some-bytes, fe
 
 -- ---- the place of a path
 
-Contains-get : {X : Type 0} (xs : List X) (i : ℕ) (x : X) → slice_get xs i ≡ Some x → Contains xs x
+pub Contains-get : {X : Type 0} (xs : List X) (i : ℕ) (x : X) → slice_get xs i ≡ Some x → Contains xs x
 Contains-get xs i x e = (i, slice_get_within xs i x e, get_or_from_slice_get xs i x x e)
 
 module _ (program : Program) (planes : List Plane) (end : ℕ) (settled : Settled program) where

@@ -1,8 +1,8 @@
 -- Where values of a type stand in nil values, and that each expression there is worth what it is where every number is 0.
-use Rattle.std.proofs.Common.{◌≡◌, ◌⊎◌, ℕ, zero, suc, true, false, ℤ, IsTrue, List, [], ◌∷◌, ◌++◌, refl, ap, sym, subst, ◌∙◌, arith, Option, Some, None, inl, inr}
+use Rattle.std.proofs.Common.{◌≡◌, ◌⊎◌, ℕ, zero, suc, true, false, ℤ, IsTrue, List, [], ◌∷◌, refl, ap, sym, subst, ◌∙◌, arith, Option, Some, None, inl, inr}
 use Rattle.std.specs.Prelude.{All, Any, Contains, IfSome, pos, slice_get, filter_map, option_to_list}
 use Rattle.std.specs.List.{cons_option}
-use Rattle.std.proofs.lemmas.List.Elements.{All-nil, All-cons, All-contains, All-contains_itself, All-same, All-weaker, Contains-append_left, Contains-append_right}
+use Rattle.std.proofs.lemmas.List.Elements.{All-nil, All-contains, All-contains_itself, All-same, All-weaker, Contains-append_left, Contains-append_right}
 use Rattle.gt_types.specs.declared.expressions.Base.{Base}
 use Rattle.gt_types.specs.declared.expressions.Base.TheVariants.{Here, Outer, Outermost}
 use Rattle.gt_types.specs.declared.expressions.Expr.{Expr}
@@ -24,9 +24,9 @@ use Rattle.gt_types.specs.Contains.{HasStructure, ContainsStructure, ContainsAtD
 use Rattle.gt_types.specs.Unions.{IsCommon}
 use Rattle.gt_types.specs.Paths.{Way, paths_of, roots_of, NamesOuter, own_expressions, IsInner, IsOutermost, IsScalarRoot, IsOption, IsFieldDesc, IsRootDesc, PathFits, DescPathFits, LeadsToNumber}
 use Rattle.gt_types.specs.Settled.{Settled, IsField, IsUnion, IsOfItsKind, IsRoot, IsDescOfRoot, NamesDescribed}
-use Rattle.gt_tree.specs.Trees.{Tree, Trees, tree_at}
+use Rattle.gt_tree.specs.Trees.{Tree, Trees}
 use Rattle.gt_tree.specs.Blocks.{Kind, Nodes, Pointers, Strings, Chars, Raw, desc_of, element_type}
-use Rattle.gt_tree.specs.Scopes.{Held, Scope, outside, inside, first_of, base_of, ◌then◌, number_at, read_path, leaf_in, root_in, eval_in}
+use Rattle.gt_tree.specs.Scopes.{Held, Scope, outside, inside, first_of, ◌then◌, read_path, leaf_in, root_in, eval_in}
 use Rattle.gt_tree.specs.Fits.{desc_value}
 use Rattle.gt_tree.specs.LeafLaws.{IsTypeIn}
 use Rattle.gt_tree.specs.FixedLaws.{MayHold}

@@ -2,7 +2,6 @@
 use Rattle.std.proofs.Common.{◌≡◌, ℕ, zero, suc, ◌+◌, ◌-◌, ◌*◌, ◌^◌, ◌<◌, ◌≤◌, Bool, true, false, IsTrue, List, [], ◌∷◌, length, map, refl, ap, sym, subst, ◌∙◌, arith, Option, Some, None}
 use Rattle.std.specs.Prelude.{All, Contains, ℤ, pos, slice_get}
 use Rattle.std.proofs.lemmas.List.Elements.{All-map, All-weaker, All-contains_itself}
-use Rattle.std.proofs.lemmas.Option.{slice_get_within, get_or_from_slice_get}
 use Rattle.gt_types.specs.declared.expressions.Expr.{Expr}
 use Rattle.gt_types.specs.declared.types.TypeId.{TypeId}
 use Rattle.gt_types.specs.declared.types.Ty.{Ty, out-Ty}
@@ -17,7 +16,7 @@ use Rattle.gt_layout.specs.declared.planes.Plane.{Plane}
 use Rattle.gt_layout.specs.declared.planes.Spot.{Spot}
 use Rattle.gt_layout.specs.Storages.{extent_of}
 use Rattle.gt_tree.specs.Trees.{Tree, Rec, Alt, Row, Trees, End, count}
-use Rattle.gt_tree.specs.Scopes.{Held, inside, first_of}
+use Rattle.gt_tree.specs.Scopes.{Held, Scope, inside, first_of}
 use Rattle.gt_tree.specs.Fits.{Fits, AllFit, active_member, desc_value, types_of}
 use Rattle.gt_tree.proofs.Rooms.{room-array, room-tail}
 use Rattle.gt_tree.proofs.Structures.{Laid-struct, has_room-member, has_room-common}
@@ -25,17 +24,16 @@ use Rattle.gt_tree.proofs.Fitting.{fits-member, fits-common, fits-tail}
 use Rattle.gt_tree.proofs.FixedParts.{is-struct, is-union, is-nothing, is-plain, is-array, is-tail}
 use Rattle.gt_tree.proofs.FixedRead.{IsRead, read-struct, read-member, read-common, read-array, read-tail}
 use Rattle.gt_tree.proofs.FixedSame.{Got, nulls, weaker}
+use Rattle.gt_tree.proofs.FixedScopes.{count-tail}
 use Rattle.gt_tree.proofs.FixedValues.{Given, Twins, Alike}
 use Rattle.gt_value.specs.declared.sources.Anchor.{Anchor}
 use Rattle.gt_value.specs.declared.sources.Around.{Around}
 use Rattle.gt_value.specs.declared.sources.Source.{Source}
 use Rattle.gt_value.specs.Bytes.{itself}
 use Rattle.gt_value.specs.Reading.{Begins, IsAt, AreAt, Context, given_in, Stands, FieldsStand, EachStands, bits_from, end_from, entered, without_pointers, first_anchor, path_worth, root_worth, worth_of}
+use Rattle.gt_value.specs.Finding.{StandsIn, FieldsStandIn}
 use Rattle.gt_value.proofs.Origins.{count-read, desc-read}
-use Rattle.gt_value.proofs.PathWorths.{worth-is}
-
-Contains-get : {X : Type 0} (xs : List X) (i : ℕ) (x : X) → slice_get xs i ≡ Some x → Contains xs x
-Contains-get xs i x e = (i, slice_get_within xs i x e, get_or_from_slice_get xs i x x e)
+use Rattle.gt_value.proofs.PathWorths.{Contains-get, worth-is}
 
 -- ---- inside a structure
 
@@ -72,9 +70,6 @@ module _ (source : Source) (around : Around) (node : TypeId) (desc : Option Expr
 
   twins : (value : Tree) (s : StandsHere value) → Twins (given_in s.context) s.context.scope s.context.scope (ty.Node node desc) value value
   twins value s = record { whole = around.whole; at = at; fits = s.fits; other_fits = s.fits; read = s.read; other_read = s.read }
-
-  turned : (value new : Tree) → value ≡ new → StandsHere value → StandsHere new
-  turned value new e s = subst (λ v. StandsHere v) e s
 
 -- the value of a `desc`
 worth-desc : (source : Source) (around : Around) (node : TypeId) (desc : Option Expr) (at : ℕ) (value : Tree) (s : Stands source around (ty.Node node desc) at value) (y : Structure) → HasStructure source.program.now node y
@@ -121,19 +116,35 @@ module _ (source : Source) (around : Around) (node : TypeId) (desc : Option Expr
         inside = s.inside;
       }
 
-  pub struct-stands : (plane : Plane) (value : Tree) → y.is_union ≡ false → slice_get source.layouts.now.structures node.0 ≡ Some plane → Stands source around (ty.Node node desc) at value
-      → StructParts source around node y plane at value
-  struct-stands plane value struct laid s =
-      let found = is-struct node desc y value has struct s.fits in
-      let now = turned source around node desc at value (Rec found.0) found.1 s in
-      let fit = is-struct node desc y (Rec found.0) has struct now.fits in
+  struct-scope : (plane : Plane) (trees : Trees) (struct : y.is_union ≡ false) (laid : slice_get source.layouts.now.structures node.0 ≡ Some plane) (s : Stands source around (ty.Node node desc) at (Rec trees))
+      (fit : AllFit source.program.now s.context.blocks s.context.capacity (inside s.context.scope node (Rec trees)) (types_of y.fields) trees)
+      → (struct-parts plane trees struct laid s fit).context.scope ≡ inside s.context.scope node (Rec trees)
+  unfolding inside-context struct-parts
+  struct-scope plane trees struct laid s fit = refl
+
+  pub record StructIn (scope : Scope) (plane : Plane) (value : Tree) : Type 0 where
+    pub trees : Trees
+    pub is : value ≡ Rec trees
+    pub stand : FieldsStandIn source (entered around node at) (inside scope node (Rec trees)) (types_of y.fields) plane.fields at trees
+
+  pub struct-in : (scope : Scope) (plane : Plane) (value : Tree) → y.is_union ≡ false → slice_get source.layouts.now.structures node.0 ≡ Some plane → StandsIn source around scope (ty.Node node desc) at value → StructIn scope plane value
+  struct-in scope plane value struct laid s =
+      let found = is-struct node desc y value has struct s.0.fits in
+      let now = subst (λ v. StandsIn source around scope (ty.Node node desc) at v) found.1 s in
+      let fit = is-struct node desc y (Rec found.0) has struct now.0.fits in
       let same : fit.0 ≡ found.0 = let e : Rec found.0 ≡ Rec fit.0 = fit.1 in cc in
+      let all = subst (λ t. AllFit source.program.now now.0.context.blocks now.0.context.capacity (inside now.0.context.scope node (Rec t)) (types_of y.fields) t) same fit.2 in
       record {
         trees = found.0;
         is = found.1;
-        stand = struct-parts plane found.0 struct laid now
-            (subst (λ t. AllFit source.program.now now.context.blocks now.context.capacity (inside now.context.scope node (Rec t)) (types_of y.fields) t) same fit.2);
+        stand = (struct-parts plane found.0 struct laid now.0 all, struct-scope plane found.0 struct laid now.0 all ∙ ap (λ x. inside x node (Rec found.0)) now.1);
       }
+
+  pub struct-stands : (plane : Plane) (value : Tree) → y.is_union ≡ false → slice_get source.layouts.now.structures node.0 ≡ Some plane → Stands source around (ty.Node node desc) at value
+      → StructParts source around node y plane at value
+  struct-stands plane value struct laid s =
+      let found = struct-in s.context.scope plane value struct laid (s, refl) in
+      record { trees = found.trees; is = found.is; stand = found.stand.0 }
 
 -- ---- unions
 
@@ -171,6 +182,11 @@ module _ (source : Source) (around : Around) (node : TypeId) (desc : Option Expr
         inside = omega (arith, s.inside, room.2);
       }
 
+  member-scope : (place : ℕ) (f : Field) (tree : Tree) (got : slice_get y.fields place ≡ Some f) (s : Stands source around (ty.Node node desc) at (Alt (Some place) tree))
+      → (member-stands place f tree got s).context.scope ≡ inside s.context.scope node (Alt (Some place) tree)
+  unfolding inside-context member-stands
+  member-scope place f tree got s = refl
+
   -- so does the common structure, with null pointers
   pub common-stands : (common : TypeId) (tree : Tree) → IsCommon source.program.now y common → Stands source around (ty.Node node desc) at (Alt None tree)
       → Stands source (without_pointers (entered around node at)) (ty.Node common None) at tree
@@ -204,6 +220,11 @@ module _ (source : Source) (around : Around) (node : TypeId) (desc : Option Expr
         room = room.1;
         inside = omega (arith, s.inside, room.2);
       }
+
+  pub common-scope : (common : TypeId) (tree : Tree) (c : IsCommon source.program.now y common) (s : Stands source around (ty.Node node desc) at (Alt None tree))
+      → (common-stands common tree c s).context.scope ≡ inside s.context.scope node (Alt None tree)
+  unfolding inside-context common-stands
+  common-scope common tree c s = refl
 
   pub nothing-stands : (tree : Tree) → ((common : TypeId) → ¬ IsCommon source.program.now y common) → Stands source around (ty.Node node desc) at (Alt None tree) → tree ≡ Rec End
   nothing-stands tree none s = is-nothing node desc y tree has none s.fits
@@ -241,6 +262,10 @@ module _ (source : Source) (around : Around) (type elem : Ty) (at : ℕ) where
         };
       }
 
+  pub array-scope : (n : ℕ) (value : Tree) (e : out-Ty type ≡ part.Arr n elem) (s : StandsAs value) → (array-stands n value e s).stand.context.scope ≡ s.context.scope
+  unfolding array-stands
+  array-scope n value e s = refl
+
   pub record TailParts (length : Expr) (value : Tree) : Type 0 where
     pub n : ℕ
     pub worth : value_of (path_worth source around) (root_worth source) length ≡ Some (pos n)
@@ -261,7 +286,7 @@ module _ (source : Source) (around : Around) (type elem : Ty) (at : ℕ) where
       let le : n * stride ≤ x.capacity * stride = Rattle.std.proofs.Common.mul-le-mul_right stride fit.0 in
       record {
         n = n;
-        worth = worth-is source around x length (count-read source (given_in x) refl x.settled x.statics s.typed elem length e) ∙ found.2;
+        worth = worth-is source around x length (count-read source (given_in x) refl x.settled x.statics s.typed length (count-tail type elem length e)) ∙ found.2;
         few = omega (arith, fit.0, x.few);
         row = record {
           trees = found.0;
@@ -280,6 +305,10 @@ module _ (source : Source) (around : Around) (type elem : Ty) (at : ℕ) where
         };
       }
 
+  pub tail-scope : (length : Expr) (value : Tree) (e : out-Ty type ≡ part.Tail length elem) (s : StandsAs value) → (tail-stands length value e s).row.stand.context.scope ≡ s.context.scope
+  unfolding tail-stands
+  tail-scope length value e s = refl
+
 -- ---- as the code has them
 
 -- the same fields, by other names
@@ -295,29 +324,45 @@ active-is source around inner desc worth fields others member a w f m =
     ap (λ x. active_member (worth_of source x desc) others) (sym a) ∙ ap (λ x. active_member x others) (sym w) ∙ ap (active_member worth) (sym f) ∙ sym m
 
 module _ (source : Source) (around : Around) (node : TypeId) (desc : Option Expr) (at : ℕ) (y : Structure) (has : HasStructure source.program.now node y) (union : y.is_union ≡ true) where
-  union-as : (member : Option ℕ) (value : Tree) → active_member (worth_of source (entered around node at) desc) y.fields ≡ member → Stands source around (ty.Node node desc) at value
-      → (part : Tree) × (value ≡ Alt member part) × Stands source around (ty.Node node desc) at (Alt member part)
-  union-as member value active s =
-      let found = union-stands source around node desc at y has union value s in
+  union-in : (member : Option ℕ) (scope : Scope) (value : Tree) → active_member (worth_of source (entered around node at) desc) y.fields ≡ member → StandsIn source around scope (ty.Node node desc) at value
+      → (part : Tree) × (value ≡ Alt member part) × StandsIn source around scope (ty.Node node desc) at (Alt member part)
+  union-in member scope value active s =
+      let found = union-stands source around node desc at y has union value s.0 in
       let same : found.member ≡ member = sym found.active ∙ active in
       let is = found.is ∙ ap (λ m. Alt m found.part) same in
-      (found.part, is, turned source around node desc at value (Alt member found.part) is s)
+      (found.part, is, subst (λ v. StandsIn source around scope (ty.Node node desc) at v) is s)
 
   -- a value whose active member the code has found
+  pub member-in : (place : ℕ) (f : Field) (scope : Scope) (value : Tree) → active_member (worth_of source (entered around node at) desc) y.fields ≡ Some place → slice_get y.fields place ≡ Some f
+      → StandsIn source around scope (ty.Node node desc) at value
+      → (part : Tree) × (value ≡ Alt (Some place) part) × StandsIn source (entered around node at) (inside scope node (Alt (Some place) part)) f.ty at part
+  member-in place f scope value active got s =
+      let found = union-in (Some place) scope value active s in
+      let stands = found.2.0 in
+      (found.0, found.1, (member-stands source around node desc at y has union place f found.0 got stands, member-scope source around node desc at y has union place f found.0 got stands ∙ ap (λ x. inside x node (Alt (Some place) found.0)) found.2.1))
+
   pub member-read : (place : ℕ) (f : Field) (value : Tree) → active_member (worth_of source (entered around node at) desc) y.fields ≡ Some place → slice_get y.fields place ≡ Some f
       → Stands source around (ty.Node node desc) at value → (part : Tree) × (value ≡ Alt (Some place) part) × Stands source (entered around node at) f.ty at part
   member-read place f value active got s =
-      let found = union-as (Some place) value active s in
-      (found.0, found.1, member-stands source around node desc at y has union place f found.0 got found.2)
+      let found = member-in place f s.context.scope value active got (s, refl) in
+      (found.0, found.1, found.2.0)
+
+  pub common-in : (common : TypeId) (scope : Scope) (value : Tree) → active_member (worth_of source (entered around node at) desc) y.fields ≡ None → IsCommon source.program.now y common
+      → StandsIn source around scope (ty.Node node desc) at value
+      → (part : Tree) × (value ≡ Alt None part) × StandsIn source (without_pointers (entered around node at)) (inside scope node (Alt None part)) (ty.Node common None) at part
+  common-in common scope value active c s =
+      let found = union-in None scope value active s in
+      let stands = found.2.0 in
+      (found.0, found.1, (common-stands source around node desc at y has union common found.0 c stands, common-scope source around node desc at y has union common found.0 c stands ∙ ap (λ x. inside x node (Alt None found.0)) found.2.1))
 
   pub common-read : (common : TypeId) (value : Tree) → active_member (worth_of source (entered around node at) desc) y.fields ≡ None → IsCommon source.program.now y common
       → Stands source around (ty.Node node desc) at value → (part : Tree) × (value ≡ Alt None part) × Stands source (without_pointers (entered around node at)) (ty.Node common None) at part
   common-read common value active c s =
-      let found = union-as None value active s in
-      (found.0, found.1, common-stands source around node desc at y has union common found.0 c found.2)
+      let found = common-in common s.context.scope value active c (s, refl) in
+      (found.0, found.1, found.2.0)
 
   pub nothing-read : (value : Tree) → active_member (worth_of source (entered around node at) desc) y.fields ≡ None → ((common : TypeId) → ¬ IsCommon source.program.now y common)
       → Stands source around (ty.Node node desc) at value → value ≡ Alt None (Rec End)
   nothing-read value active none s =
-      let found = union-as None value active s in
-      found.1 ∙ ap (Alt None) (nothing-stands source around node desc at y has union found.0 none found.2)
+      let found = union-in None s.context.scope value active (s, refl) in
+      found.1 ∙ ap (Alt None) (nothing-stands source around node desc at y has union found.0 none found.2.0)

@@ -44,6 +44,7 @@ use Rattle.gt_tree.proofs.FixedRecord.{number-root}
 use Rattle.gt_value.specs.declared.sources.Source.{Source}
 use Rattle.gt_value.specs.Bytes.{itself, IsRoomFor, StandsFor, StandForStatics}
 use Rattle.gt_value.specs.Reading.{Begins, in_block, in_statics, Context, Stands, FieldsStand, outside_all, place, number_in, root_worth, bits_from, end_from}
+use Rattle.gt_value.specs.Finding.{StandsIn, RootsStand}
 use Rattle.gt_value.proofs.ZeroSteps.{root-flat}
 use Rattle.gt_value.proofs.ZeroValues.{element-held, root-held}
 use Rattle.gt_value.proofs.PathWorths.{number-read}
@@ -95,9 +96,9 @@ module _ (source : Source) (settled : Settled source.program.now) (laid : IsLaid
     outermost = tt;
   }
 
-  pub block-stands : (capacity : ℕ) (type : Ty) (addr : ℕ) (value : Tree) → capacity < 2 ^ 32 → source.from ≡ addr - source.space.now.start
-      → IsRoomFor source.program.now source.layouts.now capacity type source.space.now addr → StandsFor source.program.now source.layouts.now capacity type source.space.now addr value
-      → Stands source outside_all type 0 value
+  block-stands : (capacity : ℕ) (type : Ty) (addr : ℕ) (value : Tree) → capacity < 2 ^ 32 → source.from ≡ addr - source.space.now.start
+      → IsRoomFor source.program.now source.layouts.now capacity type source.space.now addr → (s : StandsFor source.program.now source.layouts.now capacity type source.space.now addr value)
+      → StandsIn source outside_all (outside s.statics) type 0 value
   unfolding outside-context
   block-stands capacity type addr value few from room s =
       let program = source.program.now in
@@ -111,16 +112,18 @@ module _ (source : Source) (settled : Settled source.program.now) (laid : IsLaid
       let held = leaves-read itself 0 (0 + 8 * s.size) s.is.leaves (bytes_at range addr s.size) placed (omega (arith, window-long range addr s.size inside)) s.is.stand in
       let lies : All (LiesBetween 0 (8 * s.size)) s.is.leaves = All-weaker (LiesBetween 0 (0 + 8 * s.size)) (LiesBetween 0 (8 * s.size)) (λ l h. (h.0, omega (arith, h.1))) s.is.leaves placed.inside in
       let got = weak-held (bit_in (drop (addr - range.start) range.bytes)) (8 * s.size) s.is.leaves (window-held range.bytes (addr - range.start) s.size s.is.leaves held lies) in
-      subst (λ t. Stands source outside_all t 0 value) (sym s.of_kind)
-      (record {
-        context = outside-context s.blocks s.addresses capacity few s.statics;
-        typed = Alike.at_start (in_block s.kind s.held);
-        fits = s.is.fits;
-        read = (s.is.leaves, s.is.has, subst (λ k. All (Got itself (bits_from range k) true) s.is.leaves) (sym from) got);
-        width = 8 * s.size;
-        room = room-width program planes capacity at_kind (8 * s.size) (known program settled in_program) takes;
-        inside = window-end range addr source.from s.size from inside;
-      })
+      subst (λ t. StandsIn source outside_all (outside s.statics) t 0 value) (sym s.of_kind) (
+        (record {
+          context = outside-context s.blocks s.addresses capacity few s.statics;
+          typed = Alike.at_start (in_block s.kind s.held);
+          fits = s.is.fits;
+          read = (s.is.leaves, s.is.has, subst (λ k. All (Got itself (bits_from range k) true) s.is.leaves) (sym from) got);
+          width = 8 * s.size;
+          room = room-width program planes capacity at_kind (8 * s.size) (known program settled in_program) takes;
+          inside = window-end range addr source.from s.size from inside;
+        }),
+        refl,
+      )
 
   -- ---- the static record
 
@@ -207,6 +210,11 @@ module _ (source : Source) (settled : Settled source.program.now) (laid : IsLaid
         inside = subst (λ k. 0 + 8 * size ≤ end_from range k) (sym from) (omega (arith, there));
       }
 
+  statics-scope : (values : Trees) (from : source.from ≡ 0) (inside : IsInside source.space.now source.space.now.start source.layouts.now.statics.size)
+      (s : StandForStatics source.program.now source.layouts.now source.space.now values) → (statics-stand values from inside s).context.scope ≡ outside values
+  unfolding outside-context statics-stand
+  statics-scope values from inside s = refl
+
 -- ---- as the code has them
 
 -- a source by the parts of which it was made
@@ -216,11 +224,18 @@ module _ (source : Source) (program : Program) (layouts : Layouts) (range : Rang
   turn F h =
       subst (λ x. F x source.layouts.now source.space.now) (sym p) (subst (λ x. F program x source.space.now) (sym l) (subst (λ x. F program layouts x) (sym s) h))
 
+  pub block-starts_in : (capacity : ℕ) (type : Ty) (addr : ℕ) (value : Tree) → capacity < 2 ^ 32 → source.from ≡ addr - range.start → IsRoomFor program layouts capacity type range addr
+      → StandsFor program layouts capacity type range addr value → (statics : Trees) × StandsIn source outside_all (outside statics) type 0 value
+  block-starts_in capacity type addr value few from room stands =
+      let here = turn (λ a b c. StandsFor a b capacity type c addr value) stands in (
+        here.statics,
+        block-stands source (turn (λ a b c. Settled a) settled) (turn (λ a b c. IsLaidOut a b) laid) small capacity type addr value few (from ∙ ap (λ r. addr - r.start) (sym s))
+            (turn (λ a b c. IsRoomFor a b capacity type c addr) room) here,
+      )
+
   pub block-starts : (capacity : ℕ) (type : Ty) (addr : ℕ) (value : Tree) → capacity < 2 ^ 32 → source.from ≡ addr - range.start → IsRoomFor program layouts capacity type range addr
       → StandsFor program layouts capacity type range addr value → Stands source outside_all type 0 value
-  block-starts capacity type addr value few from room stands =
-      block-stands source (turn (λ a b c. Settled a) settled) (turn (λ a b c. IsLaidOut a b) laid) small capacity type addr value few (from ∙ ap (λ r. addr - r.start) (sym s))
-      (turn (λ a b c. IsRoomFor a b capacity type c addr) room) (turn (λ a b c. StandsFor a b capacity type c addr value) stands)
+  block-starts capacity type addr value few from room stands = (block-starts_in capacity type addr value few from room stands).1.0
 
   pub element-shallow : (capacity : ℕ) (type : Ty) (addr : ℕ) (value : Tree) → StandsFor program layouts capacity type range addr value → HoldsWithinDepth source.program.now type 33
   element-shallow capacity type addr value stands = turn (λ a b c. HoldsWithinDepth a type 33) (element-held program settled type (stands.kind, stands.held, stands.of_kind))
@@ -232,6 +247,15 @@ module _ (source : Source) (program : Program) (layouts : Layouts) (range : Rang
       (turn (λ a b c. IsInside c c.start b.statics.size) inside) (turn (λ a b c. StandForStatics a b c values) stand) in
       subst (λ x. FieldsStand source outside_all (map (λ (r : Root). r.ty) x) spots 0 values) (ap (λ x. x.roots) p ∙ sym items)
       (subst (λ x. FieldsStand source outside_all (map (λ (r : Root). r.ty) source.program.now.roots) x 0 values) (ap (λ x. x.statics.fields) l ∙ sym places) here)
+
+  pub roots-start : (values : Trees) → source.from ≡ range.start - range.start → IsInside range range.start layouts.statics.size → StandForStatics program layouts range values → RootsStand source values
+  roots-start values from inside stand =
+      let program_settled = turn (λ a b c. Settled a) settled in
+      let program_laid = turn (λ a b c. IsLaidOut a b) laid in
+      let none : source.from ≡ 0 = omega (arith, from) in
+      let room = turn (λ a b c. IsInside c c.start b.statics.size) inside in
+      let here = turn (λ a b c. StandForStatics a b c values) stand in
+      (statics-stand source program_settled program_laid small values none room here, statics-scope source program_settled program_laid small values none room here)
 
   roots-are : (roots : List Root) → roots ≡ program.roots → (k : ℕ) (d : Root) → k < length roots → IsRoot program (get_or roots k d)
   roots-are roots items k d within = subst (All (IsRoot program)) (sym items) settled.roots k d within

@@ -93,6 +93,14 @@ each-step source around type at n values s =
       };
     }
 
+pub each-first : (source : Source) (around : Around) (type : Ty) (at n : ℕ) (values : Trees) (s : EachStands source around type at (suc n) values) → (each-step source around type at n values s).first.context.scope ≡ s.context.scope
+unfolding each-step
+each-first source around type at n values s = refl
+
+pub each-others : (source : Source) (around : Around) (type : Ty) (at n : ℕ) (values : Trees) (s : EachStands source around type at (suc n) values) → (each-step source around type at n values s).others.context.scope ≡ s.context.scope
+unfolding each-step
+each-others source around type at n values s = refl
+
 -- elements of which there is one are not too large
 pub each-size : (source : Source) (around : Around) (type : Ty) (at n : ℕ) (values : Trees) → 0 < n → EachStands source around type at n values → (extent_of source.layouts.now.structures type).size < 2 ^ 32
 each-size source around type at zero values some s = absurd (omega arith)
@@ -178,6 +186,16 @@ fields-step source around type types spot spots at values s =
         inside = s.inside;
       };
     }
+
+pub fields-first : (source : Source) (around : Around) (type : Ty) (types : List Ty) (spot : Spot) (spots : List Spot) (at : ℕ) (values : Trees) (s : FieldsStand source around (type ∷ types) (spot ∷ spots) at values)
+    → (fields-step source around type types spot spots at values s).first.context.scope ≡ s.context.scope
+unfolding fields-step
+fields-first source around type types spot spots at values s = refl
+
+pub fields-others : (source : Source) (around : Around) (type : Ty) (types : List Ty) (spot : Spot) (spots : List Spot) (at : ℕ) (values : Trees) (s : FieldsStand source around (type ∷ types) (spot ∷ spots) at values)
+    → (fields-step source around type types spot spots at values s).others.context.scope ≡ s.context.scope
+unfolding fields-step
+fields-others source around type types spot spots at values s = refl
 
 pub some-spots : (source : Source) (around : Around) (type : Ty) (types : List Ty) (spots : List Spot) (at : ℕ) (values : Trees) → FieldsStand source around (type ∷ types) spots at values → 0 < length spots
 some-spots source around type types [] at values s = let found = is-more type types values s.fit in absurd (read-no_spots type types values s.read.0 s.read.1)

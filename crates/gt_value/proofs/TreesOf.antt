@@ -1,7 +1,7 @@
 -- The trees of values, by their forms.
-use Rattle.std.proofs.Common.{◌≡◌, ◌∙◌, ℕ, List, [], ◌∷◌, ◌++◌, map, ap, refl, Option, Some, None}
+use Rattle.std.proofs.Common.{◌≡◌, ◌∙◌, ℕ, List, map, ap, Option}
 use Rattle.std.specs.Prelude.{ℤ}
-use Rattle.gt_tree.specs.Trees.{Tree, Num as NumTree, Null as NullTree, To as ToTree, Raw as RawTree, Rec as RecTree, Alt as AltTree, Row as RowTree, Trees, End, And}
+use Rattle.gt_tree.specs.Trees.{Tree, Num as NumTree, Null as NullTree, To as ToTree, Raw as RawTree, Rec as RecTree, Alt as AltTree, Row as RowTree}
 use Rattle.gt_value.specs.declared.values.Value.{Value}
 use Rattle.gt_value.specs.declared.values.Value.TheVariants as value
 use Rattle.gt_value.specs.declared.values.Value.TheVariants.{outs-Num, outs-Null, outs-To, outs-Raw, outs-Rec, outs-Alt, outs-Row}

@@ -1,6 +1,6 @@
 -- Steps of making zero values.
-use Rattle.std.proofs.Common.{◌≡◌, ℕ, zero, suc, ◌+◌, ◌-◌, ◌*◌, ◌<◌, ◌≤◌, Bool, true, false, ◌&&◌, IsTrue, nat_le, List, [], ◌∷◌, ◌++◌, length, get_or, take, replicate, map, refl, ap, sym, subst, ◌∙◌, arith, add-one, Option, Some, None, ◌⊎◌, inl, inr, All}
-use Rattle.std.specs.Prelude.{ℤ, Contains, slice_get}
+use Rattle.std.proofs.Common.{◌≡◌, ℕ, zero, suc, ◌+◌, ◌-◌, ◌<◌, ◌≤◌, Bool, true, false, ◌&&◌, IsTrue, nat_le, List, [], ◌∷◌, ◌++◌, length, get_or, take, replicate, map, refl, ap, sym, subst, ◌∙◌, arith, Option, Some, None, ◌⊎◌, inl, inr, All}
+use Rattle.std.specs.Prelude.{ℤ, slice_get}
 use Rattle.std.specs.List.{position_from}
 use Rattle.std.proofs.lemmas.Bool.{leb-true}
 use Rattle.std.proofs.lemmas.List.{take_more}
@@ -10,7 +10,6 @@ use Rattle.std.proofs.lemmas.Option.{slice_get_within, slice_get-get_or}
 use Rattle.gt_types.specs.declared.expressions.Expr.{Expr}
 use Rattle.gt_types.specs.declared.types.TypeId.{TypeId}
 use Rattle.gt_types.specs.declared.types.Ty.{Ty, out-Ty}
-use Rattle.gt_types.specs.declared.types.Ty.TheOpen as part
 use Rattle.gt_types.specs.declared.types.Ty.TheOpen.{Ty-F}
 use Rattle.gt_types.specs.declared.types.Ty.TheFolds.{fold_out-Ty, map-Ty}
 use Rattle.gt_types.specs.declared.types.Ty.TheVariants as ty
@@ -22,10 +21,9 @@ use Rattle.gt_types.specs.Shapes.{dimensions, dimensions_step, is_bound, may_rep
 use Rattle.gt_types.specs.Contains.{HasStructure}
 use Rattle.gt_types.specs.Unions.{IsCommon}
 use Rattle.gt_types.specs.Settled.{Settled, IsField}
-use Rattle.gt_tree.specs.Trees.{Tree, Alt, Rec, Trees, End, And}
-use Rattle.gt_tree.specs.Fits.{is_tag, is_default, first_place, active_member, types_of}
+use Rattle.gt_tree.specs.Trees.{Tree, Trees, End, And}
+use Rattle.gt_tree.specs.Fits.{is_tag, is_default, first_place, active_member}
 use Rattle.gt_tree.proofs.PathBits.{position-get}
-use Rattle.gt_tree.proofs.PathParts.{get-map}
 use Rattle.gt_value.specs.declared.values.Value.{Value}
 use Rattle.gt_value.specs.declared.values.Value.TheVariants as value
 use Rattle.gt_layout.specs.Progress.{IsWithinDepth, HoldsWithinDepth}
@@ -33,7 +31,6 @@ use Rattle.gt_layout.proofs.Capacities.{node_within, shallow_fields}
 use Rattle.gt_value.proofs.TreesOf.{tree-raw}
 use Rattle.gt_value.specs.Values.{trees, tree_of}
 use Rattle.gt_value.specs.Noughts.{IsNought, AreNoughts, AreElements, zero_desc}
-use Rattle.gt_value.proofs.NoughtReads.{nought-at}
 
 -- ---- lists of values
 

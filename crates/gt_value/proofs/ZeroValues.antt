@@ -1,5 +1,5 @@
 -- Zero of an element of a block, and of the static record.
-use Rattle.std.proofs.Common.{◌≡◌, ℕ, ◌<◌, ◌≤◌, List, length, get_or, take, map, refl, ap, sym, subst, ◌∙◌, arith, Option, Some, None, Ok, Err, IsTrue}
+use Rattle.std.proofs.Common.{◌≡◌, ℕ, ◌<◌, ◌≤◌, List, length, get_or, take, map, ap, sym, subst, ◌∙◌, arith, Option, Some, None, Ok, Err}
 use Rattle.std.specs.Prelude.{All, false, slice_get, IfOk}
 use Rattle.std.proofs.lemmas.Option.{slice_get_within}
 use Rattle.std.proofs.lemmas.List.{take_all}
@@ -13,11 +13,10 @@ use Rattle.gt_types.specs.declared.types.PtrKind.TheVariants as pointer
 use Rattle.gt_types.specs.declared.types.Ty.{Ty}
 use Rattle.gt_types.specs.declared.types.Ty.TheVariants as ty
 use Rattle.gt_types.specs.declared.types.Ty.TheVariants.{outs-Num, outs-Str, outs-Ptr}
-use Rattle.gt_types.specs.declared.program.Structure.{Structure}
 use Rattle.gt_types.specs.declared.program.Root.{Root}
 use Rattle.gt_types.specs.declared.program.Program.{Program}
 use Rattle.gt_types.specs.Shapes.{innermost, dimensions}
-use Rattle.gt_types.specs.Contains.{HasStructure, held_by, itself}
+use Rattle.gt_types.specs.Contains.{itself}
 use Rattle.gt_types.specs.Settled.{Settled, IsRoot, IsDescOfRoot, NamesDescribed}
 use Rattle.gt_layout.specs.Progress.{IsWithinDepth, HoldsWithinDepth}
 use Rattle.gt_tree.specs.Trees.{Tree, Trees}

@@ -28,15 +28,17 @@ Takes program layouts capacity type size = IsWidth program layouts.structures ca
 abbrev pub IsRoomFor : Program → Layouts → ℕ → Ty → Range → ℕ → Type 0
 IsRoomFor program layouts capacity type range address = (size : ℕ) → Takes program layouts capacity type size → IsInside range address size
 
--- a value fits a type at a capacity, beside some blocks
+-- a value fits a type at a capacity, beside some blocks, none of which lies at null: what is stored can be read again
 pub record FitsSome (program : Program) (capacity : ℕ) (type : Ty) (value : Tree) : Type 0 where
   pub blocks : Blocks
   pub statics : Trees
+  pub addresses : AreAddresses blocks itself
   pub fits : Fits program blocks capacity (outside statics) type value
 
--- the static record has these values, beside some blocks
+-- the static record has these values, beside some such blocks
 pub record StaticsFitSome (program : Program) (values : Trees) : Type 0 where
   pub blocks : Blocks
+  pub addresses : AreAddresses blocks itself
   pub fit : StaticsFit program blocks values
 
 -- The bytes at an address are those that stand for a value of this type, and all others are as before.

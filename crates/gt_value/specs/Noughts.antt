@@ -13,7 +13,7 @@ use Rattle.gt_types.specs.Values.{value_of}
 use Rattle.gt_types.specs.Shapes.{is_pointer}
 use Rattle.gt_types.specs.Contains.{HasStructure}
 use Rattle.gt_types.specs.Unions.{IsCommon}
-use Rattle.gt_tree.specs.Trees.{Tree, Num, Null, Raw, Rec, Alt, Row, Trees, End, And, count}
+use Rattle.gt_tree.specs.Trees.{Tree, Num, Null, Raw, Rec, Alt, Row, Trees, End, And}
 use Rattle.gt_tree.specs.Fits.{types_of, active_member}
 
 -- the value of an expression where every number is 0

@@ -1,5 +1,5 @@
--- Where the parts of a value lie, and which of them are leaves that hold one content.
-use Rattle.std.specs.Prelude.{◌≡◌, ◌≤◌, ℕ, ◌+◌, ◌-◌, ◌*◌, ◌/◌, ◌%◌, ◌<◌, Bool, true, false, ◌==◌, cond, IsTrue, List, [], ◌∷◌, Option, Some, None, length, slice_get}
+-- Where the parts of a value lie, and in what; and which of them are leaves that hold one content.
+use Rattle.std.specs.Prelude.{◌≡◌, ◌≤◌, ℕ, ◌+◌, ◌-◌, ◌*◌, ◌/◌, ◌%◌, ◌<◌, ℤ, Bool, true, false, ◌==◌, cond, IsTrue, List, [], ◌∷◌, Option, Some, None, length, slice_get}
 use Rattle.gt_types.specs.declared.expressions.Expr.{Expr}
 use Rattle.gt_types.specs.declared.types.TypeId.{TypeId}
 use Rattle.gt_types.specs.declared.types.Ty.{Ty, out-Ty}
@@ -7,18 +7,24 @@ use Rattle.gt_types.specs.declared.types.Ty.TheOpen as part
 use Rattle.gt_types.specs.declared.types.Ty.TheVariants as ty
 use Rattle.gt_types.specs.declared.program.Field.{Field}
 use Rattle.gt_types.specs.declared.program.Structure.{Structure}
+use Rattle.gt_types.specs.declared.program.Root.{Root as RootOf}
 use Rattle.gt_types.specs.declared.program.Program.{Program}
+use Rattle.gt_types.specs.Shapes.{count_of}
 use Rattle.gt_types.specs.Contains.{HasStructure}
 use Rattle.gt_types.specs.Unions.{IsCommon}
+use Rattle.gt_layout.specs.declared.planes.Layouts.{Layouts}
 use Rattle.gt_layout.specs.declared.planes.Plane.{Plane}
 use Rattle.gt_layout.specs.declared.planes.Spot.{Spot}
 use Rattle.gt_layout.specs.Storages.{extent_of}
 use Rattle.gt_layout.specs.Places.{begin_at}
 use Rattle.gt_space.specs.Range.{Range}
 use Rattle.gt_tree.specs.Trees.{Tree, Num, Null, To, Raw, Rec, Alt, Row, Trees, tree_at, part_at}
-use Rattle.gt_tree.specs.Numbers.{two's_complement}
+use Rattle.gt_tree.specs.Scopes.{Scope, outside, inside, eval_in, ◌then◌}
+use Rattle.gt_tree.specs.Numbers.{has_room, two's_complement}
 use Rattle.gt_tree.specs.Leaves.{bit_of}
 use Rattle.gt_tree.specs.FixedLaws.{bit_in}
+use Rattle.gt_value.specs.declared.places.Holder.{Holder}
+use Rattle.gt_value.specs.declared.places.Holder.TheVariants as lies_in
 use Rattle.gt_value.specs.declared.places.LeafContent.{LeafContent}
 use Rattle.gt_value.specs.declared.places.LeafContent.TheVariants as content
 use Rattle.gt_value.specs.declared.places.LeafKind.{LeafKind}
@@ -27,27 +33,49 @@ use Rattle.gt_value.specs.declared.places.Place.{Place}
 use Rattle.gt_value.specs.declared.sources.Shape.{Shape}
 use Rattle.gt_value.specs.Reading.{shape_of, bits_from, end_from, bits_number, number_from}
 
--- a part of a value: its first bit, its type, whether the unions around it have active members, and the part itself
+-- A part of a value: its first bit, its type, what it lies in, the scope in which its expressions stand, whether the unions
+-- around it have active members, and the part itself.
 pub record Part : Type 0 where
   pub bit : ℕ
   pub type : Ty
+  pub holder : Holder
+  pub scope : Scope
   pub active : Bool
   pub tree : Tree
 
--- Where the part of a value at a path lies, if the value is of this type and begins at a bit.
-pub data PartLies (program : Program) (planes : List Plane) : Bool → ℕ → Ty → Tree → List ℕ → Part → Type 0 where
-  whole : {active : Bool} {at : ℕ} {type : Ty} {tree : Tree} → PartLies program planes active at type tree [] (record { bit = at; type = type; active = active; tree = tree })
-  field : {active : Bool} {at i : ℕ} {node : TypeId} {desc : Option Expr} {s : Structure} {plane : Plane} {f : Field} {spot : Spot} {trees : Trees} {tree : Tree} {path : List ℕ} {p : Part} → HasStructure program node s
-      → s.is_union ≡ false → slice_get planes node.0 ≡ Some plane → slice_get s.fields i ≡ Some f → slice_get plane.fields i ≡ Some spot → tree_at trees i ≡ Some tree
-      → PartLies program planes active (at + begin_at spot) f.ty tree path p → PartLies program planes active at (ty.Node node desc) (Rec trees) (i ∷ path) p
-  member : {active : Bool} {at i : ℕ} {node : TypeId} {desc : Option Expr} {s : Structure} {f : Field} {tree : Tree} {path : List ℕ} {p : Part} → HasStructure program node s → s.is_union ≡ true
-      → slice_get s.fields i ≡ Some f → PartLies program planes active at f.ty tree path p → PartLies program planes active at (ty.Node node desc) (Alt (Some i) tree) (i ∷ path) p
-  common : {active : Bool} {at i : ℕ} {node common : TypeId} {desc : Option Expr} {s : Structure} {tree : Tree} {path : List ℕ} {p : Part} → HasStructure program node s → IsCommon program s common
-      → PartLies program planes false at (ty.Node common None) tree path p → PartLies program planes active at (ty.Node node desc) (Alt None tree) (i ∷ path) p
-  array : {active : Bool} {at i n : ℕ} {type elem : Ty} {trees : Trees} {tree : Tree} {path : List ℕ} {p : Part} → out-Ty type ≡ part.Arr n elem → tree_at trees i ≡ Some tree
-      → PartLies program planes active (at + i * (8 * (extent_of planes elem).size)) elem tree path p → PartLies program planes active at type (Row trees) (i ∷ path) p
-  tail : {active : Bool} {at i : ℕ} {length : Expr} {type elem : Ty} {trees : Trees} {tree : Tree} {path : List ℕ} {p : Part} → out-Ty type ≡ part.Tail length elem → tree_at trees i ≡ Some tree
-      → PartLies program planes active (at + i * (8 * (extent_of planes elem).size)) elem tree path p → PartLies program planes active at type (Row trees) (i ∷ path) p
+-- Where the part of a value at a path lies, if the value is of this type, begins at a bit, and stands in this scope. Where no member
+-- of a union is active, each place leads to its common structure.
+pub data PartLies (program : Program) (planes : List Plane) : Scope → Holder → Bool → ℕ → Ty → Tree → List ℕ → Part → Type 0 where
+  whole : {scope : Scope} {holder : Holder} {active : Bool} {at : ℕ} {type : Ty} {tree : Tree}
+      → PartLies program planes scope holder active at type tree [] (record { bit = at; type = type; holder = holder; scope = scope; active = active; tree = tree })
+  field : {scope : Scope} {holder : Holder} {active : Bool} {at i : ℕ} {node : TypeId} {desc : Option Expr} {s : Structure} {plane : Plane} {f : Field} {spot : Spot} {trees : Trees} {tree : Tree} {path : List ℕ} {p : Part}
+      → HasStructure program node s → s.is_union ≡ false → slice_get planes node.0 ≡ Some plane → slice_get s.fields i ≡ Some f → slice_get plane.fields i ≡ Some spot → tree_at trees i ≡ Some tree
+      → PartLies program planes (inside scope node (Rec trees)) (lies_in.Field node i) active (at + begin_at spot) f.ty tree path p → PartLies program planes scope holder active at (ty.Node node desc) (Rec trees) (i ∷ path) p
+  member : {scope : Scope} {holder : Holder} {active : Bool} {at i : ℕ} {node : TypeId} {desc : Option Expr} {s : Structure} {f : Field} {tree : Tree} {path : List ℕ} {p : Part}
+      → HasStructure program node s → s.is_union ≡ true → slice_get s.fields i ≡ Some f
+      → PartLies program planes (inside scope node (Alt (Some i) tree)) (lies_in.Field node i) active at f.ty tree path p → PartLies program planes scope holder active at (ty.Node node desc) (Alt (Some i) tree) (i ∷ path) p
+  common : {scope : Scope} {holder : Holder} {active : Bool} {at i : ℕ} {node common : TypeId} {desc : Option Expr} {s : Structure} {tree : Tree} {path : List ℕ} {p : Part}
+      → HasStructure program node s → IsCommon program s common
+      → PartLies program planes (inside scope node (Alt None tree)) holder false at (ty.Node common None) tree path p → PartLies program planes scope holder active at (ty.Node node desc) (Alt None tree) (i ∷ path) p
+  array : {scope : Scope} {holder : Holder} {active : Bool} {at i n : ℕ} {type elem : Ty} {trees : Trees} {tree : Tree} {path : List ℕ} {p : Part}
+      → out-Ty type ≡ part.Arr n elem → tree_at trees i ≡ Some tree
+      → PartLies program planes scope holder active (at + i * (8 * (extent_of planes elem).size)) elem tree path p → PartLies program planes scope holder active at type (Row trees) (i ∷ path) p
+  tail : {scope : Scope} {holder : Holder} {active : Bool} {at i : ℕ} {length : Expr} {type elem : Ty} {trees : Trees} {tree : Tree} {path : List ℕ} {p : Part}
+      → out-Ty type ≡ part.Tail length elem → tree_at trees i ≡ Some tree
+      → PartLies program planes scope holder active (at + i * (8 * (extent_of planes elem).size)) elem tree path p → PartLies program planes scope holder active at type (Row trees) (i ∷ path) p
+
+-- Where the part of the static record at a path lies, of which the first place is that of a root.
+pub record StaticPartLies (program : Program) (planes : List Plane) (spots : List Spot) (statics : Trees) (path : List ℕ) (p : Part) : Type 0 where
+  pub i : ℕ
+  pub rest : List ℕ
+  pub r : RootOf
+  pub spot : Spot
+  pub tree : Tree
+  pub path_is : path ≡ i ∷ rest
+  pub root : slice_get program.roots i ≡ Some r
+  pub spot_is : slice_get spots i ≡ Some spot
+  pub there : tree_at statics i ≡ Some tree
+  pub lies : PartLies program planes (outside statics) (lies_in.Root i) true (begin_at spot) r.ty tree rest p
 
 abbrev pub kind_of_shape : Option Shape → Option LeafKind
 kind_of_shape (Some s) = Some (Number s.signed s.width)
@@ -59,18 +87,6 @@ leaf_kind (ty.Opaque size align) = cond (size == 8) (Some (Number true 64)) None
 leaf_kind (ty.Str count) = Some Pointer
 leaf_kind (ty.Ptr target kind reorder) = Some Pointer
 leaf_kind type = kind_of_shape (shape_of type)
-
--- a leaf that holds one number or one pointer
-abbrev pub is_word : Tree → Bool
-is_word (Num n) = true
-is_word Null = true
-is_word (To id) = true
-is_word (Raw bytes) = length bytes == 8
-is_word tree = false
-
--- a path leads to such a leaf
-abbrev pub LeadsToWord : Tree → List ℕ → Type 0
-LeadsToWord tree path = (leaf : Tree) × (part_at tree path ≡ Some leaf) × IsTrue (is_word leaf)
 
 -- ---- what a leaf holds
 
@@ -97,23 +113,42 @@ IsKind Pointer width = width ≡ 64
 abbrev pub HasBits : Range → ℕ → ℕ → LeafKind → Type 0
 HasBits range from at kind = (width : ℕ) × IsKind kind width × (at + width ≤ end_from range from)
 
--- this is what a leaf is: a number, of eight unscanned bytes that with their bits; null; or a pointer to the block at an address
+-- this is what a leaf is: a number, of eight unscanned bytes that of 64 bits with their bits; null; or a pointer to the block at an address
 abbrev pub IsContentOf : LeafContent → Tree → Type 0
 IsContentOf (content.Num n) (Num m) = n ≡ m
-IsContentOf (content.Num n) (Raw bytes) = (length bytes ≡ 8) × ((i : ℕ) → i < 64 → bit_of (two's_complement 64 n) i ≡ bit_in bytes i)
+IsContentOf (content.Num n) (Raw bytes) = (length bytes ≡ 8) × IsTrue (has_room true 64 n) × ((i : ℕ) → i < 64 → bit_of (two's_complement 64 n) i ≡ bit_in bytes i)
 IsContentOf content.Null Null = Unit {0}
 IsContentOf (content.To address) (To id) = address ≡ id
 IsContentOf _ _ = ⊥
 
--- the place of the leaf at a path, of a value of this type at an address
-pub record IsPlaceOf (program : Program) (planes : List Plane) (type : Ty) (range : Range) (address : ℕ) (value : Tree) (path : List ℕ) (place : Place) : Type 0 where
-  pub p : Part
-  pub lies : PartLies program planes true 0 type value path p
-  pub there : part_at value path ≡ Some p.tree
+-- ---- places
+
+-- the value of the length in a type, where it has one
+abbrev pub length_there : Program → Scope → Ty → Option ℤ
+length_there program scope type = count_of type then eval_in program scope
+
+-- a place is where this part of a space lies, and the leaf there is what it holds
+pub record IsPlaceOfPart (program : Program) (range : Range) (address : ℕ) (p : Part) (place : Place) : Type 0 where
   pub address_is : place.addr ≡ address + p.bit / 8
   pub bit_is : place.bit ≡ p.bit % 8
   pub kind_is : leaf_kind p.type ≡ Some place.kind
   pub active_is : place.active ≡ p.active
+  pub holder_is : place.holder ≡ p.holder
+  pub length_is : place.length ≡ length_there program p.scope p.type
   pub from_start : range.start ≤ place.addr
   pub bits : HasBits range (place.addr - range.start) place.bit place.kind
   pub holds : IsContentOf (content_at range place) p.tree
+
+-- the place of the leaf at a path, of a value of this type at an address
+pub record IsPlaceOf (program : Program) (planes : List Plane) (scope : Scope) (holder : Holder) (type : Ty) (range : Range) (address : ℕ) (value : Tree) (path : List ℕ) (place : Place) : Type 0 where
+  pub p : Part
+  pub lies : PartLies program planes scope holder true 0 type value path p
+  pub there : part_at value path ≡ Some p.tree
+  pub is : IsPlaceOfPart program range address p place
+
+-- so in the static record, from the lowest address of the space on
+pub record IsStaticPlaceOf (program : Program) (layouts : Layouts) (range : Range) (values : Trees) (path : List ℕ) (place : Place) : Type 0 where
+  pub p : Part
+  pub lies : StaticPartLies program layouts.structures layouts.statics.fields values path p
+  pub there : part_at (Rec values) path ≡ Some p.tree
+  pub is : IsPlaceOfPart program range range.start p place

@@ -11,7 +11,7 @@ mod values;
 mod zeros;
 
 pub use names::{BlockKind, BlockNames, BlockOf};
-pub use places::{LeafContent, LeafKind, Place, leaf_at, read_leaf};
+pub use places::{Holder, LeafContent, LeafKind, Place, leaf_at, leaf_in_statics, read_leaf};
 pub use reading::{read, read_statics};
 pub use unions::common_structure;
 pub use values::{Value, ValueFail};

@@ -1,5 +1,7 @@
 // What is known of blocks by their addresses.
 ghost use Rattle.gt_tree.specs.Blocks.{Blocks};
+ghost use Rattle.gt_tree.specs.FixedLaws.{AreAddresses};
+ghost use Rattle.gt_value.specs.Bytes.{itself};
 ghost use Rattle.gt_value.specs.Names.{IsTold, HasChar, IsChar};
 
 use gt_types::TypeId;
@@ -39,4 +41,7 @@ pub trait BlockNames {
     fn byte(&self, addr: u64, i: u32) -> u8
         requires there { HasChar (blocks self.now) addr i }
         ensures byte { IsChar (blocks self.now) addr i result };
+
+    /// No block lies at null, and each address has 64 bits.
+    ghost addresses: { (s : Self) → AreAddresses (blocks s) itself };
 }

@@ -16,7 +16,7 @@ use Rattle.gt_types.specs.Tails.{tail_of}
 use Rattle.sample_program.specs.Sample.{structures, item, base, wide, form, pay, cell, vec, hold, duo, two, vecb, any, node, path, own_kind, own_len}
 use Rattle.gt_types.specs.declared.expressions.Base.TheVariants.{Here, Outer}
 use Rattle.sample_program.proofs.Lists.{AllFrom}
-use Rattle.sample_program.proofs.Types.{IsFlat, flat-num, flat-bits, flat-opaque, flat-str, flat-ptr, flat-node, inner-arr, inner-tail, no_tail-arr, tail-tail}
+use Rattle.sample_program.proofs.Types.{IsFlat, flat-num, flat-bits, flat-opaque, flat-str, flat-ptr, flat-node, inner-arr, inner-tail, tail-tail}
 
 -- the structure that a field holds, which is no array of them here
 abbrev pub held_of : Ty → Option TypeId
@@ -127,13 +127,16 @@ told-hold = record {
           held-flat (ty.Str (Some own_len)) (flat-str (Some own_len)),
           (
             held-flat (ty.Ptr None kind.Atomic false) (flat-ptr None kind.Atomic false),
-            (ap itself (inner-arr 2 (ty.Arr 3 (ty.Num (scalar.Int W2 true))) ∙ inner-arr 3 (ty.Num (scalar.Int W2 true))) ∙ held-flat (ty.Num (scalar.Int W2 true)) (flat-num (scalar.Int W2 true)), tt),
+            (
+              ap itself (inner-arr 2 (ty.Arr 3 (ty.Num (scalar.Int W2 true))) ∙ inner-arr 3 (ty.Num (scalar.Int W2 true))) ∙ held-flat (ty.Num (scalar.Int W2 true)) (flat-num (scalar.Int W2 true)),
+              (held-flat (ty.Opaque 4 4) (flat-opaque 4 4), tt),
+            ),
           ),
         ),
       ),
     ),
   );
-  tail = ap is_some (no_tail-arr 2 (ty.Arr 3 (ty.Num (scalar.Int W2 true))));
+  tail = ap is_some (flat-opaque 4 4).no_tail;
 }
 
 told-duo : IsTold 8 duo

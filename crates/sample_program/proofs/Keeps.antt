@@ -261,7 +261,10 @@ hold-fields =
             a_field 7 hold (field (codes "t") (ty.Str (Some own_len))) refl (3, omega arith, refl) refl (ap field_type_at (ty.outs-Str (Some own_len))) (names (λ union u e. IsFieldDesc sample (node 7) union e) (ty.Str (Some own_len)) (ty.Str (Some own_len)) (flat-str (Some own_len)).inner tt tt tt) (an_option 7 Here (codes "len" ∷ []) (one_name (codes "len") refl) (to_int 7 hold (codes "len") 0 int refl refl refl (0, omega arith, refl) refl)),
             (
               a_field 7 hold (field (codes "raw") (ty.Ptr None kind.Atomic false)) refl (4, omega arith, refl) refl (ap field_type_at (ty.outs-Ptr None kind.Atomic false)) (names (λ union u e. IsFieldDesc sample (node 7) union e) (ty.Ptr None kind.Atomic false) (ty.Ptr None kind.Atomic false) (flat-ptr None kind.Atomic false).inner tt tt tt) tt,
-              (a_field 7 hold (field (codes "grid") (ty.Arr 2 (ty.Arr 3 (ty.Num (scalar.Int W2 true))))) refl (5, omega arith, refl) refl grid-type (names (λ union u e. IsFieldDesc sample (node 7) union e) (ty.Arr 2 (ty.Arr 3 (ty.Num (scalar.Int W2 true)))) (ty.Num (scalar.Int W2 true)) (inner-arr 2 (ty.Arr 3 (ty.Num (scalar.Int W2 true))) ∙ inner-arr 3 (ty.Num (scalar.Int W2 true)) ∙ (flat-num (scalar.Int W2 true)).inner) tt tt tt) tt, tt),
+              (
+                a_field 7 hold (field (codes "grid") (ty.Arr 2 (ty.Arr 3 (ty.Num (scalar.Int W2 true))))) refl (5, omega arith, refl) refl grid-type (names (λ union u e. IsFieldDesc sample (node 7) union e) (ty.Arr 2 (ty.Arr 3 (ty.Num (scalar.Int W2 true)))) (ty.Num (scalar.Int W2 true)) (inner-arr 2 (ty.Arr 3 (ty.Num (scalar.Int W2 true))) ∙ inner-arr 3 (ty.Num (scalar.Int W2 true)) ∙ (flat-num (scalar.Int W2 true)).inner) tt tt tt) tt,
+                (a_field 7 hold (field (codes "few") (ty.Opaque 4 4)) refl (6, omega arith, refl) refl (ap field_type_at (ty.outs-Opaque 4 4)) (names (λ union u e. IsFieldDesc sample (node 7) union e) (ty.Opaque 4 4) (ty.Opaque 4 4) (flat-opaque 4 4).inner tt tt tt) tt, tt),
+              ),
             ),
           ),
         ),
@@ -287,7 +290,10 @@ hold-keeps = record {
             refl,
             (
               refl,
-              (refl, tt),
+              (
+                refl,
+                (refl, tt),
+              ),
             ),
           ),
         ),

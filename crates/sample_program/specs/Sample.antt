@@ -90,13 +90,13 @@ vec = struct (codes "vec") (field (codes "num") int ∷ field (codes "elem") (ty
 abbrev pub own_len : Expr
 own_len = path Here (codes "len" ∷ [])
 
--- struct hold { int len; struct item *list; (len of them)  char *s; char *t; (len characters)  void *raw; (atomic)  short grid[2][3]; }
+-- struct hold { int len; struct item *list; (len of them)  char *s; char *t; (len characters)  void *raw; (atomic)  short grid[2][3]; 4 opaque bytes few; }
 abbrev pub hold : Structure
 hold =
     struct (codes "hold")
     (field (codes "len") int ∷ field (codes "list") (ty.Ptr (Some (target.Node (node 0))) (kind.Length own_len) false) ∷ field (codes "s") (ty.Str None)
     ∷ field (codes "t") (ty.Str (Some own_len)) ∷ field (codes "raw") (ty.Ptr None kind.Atomic false)
-    ∷ field (codes "grid") (ty.Arr 2 (ty.Arr 3 (ty.Num (scalar.Int W2 true)))) ∷ [])
+    ∷ field (codes "grid") (ty.Arr 2 (ty.Arr 3 (ty.Num (scalar.Int W2 true)))) ∷ field (codes "few") (ty.Opaque 4 4) ∷ [])
 
 -- union duo { struct cell c; (tag 0)  long k; (tag 1) }
 abbrev pub duo : Structure

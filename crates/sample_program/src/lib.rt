@@ -1,7 +1,7 @@
 //! A program with a form of each kind, for tables of rows that try values.
 #![tactic(auto)]
 
-mod laws;
+pub mod laws;
 mod making;
 
 pub use laws::sample_is_settled;

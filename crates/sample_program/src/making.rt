@@ -351,6 +351,13 @@ fn hold(alloc: Global) -> Result<Structure, AllocError>
     let mut fields = Vec::new(alloc);
     first_of_hold(alloc, &mut fields)?;
     last_of_hold(alloc, &mut fields)?;
+    add(
+        alloc,
+        &mut fields,
+        "few",
+        Ty::Opaque { size: 4, align: 4 },
+        Active::Always,
+    )?;
     structure(alloc, "hold", false, None, fields)
 }
 

@@ -1,4 +1,3 @@
 pub mod Alone
-pub mod Addresses
 pub mod Told
 pub mod Rereads

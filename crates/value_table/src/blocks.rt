@@ -10,8 +10,11 @@ pub struct TableBlocks;
 
 impl BlockNames for TableBlocks {
     ghost use Rattle.value_table.specs.Blocks.{blocks as blocks_of_table};
+    ghost use Rattle.value_table.specs.Addresses.{addresses as addresses_of_table};
 
     ghost blocks = { λ _. blocks_of_table };
+
+    ghost addresses = { λ _. addresses_of_table };
 
     fn block(&self, addr: u64) -> Option<BlockOf> {
         match addr {

@@ -2,7 +2,7 @@
 ghost use Rattle.std.specs.Prelude.{◌<◌, IfSome};
 
 use gt_types::Bytes;
-use gt_value::Value;
+use gt_value::{LeafContent, Value};
 use std::alloc::{AllocError, AllocFailed, Global};
 
 /// A leaf, and the path at which it is written.
@@ -40,29 +40,34 @@ impl<T: Drop> From<AllocFailed<T>> for Refusal {
     }
 }
 
+/// The path that a word says.
+pub fn read_path(alloc: Global, word: &str) -> Result<Vec<u32>, Refusal> {
+    let mut path = Vec::new(alloc);
+    for place in word.split('.') {
+        match place.parse::<u32>() {
+            Ok(place) => path.push(place)?,
+            Err(_) => return Err(Refusal::Malformed),
+        }
+    }
+    Ok(path)
+}
+
 impl Write {
     /// The write that a word says.
     pub fn read(alloc: Global, word: &str) -> Result<Write, Refusal> {
         let Some((places, leaf)) = word.split_once('=') else {
             return Err(Refusal::Malformed);
         };
-        let mut path = Vec::new(alloc);
-        for place in places.split('.') {
-            match place.parse::<u32>() {
-                Ok(place) => path.push(place)?,
-                Err(_) => return Err(Refusal::Malformed),
-            }
-        }
         Ok(Write {
-            path,
+            path: read_path(alloc, places)?,
             leaf: Leaf::read(alloc, leaf)?,
         })
     }
 }
 
 impl Leaf {
-    // The leaf that a word says.
-    fn read(alloc: Global, word: &str) -> Result<Leaf, Refusal> {
+    /// The leaf that a word says.
+    pub fn read(alloc: Global, word: &str) -> Result<Leaf, Refusal> {
         if word == "null" {
             return Ok(Leaf::Null);
         }
@@ -78,6 +83,16 @@ impl Leaf {
         match word.parse::<i128>() {
             Ok(n) => Ok(Leaf::Number(n)),
             Err(_) => Err(Refusal::Malformed),
+        }
+    }
+
+    /// What a leaf in bytes is that is written: a number, null or a pointer.
+    pub fn content(&self) -> Option<LeafContent> {
+        match self {
+            Leaf::Number(n) => Some(LeafContent::Num(*n)),
+            Leaf::Null => Some(LeafContent::Null),
+            Leaf::To(address) => Some(LeafContent::To(*address)),
+            Leaf::Raw(_) => None,
         }
     }
 

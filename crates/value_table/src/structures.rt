@@ -2,11 +2,11 @@
 ghost use Rattle.std.specs.Prelude.{◌≡◌, IfOk};
 ghost use Rattle.gt_types.specs.Paths.{MayStand};
 ghost use Rattle.gt_tree.specs.Blocks.{Nodes, element_type};
-ghost use Rattle.sample_program.specs.Sample.{sample};
+ghost use Rattle.sample_program.specs.Sample.{sample, pointer_to};
 ghost use Rattle.value_table.specs.Trials.{IsReady};
 
 use crate::samples::Sample;
-use gt_types::{Copied, Ty, TypeId};
+use gt_types::{Copied, PtrKind, Target, Ty, TypeId};
 use std::alloc::AllocError;
 
 /// A structure of the sample that may stand alone.
@@ -73,4 +73,15 @@ pub fn element(on: &Sample, id: TypeId) -> Result<Ty, AllocError>
         None => None,
     };
     Ok(Ty::Node { id, desc })
+}
+
+/// The type of the elements of a block of pointers to items.
+pub fn pointer() -> Ty
+    ensures { result ≡ pointer_to 0 }
+{
+    Ty::Ptr {
+        target: Some(Target::Node(TypeId(0))),
+        kind: PtrKind::Plain,
+        reorder: false,
+    }
 }

@@ -1,5 +1,5 @@
 // What becomes of a row.
-ghost use Rattle.std.specs.Prelude.{◌≡◌, ℕ, IfOk};
+ghost use Rattle.std.specs.Prelude.{◌≡◌, ◌+◌, ◌<◌, ℕ, IfOk, IfSome};
 ghost use Rattle.gt_tree.specs.Blocks.{Nodes, element_type};
 ghost use Rattle.gt_types.specs.Paths.{MayStand};
 ghost use Rattle.gt_space.specs.Range.{KeepsAddresses, IsInside};
@@ -10,7 +10,7 @@ ghost use Rattle.value_table.specs.Blocks.{blocks};
 ghost use Rattle.value_table.specs.Trials.{IsReady};
 
 use crate::blocks::TableBlocks;
-use crate::leaves::Write;
+use crate::leaves::{Refusal, Write};
 use crate::rows::Row;
 use crate::samples::Sample;
 use crate::structures::element;
@@ -26,10 +26,10 @@ use std::alloc::{AllocError, AllocFailed};
 const PAGES: u32 = 64;
 
 /// How many bytes lie before the place at which values are stored.
-const BEFORE: u64 = 8;
+pub const BEFORE: u64 = 8;
 
 /// What a filled place holds.
-const FILLED: u8 = 0xff;
+pub const FILLED: u8 = 0xff;
 
 /// Why a row has no value.
 #[derive(Clone, Copy, Debug, PartialEq, Eq)]
@@ -40,6 +40,8 @@ pub enum Stop {
     Early,
     /// The value is larger than the space.
     TooLarge,
+    /// It is not in the notation of the table.
+    Malformed,
     Memory,
 }
 
@@ -52,6 +54,15 @@ impl From<AllocError> for Stop {
 impl<T: Drop> From<AllocFailed<T>> for Stop {
     fn from(_: AllocFailed<T>) -> Stop {
         Stop::Memory
+    }
+}
+
+impl From<Refusal> for Stop {
+    fn from(refusal: Refusal) -> Stop {
+        match refusal {
+            Refusal::Malformed => Stop::Malformed,
+            Refusal::Memory => Stop::Memory,
+        }
     }
 }
 
@@ -78,8 +89,7 @@ pub fn try_row(on: &Sample, row: &Row) -> Result<Trial, Stop>
 {
     let node = row.kind.id();
     let ty = element(on, node)?;
-    let nothing = zero(on.alloc, &on.program, &ty, row.capacity)?;
-    let value = write_all(on, &ty, row.capacity, nothing, row.writes.as_slice())?;
+    let value = last_value(on, row, &ty)?;
     let text = show(on.alloc, &on.program, &ty, &value, &TableBlocks)?;
     let (bytes, reread) = store_and_show(on, node, &ty, row.capacity, &value)?;
     Ok(Trial {
@@ -87,6 +97,16 @@ pub fn try_row(on: &Sample, row: &Row) -> Result<Trial, Stop>
         bytes,
         reread,
     })
+}
+
+/// The last value of a row.
+pub fn last_value(on: &Sample, row: &Row, ty: &Ty) -> Result<Value, Stop>
+    requires ready { IsReady on.now.program on.now.layouts }
+    requires element { IsElement on.now.program ty.now }
+    ensures fits { IfOk result (λ v. FitsBeside on.now.program blocks row.now.capacity ty.now (tree_of v)) }
+{
+    let nothing = zero(on.alloc, &on.program, ty, row.capacity)?;
+    write_all(on, ty, row.capacity, nothing, row.writes.as_slice())
 }
 
 // The value after these writes.
@@ -109,8 +129,8 @@ fn write_all(
     write_all(on, ty, capacity, next, rest)
 }
 
-// The value after one write.
-fn write_one(
+/// The value after one write.
+pub fn write_one(
     on: &Sample,
     ty: &Ty,
     capacity: u32,
@@ -141,8 +161,8 @@ fn write_one(
     }
 }
 
-// How many bytes a structure takes, with room for so many elements at its end.
-fn size_of(on: &Sample, id: TypeId, ty: &Ty, capacity: u32) -> u64
+/// How many bytes a structure takes, with room for so many elements at its end.
+pub fn size_of(on: &Sample, id: TypeId, ty: &Ty, capacity: u32) -> u64
     requires ready { IsReady on.now.program on.now.layouts }
     requires stands { MayStand on.now.program id }
     requires element { ty.now ≡ element_type on.now.program (Nodes id) }
@@ -167,29 +187,47 @@ fn store_and_show(
     requires fits { FitsBeside on.now.program blocks capacity ty.now (tree_of value.now) }
 {
     let size = size_of(on, id, ty, capacity);
-    let mut space = Space::empty(on.alloc);
-    space.resize_fresh(PAGES, 0)?;
-    let len = space.len();
-    if len < BEFORE {
+    let mut space = fresh_space(on)?;
+    let Some(room) = room_in(&space, BEFORE, size) else {
         return Err(Stop::TooLarge);
-    }
-    if len - BEFORE < size {
-        return Err(Stop::TooLarge);
-    }
-    let addr = space.start() + BEFORE;
-    let place = Place { addr, size };
-    let reread = store_and_read(on, ty, capacity, value, &mut space, place)?;
+    };
+    let reread = store_and_read(on, ty, capacity, value, &mut space, room)?;
     let text = show(on.alloc, &on.program, ty, &reread, &TableBlocks)?;
     let mut bytes = vec![in on.alloc; 0u8; size as usize]?;
-    space.copy_out(addr, &mut bytes);
+    space.copy_out(room.addr, &mut bytes);
     Ok((bytes, text))
 }
 
-// Where a value is stored.
+/// Where a value is stored.
 #[derive(Clone, Copy)]
-struct Place {
-    addr: u64,
-    size: u64,
+pub struct Room {
+    pub addr: u64,
+    pub size: u64,
+}
+
+/// A space in which values are stored.
+pub fn fresh_space(on: &Sample) -> Result<Space, AllocError> {
+    let mut space = Space::empty(on.alloc);
+    space.resize_fresh(PAGES, 0)?;
+    Ok(space)
+}
+
+/// The room of so many bytes in a space, after so many others; None where it has fewer.
+pub fn room_in(space: &Space, before: u64, size: u64) -> Option<Room>
+    requires { before < 4096 }
+    ensures inside { IfSome result (λ room. IsInside space.now room.addr size) }
+    ensures after { IfSome result (λ room. room.addr ≡ space.now.start + before) }
+    ensures size { IfSome result (λ room. room.size ≡ size) }
+{
+    let len = space.len();
+    if len < before {
+        return None;
+    }
+    if len - before < size {
+        return None;
+    }
+    let addr = space.start() + before;
+    Some(Room { addr, size })
 }
 
 // The value that is read where a value was stored.
@@ -199,24 +237,24 @@ fn store_and_read(
     capacity: u32,
     value: &Value,
     space: &mut Space,
-    place: Place,
+    room: Room,
 ) -> Result<Value, AllocError>
     requires ready { IsReady on.now.program on.now.layouts }
     requires element { IsElement on.now.program ty.now }
-    requires takes { Takes on.now.program on.now.layouts capacity ty.now place.size }
-    requires only { (size : ℕ) → Takes on.now.program on.now.layouts capacity ty.now size → size ≡ place.size }
-    requires inside { IsInside space.old place.addr place.size }
+    requires takes { Takes on.now.program on.now.layouts capacity ty.now room.size }
+    requires only { (size : ℕ) → Takes on.now.program on.now.layouts capacity ty.now size → size ≡ room.size }
+    requires inside { IsInside space.old room.addr room.size }
     requires fits { FitsBeside on.now.program blocks capacity ty.now (tree_of value.now) }
     ensures fits { IfOk result (λ v. FitsBeside on.now.program blocks capacity ty.now (tree_of v)) }
     ensures addresses { KeepsAddresses space.old space.new }
 {
-    space.fill(place.addr, place.size, FILLED);
+    space.fill(room.addr, room.size, FILLED);
     store(
         &on.program,
         &on.layouts,
         space,
         ty,
-        place.addr,
+        room.addr,
         capacity,
         value,
     );
@@ -226,7 +264,7 @@ fn store_and_read(
         &on.layouts,
         space,
         ty,
-        place.addr,
+        room.addr,
         capacity,
     )
 }

@@ -4,9 +4,9 @@ use Rattle.gt_types.specs.declared.types.Ty.TheVariants as ty
 use Rattle.gt_types.specs.declared.program.Field.{Field}
 use Rattle.gt_tree.specs.Fits.{Fits}
 use Rattle.gt_tree.specs.Trees.{Tree, Num, Null, To, Raw, Rec, Alt, Row}
+use Rattle.gt_tree.specs.PathLaws.{has_room_in}
 use Rattle.gt_value.specs.declared.values.Value.{Value}
 use Rattle.gt_value.specs.Values.{trees, tree_of}
-use Rattle.gt_assign.specs.Rooms.{number_fits}
 use Rattle.gt_assign.specs.Scoping.{scope_of}
 use Rattle.gt_assign.specs.Fitting.{RecFits, AltFits}
 use Rattle.gt_assign.proofs.Layers.{alike, granted, refused, by-layer, arr-uneven, arr-even, tail-wrong, tail-right}
@@ -17,20 +17,20 @@ use Rattle.gt_assign.proofs.checks.+fitting.Goals as goal
 -- ---- fields
 
 pub fields_fit-returns-then-parts-fields : goal.fields_fit-returns-then-parts-fields
-fields_fit-returns-then-parts-fields g t c = fields-uneven c.args.on.now.program.now (g.N.BlockNames.blocks c.args.on.now.names.now) c.args.on.now.capacity (scope_of c.args.inner.now) c.args.fields.now c.args.parts.now c.if-parts-fields.true
+fields_fit-returns-then-parts-fields g t c = fields-uneven c.args.on.now.program.now (g.N.BlockNames.blocks c.args.on.now.names.now) c.args.on.now.capacity (scope_of c.args.inner.now) (λ (f : Field). f.ty) c.args.fields.now c.args.parts.now c.if-parts-fields.true
 
 pub fields_fit-loop-i-preserved : goal.fields_fit-loop-i-preserved
 fields_fit-loop-i-preserved g t c =
-    fields-more c.args.on.now.program.now (g.N.BlockNames.blocks c.args.on.now.names.now) c.args.on.now.capacity (scope_of c.args.inner.now) c.args.fields.now c.args.parts.now c.loop-i.i c.index-fields-i.result c.index-parts-i.result (omega arith) c.index-fields-i.is c.loop-i-test.true c.index-parts-i.is
+    fields-more c.args.on.now.program.now (g.N.BlockNames.blocks c.args.on.now.names.now) c.args.on.now.capacity (scope_of c.args.inner.now) (λ (f : Field). f.ty) c.args.fields.now c.args.parts.now c.loop-i.i c.index-fields-i.result c.index-parts-i.result (omega arith) c.index-fields-i.is c.loop-i-test.true c.index-parts-i.is
     (granted c.fits.result _ (subst (λ (f : Field). IsTrue c.fits.result ↔ Fits c.args.on.now.program.now (g.N.BlockNames.blocks c.args.on.now.names.now) c.args.on.now.capacity (scope_of c.args.inner.now) f.ty (tree_of c.index-parts-i.result)) (sym c.index-fields-i.is) c.fits.ensures) c.if-not-fits.false) c.loop-i.invariant
 
 pub fields_fit-returns-then-not-fits : goal.fields_fit-returns-then-not-fits
 fields_fit-returns-then-not-fits g t c =
-    fields-stop c.args.on.now.program.now (g.N.BlockNames.blocks c.args.on.now.names.now) c.args.on.now.capacity (scope_of c.args.inner.now) c.args.fields.now c.args.parts.now c.loop-i.i c.index-fields-i.result c.index-parts-i.result (omega arith) c.index-fields-i.is c.loop-i-test.true c.index-parts-i.is
+    fields-stop c.args.on.now.program.now (g.N.BlockNames.blocks c.args.on.now.names.now) c.args.on.now.capacity (scope_of c.args.inner.now) (λ (f : Field). f.ty) c.args.fields.now c.args.parts.now c.loop-i.i c.index-fields-i.result c.index-parts-i.result (omega arith) c.index-fields-i.is c.loop-i-test.true c.index-parts-i.is
     (refused c.fits.result _ (subst (λ (f : Field). IsTrue c.fits.result ↔ Fits c.args.on.now.program.now (g.N.BlockNames.blocks c.args.on.now.names.now) c.args.on.now.capacity (scope_of c.args.inner.now) f.ty (tree_of c.index-parts-i.result)) (sym c.index-fields-i.is) c.fits.ensures) c.if-not-fits.true) c.loop-i.invariant
 
 pub fields_fit-returns : goal.fields_fit-returns
-fields_fit-returns g t c = fields-done c.args.on.now.program.now (g.N.BlockNames.blocks c.args.on.now.names.now) c.args.on.now.capacity (scope_of c.args.inner.now) c.args.fields.now c.args.parts.now c.loop-i.i c.if-parts-fields.false c.loop-i-test.false c.loop-i.invariant
+fields_fit-returns g t c = fields-done c.args.on.now.program.now (g.N.BlockNames.blocks c.args.on.now.names.now) c.args.on.now.capacity (scope_of c.args.inner.now) (λ (f : Field). f.ty) c.args.fields.now c.args.parts.now c.loop-i.i c.if-parts-fields.false c.loop-i-test.false c.loop-i.invariant
 
 -- ---- elements
 
@@ -72,14 +72,14 @@ row_fits-returns-else-not-is_length g t c =
 
 pub fits-returns-in-Num : goal.fits-returns-in-Num
 fits-returns-in-Num g t c =
-    let same : c.number_fits.result ≡ number_fits c.args.ty.now c.in-Num.n = search rules in
-    by-layer c.args.on.now.program.now c.requires.settled (g.N.BlockNames.blocks c.args.on.now.names.now) c.args.on.now.capacity (scope_of c.args.within.now) c.number_fits.result c.args.ty.now (tree_of c.args.value.now) (Num c.in-Num.n) (ap tree_of c.in-Num.is ∙ num-tree c.in-Num.n) (alike c.number_fits.result (number_fits c.args.ty.now c.in-Num.n) same)
+    let same : c.number_fits.result ≡ has_room_in c.args.ty.now c.in-Num.n = search rules in
+    by-layer c.args.on.now.program.now c.requires.settled (g.N.BlockNames.blocks c.args.on.now.names.now) c.args.on.now.capacity (scope_of c.args.within.now) c.number_fits.result c.args.ty.now (tree_of c.args.value.now) (Num c.in-Num.n) (ap tree_of c.in-Num.is ∙ num-tree c.in-Num.n) (alike c.number_fits.result (has_room_in c.args.ty.now c.in-Num.n) same)
 
 pub fits-returns-in-Null : goal.fits-returns-in-Null
 fits-returns-in-Null g t c = by-layer c.args.on.now.program.now c.requires.settled (g.N.BlockNames.blocks c.args.on.now.names.now) c.args.on.now.capacity (scope_of c.args.within.now) c.is_pointer.result c.args.ty.now (tree_of c.args.value.now) Null (ap tree_of c.in-Null.is ∙ null-tree) (alike c.is_pointer.result _ c.is_pointer.ensures)
 
 pub fits-returns-in-To : goal.fits-returns-in-To
-fits-returns-in-To g t c = by-layer c.args.on.now.program.now c.requires.settled (g.N.BlockNames.blocks c.args.on.now.names.now) c.args.on.now.capacity (scope_of c.args.within.now) c.may_name.result c.args.ty.now (tree_of c.args.value.now) (To c.in-To.addr) (ap tree_of c.in-To.is ∙ to-tree c.in-To.addr) c.may_name.ensures
+fits-returns-in-To g t c = by-layer c.args.on.now.program.now c.requires.settled (g.N.BlockNames.blocks c.args.on.now.names.now) c.args.on.now.capacity (scope_of c.args.within.now) c.may_name_within.result c.args.ty.now (tree_of c.args.value.now) (To c.in-To.addr) (ap tree_of c.in-To.is ∙ to-tree c.in-To.addr) c.may_name_within.ensures
 
 pub fits-returns-in-Raw : goal.fits-returns-in-Raw
 fits-returns-in-Raw g t c =

@@ -18,8 +18,8 @@ use Rattle.gt_assign.proofs.turning.+turning.Goals as goal
 pub fields-loop-i-preserved : goal.fields-loop-i-preserved
 fields-loop-i-preserved t c =
     let make = made c.args.on.now.program.now c.args.on.now.capacity c.args.depth in
-    subst (λ (vs : List Value). FieldsSoFar make (past_of c.args.inner.now) (was_of c.args.seen) c.args.fields.now (c.loop-i.i + 1) vs) (sym c.in_ok-push.ensures.items)
-    (fields-more make (past_of c.args.inner.now) (was_of c.args.seen) c.args.fields.now c.loop-i.i c.index-fields-i.result c.loop-i.parts.items c.loop-i-test.true c.index-fields-i.is c.loop-i.invariant
+    subst (λ (vs : List Value). FieldsSoFar make (past_of c.args.inner.now) (was_of c.args.seen) (λ (f : Field). f.ty) c.args.fields.now (c.loop-i.i + 1) vs) (sym c.in_ok-push.ensures.items)
+    (fields-more make (past_of c.args.inner.now) (was_of c.args.seen) (λ (f : Field). f.ty) c.args.fields.now c.loop-i.i c.index-fields-i.result c.loop-i.parts.items c.loop-i-test.true c.index-fields-i.is c.loop-i.invariant
     (was_of c.in-Some.part) c.in_ok-turn.field-0 (sym c.field_of.ensures ∙ ap maybe_was c.in-Some.is) c.in_ok-turn.ensures)
 
 pub row-loop-i-preserved : goal.row-loop-i-preserved
@@ -33,7 +33,7 @@ pub fields-returns : goal.fields-returns
 fields-returns t c =
     let make = made c.args.on.now.program.now c.args.on.now.capacity c.args.depth in
     ap (λ b. cond b (option_map Rec (fields_made make (past_of c.args.inner.now) (was_of c.args.seen) 0 (types_of c.args.fields.now))) None) (sym c.has_fields.ensures ∙ c.if-not-has_fields.false)
-    ∙ ap (λ (o : Option Trees). option_map Rec o) (fields-end make (past_of c.args.inner.now) (was_of c.args.seen) c.args.fields.now c.loop-i.i c.loop-i.parts.items c.loop-i-test.false c.loop-i.invariant)
+    ∙ ap (λ (o : Option Trees). option_map Rec o) (fields-end make (past_of c.args.inner.now) (was_of c.args.seen) (λ (f : Field). f.ty) c.args.fields.now c.loop-i.i c.loop-i.parts.items c.loop-i-test.false c.loop-i.invariant)
     ∙ ap Some (sym (rec-tree c.loop-i.parts))
 
 pub row-returns : goal.row-returns

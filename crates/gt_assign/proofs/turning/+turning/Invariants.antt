@@ -1,4 +1,5 @@
 use Rattle.std.proofs.Common.{◌+◌, ◌*◌}
+use Rattle.gt_types.specs.declared.program.Field.{Field}
 use Rattle.gt_assign.specs.Pasts.{was_of, past_of}
 use Rattle.gt_assign.specs.Turning.{made}
 use Rattle.gt_assign.proofs.Rows.{FieldsSoFar, ElementsSoFar}
@@ -32,7 +33,7 @@ abbrev pub decreases-row : goal.decreases-row
 decreases-row l = 6 * l.depth + 1
 
 abbrev pub invariant-fields-loop-i : goal.invariant-fields-loop-i
-invariant-fields-loop-i l = FieldsSoFar (made l.on.program.now l.on.capacity l.depth) (past_of l.inner) (was_of l.seen) l.fields l.i l.parts.items
+invariant-fields-loop-i l = FieldsSoFar (made l.on.program.now l.on.capacity l.depth) (past_of l.inner) (was_of l.seen) (λ (f : Field). f.ty) l.fields l.i l.parts.items
 
 abbrev pub invariant-row-loop-i : goal.invariant-row-loop-i
 invariant-row-loop-i l = ElementsSoFar (made l.on.program.now l.on.capacity l.depth) (past_of l.around) (was_of l.seen) l.ty l.n l.i l.parts.items

@@ -1,4 +1,4 @@
-use Rattle.gt_store.specs.Overlays.{Writes}
+use Rattle.gt_store.specs.Writing.{Writes}
 use Rattle.gt_store.proofs.bits.write_bits.Given as goal
 
 abbrev pub invariant-loop-i : goal.invariant-loop-i

@@ -2,7 +2,8 @@ use Rattle.std.proofs.Common.{◌≡◌, ◌<◌, ◌^◌, ◌+◌, ◌*◌, ◌
 use Rattle.std.specs.Int.{bytes_low_first}
 use Rattle.gt_types.specs.declared.types.Width.TheVariants.{W1}
 use Rattle.gt_space.specs.Range.{with_bytes}
-use Rattle.gt_store.specs.Overlays.{Writes, bytes_in}
+use Rattle.gt_store.specs.Overlays.{bytes_in}
+use Rattle.gt_store.specs.Writing.{Writes}
 use Rattle.gt_store.proofs.BitLemmas.{writes-number, writes-byte}
 use Rattle.gt_store.proofs.bits.write_number.Goals as goal
 

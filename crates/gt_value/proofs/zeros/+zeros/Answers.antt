@@ -1,4 +1,4 @@
-use Rattle.std.proofs.Common.{◌≡◌, ◌∙◌, ◌+◌, ◌*◌, ◌<◌, ◌≤◌, ℕ, ap, sym, subst, refl, arith, Option, Some, None, Err, inl, inr, IsTrue, get_or, length, map, take, All}
+use Rattle.std.proofs.Common.{◌≡◌, ◌∙◌, ◌+◌, ◌≤◌, ap, sym, subst, refl, arith, Some, None, Err, inl, inr, IsTrue, get_or, length, map, take}
 use Rattle.std.specs.Prelude.{pos}
 use Rattle.std.proofs.lemmas.Result.{err_from_is_err_and}
 use Rattle.std.proofs.lemmas.List.Elements.{All-get_or}
@@ -10,14 +10,14 @@ use Rattle.gt_types.specs.Shapes.{dimensions, is_pointer}
 use Rattle.gt_layout.specs.Progress.{HoldsWithinDepth}
 use Rattle.gt_layout.proofs.Laying.{read_at}
 use Rattle.gt_layout.proofs.Capacities.{node_within, shallow_fields}
-use Rattle.gt_tree.specs.Trees.{Num, Null, Raw, Rec, Row, Alt, End}
-use Rattle.gt_tree.specs.Fits.{types_of, active_member}
+use Rattle.gt_tree.specs.Trees.{Num, Rec, Alt}
+use Rattle.gt_tree.specs.Fits.{types_of}
 use Rattle.gt_tree.proofs.PathParts.{get-map}
 use Rattle.gt_value.specs.declared.values.ValueFail.TheVariants.{Shape}
 use Rattle.gt_value.specs.Values.{tree_of, trees}
-use Rattle.gt_value.specs.Noughts.{IsNought, AreNoughts, number, bits, opaque, null, struct, member, common, nothing, array, tail}
+use Rattle.gt_value.specs.Noughts.{IsNought, AreNoughts, number, bits, null, struct, member, common, nothing, array, tail}
 use Rattle.gt_value.proofs.NoughtReads.{nought-at, nought-struct}
-use Rattle.gt_value.proofs.TreesOf.{tree-num, tree-null, tree-raw, tree-rec, tree-row, tree-alt}
+use Rattle.gt_value.proofs.TreesOf.{tree-num, tree-null, tree-rec, tree-row, tree-alt}
 use Rattle.gt_value.proofs.ZeroSteps.{elements-push, elements-none, elements-first, noughts-none, noughts-push, map-more, fields-flat, active-within, nought-member, nought-common, opaque-raw, union-at, union-none, common-within}
 use Rattle.gt_value.proofs.zeros.+zeros.Goals as goal
 use Rattle.gt_value.proofs.zeros.+zeros.Goals.{zero_union-in-Some-common_structure+in_ok-value-in-Some-common_structure, zero_union-in-None}

@@ -1,4 +1,3 @@
-use Rattle.std.proofs.Common.{ℕ}
 use Rattle.gt_tree.specs.Trees.{Trees}
 use Rattle.gt_tree.specs.Blocks.{Blocks}
 use Rattle.gt_tree.specs.Fits.{IsZeroOf}

@@ -1,4 +1,4 @@
-use Rattle.std.proofs.Common.{◌≡◌, ◌+◌, Err, ap, sym, refl, map, take}
+use Rattle.std.proofs.Common.{◌≡◌, ◌+◌, Err, ap, refl, map, take}
 use Rattle.std.proofs.lemmas.Result.{err_from_is_err_and}
 use Rattle.gt_types.specs.declared.program.Root.{Root}
 use Rattle.gt_layout.proofs.Laying.{read_at}

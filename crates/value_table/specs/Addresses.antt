@@ -1,4 +1,4 @@
--- The blocks of the table have addresses.
+-- No promise: the proof that the blocks of the table have addresses, as `BlockNames` asks.
 use Rattle.std.proofs.Common.{◌≡◌, ℕ, ◌<◌, ◌==◌, Bool, true, false, arith, refl}
 use Rattle.std.specs.Prelude.{Option, Some, None, if◌then◌else◌}
 use Rattle.std.proofs.lemmas.Bool.{eqb-true}

@@ -1,0 +1,159 @@
+// Writing one leaf of the static record.
+ghost use Rattle.std.specs.Prelude.{◌≡◌, ◌↔◌, IsTrue, IfOk, Err, map};
+ghost use Rattle.gt_types.specs.Settled.{Settled};
+ghost use Rattle.gt_tree.specs.Trees.{Trees, Rec};
+ghost use Rattle.gt_tree.specs.Fits.{AllFit, StaticsFit};
+ghost use Rattle.gt_value.specs.Values.{trees, tree_of};
+ghost use Rattle.gt_value.specs.declared.values.ValueFail.TheVariants.{Shape};
+ghost use Rattle.gt_assign.specs.Pasts.{was_of, past_of};
+ghost use Rattle.gt_assign.specs.Scoping.{scope_of};
+ghost use Rattle.gt_assign.specs.Turning.{Gives, made, roots_made, record_made};
+ghost use Rattle.gt_assign.specs.Results.{IsRecord, RecordFits, IsRecordAssigned, IsRecordMisfit, IsRecordWhereFit, NoneElseIsRecord, NoneIsRecord};
+
+use crate::assigning::{MAX_NESTING, leads_to_leaf};
+use crate::checks::{Checking, fits};
+use crate::copies::is_word;
+use crate::parts::with_part;
+use crate::scoping::Within;
+use crate::seeing::{Around, Seen};
+use crate::steps::{field_of, has_fields};
+use crate::turning::{Making, turn};
+use gt_types::{Program, Root};
+use gt_value::{BlockNames, Value, ValueFail};
+use std::alloc::Global;
+
+// The roots, made anew one after another.
+fn roots_anew(on: &Making, roots: &[Root], seen: Seen, around: &Around) -> Result<Value, ValueFail>
+    requires settled { Settled on.now.program.now }
+    ensures { Gives result (roots_made (made on.now.program.now on.now.capacity 256) (past_of around.now) roots.now (was_of seen.entry)) }
+{
+    if !has_fields(seen, roots.len()) {
+        return Err(ValueFail::Shape);
+    }
+    let mut parts = Vec::new(on.alloc);
+    for (i, root) in roots.iter().enumerate() {
+        let Some(part) = field_of(seen, i) else {
+            return Err(ValueFail::Shape);
+        };
+        parts.push(turn(on, &root.ty, part, around, MAX_NESTING)?)?;
+    }
+    Ok(Value::Rec(parts))
+}
+
+// What the static record becomes, in which a leaf was replaced: its expressions read the roots as they are there.
+fn record_anew(alloc: Global, program: &Program, written: &Value) -> Result<Value, ValueFail>
+    requires settled { Settled program.now }
+    ensures { Gives result (record_made program.now 256 (tree_of written.now)) }
+{
+    let Value::Rec(parts) = written else {
+        return Err(ValueFail::Shape);
+    };
+    let around = Around {
+        here: None,
+        outer: None,
+        outermost: None,
+        roots: parts.as_slice(),
+    };
+    let on = Making {
+        alloc,
+        program,
+        capacity: 0,
+    };
+    roots_anew(&on, program.roots.as_slice(), Seen::Whole(written), &around)
+}
+
+// Whether values fit these roots, one after another.
+fn roots_fit<N: BlockNames>(
+    parts: &[Value],
+    roots: &[Root],
+    on: &Checking<N>,
+    within: &Within,
+) -> bool
+    requires settled { Settled on.now.program.now }
+    ensures { IsTrue result ↔ AllFit on.now.program.now (N.blocks on.now.names.now) on.now.capacity (scope_of within.now) (map (λ r. r.ty) roots.now) (trees (map tree_of parts.now)) }
+{
+    if parts.len() != roots.len() {
+        return false;
+    }
+    for (i, part) in parts.iter().enumerate() {
+        if !fits(part, &roots[i].ty, on, within) {
+            return false;
+        }
+    }
+    true
+}
+
+// Whether a value is a record that fits the roots, which its expressions read.
+fn record_fits<N: BlockNames>(program: &Program, value: &Value, names: &N) -> bool
+    requires settled { Settled program.now }
+    ensures { IsTrue result ↔ RecordFits program.now (N.blocks names.now) (tree_of value.now) }
+{
+    let Value::Rec(parts) = value else {
+        return false;
+    };
+    let parts = parts.as_slice();
+    let within = Within {
+        here: None,
+        outer: None,
+        outermost: None,
+        roots: parts,
+    };
+    let on = Checking {
+        program,
+        names,
+        capacity: 0,
+    };
+    roots_fit(parts, program.roots.as_slice(), &on, &within)
+}
+
+/// The one record that the static record can become where the leaf at a path is written, of which the first place is that of a
+/// root. What its numbers and pointers are is not checked: where the record fits, it is what the write makes, and where it does
+/// not, the write makes none. `Shape` says that the write makes none in any case: the path leads to no leaf, the new part is none,
+/// or the record does not have the form of the roots.
+pub fn reshape_statics(
+    alloc: Global,
+    program: &Program,
+    values: Value,
+    path: &[u32],
+    leaf: Value,
+) -> Result<Value, ValueFail>
+    requires settled { Settled program.now }
+    requires roots { IsRecord (tree_of values) }
+    ensures fits { IfOk result (λ v. IsRecordWhereFit program.now (tree_of values) path.now (tree_of leaf) (tree_of v)) }
+    ensures misfit { IfOk result (λ v. NoneElseIsRecord program.now (tree_of values) path.now (tree_of leaf) (tree_of v)) }
+    ensures shape { result ≡ Err Shape → NoneIsRecord program.now (tree_of values) path.now (tree_of leaf) }
+{
+    if !is_word(&leaf) || !leads_to_leaf(&values, path) {
+        return Err(ValueFail::Shape);
+    }
+    let written = with_part(alloc, values, path, leaf)?;
+    record_anew(alloc, program, &written)
+}
+
+/// What the static record becomes where the leaf at a path is written, of which the first place is that of a root. A root may say
+/// the length of another. `Shape` says that no record fits: the path leads to no leaf, the new leaf does not suit its place, or a
+/// length says other than what a pointer names. A pointer that is written where no member of a union around it is active becomes
+/// null.
+pub fn assign_statics<N: BlockNames>(
+    alloc: Global,
+    program: &Program,
+    values: Value,
+    path: &[u32],
+    leaf: Value,
+    names: &N,
+) -> Result<Value, ValueFail>
+    requires settled { Settled program.now }
+    requires fits { (parts : Trees) × (tree_of values ≡ Rec parts) × StaticsFit program.now (N.blocks names.now) parts }
+    ensures assigned { IfOk result (λ v. IsRecordAssigned program.now (N.blocks names.now) (tree_of values) path.now (tree_of leaf) (tree_of v)) }
+    ensures shape { result ≡ Err Shape → IsRecordMisfit program.now (N.blocks names.now) (tree_of values) path.now (tree_of leaf) }
+{
+    let made = match reshape_statics(alloc, program, values, path, leaf) {
+        Ok(made) => made,
+        Err(fail) => return Err(fail),
+    };
+    if record_fits(program, &made, names) {
+        Ok(made)
+    } else {
+        Err(ValueFail::Shape)
+    }
+}

@@ -1,0 +1,17 @@
+pub mod Swaps
+pub mod SwapReads
+pub mod Alongs
+pub mod SwapScopes
+pub mod PlainParts
+pub mod Refits
+pub mod UnreadLaws
+pub mod Texts
+pub mod Members
+pub mod EndLemmas
+pub mod TableLemmas
+pub mod LeafTypes
+pub mod WordBytes
+pub mod LeafTrees
+pub mod Misfits
+pub mod MisfitPlaces
+pub mod WritePlaces

@@ -1,0 +1,115 @@
+-- Elements of lists: of one to which another is added where it is new, of those of each of several, and at the same places of two.
+use Rattle.std.proofs.Common.{◌≡◌, ℕ, zero, suc, ◌-◌, ◌||◌, Bool, true, false, List, [], ◌∷◌, ◌++◌, map, length, refl, ap, sym, subst, ◌∙◌, ◌⊎◌, arith, Some, inl, inr, if◌then◌else◌}
+use Rattle.std.specs.Prelude.{◌↔◌, Contains, Any, flat_map, slice_get}
+use Rattle.std.specs.List.{list_any, AllZip}
+use Rattle.std.proofs.lemmas.List.Elements.{Contains-append_left, Contains-append_right, Contains-append_cases, Contains-push, Contains-push_cases}
+use Rattle.std.proofs.lemmas.List.Folds.{list_any-from_Any}
+
+module _ {X : Type 0} where
+  pub nothing : (x : X) → ¬ Contains [] x
+  nothing x (i, h, e) = absurd (omega arith)
+
+  pub first : (x : X) (xs : List X) → Contains (x ∷ xs) x
+  first x xs = (zero, omega arith, refl)
+
+  pub later : (y x : X) (xs : List X) → Contains xs x → Contains (y ∷ xs) x
+  later y x xs (i, h, e) = (suc i, omega arith, e)
+
+  pub first-or-later : (y x : X) (xs : List X) → Contains (y ∷ xs) x → (y ≡ x) ⊎ Contains xs x
+  first-or-later y x xs (zero, h, e) = inl e
+  first-or-later y x xs (suc i, h, e) = inr (i, omega arith, e)
+
+  -- ---- what passes a test
+
+  found-step : (p : X → Bool) (x : X) (xs : List X) (b : Bool) → p x ≡ b → (list_any p xs ≡ true → (y : X) × Contains xs y × (p y ≡ true)) → list_any p (x ∷ xs) ≡ true → (y : X) × Contains (x ∷ xs) y × (p y ≡ true)
+  found-step p x xs true e rest h = (x, first x xs, e)
+  found-step p x xs false e rest h =
+      let found = rest (ap (λ b. b || list_any p xs) (sym e) ∙ h) in
+      (found.0, later x found.0 xs found.1, found.2)
+
+  any-found : (p : X → Bool) (xs : List X) → list_any p xs ≡ true → (x : X) × Contains xs x × (p x ≡ true)
+  any-found p [] h = absurd (cc)
+  any-found p (x ∷ xs) h = found-step p x xs (p x) refl (any-found p xs) h
+
+  -- a test that one element alone passes finds this one
+  pub found-there : (p : X → Bool) (xs : List X) (x : X) → ((y : X) → p y ≡ true → y ≡ x) → list_any p xs ≡ true → Contains xs x
+  found-there p xs x only h = let found = any-found p xs h in subst (Contains xs) (only found.0 found.2) found.1
+
+  pub there-found : (p : X → Bool) (xs : List X) (x : X) → p x ≡ true → Contains xs x → list_any p xs ≡ true
+  there-found p xs x h c = list_any-from_Any p xs (c.0, x, c.1, c.2, h)
+
+  -- the elements where one is added that is new
+  pub added : (p : X → Bool) (xs : List X) (y x : X) → ((z : X) → p z ≡ true → z ≡ y) → Contains (if list_any p xs then xs else xs ++ y ∷ []) x ↔ (Contains xs x ⊎ (y ≡ x))
+  added p xs y x only = go (list_any p xs) refl
+    where
+      go : (b : Bool) → list_any p xs ≡ b → Contains (if b then xs else xs ++ y ∷ []) x ↔ (Contains xs x ⊎ (y ≡ x))
+      go true e = (λ c. inl c, λ h. elim h [ inl c ↦ c | inr is ↦ subst (Contains xs) is (found-there p xs y only e) ])
+      go false e = (λ c. Contains-push_cases xs y x c, λ h. elim h [ inl c ↦ Contains-append_left xs (y ∷ []) x c | inr is ↦ subst (Contains (xs ++ y ∷ [])) is (Contains-push xs y) ])
+
+  -- ---- some element of two lists
+
+  pub any-append : (P : X → Type 0) (xs ys : List X) → Any P (xs ++ ys) ↔ (Any P xs ⊎ Any P ys)
+  any-append P xs ys = (there, back)
+    where
+      there : Any P (xs ++ ys) → Any P xs ⊎ Any P ys
+      there (i, x, h, e, p) = elim (Contains-append_cases xs ys x (i, h, e)) [ inl c ↦ inl (c.0, x, c.1, c.2, p) | inr c ↦ inr (c.0, x, c.1, c.2, p) ]
+
+      back : Any P xs ⊎ Any P ys → Any P (xs ++ ys)
+      back (inl (i, x, h, e, p)) = let c = Contains-append_left xs ys x (i, h, e) in (c.0, x, c.1, c.2, p)
+      back (inr (i, x, h, e, p)) = let c = Contains-append_right xs ys x (i, h, e) in (c.0, x, c.1, c.2, p)
+
+  pub contains-append : (xs ys : List X) (x : X) → Contains (xs ++ ys) x ↔ (Contains xs x ⊎ Contains ys x)
+  contains-append xs ys x = (λ c. Contains-append_cases xs ys x c, λ h. elim h [ inl c ↦ Contains-append_left xs ys x c | inr c ↦ Contains-append_right xs ys x c ])
+
+flat-step : {X Y : Type 0} (f : X → List Y) (x : X) (xs : List X) (y : Y) → Contains (flat_map f xs) y ↔ ((z : X) × Contains xs z × Contains (f z) y) → Contains (f x ++ flat_map f xs) y ↔ ((z : X) × Contains (x ∷ xs) z × Contains (f z) y)
+flat-step {X} {Y} f x xs y rest = (there, back)
+  where
+    there : Contains (f x ++ flat_map f xs) y → (z : X) × Contains (x ∷ xs) z × Contains (f z) y
+    there c = elim (Contains-append_cases (f x) (flat_map f xs) y c) [ inl d ↦ (x, first x xs, d) | inr d ↦ let found = rest.0 d in (found.0, later x found.0 xs found.1, found.2) ]
+
+    back : (z : X) × Contains (x ∷ xs) z × Contains (f z) y → Contains (f x ++ flat_map f xs) y
+    back (z, c, d) = elim (first-or-later x z xs c) [
+      | inl is ↦ Contains-append_left (f x) (flat_map f xs) y (subst (λ w. Contains (f w) y) (sym is) d)
+      | inr after ↦ Contains-append_right (f x) (flat_map f xs) y (rest.1 (z, after, d))
+    ]
+
+-- the elements of what each of several has
+pub contains-flat : {X Y : Type 0} (f : X → List Y) (xs : List X) (y : Y) → Contains (flat_map f xs) y ↔ ((x : X) × Contains xs x × Contains (f x) y)
+contains-flat f [] y = (λ c. absurd (nothing y c), λ h. absurd (nothing h.0 h.1))
+contains-flat f (x ∷ xs) y = flat-step f x xs y (contains-flat f xs y)
+
+-- ---- the last of a list
+
+last-step : {X : Type 0} (y z : X) (zs : List X) → slice_get (y ∷ z ∷ zs) (length (y ∷ z ∷ zs) - 1) ≡ slice_get (z ∷ zs) (length (z ∷ zs) - 1)
+last-step y z zs = let next : length (y ∷ z ∷ zs) - 1 ≡ suc (length (z ∷ zs) - 1) = omega arith in ap (λ i. slice_get (y ∷ z ∷ zs) i) next
+
+last-from : {X : Type 0} (x : X) (ys : List X) → slice_get ys (length ys - 1) ≡ Some x → (front : List X) × (ys ≡ front ++ x ∷ [])
+last-from x [] e = absurd (cc)
+last-from x (y ∷ []) e = let is : y ≡ x = cc in ([], ap (λ z. z ∷ []) is)
+last-from x (y ∷ z ∷ zs) e = let found = last-from x (z ∷ zs) (sym (last-step y z zs) ∙ e) in (y ∷ found.0, ap (λ l. y ∷ l) found.1)
+
+last-of : {X : Type 0} (x : X) (front : List X) → slice_get (front ++ x ∷ []) (length (front ++ x ∷ []) - 1) ≡ Some x
+last-of x [] = refl
+last-of x (y ∷ []) = last-step y x []
+last-of x (y ∷ z ∷ zs) = last-step y z (zs ++ x ∷ []) ∙ last-of x (z ∷ zs)
+
+pub last-is : {X : Type 0} (xs : List X) (x : X) → (slice_get xs (length xs - 1) ≡ Some x) ↔ ((front : List X) × (xs ≡ front ++ x ∷ []))
+last-is xs x = (last-from x xs, λ h. subst (λ ys. slice_get ys (length ys - 1) ≡ Some x) (sym h.1) (last-of x h.0))
+
+-- ---- two lists, place by place
+
+pub zip-map : {X Y : Type 0} (R : X → Y → Type 0) (f : X → Y) (xs : List X) → ((x : X) → R x (f x)) → AllZip R xs (map f xs)
+zip-map R f [] all = tt
+zip-map R f (x ∷ xs) all = (all x, zip-map R f xs all)
+
+pub zip-at : {X Y : Type 0} (R : X → Y → Type 0) (xs : List X) (ys : List Y) (i : ℕ) (x : X) → AllZip R xs ys → slice_get xs i ≡ Some x → (y : Y) × (slice_get ys i ≡ Some y) × R x y
+zip-at R [] ys i x h e = absurd (cc)
+zip-at R (z ∷ zs) [] i x h e = absurd h
+zip-at R (z ∷ zs) (y ∷ ys) zero x h e = let is : z ≡ x = cc in (y, refl, subst (λ w. R w y) is h.0)
+zip-at R (z ∷ zs) (y ∷ ys) (suc i) x h e = zip-at R zs ys i x h.1 e
+
+pub zip-from : {X Y : Type 0} (R : X → Y → Type 0) (xs : List X) (ys : List Y) (i : ℕ) (y : Y) → AllZip R xs ys → slice_get ys i ≡ Some y → (x : X) × (slice_get xs i ≡ Some x) × R x y
+zip-from R xs [] i y h e = absurd (cc)
+zip-from R [] (w ∷ ys) i y h e = absurd h
+zip-from R (x ∷ xs) (w ∷ ys) zero y h e = let is : w ≡ y = cc in (x, refl, subst (R x) is h.0)
+zip-from R (x ∷ xs) (w ∷ ys) (suc i) y h e = zip-from R xs ys i y h.1 e

@@ -1,0 +1,188 @@
+-- Paths whose last names expressions read find the same numbers in two values that differ in a leaf that none reads.
+use Rattle.std.proofs.Common.{◌≡◌, ℕ, zero, suc, Bool, true, false, cond, IsTrue, List, [], ◌∷◌, refl, ap, sym, subst, ◌∙◌, Option, Some, None}
+use Rattle.std.specs.Prelude.{slice_get}
+use Rattle.gt_types.specs.declared.expressions.Expr.{Expr}
+use Rattle.gt_types.specs.declared.types.TypeId.{TypeId}
+use Rattle.gt_types.specs.declared.types.Ty.{Ty}
+use Rattle.gt_types.specs.declared.types.Ty.TheVariants as ty
+use Rattle.gt_types.specs.declared.program.Field.{Field}
+use Rattle.gt_types.specs.declared.program.Structure.{Structure}
+use Rattle.gt_types.specs.declared.program.Program.{Program}
+use Rattle.gt_types.specs.Shapes.{is_number, is_structure}
+use Rattle.gt_types.specs.Contains.{HasStructure}
+use Rattle.gt_types.specs.Unions.{IsCommon}
+use Rattle.gt_types.specs.Paths.{by_name, Leads, last_step, next_step}
+use Rattle.gt_types.specs.Settled.{Settled}
+use Rattle.gt_tree.specs.Trees.{Tree, Num, Null, To, Raw, Rec, Alt, Row, Trees, tree_at, is_leaf}
+use Rattle.gt_tree.specs.Scopes.{Typed, typed, ◌then◌, is_node, type_of_field, first_type, beginning, beginning_of, field_of, member_of, number_at, read_path}
+use Rattle.gt_tree.specs.Fits.{types_of}
+use Rattle.gt_tree.proofs.Commons.{one-common}
+use Rattle.gt_tree.proofs.PathBits.{some-same}
+use Rattle.gt_tree.proofs.PathParts.{get-map}
+use Rattle.gt_tree.proofs.WriteReads.{named-place, step-taken, read-desc, node-type, first-types}
+use Rattle.gt_value.specs.declared.places.Holder.{Holder}
+use Rattle.gt_value.specs.declared.places.Holder.TheVariants as lies_in
+use Rattle.gt_leaf.specs.Unread.{IsUnread, IsReadName}
+use Rattle.gt_leaf.proofs.Swaps.{Swap, OneSwaps}
+
+-- the last name of a path is one that expressions read
+abbrev pub LastRead : Program → List (List ℕ) → Type 0
+LastRead program [] = Unit {0}
+LastRead program (name ∷ []) = IsReadName program name
+LastRead program (name ∷ next ∷ names) = LastRead program (next ∷ names)
+
+last-read-next : (program : Program) (name : List ℕ) (names : List (List ℕ)) → LastRead program (name ∷ names) → LastRead program names
+last-read-next program name [] read = tt
+last-read-next program name (next ∷ names) read = read
+
+-- ---- numbers
+
+pub number-swap : {program : Program} {h : Holder} {type : Ty} {o n : Tree} → Swap program h type o n → ¬ IsUnread program h → number_at o ≡ number_at n
+number-swap (Swap.replaced unread a b plain) read = absurd (read unread)
+number-swap (Swap.in_struct h u one) read = refl
+number-swap (Swap.in_member h u g swap) read = refl
+number-swap (Swap.in_common h c swap) read = refl
+number-swap (Swap.in_row plain) read = refl
+
+-- ---- what a value begins with
+
+-- a part of a value and that of the other are one, or they differ so
+data Kept (program : Program) (c : TypeId) : Option Tree → Option Tree → Type 0 where
+  kept_same : {x : Option Tree} → Kept program c x x
+  kept_swap : {h : Holder} {desc : Option Expr} {p q : Tree} → Swap program h (ty.Node c desc) p q → Kept program c (Some p) (Some q)
+
+no-node : (c : TypeId) (type : Ty) → is_structure type ≡ false → is_node c type ≡ false
+no-node c (ty.Node node desc) e = absurd (cc)
+no-node c type e = refl
+
+begin-leaf : (program : Program) (c : TypeId) (type : Ty) (tree : Tree) → is_node c type ≡ false → IsTrue (is_leaf tree) → beginning program c (Some type) tree ≡ None
+begin-leaf program c type (Num n) e h = ap (λ b. cond b (Some (Num n)) None) e
+begin-leaf program c type Null e h = ap (λ b. cond b (Some Null) None) e
+begin-leaf program c type (To id) e h = ap (λ b. cond b (Some (To id)) None) e
+begin-leaf program c type (Raw bytes) e h = ap (λ b. cond b (Some (Raw bytes)) None) e
+begin-leaf program c type (Rec trees) e h = absurd (cc)
+begin-leaf program c type (Alt member tree) e h = absurd (cc)
+begin-leaf program c type (Row trees) e h = absurd (cc)
+
+module _ {program : Program} (c : TypeId) where
+  kept-or : {h : Holder} (type : Ty) (o n : Tree) (b : Bool) (x y : Option Tree) → is_node c type ≡ b → Swap program h type o n → Kept program c x y → Kept program c (cond b (Some o) x) (cond b (Some n) y)
+  kept-or {h} type o n true x y e swap k = Kept.kept_swap (subst (λ t. Swap program h t o n) (node-type c type e).1 swap)
+  kept-or type o n false x y e swap k = k
+
+  mutual
+    kept-begin : {h : Holder} {type : Ty} {o n : Tree} → Swap program h type o n → Kept program c (beginning program c (Some type) o) (beginning program c (Some type) n)
+    kept-begin (Swap.replaced {type} {a = o} {b = n} unread a b plain) =
+        subst (λ x. Kept program c x (beginning program c (Some type) n)) (sym (begin-leaf program c type o (no-node c type plain) a))
+        (subst (λ x. Kept program c None x) (sym (begin-leaf program c type n (no-node c type plain) b)) Kept.kept_same)
+    kept-begin (Swap.in_struct {h} {node} {desc} {s} {old} {new} has u one) =
+        kept-or {h = h} (ty.Node node desc) (Rec old) (Rec new) (is_node c (ty.Node node desc)) (beginning_of program c (first_type program (ty.Node node desc)) old)
+        (beginning_of program c (first_type program (ty.Node node desc)) new) refl (Swap.in_struct has u one)
+        (subst (λ t. Kept program c (beginning_of program c t old) (beginning_of program c t new)) (sym (first-types program node desc s has)) (kept-first one))
+    kept-begin (Swap.in_member {h} {node} {desc} {i} {old} {new} has u got swap) =
+        kept-or {h = h} (ty.Node node desc) (Alt (Some i) old) (Alt (Some i) new) (is_node c (ty.Node node desc)) None None refl (Swap.in_member has u got swap) Kept.kept_same
+    kept-begin (Swap.in_common {h} {node} {desc} {old} {new} has is swap) =
+        kept-or {h = h} (ty.Node node desc) (Alt None old) (Alt None new) (is_node c (ty.Node node desc)) None None refl (Swap.in_common has is swap) Kept.kept_same
+    kept-begin (Swap.in_row {h} {type} {old} {new} plain) = kept-or {h = h} type (Row old) (Row new) (is_node c type) None None refl (Swap.in_row plain) Kept.kept_same
+
+    kept-first : {at : ℕ → Holder} {types : List Ty} {olds news : Trees} → OneSwaps program at types olds news → Kept program c (beginning_of program c (slice_get types 0) olds) (beginning_of program c (slice_get types 0) news)
+    kept-first (OneSwaps.at_first swap) = kept-begin swap
+    kept-first (OneSwaps.at_later one) = Kept.kept_same
+
+  kept-then : (names : List (List ℕ)) (d : Option Expr) {x y : Option Tree}
+      → ((h : Holder) (desc : Option Expr) (p q : Tree) → Swap program h (ty.Node c desc) p q → read_path program names (ty.Node c None) p ≡ read_path program names (ty.Node c None) q) → Kept program c x y
+      → ((x then λ part. Some (typed (ty.Node c d) part)) then λ next. read_path program names next.type next.value) ≡ ((y then λ part. Some (typed (ty.Node c d) part)) then λ next. read_path program names next.type next.value)
+  kept-then names d rest Kept.kept_same = refl
+  kept-then names d rest (Kept.kept_swap {h} {desc} {p} {q} swap) = read-desc program names c d p ∙ rest h desc p q swap ∙ sym (read-desc program names c d q)
+
+-- ---- the field of a struct
+
+-- the fields at a place are one value, or they differ so
+data FieldSwap (program : Program) (h : Holder) (type : Ty) : Option Typed → Option Typed → Type 0 where
+  one_field : {x : Option Typed} → FieldSwap program h type x x
+  two_fields : {p q : Tree} → Swap program h type p q → FieldSwap program h type (Some (typed type p)) (Some (typed type q))
+
+module _ {program : Program} where
+  fields-swap : {at : ℕ → Holder} {types : List Ty} {olds news : Trees} → OneSwaps program at types olds news → (i : ℕ) (type : Ty) → slice_get types i ≡ Some type
+      → FieldSwap program (at i) type (tree_at olds i then λ tree. Some (typed type tree)) (tree_at news i then λ tree. Some (typed type tree))
+  fields-swap (OneSwaps.at_first {at} {type = first} {old} {new} swap) zero type e = let equal : first ≡ type = cc in FieldSwap.two_fields (subst (λ t. Swap program (at zero) t old new) equal swap)
+  fields-swap (OneSwaps.at_first swap) (suc i) type e = FieldSwap.one_field
+  fields-swap (OneSwaps.at_later one) zero type e = FieldSwap.one_field
+  fields-swap (OneSwaps.at_later one) (suc i) type e = fields-swap one i type e
+
+  field-swap : (node : TypeId) (desc : Option Expr) (s : Structure) (f : Field) (place : ℕ) {h : Holder} {o n : Tree} → HasStructure program node s → s.is_union ≡ false → slice_get s.fields place ≡ Some f
+      → Swap program h (ty.Node node desc) o n → FieldSwap program (lies_in.Field node place) f.ty (field_of f o place) (field_of f n place)
+  field-swap node desc s f place has struct got (Swap.replaced unread a b plain) = absurd (cc)
+  field-swap node desc s f place has struct got (Swap.in_struct {s = other} {old} {new} h u one) =
+      let equal : other ≡ s = some-same (slice_get program.structures node.0) other s h has in
+      fields-swap (subst (λ x. OneSwaps program (lies_in.Field node) (types_of x.fields) old new) equal one) place f.ty (get-map (λ g. g.ty) s.fields place f got)
+  field-swap node desc s f place has struct got (Swap.in_member {s = other} h u g swap) = let equal : other ≡ s = some-same (slice_get program.structures node.0) other s h has in absurd (cc)
+  field-swap node desc s f place has struct got (Swap.in_common {s = other} h c swap) =
+      let equal : other ≡ s = some-same (slice_get program.structures node.0) other s h has in
+      let union = c.union in
+      absurd (cc)
+  field-swap node desc s f place has struct got (Swap.in_row plain) = absurd (cc)
+
+  field-then : (names : List (List ℕ)) (h : Holder) (type : Ty) {x y : Option Typed} → ((p q : Tree) → Swap program h type p q → read_path program names type p ≡ read_path program names type q) → FieldSwap program h type x y
+      → (x then λ next. read_path program names next.type next.value) ≡ (y then λ next. read_path program names next.type next.value)
+  field-then names h type rest FieldSwap.one_field = refl
+  field-then names h type rest (FieldSwap.two_fields {p} {q} swap) = rest p q swap
+
+-- ---- the common structure of a union
+
+module _ {program : Program} (settled : Settled program) where
+  abbrev ReadsOn : TypeId → List (List ℕ) → Type 0
+  ReadsOn c names = (h : Holder) (desc : Option Expr) (p q : Tree) → Swap program h (ty.Node c desc) p q → read_path program names (ty.Node c None) p ≡ read_path program names (ty.Node c None) q
+
+  union-read : (node : TypeId) (desc : Option Expr) (s : Structure) (c : TypeId) (d : Option Expr) (names : List (List ℕ)) {h : Holder} (o n : Tree) → HasStructure program node s → IsCommon program s c → ReadsOn c names
+      → Swap program h (ty.Node node desc) o n
+      → (member_of program s (ty.Node c d) o then λ next. read_path program names next.type next.value) ≡ (member_of program s (ty.Node c d) n then λ next. read_path program names next.type next.value)
+  union-read node desc s c d names o n has is rest (Swap.replaced unread a b plain) = absurd (cc)
+  union-read node desc s c d names o n has is rest (Swap.in_struct h u one) = refl
+  union-read node desc s c d names o n has is rest (Swap.in_member {s = other} {i} {f} {old} {new} h u got swap) =
+      let same : other ≡ s = some-same (slice_get program.structures node.0) other s h has in
+      let get : slice_get s.fields i ≡ Some f = subst (λ x. slice_get x.fields i ≡ Some f) same got in
+      kept-then c names d rest
+      (subst (λ t. Kept program c (beginning program c t old) (beginning program c t new)) (sym (ap type_of_field get)) (kept-begin c swap))
+  union-read node desc s c d names o n has is rest (Swap.in_common {h} {common} {s = other} {old} {new} there found swap) =
+      let same : other ≡ s = some-same (slice_get program.structures node.0) other s there has in
+      let equal : common ≡ c = one-common program node s common c settled has (subst (λ x. IsCommon program x common) same found) is in
+      kept-then c names d rest (kept-begin c (subst (λ k. Swap program h (ty.Node k None) old new) equal swap))
+  union-read node desc s c d names o n has is rest (Swap.in_row plain) = absurd (cc)
+
+  -- ---- a path
+
+  pub reads-swapped : {node : TypeId} {steps : List (List ℕ)} {type : Ty} → Leads program by_name node steps type → IsTrue (is_number type) → LastRead program steps → (h : Holder) (desc : Option Expr) (o n : Tree)
+      → Swap program h (ty.Node node desc) o n → read_path program steps (ty.Node node None) o ≡ read_path program steps (ty.Node node None) n
+  reads-swapped (last_step {node} {x = name} {s} {f} has named may) number read h desc o n r = go s.is_union refl
+    where
+      go : (b : Bool) → s.is_union ≡ b → read_path program (name ∷ []) (ty.Node node None) o ≡ read_path program (name ∷ []) (ty.Node node None) n
+      go true union = let c = may.common union in let none = ap is_number c.2 in absurd (cc)
+      go false struct =
+          let found = named-place program settled node s f name has may.there named in
+          let is_read = λ (unread : IsUnread program (lies_in.Field node found.0)). unread s f has found.2 number (subst (IsReadName program) (sym named) read) in
+          ap (λ x. x then λ next. read_path program [] next.type next.value) (step-taken program node s f name found.0 false o has struct found.1 found.2)
+          ∙ field-then [] (lies_in.Field node found.0) f.ty (λ p q swap. number-swap swap is_read) (field-swap node desc s f found.0 has struct found.2 r)
+          ∙ sym (ap (λ x. x then λ next. read_path program [] next.type next.value) (step-taken program node s f name found.0 false n has struct found.1 found.2))
+  reads-swapped (next_step {node} {next} {x = name} {xs = names} {s} {f} {desc = inner} {type} has named may is rest) number read h desc o n r =
+      go (reads-swapped rest number (last-read-next program name names read)) s.is_union refl
+    where
+      go : ReadsOn next names → (b : Bool) → s.is_union ≡ b → read_path program (name ∷ names) (ty.Node node None) o ≡ read_path program (name ∷ names) (ty.Node node None) n
+      go later true union =
+          let c = may.common union in
+          let common : IsCommon program s next = let named_so : ty.Node c.0 c.1 ≡ ty.Node next inner = sym c.2 ∙ is in let same : c.0 ≡ next = cc in subst (IsCommon program s) same c.3 in
+          let found = named-place program settled node s f name has may.there named in
+          ap (λ x. x then λ next. read_path program names next.type next.value) (step-taken program node s f name found.0 true o has union found.1 found.2)
+          ∙ subst (λ t. (member_of program s t o then λ next. read_path program names next.type next.value) ≡ (member_of program s t n then λ next. read_path program names next.type next.value)) (sym is)
+          (union-read node desc s next inner names o n has common later r)
+          ∙ sym (ap (λ x. x then λ next. read_path program names next.type next.value) (step-taken program node s f name found.0 true n has union found.1 found.2))
+      go later false struct =
+          let found = named-place program settled node s f name has may.there named in
+          ap (λ x. x then λ next. read_path program names next.type next.value) (step-taken program node s f name found.0 false o has struct found.1 found.2)
+          ∙ field-then names (lies_in.Field node found.0) f.ty
+          (λ p q k.
+          ap (λ t. read_path program names t p) is
+          ∙ read-desc program names next inner p
+          ∙ later (lies_in.Field node found.0) inner p q (subst (λ t. Swap program (lies_in.Field node found.0) t p q) is k)
+          ∙ sym (ap (λ t. read_path program names t q) is ∙ read-desc program names next inner q))
+          (field-swap node desc s f found.0 has struct found.2 r)
+          ∙ sym (ap (λ x. x then λ next. read_path program names next.type next.value) (step-taken program node s f name found.0 false n has struct found.1 found.2))

@@ -1,0 +1,93 @@
+-- Expressions of the program have the same values in two scopes from whose structures the paths that they read lead to the same numbers.
+use Rattle.std.proofs.Common.{◌≡◌, ℕ, true, List, [], ◌∷◌, ◌++◌, refl, ap, ◌∙◌, Option, Some, None}
+use Rattle.std.specs.Prelude.{Contains}
+use Rattle.std.proofs.lemmas.List.Elements.{All-contains, All-contains_itself, All-weaker}
+use Rattle.gt_types.specs.declared.expressions.Base.TheVariants.{Here, Outer, Outermost}
+use Rattle.gt_types.specs.declared.expressions.Expr.{Expr}
+use Rattle.gt_types.specs.declared.types.TypeId.{TypeId}
+use Rattle.gt_types.specs.declared.types.Ty.{Ty}
+use Rattle.gt_types.specs.declared.types.Ty.TheVariants as ty
+use Rattle.gt_types.specs.declared.program.Structure.{Structure}
+use Rattle.gt_types.specs.declared.program.Program.{Program}
+use Rattle.gt_types.specs.Contains.{HasStructure}
+use Rattle.gt_types.specs.Paths.{Way, paths_of, roots_of, LeadsToNumber}
+use Rattle.gt_types.specs.Settled.{Settled}
+use Rattle.gt_types.specs.Shapes.{count_of}
+use Rattle.gt_tree.specs.Trees.{Tree, Trees}
+use Rattle.gt_tree.specs.Scopes.{Held, Scope, outside, inside, first_of, ◌then◌, read_path, leaf_in, root_in, eval_in}
+use Rattle.gt_tree.specs.Fits.{desc_value}
+use Rattle.gt_tree.specs.PathLaws.{LeadsInScope}
+use Rattle.gt_tree.proofs.PathExprs.{worth-same}
+use Rattle.gt_tree.proofs.FixedExprs.{roots-worth}
+use Rattle.gt_leaf.specs.Unread.{IsExpressionOf, IsReadName, IsReadRoot}
+use Rattle.gt_leaf.proofs.SwapReads.{LastRead}
+use Rattle.gt_leaf.proofs.Alongs.{Along, IsMet, count-met, desc-met}
+
+-- paths that expressions read lead to the same numbers in two values of a structure
+abbrev pub ReadSame : Program → TypeId → Tree → Tree → Type 0
+ReadSame program node v w =
+    (steps : List (List ℕ)) → LeadsToNumber program node steps → LastRead program steps → read_path program steps (ty.Node node None) v ≡ read_path program steps (ty.Node node None) w
+
+-- two values of one structure in which they do; or none twice
+pub data HeldSame (program : Program) : Option Held → Option Held → Type 0 where
+  neither : HeldSame program None None
+  both : {node : TypeId} {v w : Tree} → ReadSame program node v w → HeldSame program (Some (record { node = node; value = v })) (Some (record { node = node; value = w }))
+
+-- two scopes of such values, in which the roots that expressions read are the same numbers
+pub record ScopesSame (program : Program) (s t : Scope) : Type 0 where
+  pub here : HeldSame program s.here t.here
+  pub outer : HeldSame program s.outer t.outer
+  pub outermost : HeldSame program s.outermost t.outermost
+  pub roots : (i : ℕ) → IsReadRoot program i → root_in s i ≡ root_in t i
+
+first-same : {program : Program} {a b c d : Option Held} → HeldSame program a b → HeldSame program c d → HeldSame program (first_of a c) (first_of b d)
+first-same HeldSame.neither h = h
+first-same (HeldSame.both r) h = HeldSame.both r
+
+module _ {program : Program} where
+  pub outside-same : (a b : Trees) → ((i : ℕ) → IsReadRoot program i → root_in (outside a) i ≡ root_in (outside b) i) → ScopesSame program (outside a) (outside b)
+  outside-same a b roots = record { here = HeldSame.neither; outer = HeldSame.neither; outermost = HeldSame.neither; roots = roots }
+
+  pub inside-same : {s t : Scope} (node : TypeId) (v w : Tree) → ScopesSame program s t → ReadSame program node v w → ScopesSame program (inside s node v) (inside t node w)
+  inside-same node v w p r = record { here = HeldSame.both r; outer = p.here; outermost = first-same p.outermost (HeldSame.both r); roots = p.roots }
+
+  -- ---- the names in which paths end
+
+  last-read : (names : List (List ℕ)) → ((front : List (List ℕ)) (name : List ℕ) → names ≡ front ++ name ∷ [] → IsReadName program name) → LastRead program names
+  last-read [] all = tt
+  last-read (name ∷ []) all = all [] name refl
+  last-read (name ∷ next ∷ names) all = last-read (next ∷ names) (λ front last e. all (name ∷ front) last (ap (λ l. name ∷ l) e))
+
+  way-read : (e : Expr) (way : Way) → IsExpressionOf program e → Contains (paths_of e) way → LastRead program way.1
+  way-read e way known c = last-read way.1 (λ front name is. (e, known, (c.0, way, c.1, c.2, (front, is))))
+
+  -- ---- what is read
+
+  base-same : {x y : Option Held} → HeldSame program x y → (steps : List (List ℕ)) → ((held : Held) → x ≡ Some held → LeadsToNumber program held.node steps) → LastRead program steps
+      → (x then λ held. read_path program steps (ty.Node held.node None) held.value) ≡ (y then λ held. read_path program steps (ty.Node held.node None) held.value)
+  base-same HeldSame.neither steps leads read = refl
+  base-same (HeldSame.both {node} {v} {w} r) steps leads read = r steps (leads (record { node = node; value = v }) refl) read
+
+  leaf-same : (s t : Scope) → ScopesSame program s t → (path : Way) → LeadsInScope program s path → LastRead program path.1 → leaf_in program s path.0 path.1 ≡ leaf_in program t path.0 path.1
+  leaf-same s t p (Here, steps) leads read = base-same p.here steps leads read
+  leaf-same s t p (Outer, steps) leads read = base-same p.outer steps leads read
+  leaf-same s t p (Outermost, steps) leads read = base-same p.outermost steps leads read
+
+  pub eval-same : (s t : Scope) (e : Expr) → ScopesSame program s t → IsMet program s e → eval_in program s e ≡ eval_in program t e
+  eval-same s t e p met =
+      worth-same (leaf_in program s) (leaf_in program t) (root_in s) (root_in s) (λ i. refl) e
+      (All-weaker (Contains (paths_of e)) (λ path. leaf_in program s path.0 path.1 ≡ leaf_in program t path.0 path.1)
+      (λ path c. leaf-same s t p path (All-contains (LeadsInScope program s) (paths_of e) path met.readable.leads c) (way-read e path met.known c)) (paths_of e) (All-contains_itself (paths_of e)))
+      ∙ roots-worth (leaf_in program t) (leaf_in program t) (root_in s) (root_in t) (λ base steps. refl) e
+      (All-weaker (Contains (roots_of e)) (λ i. root_in s i ≡ root_in t i) (λ i c. p.roots i (e, met.known, c)) (roots_of e) (All-contains_itself (roots_of e)))
+
+module _ {program : Program} (settled : Settled program) {a : Trees} where
+  -- so lengths are the same
+  pub same-count : {s : Scope} (t : Scope) (type : Ty) (length : Expr) → Along program a s type → ScopesSame program s t → count_of type ≡ Some length → eval_in program s length ≡ eval_in program t length
+  same-count {s} t type length p same e = eval-same s t length same (count-met settled p length e)
+
+  -- and the values that say which member of a union is active
+  pub same-desc : {s : Scope} (t : Scope) (node : TypeId) (desc : Option Expr) (v w : Tree) (x : Structure) → Along program a s (ty.Node node desc) → ScopesSame program s t → ReadSame program node v w
+      → HasStructure program node x → x.is_union ≡ true → desc_value program (inside s node v) desc ≡ desc_value program (inside t node w) desc
+  same-desc t node None v w x p same r has union = refl
+  same-desc {s} t node (Some e) v w x p same r has union = eval-same (inside s node v) (inside t node w) e (inside-same node v w same r) (desc-met settled node x e p has union v)

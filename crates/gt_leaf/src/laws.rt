@@ -1,0 +1,14 @@
+//! What follows for leaves that no expression reads. These calls do nothing: their clauses are laws.
+ghost use Rattle.gt_layout.specs.declared.planes.Plane.{Plane};
+ghost use Rattle.gt_layout.specs.declared.planes.Spot.{Spot};
+ghost use Rattle.gt_leaf.specs.Unread.{UnreadElementsFit, UnreadStaticsFit};
+ghost use Rattle.gt_types.specs.Settled.{Settled};
+ghost use Rattle.gt_types.specs.declared.program.Program.{Program};
+ghost use Rattle.std.specs.Prelude.{List};
+
+/// A leaf that no expression reads may be replaced by another that fits its place: the value with it fits, for an element of a
+/// block and for the static record.
+pub fn unread_leaves_keep_values_fitting()
+    ensures elements { (program : Program) (planes : List Plane) → Settled program → UnreadElementsFit program planes }
+    ensures statics { (program : Program) (planes : List Plane) (spots : List Spot) → Settled program → UnreadStaticsFit program planes spots }
+{}

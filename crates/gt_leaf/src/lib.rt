@@ -1,0 +1,15 @@
+//! One leaf of a value, written where it lies: which leaves no expression reads, and what follows for writing them. `write_leaf` and
+//! `write_static_leaf` write a leaf in the bytes, or say that no value fits with it, or that the whole value has to be looked at.
+#![tactic(auto)]
+
+mod ends;
+mod laws;
+mod names;
+mod places;
+mod reads;
+mod types;
+mod writing;
+
+pub use laws::unread_leaves_keep_values_fitting;
+pub use reads::{Mark, Reads};
+pub use writing::{LeafWrite, write_leaf, write_static_leaf};

@@ -1,0 +1,218 @@
+// One leaf written where it lies.
+ghost use Rattle.std.specs.Prelude.{◌≡◌, ◌≢◌, ◌≤◌, ◌-◌, ◌↔◌, ℤ, IsTrue, Option, option_copied};
+ghost use Rattle.gt_types.specs.declared.expressions.Expr.{Expr};
+ghost use Rattle.gt_types.specs.declared.program.Program.{Program};
+ghost use Rattle.gt_types.specs.Shapes.{count_of, is_pointer};
+ghost use Rattle.gt_types.specs.Settled.{Settled};
+ghost use Rattle.gt_layout.specs.Planes.{IsLaidOut};
+ghost use Rattle.gt_layout.specs.Excess.{IsWithin};
+ghost use Rattle.gt_space.specs.Range.{IsInside, KeepsAddresses};
+ghost use Rattle.gt_tree.specs.Trees.{Tree, Trees};
+ghost use Rattle.gt_tree.specs.Scopes.{◌then◌, eval_in};
+ghost use Rattle.gt_tree.specs.FixedLaws.{AreAddresses};
+ghost use Rattle.gt_value.specs.Bytes.{itself, IsElement, IsRoomFor};
+ghost use Rattle.gt_value.specs.Places.{Part, HasBits};
+ghost use Rattle.gt_store.specs.Leaf.{IsLeafWritten};
+ghost use Rattle.gt_leaf.specs.Tables.{IsTableOf};
+ghost use Rattle.gt_leaf.specs.HeldTypes.{IsOfPart};
+ghost use Rattle.gt_leaf.specs.Verdicts.{IsMisfit};
+ghost use Rattle.gt_leaf.specs.Writing.{StandsBeside, StaticsStandBeside, is_number_leaf, takes_number, has_word, LeafFits, MayWrite, IsAlone, WritesElement, LeavesElement, MisfitsElement, WritesStatics, LeavesStatics, MisfitsStatics};
+ghost use Rattle.gt_leaf.specs.declared.writing.LeafWrite.TheVariants.{Written, NotInPlace, Misfit};
+
+use crate::reads::Reads;
+use crate::types::held_type;
+use gt_assign::{has_room, may_name, number_fits};
+use gt_layout::Layouts;
+use gt_space::Space;
+use gt_store::store_leaf;
+use gt_types::{Program, Ty};
+use gt_value::{BlockNames, LeafContent, Place, leaf_at, leaf_in_statics};
+
+/// What became of the write of one leaf.
+#[derive(Clone, Copy, Debug, PartialEq, Eq)]
+pub enum LeafWrite {
+    /// It is written.
+    Written,
+    /// The whole value has to be looked at: no leaf is there, an expression reads it, it is a pointer in a union without an active
+    /// member, or eight bytes that are never scanned have no room for the number. Nothing has changed.
+    NotInPlace,
+    /// No value fits with this leaf. Nothing has changed.
+    Misfit,
+}
+
+// Whether a number fits a type.
+fn takes_number(ty: &Ty, n: i128) -> bool
+    ensures { result ≡ takes_number ty.now n }
+{
+    match ty {
+        Ty::Opaque { size, .. } => *size == 8 && has_room(true, 64, n),
+        _ => number_fits(ty, n),
+    }
+}
+
+// Whether values of a type are pointers.
+fn is_pointer(ty: &Ty) -> bool
+    ensures { result ≡ is_pointer ty.now }
+{
+    matches!(ty, Ty::Str(_) | Ty::Ptr { .. })
+}
+
+// Whether a leaf is a number.
+fn is_number(leaf: LeafContent) -> bool
+    ensures { result ≡ is_number_leaf leaf }
+{
+    matches!(leaf, LeafContent::Num(_))
+}
+
+// Whether a leaf fits a type, where the length in the type has this value.
+fn leaf_fits<N: BlockNames>(names: &N, ty: &Ty, length: Option<i64>, leaf: LeafContent) -> bool
+    ensures { (value : Expr → Option ℤ) → length ≡ (count_of ty.now then value) → IsTrue result ↔ LeafFits (N.blocks names.now) value ty.now leaf }
+{
+    match leaf {
+        LeafContent::Num(n) => takes_number(ty, n),
+        LeafContent::Null => is_pointer(ty),
+        LeafContent::To(address) => may_name(names, ty, length, address),
+    }
+}
+
+// Whether a leaf is no number without room in eight bytes that are never scanned.
+fn has_word(ty: &Ty, leaf: LeafContent) -> bool
+    ensures { result ≡ has_word ty.now leaf }
+{
+    match ty {
+        Ty::Opaque { .. } => match leaf {
+            LeafContent::Num(n) => has_room(true, 64, n),
+            _ => true,
+        },
+        _ => true,
+    }
+}
+
+// Whether a leaf can be looked at alone at a place, of a part of this type.
+fn is_alone(reads: &Reads, ty: Option<&Ty>, place: Place, leaf: LeafContent) -> bool
+    ensures { (program : Program) (p : Part) → IsTableOf program reads.now → IsOfPart program p place (option_copied ty.entry) → IsTrue result ↔ IsAlone program p leaf }
+{
+    match ty {
+        None => false,
+        Some(ty) => {
+            (place.active || is_number(leaf)) && reads.is_unread(place.holder) && has_word(ty, leaf)
+        }
+    }
+}
+
+// Whether a leaf fits at a place, of a part of this type.
+fn fits_at<N: BlockNames>(names: &N, ty: Option<&Ty>, place: Place, leaf: LeafContent) -> bool
+    ensures { (program : Program) (p : Part) → IsOfPart program p place (option_copied ty.entry) → IsTrue result ↔ LeafFits (N.blocks names.now) (eval_in program p.scope) p.type leaf }
+{
+    match ty {
+        None => false,
+        Some(ty) => leaf_fits(names, ty, place.length, leaf),
+    }
+}
+
+// Writes a leaf at its place, of a part of this type, where it may be written.
+fn write_at<N: BlockNames>(
+    reads: &Reads,
+    names: &N,
+    space: &mut Space,
+    ty: Option<&Ty>,
+    place: Place,
+    leaf: LeafContent,
+) -> LeafWrite
+    requires from_start { space.old.start ≤ place.addr }
+    requires bits { HasBits space.old (place.addr - space.old.start) place.bit place.kind }
+    requires addresses { AreAddresses (N.blocks names.now) itself }
+    requires part { (program : Program) × (p : Part) × IsTableOf program reads.now × IsOfPart program p place (option_copied ty) }
+    ensures addresses { KeepsAddresses space.old space.new }
+    ensures bytes { result ≡ Written → IsLeafWritten place leaf space.old space.new }
+    ensures may { result ≡ Written → (program : Program) (p : Part) → IsTableOf program reads.now → IsOfPart program p place (option_copied ty.entry) → MayWrite program (N.blocks names.now) p leaf }
+    ensures elsewhere { result ≢ Written → space.new ≡ space.old }
+    ensures not_alone { result ≡ NotInPlace → (program : Program) (p : Part) → IsTableOf program reads.now → IsOfPart program p place (option_copied ty.entry) → ¬ IsAlone program p leaf }
+    ensures misfit { result ≡ Misfit → (program : Program) (p : Part) → IsTableOf program reads.now → IsOfPart program p place (option_copied ty.entry) → IsMisfit program (N.blocks names.now) p leaf }
+{
+    if !is_alone(reads, ty, place, leaf) {
+        return LeafWrite::NotInPlace;
+    }
+    if !fits_at(names, ty, place, leaf) {
+        return LeafWrite::Misfit;
+    }
+    store_leaf(space, place, leaf);
+    LeafWrite::Written
+}
+
+/// Writes the leaf at a path in the bytes of an element of a block with room for so many elements at its end, where no expression
+/// reads it and it fits: what the element becomes is then what the write of this leaf makes, and no other bit changes. A path names
+/// places of fields, of the active member and of elements, from the outside in; eight bytes that are never scanned take a number. It
+/// takes no memory, and its time grows with the path alone; where a string is written, with its characters too.
+pub fn write_leaf<N: BlockNames>(
+    program: &Program,
+    layouts: &Layouts,
+    reads: &Reads,
+    names: &N,
+    space: &mut Space,
+    ty: &Ty,
+    addr: u64,
+    capacity: u32,
+    path: &[u32],
+    leaf: LeafContent,
+) -> LeafWrite
+    requires settled { Settled program.now }
+    requires laid { IsLaidOut program.now layouts.now }
+    requires within { IsWithin program.now layouts.now }
+    requires table { IsTableOf program.now reads.now }
+    requires element { IsElement program.now ty.now }
+    requires inside { IsRoomFor program.now layouts.now capacity ty.now space.old addr }
+    requires stands { (statics : Trees) × (value : Tree) × StandsBeside program.now layouts.now (N.blocks names.now) statics capacity ty.now space.old addr value }
+    ensures addresses { KeepsAddresses space.old space.new }
+    ensures written { result ≡ Written → WritesElement program.now layouts.now (N.blocks names.now) capacity ty.now addr path.now leaf space.old space.new }
+    ensures elsewhere { result ≢ Written → space.new ≡ space.old }
+    ensures in_place { result ≡ NotInPlace → LeavesElement program.now layouts.now (N.blocks names.now) capacity ty.now addr path.now leaf space.old }
+    ensures misfit { result ≡ Misfit → MisfitsElement program.now layouts.now (N.blocks names.now) capacity ty.now addr path.now leaf space.old }
+{
+    match leaf_at(program, layouts, space, ty, addr, capacity, path) {
+        None => LeafWrite::NotInPlace,
+        Some(place) => write_at(
+            reads,
+            names,
+            space,
+            held_type(program, Some(ty), place.holder),
+            place,
+            leaf,
+        ),
+    }
+}
+
+/// The same for the static record, of which the first place of a path is that of a root.
+pub fn write_static_leaf<N: BlockNames>(
+    program: &Program,
+    layouts: &Layouts,
+    reads: &Reads,
+    names: &N,
+    space: &mut Space,
+    path: &[u32],
+    leaf: LeafContent,
+) -> LeafWrite
+    requires settled { Settled program.now }
+    requires laid { IsLaidOut program.now layouts.now }
+    requires within { IsWithin program.now layouts.now }
+    requires table { IsTableOf program.now reads.now }
+    requires inside { IsInside space.old space.old.start layouts.now.statics.size }
+    requires stands { (values : Trees) × StaticsStandBeside program.now layouts.now (N.blocks names.now) space.old values }
+    ensures addresses { KeepsAddresses space.old space.new }
+    ensures written { result ≡ Written → WritesStatics program.now layouts.now (N.blocks names.now) path.now leaf space.old space.new }
+    ensures elsewhere { result ≢ Written → space.new ≡ space.old }
+    ensures in_place { result ≡ NotInPlace → LeavesStatics program.now layouts.now (N.blocks names.now) path.now leaf space.old }
+    ensures misfit { result ≡ Misfit → MisfitsStatics program.now layouts.now (N.blocks names.now) path.now leaf space.old }
+{
+    match leaf_in_statics(program, layouts, space, path) {
+        None => LeafWrite::NotInPlace,
+        Some(place) => write_at(
+            reads,
+            names,
+            space,
+            held_type(program, None, place.holder),
+            place,
+            leaf,
+        ),
+    }
+}

@@ -1,0 +1,34 @@
+use Rattle.std.proofs.Common.{sym, subst}
+use Rattle.gt_space.specs.Range.{IsInside}
+use Rattle.gt_value.specs.Values.{tree_of}
+use Rattle.value_table.specs.Blocks.{blocks}
+use Rattle.value_table.specs.Addresses.{addresses}
+use Rattle.value_table.proofs.Rereads.{inside-kept, stands-stored}
+use Rattle.value_table.proofs.finding.store_and_find.Goals as goal
+
+pub store-requires-clause-inside : goal.store-requires-clause-inside
+store-requires-clause-inside c size takes =
+    let p = c.args.room in
+    let filled = inside-kept c.args.space.now c.fill.new.self p.addr p.size c.requires.inside c.fill.ensures.addresses in
+    subst (IsInside c.fill.new.self p.addr) (sym (c.requires.only size takes)) filled
+
+pub find-requires-clause-inside : goal.find-requires-clause-inside
+find-requires-clause-inside c size takes =
+    let p = c.args.room in
+    let filled = inside-kept c.args.space.now c.fill.new.self p.addr p.size c.requires.inside c.fill.ensures.addresses in
+    let stored = inside-kept c.fill.new.self c.store.new.space p.addr p.size filled c.store.ensures.addresses in
+    subst (IsInside c.store.new.space p.addr) (sym (c.requires.only size takes)) stored
+
+pub find-requires-clause-stands : goal.find-requires-clause-stands
+find-requires-clause-stands c =
+    let p = c.args.room in
+    let on = c.args.on.now in
+    let filled = inside-kept c.args.space.now c.fill.new.self p.addr p.size c.requires.inside c.fill.ensures.addresses in
+    let tree = tree_of c.args.value.now in (
+      tree,
+      stands-stored on.program on.layouts c.args.capacity c.args.ty.now tree c.fill.new.self c.store.new.space p.addr p.size c.requires.ready.settled c.requires.ready.laid c.requires.element
+          c.requires.fits c.requires.takes filled c.store.ensures.stored,
+    )
+
+pub store-requires-clause-fits : goal.store-requires-clause-fits
+store-requires-clause-fits c = record { blocks = blocks; statics = c.requires.fits.0; addresses = addresses; fits = c.requires.fits.1 }
