@@ -1,0 +1,4 @@
+pub mod WordLemmas
+pub mod SetLemmas
+pub mod CountLemmas
+pub mod RunLemmas

@@ -1,0 +1,5 @@
+pub mod Rows
+pub mod Sinks
+pub mod Frames
+pub mod Visiting
+pub mod Nested
