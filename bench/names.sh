@@ -51,11 +51,11 @@ headers() {
   }'
 }
 
-# So many structures, each with the next by value, 29,000 in a header: they are refused, as 15 TooMany at the first tag.
+# So many structures, each with the next by value, 20,000 in a header: they are refused, as 15 TooMany at the first tag.
 deep() {
   awk -v n="$1" -v folder="$2" 'BEGIN {
     for (i = 0; i < n; i++) {
-      header = folder "/" 100 + int(i / 29000) ".h"
+      header = folder "/" 100 + int(i / 20000) ".h"
       print i + 1 < n ? "struct GTY(()) s" i " { struct s" i + 1 " f; };" : "struct GTY(()) s" i " { int f; };" >header
     }
   }'
