@@ -8,7 +8,7 @@ mod assigning;
 mod checks;
 mod commons;
 mod copies;
-mod laws;
+pub mod laws;
 mod naming;
 mod parts;
 mod paths;

@@ -6,7 +6,7 @@
 mod characters;
 mod expressions;
 mod integers;
-mod laws;
+pub mod laws;
 mod names;
 mod part;
 mod raw;

@@ -6,9 +6,9 @@ use Rattle.std.proofs.lemmas.List.Elements.{All-head, All-tail}
 use Rattle.gt_types.specs.declared.program.Root.{Root}
 use Rattle.gt_types.specs.declared.program.Program.{Program}
 use Rattle.gt_heap.specs.Tree.{Tree, Num, Null, To, Raw, Rec, Alt, Row, Trees, End, And}
-use Rattle.gt_pages.specs.Lists.{flagged}
+use Rattle.gt_blocks.specs.Lists.{flagged}
 use Rattle.gt_heap.specs.Values.{Object}
-use Rattle.gt_pages.specs.Ledger.{Block}
+use Rattle.gt_blocks.specs.Ledger.{Block}
 use Rattle.gt_heap.specs.Graph.{Graph, IsGood, AreBlocksOf}
 use Rattle.gt_heap.specs.Kept.{After, AreThose, AreTheirBlocks, CachesStay, Reached, ReachedWith, cleared, statics_after, without_deletable}
 use Rattle.gt_heap.specs.Freed.{AreMarks, flagged_graph}

@@ -8,7 +8,7 @@ use Rattle.gt_types.specs.declared.program.Root.{Root}
 use Rattle.gt_types.specs.declared.program.Program.{Program}
 use Rattle.gt_space.specs.Range.{Range}
 use Rattle.gt_space.specs.Numbers.{u64_at}
-use Rattle.gt_pages.specs.Lists.{flagged}
+use Rattle.gt_blocks.specs.Lists.{flagged}
 use Rattle.gt_heap.specs.Values.{Object}
 use Rattle.gt_heap.specs.Graph.{Graph, leaf_of}
 use Rattle.gt_heap.specs.Kept.{IsWay, PointsTo, Reached, all_edges, edges, root_edges}

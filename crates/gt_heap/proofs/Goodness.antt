@@ -16,7 +16,7 @@ use Rattle.gt_types.specs.declared.program.Cache.{Cache}
 use Rattle.gt_types.specs.declared.program.Program.{Program}
 use Rattle.gt_space.specs.Range.{Range}
 use Rattle.gt_space.specs.Numbers.{u64_at}
-use Rattle.gt_pages.specs.Ledger.{AreApart, rounded}
+use Rattle.gt_blocks.specs.Ledger.{AreApart, rounded}
 use Rattle.gt_heap.specs.Tree.{Rec, Trees, End, And}
 use Rattle.gt_heap.specs.Values.{Nodes, Object, Fits, AllFit, ObjectFits, StaticsFit, types_of}
 use Rattle.gt_heap.specs.Graph.{ArePairsOf, IsGood, AreDistinct, AreBlocksOf, IsBlockOf, KindStands, leaf_of}

@@ -11,7 +11,7 @@ use Rattle.gt_types.specs.declared.types.Ty.TheVariants.{Ptr}
 use Rattle.gt_types.specs.declared.program.Program.{Program}
 use Rattle.gt_space.specs.Range.{Range, IsInside, with_bytes, fresh_range, statics_start}
 use Rattle.gt_space.specs.Numbers.{u64_at, with_u64}
-use Rattle.gt_pages.specs.Ledger.{AreApart, Place}
+use Rattle.gt_blocks.specs.Ledger.{AreApart, Place}
 use Rattle.gt_heap.specs.Tree.{Rec, Row, Trees, End, And, part_at, with_part, with_part_of}
 use Rattle.gt_heap.specs.Values.{MayStand, Object, ObjectIsZero, IsZero, AllZero, types_of}
 use Rattle.gt_heap.specs.Graph.{Graph, Makes, SetsPart, leaf_of}

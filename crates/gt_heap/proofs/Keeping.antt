@@ -8,8 +8,8 @@ use Rattle.gt_types.specs.declared.program.Program.{Program}
 use Rattle.gt_space.specs.Range.{Range}
 use Rattle.gt_space.specs.Numbers.{u64_at}
 use Rattle.gt_space.specs.Laws.{IsApart}
-use Rattle.gt_pages.specs.Ledger.{AreApart, Block, IsInPlace, IsOffPage, Ledger, LiesInside, LiesOutside, Sound, page_address, page_of}
-use Rattle.gt_pages.specs.Lists.{flagged}
+use Rattle.gt_blocks.specs.Ledger.{AreApart, Block, IsInPlace, IsOffPage, Ledger, LiesInside, LiesOutside, Sound, page_address, page_of}
+use Rattle.gt_blocks.specs.Lists.{flagged}
 use Rattle.gt_space.specs.declared.TheConstants.{HEAP_START}
 use Rattle.gt_heap.specs.Tree.{Trees}
 use Rattle.gt_heap.specs.Values.{Object}

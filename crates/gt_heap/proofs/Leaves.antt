@@ -4,7 +4,7 @@ use Rattle.gt_space.specs.Range.{Range}
 use Rattle.gt_space.specs.Numbers.{u64_at}
 use Rattle.gt_heap.specs.Tree.{Tree, And, part_of, with_part_of}
 use Rattle.gt_heap.specs.Graph.{leaf_of}
-use Rattle.gt_pages.specs.Ledger.{Ledger}
+use Rattle.gt_blocks.specs.Ledger.{Ledger}
 use Rattle.gt_heap.specs.Stands.{LeafStands, LeavesStand, count_of}
 use Rattle.gt_heap.specs.Heap.{pointer_of, leaves_at}
 

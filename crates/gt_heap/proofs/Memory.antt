@@ -8,7 +8,7 @@ use Rattle.gt_space.specs.declared.TheConstants.{PAGE_BYTES, HEAP_START, MIN_PAG
 use Rattle.gt_space.specs.Range.{Range, IsInside, IsSized, IsSpace, with_bytes, statics_start, space_len}
 use Rattle.gt_space.specs.Laws.{IsApart}
 use Rattle.gt_space.proofs.RangeLemmas.{length-with_bytes}
-use Rattle.gt_pages.specs.Ledger.{AreApart, Block, Sound, page_address}
+use Rattle.gt_blocks.specs.Ledger.{AreApart, Block, Sound, page_address}
 use Rattle.gt_heap.specs.Heap.{BlockFits, HoldsPointers, IsHeap, IsLinked, IsPointer, Placed, Places, block_of, fields_of, ledger_of}
 use Rattle.gt_heap.proofs.Items.{Contains-each, contains_head, contains_none, cons_cases}
 use Rattle.gt_heap.proofs.Sizes.{Fitting, block_fits}

@@ -6,14 +6,14 @@ use Rattle.std.proofs.lemmas.List.Elements.{All-contains}
 use Rattle.gt_types.specs.declared.types.TypeId.{TypeId}
 use Rattle.gt_types.specs.declared.program.Program.{Program}
 use Rattle.gt_space.specs.Range.{Range}
-use Rattle.gt_pages.specs.declared.span.Span.{Span}
-use Rattle.gt_pages.specs.Ledger.{Block, Ledger, Room}
-use Rattle.gt_pages.specs.Lists.{flagged}
-use Rattle.gt_pages.specs.Plain.{block_of_span}
-use Rattle.gt_pages.specs.declared.pages.SlotFail.{SlotFail}
-use Rattle.gt_pages.specs.declared.pages.SlotFail.TheVariants.{Full, Memory}
-use Rattle.gt_pages.specs.Blocks.{StartsAt}
-use Rattle.gt_pages.specs.Pages.{IsFullOnly, Spans, ledger_of as pages_ledger, with_span}
+use Rattle.gt_blocks.specs.declared.span.Span.{Span}
+use Rattle.gt_blocks.specs.Ledger.{Block, Ledger, Room}
+use Rattle.gt_blocks.specs.Lists.{flagged}
+use Rattle.gt_blocks.specs.Plain.{block_of_span}
+use Rattle.gt_blocks.specs.declared.pages.SlotFail.{SlotFail}
+use Rattle.gt_blocks.specs.declared.pages.SlotFail.TheVariants.{Full, Memory}
+use Rattle.gt_blocks.specs.Blocks.{StartsAt}
+use Rattle.gt_blocks.specs.Pages.{IsFullOnly, Spans, ledger_of as pages_ledger, with_span}
 use Rattle.gt_heap.specs.Values.{Object}
 use Rattle.gt_heap.specs.Heap.{IsObject, IsObjectOf, NodeSize, Placed, Places, all_placed, block_of, graph_of, ledger_of, object_of}
 use Rattle.gt_heap.specs.Making.{HasRoomFor, IsFullIn, with_placed}

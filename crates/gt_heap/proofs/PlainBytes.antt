@@ -5,13 +5,13 @@ use Rattle.std.proofs.lemmas.List.{drop_more, drop_all, length-map, length-drop,
 use Rattle.std.proofs.lemmas.List.Elements.{All-map, All-contains}
 use Rattle.gt_space.specs.Range.{Range, IsInside}
 use Rattle.gt_space.specs.Numbers.{u8_at, u64_at}
-use Rattle.gt_pages.specs.declared.span.Span.{Span}
+use Rattle.gt_blocks.specs.declared.span.Span.{Span}
 use Rattle.gt_heap.specs.declared.plain_bytes.Pointers.{Pointers}
 use Rattle.gt_heap.specs.Tree.{Tree, Trees, Rec, Row, And, End}
-use Rattle.gt_pages.specs.Ledger.{Block}
+use Rattle.gt_blocks.specs.Ledger.{Block}
 use Rattle.gt_heap.specs.Graph.{leaf_of}
 use Rattle.gt_heap.specs.Stands.{AreZero, BlockStands, BlocksStand, LeafStands, LeavesStand, Stands, count_of}
-use Rattle.gt_pages.specs.Plain.{block_of_span, plain_ledger}
+use Rattle.gt_blocks.specs.Plain.{block_of_span, plain_ledger}
 use Rattle.gt_heap.specs.PlainBytes.{HasObject, bare_ledger, plain_blocks, plain_graph, plain_leaves, plain_object, plain_objects, spans_of}
 
 -- ---- the object of an address

@@ -4,8 +4,8 @@ use Rattle.std.specs.Prelude.{Contains, find, nat_le}
 use Rattle.std.proofs.lemmas.Bool.{cases_Bool}
 use Rattle.gt_types.specs.declared.types.TypeId.{TypeId}
 use Rattle.gt_types.specs.declared.program.Program.{Program}
-use Rattle.gt_pages.specs.Ledger.{sizes}
-use Rattle.gt_pages.proofs.SizeList.{listed_size}
+use Rattle.gt_blocks.specs.Ledger.{sizes}
+use Rattle.gt_blocks.proofs.SizeList.{listed_size}
 use Rattle.gt_heap.specs.Values.{MayStand}
 use Rattle.gt_heap.specs.Heap.{BlockFits, IsLinked, NodeSize, Placed, fields_of}
 use Rattle.gt_heap.proofs.Items.{contains_head, contains_tail, some_is}

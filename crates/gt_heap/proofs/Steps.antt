@@ -6,7 +6,7 @@ use Rattle.std.proofs.lemmas.Option.{get_or_from_slice_get, slice_get_within}
 use Rattle.std.proofs.lemmas.Bool.{eq-eqb, ne_eqb}
 use Rattle.std.proofs.lemmas.List.Sums.{sum_by_push}
 use Rattle.std.proofs.lemmas.List.Filters.{length-filter_more}
-use Rattle.gt_pages.specs.Lists.{flagged}
+use Rattle.gt_blocks.specs.Lists.{flagged}
 
 -- ---- flagged items
 

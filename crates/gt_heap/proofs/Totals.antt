@@ -8,7 +8,7 @@ use Rattle.std.proofs.lemmas.List.Filters.{length-filter_both, sum_by-filter_bot
 use Rattle.std.proofs.lemmas.List.Elements.{All-contains, All-cons, All-filter, All-head, All-nil, All-tail}
 use Rattle.gt_space.specs.declared.TheConstants.{PAGE_BYTES, HEAP_START}
 use Rattle.gt_space.specs.Laws.{IsApart}
-use Rattle.gt_pages.specs.Ledger.{AreApart, Block, Ledger, Sound, page_address}
+use Rattle.gt_blocks.specs.Ledger.{AreApart, Block, Ledger, Sound, page_address}
 use Rattle.gt_heap.specs.Kept.{allocated_of, count_of_size}
 use Rattle.gt_heap.proofs.Items.{All-items}
 use Rattle.gt_heap.proofs.Sizes.{at_most_when}

@@ -13,7 +13,7 @@ use Rattle.gt_space.specs.Numbers.{u64_at, with_u64}
 use Rattle.gt_space.specs.Laws.{IsApart}
 use Rattle.gt_space.proofs.RangeLemmas.{bytes_at-with_bytes_within, bytes_at-with_bytes_apart}
 use Rattle.gt_space.proofs.NumberLemmas.{u64_at-bytes_at, u64_at-with_u64, u64_at-with_bytes_apart}
-use Rattle.gt_pages.specs.Ledger.{Block, Ledger, Place, Sound, with_block}
+use Rattle.gt_blocks.specs.Ledger.{Block, Ledger, Place, Sound, with_block}
 use Rattle.gt_heap.specs.Stands.{AreZero}
 use Rattle.gt_heap.specs.Heap.{BlockFits, HoldsPointers, IsFieldTo, IsLinked, IsPointer, IsRootTo, Placed, Places, block_of, fields_of, ledger_of}
 use Rattle.gt_heap.specs.Making.{with_placed}

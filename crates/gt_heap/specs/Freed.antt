@@ -1,7 +1,7 @@
 -- What is left where some objects stay and the others are freed.
 use Rattle.std.specs.Prelude.{◌≡◌, ℕ, Bool, List, Contains, length, slice_get, Some, IsTrue, ◌↔◌}
 use Rattle.gt_types.specs.declared.program.Program.{Program}
-use Rattle.gt_pages.specs.Lists.{flagged}
+use Rattle.gt_blocks.specs.Lists.{flagged}
 use Rattle.gt_heap.specs.Values.{Object}
 use Rattle.gt_heap.specs.Graph.{Graph}
 use Rattle.gt_heap.specs.Kept.{edges, static_edges, Reached}

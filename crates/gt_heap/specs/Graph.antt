@@ -6,8 +6,8 @@ use Rattle.gt_types.specs.declared.program.Cache.{Cache}
 use Rattle.gt_types.specs.declared.program.Program.{Program}
 use Rattle.gt_heap.specs.Tree.{Tree, Null, To, with_part}
 use Rattle.gt_heap.specs.Values.{Kind, Nodes, Object, IsSingle, MayStand, ObjectFits, ObjectIsZero, StaticsFit, element_of, HasSize}
-use Rattle.gt_pages.specs.Ledger.{Block, Ledger, Sound, Place, with_block, rounded}
-use Rattle.gt_pages.specs.Lists.{AreDifferent}
+use Rattle.gt_blocks.specs.Ledger.{Block, Ledger, Sound, Place, with_block, rounded}
+use Rattle.gt_blocks.specs.Lists.{AreDifferent}
 
 -- the objects in the order in which they were made, the static value, for each cache the pairs of key and value in order, and
 -- where each object lies

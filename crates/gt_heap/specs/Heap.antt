@@ -14,10 +14,10 @@ use Rattle.gt_types.specs.declared.program.Program.{Program}
 use Rattle.gt_space.specs.declared.TheConstants.{MIN_PAGES, MAX_PAGES}
 use Rattle.gt_space.specs.Range.{Range, IsSized, IsSpace}
 use Rattle.gt_space.specs.Numbers.{u64_at}
-use Rattle.gt_pages.specs.declared.span.Span.{Span}
-use Rattle.gt_pages.specs.Ledger.{Block, Ledger, rounded}
-use Rattle.gt_pages.specs.Plain.{block_of_span}
-use Rattle.gt_pages.specs.Blocks.{span_code}
+use Rattle.gt_blocks.specs.declared.span.Span.{Span}
+use Rattle.gt_blocks.specs.Ledger.{Block, Ledger, rounded}
+use Rattle.gt_blocks.specs.Plain.{block_of_span}
+use Rattle.gt_blocks.specs.Blocks.{span_code}
 use Rattle.gt_heap.specs.Tree.{Tree, Rec, Row, Trees, End, And, part_at}
 use Rattle.gt_heap.specs.Values.{AllZero, MayStand, Nodes, Object, IsSingle}
 use Rattle.gt_heap.specs.Graph.{Graph, IsGood, SetsPart, leaf_of}

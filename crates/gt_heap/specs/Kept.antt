@@ -4,7 +4,7 @@ use Rattle.gt_types.specs.declared.program.Program.{Program}
 use Rattle.gt_types.specs.declared.program.Root.{Root}
 use Rattle.gt_heap.specs.Tree.{Tree, Num, Null, To, Raw, Rec, Alt, Row, Trees, End, And}
 use Rattle.gt_heap.specs.Values.{Object}
-use Rattle.gt_pages.specs.Ledger.{Block, Ledger}
+use Rattle.gt_blocks.specs.Ledger.{Block, Ledger}
 use Rattle.gt_heap.specs.Graph.{Graph}
 
 abbrev mutual

@@ -2,12 +2,12 @@
 use Rattle.std.specs.Prelude.{ℕ, [], ◌∷◌, ◌++◌}
 use Rattle.gt_types.specs.declared.types.TypeId.{TypeId}
 use Rattle.gt_types.specs.declared.program.Program.{Program}
-use Rattle.gt_pages.specs.Ledger.{Ledger, Room}
+use Rattle.gt_blocks.specs.Ledger.{Ledger, Room}
 use Rattle.gt_heap.specs.declared.heap.MakeFail.{MakeFail}
 use Rattle.gt_heap.specs.declared.heap.MakeFail.TheVariants.{Full, Memory}
-use Rattle.gt_pages.specs.declared.pages.SlotFail.{SlotFail}
-use Rattle.gt_pages.specs.declared.pages.SlotFail.TheVariants as slot
-use Rattle.gt_pages.specs.Blocks.{span_at}
+use Rattle.gt_blocks.specs.declared.pages.SlotFail.{SlotFail}
+use Rattle.gt_blocks.specs.declared.pages.SlotFail.TheVariants as slot
+use Rattle.gt_blocks.specs.Blocks.{span_at}
 use Rattle.gt_heap.specs.Heap.{NodeSize, Placed, Places}
 
 -- there is a place for the block of an object of this structure

@@ -1,13 +1,13 @@
 -- Objects as bytes and pointers, for the plain program that reads each word of them.
 use Rattle.std.specs.Prelude.{◌≡◌, ℕ, ◌*◌, ◌≤◌, List, [], ◌∷◌, Option, Contains, length, map}
 use Rattle.gt_space.specs.Range.{Range, IsInside}
-use Rattle.gt_pages.specs.declared.span.Span.{Span}
+use Rattle.gt_blocks.specs.declared.span.Span.{Span}
 use Rattle.gt_heap.specs.declared.plain_bytes.Pointers.{Pointers}
 use Rattle.gt_heap.specs.Tree.{Rec, Row, Trees, End, And}
 use Rattle.gt_heap.specs.Values.{Object, Nodes}
-use Rattle.gt_pages.specs.Ledger.{Block, Ledger}
+use Rattle.gt_blocks.specs.Ledger.{Block, Ledger}
 use Rattle.gt_heap.specs.Graph.{Graph, leaf_of}
-use Rattle.gt_pages.specs.Plain.{block_of_span, plain_ledger}
+use Rattle.gt_blocks.specs.Plain.{block_of_span, plain_ledger}
 
 -- pointers as leaves, in order
 abbrev pub plain_leaves : List (Option ℕ) → Trees

@@ -4,7 +4,7 @@ use Rattle.gt_space.specs.Range.{Range, bytes_at}
 use Rattle.gt_space.specs.Numbers.{u64_at}
 use Rattle.gt_heap.specs.Tree.{Tree, Null, To, Rec, Row, Trees, End, And}
 use Rattle.gt_heap.specs.Values.{Object}
-use Rattle.gt_pages.specs.Ledger.{Block, Ledger}
+use Rattle.gt_blocks.specs.Ledger.{Block, Ledger}
 use Rattle.gt_heap.specs.Graph.{Graph}
 
 -- the word at an address stands for a pointer: 0 for null, else the address of the object's block

@@ -1,8 +1,8 @@
 // The blocks of all objects, and the structures that belong to them.
 ghost use Rattle.std.specs.Prelude.{◌≡◌, ◌<◌, ◌==◌, IfOk, Some, filter, length, map, slice_get, sum};
-ghost use Rattle.gt_pages.specs.Lists.{flagged};
+ghost use Rattle.gt_blocks.specs.Lists.{flagged};
 
-use gt_pages::Pages;
+use gt_blocks::Pages;
 use gt_types::TypeId;
 use std::alloc::{AllocError, Global};
 

@@ -3,9 +3,9 @@ ghost use Rattle.std.specs.Prelude.{◌≡◌, ℕ, ◌+◌, ◌*◌, ◌<◌, �
 ghost use Rattle.gt_types.specs.declared.program.Program.{Program};
 ghost use Rattle.gt_space.specs.Range.{Range, fresh_range};
 ghost use Rattle.gt_space.specs.Numbers.{u64_at};
-ghost use Rattle.gt_pages.specs.Ledger.{Place, Room, sizes};
-ghost use Rattle.gt_pages.specs.Lists.{flagged};
-ghost use Rattle.gt_pages.specs.Pages.{block_at};
+ghost use Rattle.gt_blocks.specs.Ledger.{Place, Room, sizes};
+ghost use Rattle.gt_blocks.specs.Lists.{flagged};
+ghost use Rattle.gt_blocks.specs.Pages.{block_at};
 ghost use Rattle.gt_heap.specs.Tree.{part_at, with_part};
 ghost use Rattle.gt_heap.specs.Values.{MayStand, Object};
 ghost use Rattle.gt_heap.specs.Graph.{Makes, leaf_of};
@@ -16,7 +16,7 @@ ghost use Rattle.gt_heap.specs.Making.{HasRoomFor, IsFullFor, IsFullIn, placed_a
 
 use crate::blocks::{all_bytes, count_of_size, flagged_nodes};
 use crate::words::{read_pointer, write_pointer};
-use gt_pages::{Pages, SlotFail, rounded_size};
+use gt_blocks::{Pages, SlotFail, rounded_size};
 use gt_space::{MAX_PAGES, MIN_PAGES, PAGE_BYTES, Space};
 use gt_types::{Program, TypeId};
 use std::alloc::{AllocError, Global};

@@ -4,7 +4,7 @@
 
 mod blocks;
 mod heap;
-mod laws;
+pub mod laws;
 mod plain_bytes;
 mod words;
 

@@ -4,11 +4,11 @@ ghost use Rattle.std.specs.Prelude.{◌+◌, ◌*◌, ◌^◌, ◌<◌, All, len
 ghost use Rattle.std.specs.Bool.{Decides};
 ghost use Rattle.gt_space.specs.Range.{IsInside, IsSpace};
 ghost use Rattle.gt_heap.specs.Graph.{leaf_of};
-ghost use Rattle.gt_pages.specs.Plain.{block_of_span};
+ghost use Rattle.gt_blocks.specs.Plain.{block_of_span};
 ghost use Rattle.gt_heap.specs.Stands.{AreZero, BlockStands, BlocksStand, LeafStands, LeavesStand, Stands};
 ghost use Rattle.gt_heap.specs.PlainBytes.{HasObject, IsReadable, bare_ledger, plain_blocks, plain_graph, plain_leaves, plain_object, plain_objects};
 
-use gt_pages::Span;
+use gt_blocks::Span;
 use gt_space::Space;
 
 /// The bytes of a word.

@@ -4,7 +4,7 @@ ghost use Rattle.std.specs.Prelude.{◌≤◌};
 ghost use Rattle.gt_space.specs.Range.{IsInside};
 
 use super::*;
-use gt_pages::Span;
+use gt_blocks::Span;
 use gt_space::{HEAP_START, MIN_PAGES, Space};
 use std::test::Fail;
 

@@ -7,7 +7,7 @@ mod constants;
 mod directive;
 mod extents;
 mod faults;
-mod laws;
+pub mod laws;
 mod lexing;
 mod pieces;
 mod starts;

@@ -12,7 +12,7 @@ mod faults;
 mod fields;
 mod globals;
 mod groups;
-mod laws;
+pub mod laws;
 mod lexeme;
 mod lexemes;
 mod markers;

@@ -3,7 +3,7 @@
 #![tactic(auto)]
 
 mod blocks;
-mod laws;
+pub mod laws;
 mod names;
 mod numbers;
 mod parts;

@@ -3,7 +3,7 @@
 //! ranges of bytes at addresses, and know of a `Space` only its lowest address and its bytes.
 #![tactic(auto)]
 
-mod laws;
+pub mod laws;
 mod memory;
 mod space;
 

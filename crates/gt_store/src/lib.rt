@@ -2,7 +2,7 @@
 #![tactic(auto)]
 
 mod bits;
-mod laws;
+pub mod laws;
 mod leaves;
 mod stores;
 mod storing;

@@ -3,7 +3,7 @@
 #![tactic(auto)]
 
 mod fixed;
-mod laws;
+pub mod laws;
 mod paths;
 mod writes;
 

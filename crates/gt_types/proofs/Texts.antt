@@ -1,10 +1,9 @@
 -- Texts as bytes and as characters.
-use Rattle.std.proofs.Common.{◌≡◌, ◌≢◌, ℕ, ◌+◌, ◌<◌, Bool, true, false, List, [], ◌∷◌, ◌++◌, length, arith, sym, ap, ap₂, subst, ◌∙◌, refl, rules}
+use Rattle.std.proofs.Common.{◌≡◌, ℕ, Bool, true, false, List, [], ◌∷◌, length, arith, sym, ap, ◌∙◌, refl}
 use Rattle.std.specs.Str.{IsUtf8, chars, bytes_eq}
 use Rattle.std.specs.Prelude.{encode_utf8_all, ◌==◌}
-use Rattle.std.proofs.lemmas.Str.{encodes-chars, length-le-encodes, chars-nil}
+use Rattle.std.proofs.lemmas.Str.{encodes-chars, chars-nil}
 use Rattle.std.proofs.lemmas.Slice.Eq.{bytes_eq-Decides}
-use Rattle.std.proofs.lemmas.Bool.{cases_Bool}
 
 -- two tests that mean the same have the same answer
 same_answer : (a b : Bool) → (a ≡ true → b ≡ true) → (b ≡ true → a ≡ true) → a ≡ b

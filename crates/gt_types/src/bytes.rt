@@ -48,6 +48,13 @@ impl Bytes {
         Bytes { items }
     }
 
+    /// The vector of the bytes. It takes no memory.
+    pub fn into_vec(self) -> Vec<u8>
+        ensures bytes { result.items ≡ self }
+    {
+        self.items
+    }
+
     /// The bytes as a slice.
     pub fn as_slice(&self) -> &[u8]
         ensures bytes { result.now ≡ self.now }

@@ -1,7 +1,7 @@
 use std::alloc::{AllocError, AllocFailed};
 
 /// A fault of a header: its number, the place of the file among the headers, from 1, and the byte offset in it.
-#[derive(Clone, Copy, Debug, PartialEq, Eq, PartialOrd, Ord)]
+#[derive(Clone, Copy, Debug, PartialEq, Eq)]
 pub struct Fault {
     pub number: u8,
     pub file: u32,

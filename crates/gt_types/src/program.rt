@@ -1,4 +1,6 @@
-use crate::{Expr, List, Ty, TypeId, Word};
+use crate::types::copy_of;
+use crate::{Copied, Expr, List, Ty, TypeId, Word};
+use std::alloc::{AllocError, Global};
 
 /// When a field is a part of the value: always, as a union's member of this tag, as its default, or never.
 #[derive(Clone, Copy, Debug, PartialEq, Eq)]
@@ -26,7 +28,7 @@ pub enum ChainKind {
 }
 
 /// A chain option: the places of the fields on its path.
-#[derive(Debug, Drop)]
+#[derive(Debug, PartialEq, Eq, Drop)]
 pub struct Chain {
     pub kind: ChainKind,
     pub path: List<u32>,
@@ -51,7 +53,7 @@ pub struct Root {
 }
 
 /// A marked global that is a cache, from single objects of `key` to single objects of `value`.
-#[derive(Debug, Drop)]
+#[derive(Debug, PartialEq, Eq, Drop)]
 pub struct Cache {
     pub name: Word,
     pub key: TypeId,
@@ -59,7 +61,7 @@ pub struct Cache {
 }
 
 /// A typedef name that means a structure, or, where `pointer` is true, a pointer to one.
-#[derive(Debug, Drop)]
+#[derive(Debug, PartialEq, Eq, Drop)]
 pub struct TypeWord {
     pub name: Word,
     pub pointer: bool,
@@ -73,4 +75,76 @@ pub struct Program {
     pub roots: List<Root>,
     pub caches: List<Cache>,
     pub words: List<TypeWord>,
+}
+
+impl Copied for Field {
+    fn copy(&self, alloc: Global) -> Result<Field, AllocError> {
+        Ok(Field {
+            name: self.name.copy(alloc)?,
+            ty: self.ty.copy(alloc)?,
+            active: self.active,
+        })
+    }
+}
+
+impl Copied for Chain {
+    fn copy(&self, alloc: Global) -> Result<Chain, AllocError> {
+        Ok(Chain {
+            kind: self.kind,
+            path: self.path.copy(alloc)?,
+        })
+    }
+}
+
+impl Copied for Structure {
+    fn copy(&self, alloc: Global) -> Result<Structure, AllocError> {
+        Ok(Structure {
+            name: self.name.copy(alloc)?,
+            is_union: self.is_union,
+            desc: copy_of(alloc, &self.desc)?,
+            fields: self.fields.copy(alloc)?,
+            chains: self.chains.copy(alloc)?,
+        })
+    }
+}
+
+impl Copied for Root {
+    fn copy(&self, alloc: Global) -> Result<Root, AllocError> {
+        Ok(Root {
+            name: self.name.copy(alloc)?,
+            ty: self.ty.copy(alloc)?,
+            deletable: self.deletable,
+        })
+    }
+}
+
+impl Copied for Cache {
+    fn copy(&self, alloc: Global) -> Result<Cache, AllocError> {
+        Ok(Cache {
+            name: self.name.copy(alloc)?,
+            key: self.key,
+            value: self.value,
+        })
+    }
+}
+
+impl Copied for TypeWord {
+    fn copy(&self, alloc: Global) -> Result<TypeWord, AllocError> {
+        Ok(TypeWord {
+            name: self.name.copy(alloc)?,
+            pointer: self.pointer,
+            id: self.id,
+        })
+    }
+}
+
+impl Copied for Program {
+    fn copy(&self, alloc: Global) -> Result<Program, AllocError> {
+        Ok(Program {
+            structures: self.structures.copy(alloc)?,
+            roots: self.roots.copy(alloc)?,
+            caches: self.caches.copy(alloc)?,
+            words: self.words.copy(alloc)?,
+        })
+    }
 }

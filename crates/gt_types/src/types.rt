@@ -82,7 +82,8 @@ pub enum Ty {
     },
 }
 
-fn copy_of(alloc: Global, expression: &Option<Expr>) -> Result<Option<Expr>, AllocError>
+/// The same expression again, where there is one. It answers want of memory alone.
+pub(crate) fn copy_of(alloc: Global, expression: &Option<Expr>) -> Result<Option<Expr>, AllocError>
     ensures same { IfOk result (λ made. made ≡ expression.now) }
 {
     match expression {

@@ -1,7 +1,7 @@
 // A text: a name of a header or a script, a word of the command line, a file's name.
 ghost use Rattle.std.specs.Prelude.{◌≡◌, ◌==◌, ℕ, List, length, IfOk, Some, encode_utf8_all, refl};
 ghost use Rattle.std.specs.Str.{chars, bytes_eq};
-ghost use Rattle.std.specs.String.{string_bytes};
+ghost use Rattle.std.specs.Rc.{rc_str_bytes};
 ghost use Rattle.std.specs.Ordering.{nat_cmp};
 ghost use Rattle.std.specs.Cmp.Lexicographic.{slice_cmp, nat_list_cmp_total, nat_list_eq_equiv, texts_ties, texts_po};
 ghost use Rattle.std.specs.Cmp.{partial_equiv_from_equiv};
@@ -10,17 +10,18 @@ use crate::Copied;
 use std::alloc::{AllocError, Global};
 use std::cmp::Ordering;
 use std::marker::Model;
+use std::rc::RcStr;
 
-/// A text that contracts see as the list of its characters.
+/// A text that contracts see as the list of its characters. Its copies share one text, so a copy takes no memory.
 #[derive(Debug, Drop)]
 pub struct Word {
-    text: String,
+    text: RcStr,
 }
 
 impl Model for Word {
     ghost Value = { List ℕ };
 
-    ghost view = { λ w. chars (string_bytes w.text) };
+    ghost view = { λ w. chars (rc_str_bytes w.text) };
 }
 
 impl Word {
@@ -29,8 +30,22 @@ impl Word {
         ensures text { IfOk result (λ w. w ≡ chars text.now) }
     {
         Ok(Word {
-            text: String::from_str(alloc, text)?,
+            text: RcStr::from_str(alloc, text)?,
         })
+    }
+
+    /// The word of a shared text, which it takes over. It takes no memory.
+    pub fn from_shared(text: RcStr) -> Word
+        ensures text { result ≡ chars (rc_str_bytes text) }
+    {
+        Word { text }
+    }
+
+    /// The shared text of the word. It takes no memory.
+    pub fn into_shared(self) -> RcStr
+        ensures text { chars (rc_str_bytes result) ≡ self }
+    {
+        self.text
     }
 
     /// The word as a text.
@@ -56,9 +71,9 @@ impl Word {
 }
 
 impl Copied for Word {
-    fn copy(&self, alloc: Global) -> Result<Word, AllocError> {
+    fn copy(&self, _alloc: Global) -> Result<Word, AllocError> {
         Ok(Word {
-            text: String::from_str(alloc, self.text.as_str())?,
+            text: self.text.clone()?,
         })
     }
 }

@@ -1,6 +1,6 @@
 use Rattle.std.proofs.Common.{List, length, ap, sym, subst, ◌∙◌}
 use Rattle.gt_types.specs.declared.types.TypeId.{TypeId}
-use Rattle.gt_pages.specs.Lists.{flagged}
+use Rattle.gt_blocks.specs.Lists.{flagged}
 use Rattle.gt_heap.proofs.Keeping.{KeepsSome, kept_places, keeps_some}
 use Rattle.gt_heap.proofs.Placing.{count_is, flagged_count, places_kept, places_of}
 use Rattle.gt_heap.proofs.heap.Heap.keep.Goals as goal

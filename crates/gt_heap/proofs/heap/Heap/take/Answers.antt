@@ -1,7 +1,7 @@
 use Rattle.std.proofs.Common.{ap, sym, subst, ◌∙◌}
-use Rattle.gt_pages.specs.Ledger.{Place, Room}
-use Rattle.gt_pages.specs.Blocks.{span_at}
-use Rattle.gt_pages.specs.Pages.{block_at}
+use Rattle.gt_blocks.specs.Ledger.{Place, Room}
+use Rattle.gt_blocks.specs.Blocks.{span_at}
+use Rattle.gt_blocks.specs.Pages.{block_at}
 use Rattle.gt_heap.specs.Making.{placed_at, with_placed}
 use Rattle.gt_heap.proofs.Placing.{full_in, ledger_is, places_added}
 use Rattle.gt_heap.proofs.heap.Heap.take.Goals as goal

@@ -1,4 +1,4 @@
-use Rattle.std.proofs.Common.{◌≡◌, sym, ap, ◌∙◌, length, rules}
+use Rattle.std.proofs.Common.{◌≡◌, ap, ◌∙◌, length, rules}
 use Rattle.std.specs.String.{string_bytes}
 use Rattle.std.proofs.lemmas.Str.{IsUtf8-string_bytes}
 use Rattle.std.proofs.lemmas.Iterator.{YieldsList-from_chars}
@@ -8,8 +8,8 @@ use Rattle.gt_types.proofs.word.Word.len.Goals as goal
 pub returns : goal.returns
 returns c = record {
   characters =
-      let same : c.deref.result.now ≡ string_bytes c.self.inside.text = search rules in
+      let same : c.deref.result.now ≡ string_bytes c.self.inside.text.text.value = search rules in
       count_from_yields_List _ _ c.count.ensures.ran
-      (YieldsList-from_chars _ (IsUtf8-string_bytes c.self.inside.text) (c.chars.ensures.rest ∙ same))
+      (YieldsList-from_chars _ (IsUtf8-string_bytes c.self.inside.text.text.value) (c.chars.ensures.rest ∙ same))
       ∙ ap length c.self.view_is;
 }

@@ -1,4 +1,4 @@
-use Rattle.std.proofs.Common.{◌≡◌, sym, ap, ap₂, ◌∙◌, refl, rules}
+use Rattle.std.proofs.Common.{◌≡◌, ap, ap₂, ◌∙◌, refl, rules}
 use Rattle.std.specs.Ordering.{nat_cmp}
 use Rattle.std.specs.Cmp.Lexicographic.{slice_cmp}
 use Rattle.std.specs.String.{string_bytes}
@@ -10,10 +10,10 @@ use Rattle.gt_types.proofs.word.WordOrd.cmp.Goals as goal
 
 pub returns : goal.returns
 returns c =
-    let left : c.deref.result.now ≡ string_bytes c.self.inside.text = search rules in
-    let right : c.deref-2.result.now ≡ string_bytes c.other.inside.text = search rules in
+    let left : c.deref.result.now ≡ string_bytes c.self.inside.text.text.value = search rules in
+    let right : c.deref-2.result.now ≡ string_bytes c.other.inside.text.text.value = search rules in
     cmp_from_yields_List (λ x y. y ≡ x) _ nat_cmp _ c.cmp.ensures.ran
-    (YieldsList-from_chars _ (IsUtf8-string_bytes c.self.inside.text) (c.chars.ensures.rest ∙ left))
-    (λ it e. YieldsList-from_chars _ (IsUtf8-string_bytes c.other.inside.text) (ap (λ i. chars_rest i) e ∙ c.chars-2.ensures.rest ∙ right))
+    (YieldsList-from_chars _ (IsUtf8-string_bytes c.self.inside.text.text.value) (c.chars.ensures.rest ∙ left))
+    (λ it e. YieldsList-from_chars _ (IsUtf8-string_bytes c.other.inside.text.text.value) (ap (λ i. chars_rest i) e ∙ c.chars-2.ensures.rest ∙ right))
     (λ x y. refl)
     ∙ ap₂ (slice_cmp nat_cmp) c.self.view_is c.other.view_is

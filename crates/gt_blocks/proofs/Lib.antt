@@ -1,0 +1,15 @@
+pub mod Items
+pub mod SizeList
+pub mod Starts
+pub mod Flagging
+pub mod Runs
+pub mod Places
+pub mod FreeLists
+pub mod PlainSpans
+pub mod Laying
+pub mod Tables
+pub mod Rooms
+pub mod Sharing
+pub mod Opening
+pub mod Keeping
+pub mod Leaving
