@@ -10,7 +10,7 @@ use Rattle.gt_types.specs.declared.program.Program.{Program}
 use Rattle.gt_heap.specs.Values.{Object}
 use Rattle.gt_heap.specs.Graph.{Graph}
 use Rattle.gt_heap.specs.Kept.{After, Reached, allocated_of}
-use Rattle.gt_pages.specs.Lists.{flagged}
+use Rattle.gt_blocks.specs.Lists.{flagged}
 use Rattle.gt_heap.specs.Freed.{AreMarks, IsNamed, flagged_graph}
 use Rattle.gt_heap.specs.Heap.{Places, IsObject, graph_of}
 use Rattle.gt_space.specs.Range.{Range}

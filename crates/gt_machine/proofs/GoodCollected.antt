@@ -9,7 +9,7 @@ use Rattle.gt_types.specs.declared.program.Root.{Root}
 use Rattle.gt_types.specs.declared.program.Program.{Program}
 use Rattle.gt_space.specs.declared.TheConstants.{HEAP_START, MIN_PAGES, MAX_PAGES}
 use Rattle.gt_space.specs.Laws.{IsApart}
-use Rattle.gt_pages.specs.Ledger.{AreApart, Block, IsInPlace, IsOffPage, Ledger, LiesInside, LiesOutside, PageRange, Sound, page_address, page_of}
+use Rattle.gt_blocks.specs.Ledger.{AreApart, Block, IsInPlace, IsOffPage, Ledger, LiesInside, LiesOutside, PageRange, Sound, page_address, page_of}
 use Rattle.gt_heap.specs.Tree.{Tree, Rec, Trees, End, And}
 use Rattle.gt_heap.specs.Values.{Object, AllFit, IsSingle, ObjectFits, StaticsFit}
 use Rattle.gt_heap.specs.Graph.{AreBlocksOf, AreDistinct, ArePairsOf, Graph, IsGood, KindStands}

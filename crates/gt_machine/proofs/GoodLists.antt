@@ -5,7 +5,7 @@ use Rattle.std.specs.List.{AllZip}
 use Rattle.std.proofs.lemmas.List.Elements.{All-cons, All-head, All-nil, All-push, All-tail}
 use Rattle.gt_types.specs.declared.program.Cache.{Cache}
 use Rattle.gt_types.specs.declared.program.Program.{Program}
-use Rattle.gt_pages.specs.Ledger.{Block}
+use Rattle.gt_blocks.specs.Ledger.{Block}
 use Rattle.gt_heap.specs.Tree.{Tree}
 use Rattle.gt_heap.specs.Values.{Object}
 use Rattle.gt_heap.specs.Graph.{AreBlocksOf, AreDistinct, ArePairsOf, IsBlockOf}

@@ -5,7 +5,7 @@ use Rattle.std.specs.List.{AllZip}
 use Rattle.std.proofs.lemmas.List.Elements.{All-push, All-weaker, Contains-append_left, Contains-push}
 use Rattle.gt_types.specs.declared.types.TypeId.{TypeId}
 use Rattle.gt_types.specs.declared.program.Program.{Program}
-use Rattle.gt_pages.specs.Ledger.{Ledger, Sound}
+use Rattle.gt_blocks.specs.Ledger.{Ledger, Sound}
 use Rattle.gt_heap.specs.Values.{Object, ObjectFits, StaticsFit}
 use Rattle.gt_heap.specs.Graph.{AreBlocksOf, AreDistinct, ArePairsOf, Graph, IsGood, KindStands, Makes}
 use Rattle.gt_heap.specs.Freed.{IsNamed}

@@ -11,7 +11,7 @@ use Rattle.gt_types.specs.declared.program.Program.{Program}
 use Rattle.gt_space.specs.declared.TheConstants.{HEAP_START, MIN_PAGES, MAX_PAGES}
 use Rattle.gt_io.specs.Held.{Held}
 use Rattle.gt_script.specs.declared.command.Line.{Line}
-use Rattle.gt_pages.specs.Ledger.{AreApart, Block, IsInPlace, Ledger, LiesInside, LiesOutside, Sound, page_address}
+use Rattle.gt_blocks.specs.Ledger.{AreApart, Block, IsInPlace, Ledger, LiesInside, LiesOutside, Sound, page_address}
 use Rattle.gt_heap.specs.Values.{Object, ObjectFits}
 use Rattle.gt_heap.specs.Graph.{AreBlocksOf, AreDistinct, ArePairsOf, Graph, IsGood, KindStands}
 use Rattle.gt_heap.specs.Heap.{IsFresh, IsLinked}

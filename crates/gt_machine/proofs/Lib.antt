@@ -17,6 +17,7 @@ mod Members
 mod ObjectNames
 mod PathNames
 mod PathSteps
+mod RefusalRows
 mod SetMoves
 mod SetPointers
 mod ShowFields

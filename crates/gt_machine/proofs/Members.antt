@@ -5,7 +5,7 @@ use Rattle.std.proofs.lemmas.List.{take_more, map-append}
 use Rattle.std.proofs.lemmas.Option.{slice_get_within, get_or_from_slice_get}
 use Rattle.std.specs.Prelude.{Contains, filter}
 use Rattle.std.proofs.lemmas.List.Elements.{All-contains, All-contains_itself, All-filter, filter_passes}
-use Rattle.gt_pages.specs.Lists.{flagged}
+use Rattle.gt_blocks.specs.Lists.{flagged}
 
 -- an item is one of a longer list
 contains_behind : {A : Type 0} (y : A) (xs : List A) (x : A) → Contains xs x → Contains (y ∷ xs) x

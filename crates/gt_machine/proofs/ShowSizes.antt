@@ -1,7 +1,7 @@
 -- The lines of sizes, one after another.
 use Rattle.std.proofs.Common.{◌≡◌, ℕ, ◌+◌, ◌<◌, List, [], ◌∷◌, ◌++◌, length, take, get_or, sym, ap, ◌∙◌, append_assoc, append-nil}
 use Rattle.std.proofs.lemmas.List.{take_more}
-use Rattle.gt_pages.specs.Ledger.{Block}
+use Rattle.gt_blocks.specs.Ledger.{Block}
 use Rattle.gt_heap.specs.Kept.{count_of_size}
 use Rattle.gt_machine.specs.Text.{size_line, size_lines}
 

@@ -8,6 +8,7 @@ pub mod Named
 pub mod Next
 pub mod Paths
 pub mod Places
+pub mod Refusals
 pub mod Run
 pub mod Session
 pub mod Setting

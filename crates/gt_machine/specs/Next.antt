@@ -7,7 +7,7 @@ use Rattle.gt_script.specs.declared.command.Command.TheVariants.{New, Set, Get, 
 use Rattle.gt_script.specs.declared.command.Route.{Route}
 use Rattle.gt_script.specs.declared.command.Given.{Given}
 use Rattle.gt_script.specs.declared.command.TypeName.{TypeName}
-use Rattle.gt_pages.specs.Ledger.{Room, rounded}
+use Rattle.gt_blocks.specs.Ledger.{Room, rounded}
 use Rattle.gt_heap.specs.Tree.{Tree, Null}
 use Rattle.gt_heap.specs.Values.{Nodes, element_of, HasSize}
 use Rattle.gt_heap.specs.Graph.{Makes}

@@ -7,7 +7,7 @@ use Rattle.gt_types.specs.declared.program.Structure.{Structure}
 use Rattle.gt_types.specs.declared.program.Program.{Program}
 use Rattle.gt_script.specs.declared.command.Given.{Given}
 use Rattle.gt_script.specs.declared.command.Given.TheVariants.{Integer, Null, Var}
-use Rattle.gt_pages.specs.Ledger.{Block}
+use Rattle.gt_blocks.specs.Ledger.{Block}
 use Rattle.gt_heap.specs.Tree.{Tree, To, part_at, with_part}
 use Rattle.gt_heap.specs.Tree as tree
 use Rattle.gt_heap.specs.Values.{Nodes, Object, IsSingle, element_of}

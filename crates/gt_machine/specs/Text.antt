@@ -2,7 +2,7 @@
 use Rattle.std.specs.Prelude.{ℕ, ◌==◌, Bool, true, false, not, ◌&&◌, if◌then◌else◌, List, [], ◌∷◌, ◌++◌, codes, length}
 use Rattle.gt_digits.specs.Digits.{decimal, hexadecimal}
 use Rattle.gt_script.specs.declared.command.Line.{Line}
-use Rattle.gt_pages.specs.Ledger.{Block, Ledger, sizes}
+use Rattle.gt_blocks.specs.Ledger.{Block, Ledger, sizes}
 use Rattle.gt_heap.specs.Kept.{allocated_of, count_of_size}
 use Rattle.gt_machine.specs.declared.answer.Answer.{Answer}
 use Rattle.gt_machine.specs.declared.answer.Answer.TheVariants.{Done, Made, Null, Ref, Shown, Collected, Heap, Refused}

@@ -1,7 +1,8 @@
-use gt_types::Bytes;
+use gt_types::{Bytes, Copied};
+use std::alloc::{AllocError, Global};
 
 /// What a command answers.
-#[derive(Debug, Drop)]
+#[derive(Debug, PartialEq, Eq, Drop)]
 pub enum Answer {
     /// The command is done.
     Done,
@@ -38,6 +39,32 @@ impl Answer {
             Answer::Shown(_) => false,
             Answer::Collected { .. } => false,
             Answer::Heap(_) => false,
+        }
+    }
+}
+
+impl Copied for Answer {
+    fn copy(&self, alloc: Global) -> Result<Answer, AllocError> {
+        match self {
+            Answer::Done => Ok(Answer::Done),
+            Answer::Made { addr, size } => Ok(Answer::Made {
+                addr: *addr,
+                size: *size,
+            }),
+            Answer::Null => Ok(Answer::Null),
+            Answer::Ref { addr } => Ok(Answer::Ref { addr: *addr }),
+            Answer::Shown(text) => Ok(Answer::Shown(text.copy(alloc)?)),
+            Answer::Collected {
+                kept,
+                freed,
+                dropped,
+            } => Ok(Answer::Collected {
+                kept: *kept,
+                freed: *freed,
+                dropped: *dropped,
+            }),
+            Answer::Heap(text) => Ok(Answer::Heap(text.copy(alloc)?)),
+            Answer::Refused(why) => Ok(Answer::Refused(*why)),
         }
     }
 }

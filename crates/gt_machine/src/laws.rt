@@ -14,7 +14,10 @@ ghost use Rattle.gt_machine.specs.Next.{Next};
 ghost use Rattle.gt_machine.specs.Run.{Run};
 ghost use Rattle.gt_machine.specs.declared.TheConstants.{MAX_MIN_EXPAND, MAX_MIN_HEAPSIZE};
 ghost use Rattle.gt_machine.specs.Session.{state_of, IsSession};
+ghost use Rattle.gt_machine.specs.Refusals.{refusals_of, IsFirstOf};
 ghost use Rattle.gt_machine.specs.declared.answer.Answer.{Answer};
+ghost use Rattle.gt_machine.specs.declared.answer.Answer.TheVariants.{Refused};
+ghost use Rattle.gt_machine.specs.declared.answer.Why.{Why};
 ghost use Rattle.gt_machine.specs.declared.session.Session.{Session};
 
 /// Between two commands the state of a session is good, and the bytes of its space stand for it.
@@ -38,4 +41,9 @@ pub fn opening_is_good()
 /// state is good, and its ledger is sound.
 pub fn runs_stay_good()
     ensures { (program : Program) (opening state : State) (lines : List Line) (answers : List Answer) → IsLinked program → IsGoodState program opening → Run program opening lines answers state → IsGoodState program state }
+{}
+
+/// A command is refused for the first cause in its row of `refusals` that is there.
+pub fn refusals_in_order()
+    ensures first { (program : Program) (s t : State) (command : Command) (why : Why) → Next program s command (Refused why) t → IsFirstOf program s command (refusals_of command) why }
 {}

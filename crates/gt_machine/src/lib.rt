@@ -4,6 +4,8 @@
 #![tactic(auto)]
 
 mod answer;
+mod built;
+mod causes;
 mod collecting;
 mod dropping;
 mod getting;
@@ -22,7 +24,9 @@ mod texts;
 mod vars;
 
 pub use answer::{Answer, Why};
-pub use laws::{good_state, next_keeps_good, opening_is_good, runs_stay_good};
+pub use built::is_built;
+pub use causes::{Cause, refusals};
+pub use laws::{good_state, next_keeps_good, opening_is_good, refusals_in_order, runs_stay_good};
 pub use session::Session;
 pub use starting::opening;
 pub use stepping::step;

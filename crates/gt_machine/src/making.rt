@@ -15,8 +15,8 @@ ghost use Rattle.gt_machine.specs.State.{IsFullOfVariables};
 ghost use Rattle.gt_script.specs.declared.command.TypeName.{TypeName};
 
 use crate::{Answer, Session, Why};
+use gt_blocks::rounded_size;
 use gt_heap::MakeFail;
-use gt_pages::rounded_size;
 use gt_script::TypeName;
 use gt_space::Space;
 use gt_types::{Program, TypeId, Word};

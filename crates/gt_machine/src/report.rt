@@ -4,8 +4,8 @@ ghost use Rattle.gt_heap.specs.Heap.{IsHeap, graph_of};
 ghost use Rattle.gt_machine.specs.Text.{heap_text, size_line, size_lines};
 
 use crate::Session;
+use gt_blocks::all_sizes;
 use gt_digits::push_decimal;
-use gt_pages::all_sizes;
 use gt_space::Space;
 use gt_types::Bytes;
 use std::alloc::{AllocError, Global};

@@ -19,7 +19,7 @@ use gt_script::{Command, Line};
 use gt_space::Space;
 use std::alloc::{AllocError, Global};
 
-/// Answers one command that is built. For want of memory nothing changed.
+/// Answers one command that is built, as `is_built` tells. For want of memory nothing changed.
 pub fn step<F: Files>(
     alloc: Global,
     s: &mut Session,

@@ -1,5 +1,5 @@
 -- Texts that are UTF-8, and texts that are not.
-use Rattle.std.proofs.Common.{◌≡◌, ℕ, Bool, true, false, not, cond, eqb, List, length, Some, None, refl, sym, ap, ◌∙◌}
+use Rattle.std.proofs.Common.{◌≡◌, ℕ, Bool, true, false, not, cond, eqb, List, length, Some, None, refl, sym, ap, subst, ◌∙◌}
 use Rattle.std.specs.Prelude.{◌&&◌}
 use Rattle.std.specs.List.{list_any}
 use Rattle.std.specs.Str.{IsUtf8, is_utf8, chars}
@@ -13,15 +13,18 @@ use Rattle.gt_script.specs.Values.{is_identifier_of, name_at, file_at}
 pub utf8_false : (text : List ℕ) → (IsUtf8 text → ⊥) → is_utf8 text ≡ false
 utf8_false text h = false_from_ne_true (is_utf8 text) (λ e. h (IsUtf8-from_is_utf8 text e))
 
-pub name_none : (text : List ℕ) → (IsUtf8 text → ⊥) → None ≡ name_at text
+pub name_unreadable : (text : List ℕ) → is_utf8 text ≡ false → None ≡ name_at text
 unfolding name_at
-name_none text h = rw (utf8_false text h) refl
+name_unreadable text h = rw h refl
 
 pub name_some : (text inner word : List ℕ) → inner ≡ text → IsUtf8 text → true ≡ is_identifier_of (chars inner) → word ≡ chars inner → Some word ≡ name_at text
 unfolding name_at
 name_some text inner word same utf8 identifier e =
     let is_name : is_identifier_of (chars text) ≡ true = ap (λ t. is_identifier_of (chars t)) (sym same) ∙ sym identifier in
     rw (is_utf8-from_IsUtf8 text utf8, is_name) (ap Some (e ∙ ap chars same))
+
+pub name_shared : (text shared inner word : List ℕ) → IsUtf8 shared → shared ≡ text → inner ≡ shared → true ≡ is_identifier_of (chars inner) → word ≡ chars shared → Some word ≡ name_at text
+name_shared text shared inner word utf8 same lent identifier e = name_some text inner word (lent ∙ same) (subst IsUtf8 same utf8) identifier (e ∙ ap chars (sym lent))
 
 pub name_other : (text inner : List ℕ) → inner ≡ text → false ≡ is_identifier_of (chars inner) → None ≡ name_at text
 unfolding name_at
@@ -38,9 +41,9 @@ both_false true b e f = absurd cc
 both_false false true e f = absurd cc
 both_false false false e f = refl
 
-pub file_none : (text : List ℕ) → false ≡ eqb (length text) 0 → false ≡ list_any (λ c. eqb c 0) text → (IsUtf8 text → ⊥) → None ≡ file_at text
+pub file_unreadable : (text : List ℕ) → false ≡ eqb (length text) 0 → false ≡ list_any (λ c. eqb c 0) text → is_utf8 text ≡ false → None ≡ file_at text
 unfolding file_at
-file_none text some solid h = rw (both_false _ _ some solid, utf8_false text h) refl
+file_unreadable text some solid h = rw (both_false _ _ some solid, h) refl
 
 pub file_some : (text inner word : List ℕ) → false ≡ eqb (length text) 0 → false ≡ list_any (λ c. eqb c 0) text → inner ≡ text → IsUtf8 text → word ≡ chars inner → Some word ≡ file_at text
 unfolding file_at

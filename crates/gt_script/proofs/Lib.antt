@@ -1,3 +1,4 @@
+mod ManyWords
 mod Options
 mod Digits
 mod Quoting

@@ -1,14 +1,14 @@
 use gt_types::{Bytes, List, Word};
 
 /// A line of a script. The answer to a quiet line is printed only where it is a refusal.
-#[derive(Debug, Drop)]
+#[derive(Debug, PartialEq, Eq, Drop)]
 pub struct Line {
     pub quiet: bool,
     pub command: Command,
 }
 
 /// What a line asks for. The parts of a command are the words of its form, in order.
-#[derive(Debug, Drop)]
+#[derive(Debug, PartialEq, Eq, Drop)]
 pub enum Command {
     /// `new $v T` or `new $v T N`: make an object of the type, with room for `n` elements where it has a tail, and let
     /// the variable mean it.
@@ -84,14 +84,14 @@ pub enum Command {
 }
 
 /// A type by its name; with `star`, a pointer to it.
-#[derive(Debug, Drop)]
+#[derive(Debug, PartialEq, Eq, Drop)]
 pub struct TypeName {
     pub name: Word,
     pub star: bool,
 }
 
 /// A path: a variable, or else a root, by its name, and the steps from there.
-#[derive(Debug, Drop)]
+#[derive(Debug, PartialEq, Eq, Drop)]
 pub struct Route {
     pub variable: bool,
     pub name: Word,
@@ -99,14 +99,14 @@ pub struct Route {
 }
 
 /// A step of a path: to a field, or to an element counted from 0.
-#[derive(Debug, Drop)]
+#[derive(Debug, PartialEq, Eq, Drop)]
 pub enum Hop {
     Name(Word),
     Index(u64),
 }
 
 /// A value that a line gives: an integer, the null pointer, or what a variable means.
-#[derive(Debug, Drop)]
+#[derive(Debug, PartialEq, Eq, Drop)]
 pub enum Given {
     Integer(i128),
     Null,

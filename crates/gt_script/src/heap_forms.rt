@@ -1,27 +1,32 @@
 // The commands of the whole heap, and of all commands the one that words are.
-ghost use Rattle.std.specs.Prelude.{◌≡◌, IfOk};
+ghost use Rattle.std.specs.Prelude.{◌≡◌, [], ◌∷◌, IfOk};
 ghost use Rattle.gt_script.specs.Commands.{collect_at, save_at, load_at, tables_at, heap_at, stats_at, command_at};
 
 use crate::Command;
+use crate::names::Names;
 use crate::naming::file_name;
 use crate::numbers::integer;
 use crate::pieces::Piece;
 use crate::place_forms::place_command;
-use std::alloc::{AllocError, Global};
+use std::alloc::AllocError;
 
 /// The command that a first word and the words behind it are.
 #[tactic(auto, unfolding(crate::specs::Commands::command_at))]
-pub fn command(alloc: Global, verb: &[u8], words: &[Piece]) -> Result<Option<Command>, AllocError>
+pub fn command(
+    names: &mut Names,
+    verb: &[u8],
+    words: &[Piece<'_>],
+) -> Result<Option<Command>, AllocError>
     ensures { IfOk result (λ found. found ≡ command_at verb.now words.now) }
 {
     if verb == b"collect".as_slice() {
         return Ok(collect(words));
     }
     if verb == b"save".as_slice() {
-        return save(alloc, words);
+        return save(names, words);
     }
     if verb == b"load".as_slice() {
-        return load(alloc, words);
+        return load(names, words);
     }
     if verb == b"tables".as_slice() {
         return Ok(tables(words));
@@ -32,30 +37,42 @@ pub fn command(alloc: Global, verb: &[u8], words: &[Piece]) -> Result<Option<Com
     if verb == b"stats".as_slice() {
         return Ok(stats(words));
     }
-    place_command(alloc, verb, words)
+    place_command(names, verb, words)
 }
 
 #[tactic(auto, unfolding(crate::specs::Commands::collect_at))]
-fn collect(words: &[Piece]) -> Option<Command>
+fn collect(words: &[Piece<'_>]) -> Option<Command>
     ensures { result ≡ collect_at words.now }
 {
     match words {
         [] => Some(Command::Collect),
-        [Piece::Plain(word)] if word.as_slice() == b"force".as_slice() => {
-            Some(Command::CollectForce)
-        }
+        [word] => collect_by(word),
+        _ => None,
+    }
+}
+
+// `collect` with a word after it.
+#[tactic(auto, unfolding(crate::specs::Commands::collect_at))]
+fn collect_by(word: &Piece<'_>) -> Option<Command>
+    ensures { result ≡ collect_at (word.now ∷ []) }
+{
+    match word {
+        Piece::Plain(word) if word.as_slice() == b"force".as_slice() => Some(Command::CollectForce),
         _ => None,
     }
 }
 
 #[tactic(auto, unfolding(crate::specs::Commands::save_at))]
-fn save(alloc: Global, words: &[Piece]) -> Result<Option<Command>, AllocError>
+fn save(names: &mut Names, words: &[Piece<'_>]) -> Result<Option<Command>, AllocError>
     ensures { IfOk result (λ found. found ≡ save_at words.now) }
 {
-    let [Piece::Quoted(file), Piece::Plain(page)] = words else {
+    let [file, page] = words else {
         return Ok(None);
     };
-    let Some(file) = file_name(alloc, file.as_slice())? else {
+    let (Piece::Quoted(file), Piece::Plain(page)) = (file, page) else {
+        return Ok(None);
+    };
+    let Some(file) = file_name(names, file.as_slice())? else {
         return Ok(None);
     };
     let Some(page) = integer(page.as_slice()) else {
@@ -65,20 +82,23 @@ fn save(alloc: Global, words: &[Piece]) -> Result<Option<Command>, AllocError>
 }
 
 #[tactic(auto, unfolding(crate::specs::Commands::load_at))]
-fn load(alloc: Global, words: &[Piece]) -> Result<Option<Command>, AllocError>
+fn load(names: &mut Names, words: &[Piece<'_>]) -> Result<Option<Command>, AllocError>
     ensures { IfOk result (λ found. found ≡ load_at words.now) }
 {
-    let [Piece::Quoted(file)] = words else {
+    let [file] = words else {
         return Ok(None);
     };
-    let Some(file) = file_name(alloc, file.as_slice())? else {
+    let Piece::Quoted(file) = file else {
+        return Ok(None);
+    };
+    let Some(file) = file_name(names, file.as_slice())? else {
         return Ok(None);
     };
     Ok(Some(Command::Load { file }))
 }
 
 #[tactic(auto, unfolding(crate::specs::Commands::tables_at))]
-fn tables(words: &[Piece]) -> Option<Command>
+fn tables(words: &[Piece<'_>]) -> Option<Command>
     ensures { result ≡ tables_at words.now }
 {
     match words {
@@ -88,7 +108,7 @@ fn tables(words: &[Piece]) -> Option<Command>
 }
 
 #[tactic(auto, unfolding(crate::specs::Commands::heap_at))]
-fn heap(words: &[Piece]) -> Option<Command>
+fn heap(words: &[Piece<'_>]) -> Option<Command>
     ensures { result ≡ heap_at words.now }
 {
     match words {
@@ -98,7 +118,7 @@ fn heap(words: &[Piece]) -> Option<Command>
 }
 
 #[tactic(auto, unfolding(crate::specs::Commands::stats_at))]
-fn stats(words: &[Piece]) -> Option<Command>
+fn stats(words: &[Piece<'_>]) -> Option<Command>
     ensures { result ≡ stats_at words.now }
 {
     match words {

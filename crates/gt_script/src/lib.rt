@@ -3,9 +3,11 @@
 #![tactic(auto)]
 
 mod command;
+mod copies;
 mod front;
 mod heap_forms;
-mod laws;
+pub mod laws;
+mod names;
 mod naming;
 mod numbers;
 mod parsing;
@@ -14,6 +16,7 @@ mod pieces;
 mod place_forms;
 mod quotes;
 mod routes;
+mod slices;
 mod statements;
 mod stop;
 mod variable_forms;

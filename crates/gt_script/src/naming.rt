@@ -6,9 +6,10 @@ ghost use Rattle.gt_text.specs.Identifier.{continues_identifier_of};
 ghost use Rattle.gt_script.specs.Values.{is_identifier_of, name_at, variable_at, named_type, type_at, file_at};
 
 use crate::TypeName;
+use crate::names::Names;
 use gt_text::{continues_identifier, starts_identifier};
 use gt_types::Word;
-use std::alloc::{AllocError, Global};
+use std::alloc::AllocError;
 
 // The first character of a text, and what follows it.
 fn first(text: &str) -> Option<(char, &str)>
@@ -37,44 +38,44 @@ fn all_continue(text: &str) -> bool
 
 // The name that a text is.
 #[tactic(auto, unfolding(crate::specs::Values::name_at))]
-pub fn name(alloc: Global, text: &[u8]) -> Result<Option<Word>, AllocError>
+pub fn name(names: &mut Names, text: &[u8]) -> Result<Option<Word>, AllocError>
     ensures { IfOk result (λ found. found ≡ name_at text.now) }
 {
-    let Ok(text) = str::from_utf8(text) else {
+    let Some(shared) = names.text(text)? else {
         return Ok(None);
     };
-    if !is_identifier(text) {
+    if !is_identifier(shared.as_str()) {
         return Ok(None);
     }
-    Ok(Some(Word::of(alloc, text)?))
+    Ok(Some(Word::from_shared(shared)))
 }
 
 // The name of the variable that a text is.
 #[tactic(auto, unfolding(crate::specs::Values::variable_at, crate::specs::Texts::behind))]
-pub fn variable(alloc: Global, text: &[u8]) -> Result<Option<Word>, AllocError>
+pub fn variable(names: &mut Names, text: &[u8]) -> Result<Option<Word>, AllocError>
     ensures { IfOk result (λ found. found ≡ variable_at text.now) }
 {
     let Some(text) = text.strip_prefix(b"$") else {
         return Ok(None);
     };
-    name(alloc, text)
+    name(names, text)
 }
 
 // The type that a text is.
 #[tactic(auto, unfolding(crate::specs::Values::type_at, crate::specs::Texts::before))]
-pub fn type_name(alloc: Global, text: &[u8]) -> Result<Option<TypeName>, AllocError>
+pub fn type_name(names: &mut Names, text: &[u8]) -> Result<Option<TypeName>, AllocError>
     ensures { IfOk result (λ found. found ≡ type_at text.now) }
 {
     match text.strip_suffix(b"*") {
-        Some(text) => named_type(alloc, true, text),
-        None => named_type(alloc, false, text),
+        Some(text) => named_type(names, true, text),
+        None => named_type(names, false, text),
     }
 }
 
-fn named_type(alloc: Global, star: bool, text: &[u8]) -> Result<Option<TypeName>, AllocError>
+fn named_type(names: &mut Names, star: bool, text: &[u8]) -> Result<Option<TypeName>, AllocError>
     ensures { IfOk result (λ found. found ≡ named_type star text.now) }
 {
-    let Some(name) = name(alloc, text)? else {
+    let Some(name) = name(names, text)? else {
         return Ok(None);
     };
     Ok(Some(TypeName { name, star }))
@@ -82,16 +83,16 @@ fn named_type(alloc: Global, star: bool, text: &[u8]) -> Result<Option<TypeName>
 
 // The name of a file that a quoted text is.
 #[tactic(auto, unfolding(crate::specs::Values::file_at))]
-pub fn file_name(alloc: Global, text: &[u8]) -> Result<Option<Word>, AllocError>
+pub fn file_name(names: &mut Names, text: &[u8]) -> Result<Option<Word>, AllocError>
     ensures { IfOk result (λ found. found ≡ file_at text.now) }
 {
     if text.is_empty() || has_zero(text) {
         return Ok(None);
     }
-    let Ok(text) = str::from_utf8(text) else {
+    let Some(shared) = names.text(text)? else {
         return Ok(None);
     };
-    Ok(Some(Word::of(alloc, text)?))
+    Ok(Some(Word::from_shared(shared)))
 }
 
 fn has_zero(text: &[u8]) -> bool

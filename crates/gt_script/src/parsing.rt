@@ -4,7 +4,9 @@ ghost use Rattle.gt_script.specs.Outcome.{Parsed, IsScriptStop};
 ghost use Rattle.gt_script.specs.Scanning.{outcome_of, IsOutcomeUnlessMemory};
 
 use crate::Line;
+use crate::names::Names;
 use crate::parts::first_line;
+use crate::pieces::Piece;
 use crate::statements::statement;
 use crate::stop::{MAX_COMMANDS, ScriptStop};
 use gt_types::List;
@@ -39,25 +41,31 @@ pub fn parse_script(alloc: Global, text: &[u8]) -> Result<List<Line>, ScriptStop
     ensures lines { IfOk result (λ lines. Parsed text.now lines) }
     ensures fault { IfErr result (IsScriptStop text.now) }
 {
-    match read_script(alloc, text) {
+    let mut names = Names::new(alloc, text.len())?;
+    let mut words = Vec::new(alloc);
+    match read_script(&mut names, &mut words, text) {
         Ok(lines) => Ok(lines),
         Err(stop) => Err(stop),
     }
 }
 
 // The same, as the outcome of reading line by line.
-fn read_script(alloc: Global, text: &[u8]) -> Result<List<Line>, ScriptStop>
+fn read_script<'a>(
+    names: &mut Names,
+    words: &mut Vec<Piece<'a>>,
+    text: &'a [u8],
+) -> Result<List<Line>, ScriptStop>
     requires { length text.now < 2 ^ 32 }
     ensures { IsOutcomeUnlessMemory result (outcome_of text.now) }
 {
-    let mut lines = List::new(alloc);
+    let mut lines = List::new(names.alloc());
     let mut number: u32 = 0;
     let mut rest = text;
     while !rest.is_empty() {
         let (text, after) = first_line(rest);
         number += 1;
         rest = after;
-        let Some(said) = statement(alloc, text)? else {
+        let Some(said) = statement(names, words, text)? else {
             return Err(ScriptStop::ScriptSyntax { line: number });
         };
         let Some(line) = said else {

@@ -1,17 +1,22 @@
 // The words of a line.
-ghost use Rattle.std.specs.Prelude.{◌≡◌, ◌≤◌, length, IfOk};
+ghost use Rattle.std.specs.Prelude.{◌≡◌, ◌≤◌, cond, Some, None, length, IfOk};
 ghost use Rattle.std.specs.Option.{option_map};
-ghost use Rattle.gt_script.specs.Cutting.{is_blank, without_blanks, ends_word, quoted_word_at, plain_len, word_at, words_of};
+ghost use Rattle.gt_script.specs.Cutting.{is_blank, without_blanks, ends_word, quoted_word_at, plain_len, word_at};
+ghost use Rattle.gt_script.specs.Scanning.{few_of};
 
 use crate::front::front;
 use crate::quotes::quoted;
+use crate::slices::Slice;
 use gt_types::Bytes;
 use std::alloc::{AllocError, Global};
 
+// How many words the longest form of a command has.
+const MOST_WORDS: usize = 4;
+
 // A word of a line: its bytes, or the bytes that a quoted one means.
-#[derive(Debug, Drop)]
-pub enum Piece {
-    Plain(Bytes),
+#[derive(Drop)]
+pub enum Piece<'a> {
+    Plain(Slice<'a>),
     Quoted(Bytes),
 }
 
@@ -22,20 +27,28 @@ pub fn is_blank(byte: u8) -> bool
     byte == b' ' || byte == b'\t'
 }
 
-// The words of a line, or None where a quoted one has no end, has an escape that means nothing, or touches another word.
-pub fn words(alloc: Global, text: &[u8]) -> Result<Option<Vec<Piece>>, AllocError>
-    ensures { IfOk result (λ found. option_map (λ words. words.items) found ≡ words_of text.now) }
+// Makes a list that of the words of a line, and says whether that is done: it is not where there are more of them than any command
+// has, or a quoted one has no end, has an escape that means nothing, or touches another word.
+pub fn read_words<'a>(
+    alloc: Global,
+    text: &'a [u8],
+    words: &mut Vec<Piece<'a>>,
+) -> Result<bool, AllocError>
+    ensures { IfOk result (λ done. cond done (Some words.new.items) None ≡ few_of text.now) }
 {
-    let mut words = Vec::new(alloc);
+    words.clear();
     let mut rest = without_blanks(text);
     while !rest.is_empty() {
+        if words.len() == MOST_WORDS {
+            return Ok(false);
+        }
         let Some((word, after)) = word_at(alloc, rest)? else {
-            return Ok(None);
+            return Ok(false);
         };
         words.push(word)?;
         rest = without_blanks(after);
     }
-    Ok(Some(words))
+    Ok(true)
 }
 
 fn without_blanks(text: &[u8]) -> &[u8]
@@ -53,7 +66,7 @@ fn without_blanks(text: &[u8]) -> &[u8]
 
 // The word at the front and what stands behind it.
 #[tactic(auto, unfolding(crate::specs::Cutting::word_at))]
-fn word_at(alloc: Global, text: &[u8]) -> Result<Option<(Piece, &[u8])>, AllocError>
+fn word_at<'a>(alloc: Global, text: &'a [u8]) -> Result<Option<(Piece<'a>, &'a [u8])>, AllocError>
     ensures { IfOk result (λ found. option_map (λ r. (r.0, r.1.now)) found ≡ word_at text.now) }
 {
     match front(text) {
@@ -61,7 +74,7 @@ fn word_at(alloc: Global, text: &[u8]) -> Result<Option<(Piece, &[u8])>, AllocEr
         Some((b'"', inside)) => quoted_word(alloc, inside),
         Some((_, others)) => {
             let (word, after) = text.split_at(1 + plain_len(others));
-            Ok(Some((Piece::Plain(Bytes::of(alloc, word)?), after)))
+            Ok(Some((Piece::Plain(Slice::of(word)), after)))
         }
     }
 }
@@ -76,7 +89,10 @@ fn plain_len(text: &[u8]) -> usize
 
 // The quoted word behind an opening quote, and what stands behind it.
 #[tactic(auto, unfolding(crate::specs::Cutting::quoted_word_at))]
-fn quoted_word(alloc: Global, text: &[u8]) -> Result<Option<(Piece, &[u8])>, AllocError>
+fn quoted_word<'a>(
+    alloc: Global,
+    text: &'a [u8],
+) -> Result<Option<(Piece<'a>, &'a [u8])>, AllocError>
     ensures { IfOk result (λ found. option_map (λ r. (r.0, r.1.now)) found ≡ quoted_word_at text.now) }
 {
     let Some((bytes, after)) = quoted(alloc, text)? else {

@@ -8,11 +8,12 @@ ghost use Rattle.gt_script.specs.declared.command.Given.TheVariants.{Integer, Va
 ghost use Rattle.gt_script.specs.Steps.{begins_step, cut_steps, index_at, hop_at, hops_at, route_at, path_at};
 
 use crate::front::front;
+use crate::names::Names;
 use crate::naming::name;
 use crate::numbers::{decimal, integer};
 use crate::{Given, Hop, Route};
 use gt_types::List;
-use std::alloc::{AllocError, Global};
+use std::alloc::AllocError;
 
 #[tactic(auto, unfolding(crate::specs::Steps::begins_step))]
 fn begins_step(byte: u8) -> bool
@@ -31,24 +32,24 @@ fn step_place(text: &[u8]) -> usize
 
 // The path that a text is.
 #[tactic(auto, unfolding(crate::specs::Steps::path_at, crate::specs::Texts::behind))]
-pub fn path(alloc: Global, text: &[u8]) -> Result<Option<Route>, AllocError>
+pub fn path(names: &mut Names, text: &[u8]) -> Result<Option<Route>, AllocError>
     ensures { IfOk result (λ found. found ≡ path_at text.now) }
 {
     match text.strip_prefix(b"$") {
-        Some(text) => route(alloc, true, text),
-        None => route(alloc, false, text),
+        Some(text) => route(names, true, text),
+        None => route(names, false, text),
     }
 }
 
 #[tactic(auto, unfolding(crate::specs::Steps::route_at))]
-fn route(alloc: Global, variable: bool, text: &[u8]) -> Result<Option<Route>, AllocError>
+fn route(names: &mut Names, variable: bool, text: &[u8]) -> Result<Option<Route>, AllocError>
     ensures { IfOk result (λ found. found ≡ route_at variable text.now) }
 {
     let (start, steps) = text.split_at(step_place(text));
-    let Some(name) = name(alloc, start)? else {
+    let Some(name) = name(names, start)? else {
         return Ok(None);
     };
-    let Some(steps) = hops(alloc, steps)? else {
+    let Some(steps) = hops(names, steps)? else {
         return Ok(None);
     };
     Ok(Some(Route {
@@ -58,19 +59,24 @@ fn route(alloc: Global, variable: bool, text: &[u8]) -> Result<Option<Route>, Al
     }))
 }
 
+// How many steps a text has at most.
+fn steps_in(text: &[u8]) -> usize {
+    text.iter().filter(|byte| begins_step(**byte)).count()
+}
+
 // The steps that a text is, which begins with one where it has a byte.
-fn hops(alloc: Global, text: &[u8]) -> Result<Option<List<Hop>>, AllocError>
+fn hops(names: &mut Names, text: &[u8]) -> Result<Option<List<Hop>>, AllocError>
     requires { (cut_steps text.now).0 ≡ [] }
     ensures { IfOk result (λ found. found ≡ hops_at (cut_steps text.now).1) }
 {
-    let mut hops = List::new(alloc);
+    let mut hops = List::of(Vec::with_capacity(names.alloc(), steps_in(text))?);
     let mut rest = text;
     'hops: loop {
         match front(rest) {
             None => return Ok(Some(hops)),
             Some((_, others)) => {
                 let (step, after) = rest.split_at(1 + step_place(others));
-                let Some(hop) = hop(alloc, step)? else {
+                let Some(hop) = hop(names, step)? else {
                     return Ok(None);
                 };
                 hops.push(hop)?;
@@ -81,19 +87,19 @@ fn hops(alloc: Global, text: &[u8]) -> Result<Option<List<Hop>>, AllocError>
 }
 
 #[tactic(auto, unfolding(crate::specs::Steps::hop_at, crate::specs::Texts::behind))]
-fn hop(alloc: Global, text: &[u8]) -> Result<Option<Hop>, AllocError>
+fn hop(names: &mut Names, text: &[u8]) -> Result<Option<Hop>, AllocError>
     ensures { IfOk result (λ found. found ≡ hop_at text.now) }
 {
     match text.strip_prefix(b".") {
-        Some(text) => field(alloc, text),
+        Some(text) => field(names, text),
         None => Ok(index(text)),
     }
 }
 
-fn field(alloc: Global, text: &[u8]) -> Result<Option<Hop>, AllocError>
+fn field(names: &mut Names, text: &[u8]) -> Result<Option<Hop>, AllocError>
     ensures { IfOk result (λ found. found ≡ option_map Name (name_at text.now)) }
 {
-    let Some(name) = name(alloc, text)? else {
+    let Some(name) = name(names, text)? else {
         return Ok(None);
     };
     Ok(Some(Hop::Name(name)))
@@ -111,22 +117,22 @@ fn index(text: &[u8]) -> Option<Hop>
 
 // The value that a text gives.
 #[tactic(auto, unfolding(crate::specs::Values::given_at, crate::specs::Texts::behind))]
-pub fn given(alloc: Global, text: &[u8]) -> Result<Option<Given>, AllocError>
+pub fn given(names: &mut Names, text: &[u8]) -> Result<Option<Given>, AllocError>
     ensures { IfOk result (λ found. found ≡ given_at text.now) }
 {
     if text == b"null".as_slice() {
         return Ok(Some(Given::Null));
     }
     match text.strip_prefix(b"$") {
-        Some(text) => given_variable(alloc, text),
+        Some(text) => given_variable(names, text),
         None => Ok(given_integer(text)),
     }
 }
 
-fn given_variable(alloc: Global, text: &[u8]) -> Result<Option<Given>, AllocError>
+fn given_variable(names: &mut Names, text: &[u8]) -> Result<Option<Given>, AllocError>
     ensures { IfOk result (λ found. found ≡ option_map Var (name_at text.now)) }
 {
-    let Some(name) = name(alloc, text)? else {
+    let Some(name) = name(names, text)? else {
         return Ok(None);
     };
     Ok(Some(Given::Var(name)))

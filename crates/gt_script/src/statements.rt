@@ -10,23 +10,32 @@ ghost use Rattle.gt_script.specs.Scanning.{spoken_at, said_at, line_at};
 use crate::Line;
 use crate::front::front;
 use crate::heap_forms::command;
-use crate::pieces::{Piece, is_blank, words};
-use std::alloc::{AllocError, Global};
+use crate::names::Names;
+use crate::pieces::{Piece, is_blank, read_words};
+use std::alloc::AllocError;
 
 /// What a line says: None where it is refused, and no line in it where it is passed over.
 #[tactic(auto, unfolding(crate::specs::Scanning::line_at))]
-pub fn statement(alloc: Global, text: &[u8]) -> Result<Option<Option<Line>>, AllocError>
+pub fn statement<'a>(
+    names: &mut Names,
+    words: &mut Vec<Piece<'a>>,
+    text: &'a [u8],
+) -> Result<Option<Option<Line>>, AllocError>
     ensures { IfOk result (λ found. found ≡ line_at text.now) }
 {
     match text {
-        [before @ .., b'\r'] => said(alloc, before),
-        _ => said(alloc, text),
+        [before @ .., b'\r'] => said(names, words, before),
+        _ => said(names, words, text),
     }
 }
 
 // The same of a text without its carriage return.
 #[tactic(auto, unfolding(crate::specs::Scanning::said_at))]
-fn said(alloc: Global, text: &[u8]) -> Result<Option<Option<Line>>, AllocError>
+fn said<'a>(
+    names: &mut Names,
+    words: &mut Vec<Piece<'a>>,
+    text: &'a [u8],
+) -> Result<Option<Option<Line>>, AllocError>
     ensures { IfOk result (λ found. found ≡ said_at text.now) }
 {
     let Ok(_) = str::from_utf8(text) else {
@@ -35,7 +44,7 @@ fn said(alloc: Global, text: &[u8]) -> Result<Option<Option<Line>>, AllocError>
     if is_passed_over(text) {
         return Ok(Some(None));
     }
-    match spoken(alloc, text)? {
+    match spoken(names, words, text)? {
         None => Ok(None),
         Some(line) => Ok(Some(Some(line))),
     }
@@ -68,39 +77,46 @@ fn is_comment(text: &[u8]) -> bool
 }
 
 // The line that a text is.
-#[tactic(auto, unfolding(crate::specs::Scanning::spoken_at))]
-fn spoken(alloc: Global, text: &[u8]) -> Result<Option<Line>, AllocError>
+fn spoken<'a>(
+    names: &mut Names,
+    words: &mut Vec<Piece<'a>>,
+    text: &'a [u8],
+) -> Result<Option<Line>, AllocError>
     ensures { IfOk result (λ found. found ≡ spoken_at text.now) }
 {
-    let Some(words) = words(alloc, text)? else {
+    let done = read_words(names.alloc(), text, words)?;
+    if !done {
         return Ok(None);
-    };
-    line(alloc, &words)
+    }
+    line(names, words)
 }
 
 // The line that words are.
 #[tactic(auto, unfolding(crate::specs::Commands::line_of, crate::specs::Texts::behind))]
-fn line(alloc: Global, words: &[Piece]) -> Result<Option<Line>, AllocError>
+fn line(names: &mut Names, words: &[Piece<'_>]) -> Result<Option<Line>, AllocError>
     ensures { IfOk result (λ found. found ≡ line_of words.now) }
 {
-    let [Piece::Plain(word), words @ ..] = words else {
+    let [word, words @ ..] = words else {
+        return Ok(None);
+    };
+    let Piece::Plain(word) = word else {
         return Ok(None);
     };
     match word.as_slice().strip_prefix(b"@") {
-        Some(verb) => told(alloc, true, verb, words),
-        None => told(alloc, false, word.as_slice(), words),
+        Some(verb) => told(names, true, verb, words),
+        None => told(names, false, word.as_slice(), words),
     }
 }
 
 fn told(
-    alloc: Global,
+    names: &mut Names,
     quiet: bool,
     verb: &[u8],
-    words: &[Piece],
+    words: &[Piece<'_>],
 ) -> Result<Option<Line>, AllocError>
     ensures { IfOk result (λ found. found ≡ told_at quiet words.now verb.now) }
 {
-    let Some(command) = command(alloc, verb, words)? else {
+    let Some(command) = command(names, verb, words)? else {
         return Ok(None);
     };
     Ok(Some(Line { quiet, command }))

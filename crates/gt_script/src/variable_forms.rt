@@ -3,62 +3,74 @@ ghost use Rattle.std.specs.Prelude.{◌≡◌, IfOk};
 ghost use Rattle.gt_script.specs.Commands.{new_at, plain_new_at, sized_new_at, array_at, text_at, block_at, get_at, drop_at, variable_command_at};
 
 use crate::Command;
+use crate::names::Names;
 use crate::naming::{type_name, variable};
 use crate::numbers::integer;
 use crate::pieces::Piece;
 use crate::routes::path;
-use gt_types::{Bytes, Copied};
-use std::alloc::{AllocError, Global};
+use crate::slices::Slice;
+use gt_types::Copied;
+use std::alloc::AllocError;
 
 /// The command that a first word and the words behind it are, where it begins with a variable.
 #[tactic(auto, unfolding(crate::specs::Commands::variable_command_at))]
 pub fn variable_command(
-    alloc: Global,
+    names: &mut Names,
     verb: &[u8],
-    words: &[Piece],
+    words: &[Piece<'_>],
 ) -> Result<Option<Command>, AllocError>
     ensures { IfOk result (λ found. found ≡ variable_command_at verb.now words.now) }
 {
     if verb == b"new".as_slice() {
-        return new(alloc, words);
+        return new(names, words);
     }
     if verb == b"array".as_slice() {
-        return array(alloc, words);
+        return array(names, words);
     }
     if verb == b"string".as_slice() {
-        return text(alloc, words);
+        return text(names, words);
     }
     if verb == b"block".as_slice() {
-        return block(alloc, words);
+        return block(names, words);
     }
     if verb == b"get".as_slice() {
-        return get(alloc, words);
+        return get(names, words);
     }
     if verb == b"drop".as_slice() {
-        return drop_variable(alloc, words);
+        return drop_variable(names, words);
     }
     Ok(None)
 }
 
 #[tactic(auto, unfolding(crate::specs::Commands::new_at))]
-fn new(alloc: Global, words: &[Piece]) -> Result<Option<Command>, AllocError>
+fn new(names: &mut Names, words: &[Piece<'_>]) -> Result<Option<Command>, AllocError>
     ensures { IfOk result (λ found. found ≡ new_at words.now) }
 {
     match words {
-        [Piece::Plain(var), Piece::Plain(ty)] => plain_new(alloc, var, ty),
-        [Piece::Plain(var), Piece::Plain(ty), Piece::Plain(n)] => sized_new(alloc, var, ty, n),
+        [var, ty] => match (var, ty) {
+            (Piece::Plain(var), Piece::Plain(ty)) => plain_new(names, var, ty),
+            _ => Ok(None),
+        },
+        [var, ty, n] => match (var, ty, n) {
+            (Piece::Plain(var), Piece::Plain(ty), Piece::Plain(n)) => sized_new(names, var, ty, n),
+            _ => Ok(None),
+        },
         _ => Ok(None),
     }
 }
 
 #[tactic(auto, unfolding(crate::specs::Commands::plain_new_at))]
-fn plain_new(alloc: Global, var: &Bytes, ty: &Bytes) -> Result<Option<Command>, AllocError>
+fn plain_new(
+    names: &mut Names,
+    var: &Slice<'_>,
+    ty: &Slice<'_>,
+) -> Result<Option<Command>, AllocError>
     ensures { IfOk result (λ found. found ≡ plain_new_at var.now ty.now) }
 {
-    let Some(var) = variable(alloc, var.as_slice())? else {
+    let Some(var) = variable(names, var.as_slice())? else {
         return Ok(None);
     };
-    let Some(ty) = type_name(alloc, ty.as_slice())? else {
+    let Some(ty) = type_name(names, ty.as_slice())? else {
         return Ok(None);
     };
     Ok(Some(Command::New { var, ty, n: None }))
@@ -66,17 +78,17 @@ fn plain_new(alloc: Global, var: &Bytes, ty: &Bytes) -> Result<Option<Command>, 
 
 #[tactic(auto, unfolding(crate::specs::Commands::sized_new_at))]
 fn sized_new(
-    alloc: Global,
-    var: &Bytes,
-    ty: &Bytes,
-    n: &Bytes,
+    names: &mut Names,
+    var: &Slice<'_>,
+    ty: &Slice<'_>,
+    n: &Slice<'_>,
 ) -> Result<Option<Command>, AllocError>
     ensures { IfOk result (λ found. found ≡ sized_new_at var.now ty.now n.now) }
 {
-    let Some(var) = variable(alloc, var.as_slice())? else {
+    let Some(var) = variable(names, var.as_slice())? else {
         return Ok(None);
     };
-    let Some(ty) = type_name(alloc, ty.as_slice())? else {
+    let Some(ty) = type_name(names, ty.as_slice())? else {
         return Ok(None);
     };
     let Some(n) = integer(n.as_slice()) else {
@@ -90,16 +102,19 @@ fn sized_new(
 }
 
 #[tactic(auto, unfolding(crate::specs::Commands::array_at))]
-fn array(alloc: Global, words: &[Piece]) -> Result<Option<Command>, AllocError>
+fn array(names: &mut Names, words: &[Piece<'_>]) -> Result<Option<Command>, AllocError>
     ensures { IfOk result (λ found. found ≡ array_at words.now) }
 {
-    let [Piece::Plain(var), Piece::Plain(ty), Piece::Plain(n)] = words else {
+    let [var, ty, n] = words else {
         return Ok(None);
     };
-    let Some(var) = variable(alloc, var.as_slice())? else {
+    let (Piece::Plain(var), Piece::Plain(ty), Piece::Plain(n)) = (var, ty, n) else {
         return Ok(None);
     };
-    let Some(ty) = type_name(alloc, ty.as_slice())? else {
+    let Some(var) = variable(names, var.as_slice())? else {
+        return Ok(None);
+    };
+    let Some(ty) = type_name(names, ty.as_slice())? else {
         return Ok(None);
     };
     let Some(n) = integer(n.as_slice()) else {
@@ -109,27 +124,33 @@ fn array(alloc: Global, words: &[Piece]) -> Result<Option<Command>, AllocError>
 }
 
 #[tactic(auto, unfolding(crate::specs::Commands::text_at))]
-fn text(alloc: Global, words: &[Piece]) -> Result<Option<Command>, AllocError>
+fn text(names: &mut Names, words: &[Piece<'_>]) -> Result<Option<Command>, AllocError>
     ensures { IfOk result (λ found. found ≡ text_at words.now) }
 {
-    let [Piece::Plain(var), Piece::Quoted(text)] = words else {
+    let [var, text] = words else {
         return Ok(None);
     };
-    let Some(var) = variable(alloc, var.as_slice())? else {
+    let (Piece::Plain(var), Piece::Quoted(text)) = (var, text) else {
         return Ok(None);
     };
-    let text = text.copy(alloc)?;
+    let Some(var) = variable(names, var.as_slice())? else {
+        return Ok(None);
+    };
+    let text = text.copy(names.alloc())?;
     Ok(Some(Command::Text { var, text }))
 }
 
 #[tactic(auto, unfolding(crate::specs::Commands::block_at))]
-fn block(alloc: Global, words: &[Piece]) -> Result<Option<Command>, AllocError>
+fn block(names: &mut Names, words: &[Piece<'_>]) -> Result<Option<Command>, AllocError>
     ensures { IfOk result (λ found. found ≡ block_at words.now) }
 {
-    let [Piece::Plain(var), Piece::Plain(n)] = words else {
+    let [var, n] = words else {
         return Ok(None);
     };
-    let Some(var) = variable(alloc, var.as_slice())? else {
+    let (Piece::Plain(var), Piece::Plain(n)) = (var, n) else {
+        return Ok(None);
+    };
+    let Some(var) = variable(names, var.as_slice())? else {
         return Ok(None);
     };
     let Some(n) = integer(n.as_slice()) else {
@@ -139,29 +160,35 @@ fn block(alloc: Global, words: &[Piece]) -> Result<Option<Command>, AllocError>
 }
 
 #[tactic(auto, unfolding(crate::specs::Commands::get_at))]
-fn get(alloc: Global, words: &[Piece]) -> Result<Option<Command>, AllocError>
+fn get(names: &mut Names, words: &[Piece<'_>]) -> Result<Option<Command>, AllocError>
     ensures { IfOk result (λ found. found ≡ get_at words.now) }
 {
-    let [Piece::Plain(var), Piece::Plain(place)] = words else {
+    let [var, place] = words else {
         return Ok(None);
     };
-    let Some(var) = variable(alloc, var.as_slice())? else {
+    let (Piece::Plain(var), Piece::Plain(place)) = (var, place) else {
         return Ok(None);
     };
-    let Some(path) = path(alloc, place.as_slice())? else {
+    let Some(var) = variable(names, var.as_slice())? else {
+        return Ok(None);
+    };
+    let Some(path) = path(names, place.as_slice())? else {
         return Ok(None);
     };
     Ok(Some(Command::Get { var, path }))
 }
 
 #[tactic(auto, unfolding(crate::specs::Commands::drop_at))]
-fn drop_variable(alloc: Global, words: &[Piece]) -> Result<Option<Command>, AllocError>
+fn drop_variable(names: &mut Names, words: &[Piece<'_>]) -> Result<Option<Command>, AllocError>
     ensures { IfOk result (λ found. found ≡ drop_at words.now) }
 {
-    let [Piece::Plain(var)] = words else {
+    let [var] = words else {
         return Ok(None);
     };
-    let Some(var) = variable(alloc, var.as_slice())? else {
+    let Piece::Plain(var) = var else {
+        return Ok(None);
+    };
+    let Some(var) = variable(names, var.as_slice())? else {
         return Ok(None);
     };
     Ok(Some(Command::Drop { var }))

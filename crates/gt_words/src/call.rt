@@ -1,7 +1,7 @@
 use gt_types::{List, Word};
 
 /// What the words ask for.
-#[derive(Debug, Drop)]
+#[derive(Debug, PartialEq, Eq, Drop)]
 pub struct Call {
     pub settings: Settings,
     pub script: Script,
@@ -21,7 +21,7 @@ pub struct Settings {
 }
 
 /// Where the script comes from.
-#[derive(Debug, Drop)]
+#[derive(Debug, PartialEq, Eq, Drop)]
 pub enum Script {
     /// The file of this name, which is the word as given.
     File(Word),

@@ -1,7 +1,7 @@
 use Rattle.std.proofs.Common.{◌≡◌, ◌-◌, ◌≤◌, ◌∙◌, length, ap, refl, arith}
 use Rattle.std.specs.Ordering.{nat_cmp}
 use Rattle.std.specs.BTreeSet.{contains}
-use Rattle.gt_pages.specs.Lists.{flagged}
+use Rattle.gt_blocks.specs.Lists.{flagged}
 use Rattle.gt_heap.specs.Heap.{graph_of}
 use Rattle.gt_machine.proofs.Collected.{IsCollected, AreMarks-found, Collects-found, kept_few, variables_left}
 use Rattle.gt_machine.proofs.collecting.collect.Goals as goal

@@ -4,5 +4,5 @@ use Rattle.gt_script.proofs.parsing.parse_script.Goals as goal
 pub returns-in-Ok : goal.returns-in-Ok
 returns-in-Ok c = record { lines = lines_are c.args.text.now c.in-Ok.lines c.in-Ok.ensures; fault = tt }
 
-pub returns-in-Err : goal.returns-in-Err
-returns-in-Err c = record { lines = tt; fault = stop_is c.args.text.now c.in-Err.stop c.in-Err.ensures }
+pub returns : goal.returns
+returns c = record { lines = tt; fault = stop_is c.args.text.now c.in-Err.stop c.in-Err.ensures }

@@ -1,0 +1,218 @@
+#!/usr/bin/env bash
+# Reads scripts of 100,000 and 1,000,000 lines `set $a.f $b` with the reader of gt_script and with a small one in C, which cuts lines into
+# words and interns the names, and compares the times: the ratio should stay under 2. Then it reads scripts that are made to take
+# memory, and says how much of what is allowed, eight times the bytes of the script and 64 MiB, each takes at the most: all should
+# stay under 1. Run by hand, from any folder. The program around gt_script is written and built in a copy of the crates that it needs.
+set -eu
+root=$(cd "$(dirname "$0")/.." && pwd)
+work=$(mktemp -d)
+trap 'rm -rf "$work"' EXIT
+names='gt_types gt_text gt_script'
+mkdir -p "$work/crates/read_script/src"
+for name in $names; do
+  (cd "$root/crates" && tar -c --exclude=out "$name") | tar -x -C "$work/crates"
+  grep "^$name:" "$root/crates.txt" >>"$work/crates.txt"
+done
+echo 'read_script: gt_script' >>"$work/crates.txt"
+cat >"$work/crates/read_script/src/main.rt" <<'RT'
+//! Reads a script and says how many commands it has.
+#![tactic(auto)]
+use gt_script::{ScriptStop, parse_script};
+use std::io;
+use std::io::Read;
+
+fn main(rt: HostRuntime) -> io::Result<()> {
+    let alloc = rt.alloc();
+    let mut text = Vec::new(alloc);
+    rt.stdin().read_to_end(&mut text)?;
+    if text.len() >= 1 << 32 {
+        return Ok(());
+    }
+    match parse_script(alloc, &text) {
+        Ok(lines) => println!(rt; "{} commands", lines.len()),
+        Err(ScriptStop::Memory) => println!(rt; "out of memory"),
+        Err(ScriptStop::ScriptSyntax { line }) => println!(rt; "line {line} refused"),
+        Err(ScriptStop::ScriptTooLong) => println!(rt; "too long"),
+    }
+}
+RT
+cat >"$work/reader.c" <<'C'
+/* Reads a script as plain C would: each line is cut into at most four words, the names in them are interned in a table by a hash, and a
+   command of 24 bytes and its steps are kept. */
+#include <stdint.h>
+#include <stdio.h>
+#include <stdlib.h>
+#include <string.h>
+
+typedef struct { const char *text; uint32_t len, hash; } name;
+typedef struct { uint32_t name, at; } hop;
+typedef struct { uint8_t verb, quiet, variable, given; uint32_t a, b, hop, hops; } command;
+
+static name *names; static uint32_t named, room, *table, mask;
+static hop *hops; static uint32_t hopped, hop_room;
+static command *commands; static uint32_t commanded, command_room;
+
+static void grow (void)
+{
+  mask = mask * 2 + 1; free (table); table = calloc (mask + 1, 4);
+  for (uint32_t i = 0; i < named; i++) {
+    uint32_t k = names[i].hash & mask;
+    while (table[k]) k = (k + 1) & mask;
+    table[k] = i + 1;
+  }
+}
+static uint32_t intern (const char *text, uint32_t len)
+{
+  uint32_t hash = 2166136261u;
+  for (uint32_t i = 0; i < len; i++) hash = (hash ^ (unsigned char) text[i]) * 16777619u;
+  hash ^= hash >> 15;
+  uint32_t k = hash & mask;
+  for (; table[k]; k = (k + 1) & mask) {
+    name *n = &names[table[k] - 1];
+    if (n->hash == hash && n->len == len && !memcmp (n->text, text, len)) return table[k] - 1;
+  }
+  if (named == room) names = realloc (names, (room = room * 2 + 64) * sizeof *names);
+  names[named] = (name) { text, len, hash };
+  table[k] = ++named;
+  if (named * 2 > mask) grow ();
+  return named - 1;
+}
+static int is_letter (int c) { return c == '_' || ((c | 32) >= 'a' && (c | 32) <= 'z') || c >= 128; }
+static int is_part (int c) { return is_letter (c) || (c >= '0' && c <= '9'); }
+static int is (const char *text, uint32_t len, const char *word) { return len == strlen (word) && !memcmp (text, word, len); }
+static int is_name (const char *text, const char *end)
+{
+  if (text == end || !is_letter ((unsigned char) *text)) return 0;
+  for (; text < end; text++) if (!is_part ((unsigned char) *text)) return 0;
+  return 1;
+}
+static int variable (const char *text, const char *end, uint32_t *to)
+{
+  if (*text != '$' || !is_name (text + 1, end)) return 0;
+  *to = intern (text + 1, end - text - 1);
+  return 1;
+}
+static int path (command *c, const char *p, const char *end)
+{
+  c->variable = *p == '$'; p += c->variable;
+  const char *b = p;
+  while (p < end && *p != '.' && *p != '[') p++;
+  if (!is_name (b, p)) return 0;
+  c->a = intern (b, p - b); c->hop = hopped;
+  while (p < end) {
+    hop h = { ~0u, 0 };
+    if (*p == '.') {
+      b = ++p;
+      while (p < end && *p != '.' && *p != '[') p++;
+      if (!is_name (b, p)) return 0;
+      h.name = intern (b, p - b);
+    } else {
+      b = ++p;
+      while (p < end && *p >= '0' && *p <= '9') h.at = h.at * 10 + (*p++ - '0');
+      if (p == b || p == end || *p++ != ']') return 0;
+    }
+    if (hopped == hop_room) hops = realloc (hops, (hop_room = hop_room * 2 + 64) * sizeof *hops);
+    hops[hopped++] = h; c->hops++;
+  }
+  return 1;
+}
+static int line (const char *p, const char *e)
+{
+  const char *w[4], *we[4]; int n = 0;
+  for (;;) {
+    while (p < e && (*p == ' ' || *p == '\t')) p++;
+    if (p == e) break;
+    if (n == 4) return 0;
+    w[n] = p;
+    while (p < e && *p != ' ' && *p != '\t') p++;
+    we[n++] = p;
+  }
+  if (!n || *w[0] == '#') return 1;
+  if (commanded == command_room) commands = realloc (commands, (command_room = command_room * 2 + 64) * sizeof *commands);
+  command *c = &commands[commanded++];
+  memset (c, 0, sizeof *c);
+  const char *v = w[0];
+  if (*v == '@') c->quiet = 1, v++;
+  uint32_t len = we[0] - v;
+  if (is (v, len, "new") && n == 3 && is_name (w[2], we[2])) { c->verb = 'n'; c->b = intern (w[2], we[2] - w[2]); return variable (w[1], we[1], &c->a); }
+  if (is (v, len, "set") && n == 3) {
+    c->verb = 's';
+    if (!path (c, w[1], we[1])) return 0;
+    if (is (w[2], we[2] - w[2], "null")) return 1;
+    c->given = 1;
+    return variable (w[2], we[2], &c->b);
+  }
+  if (is (v, len, "get") && n == 3) { c->verb = 'g'; return variable (w[1], we[1], &c->b) && path (c, w[2], we[2]); }
+  if (is (v, len, "drop") && n == 2) { c->verb = 'd'; return variable (w[1], we[1], &c->a); }
+  if (is (v, len, "print") && n == 2) { c->verb = 'p'; return path (c, w[1], we[1]); }
+  return 0;
+}
+int main (void)
+{
+  size_t room = 1 << 16, len = 0, got; char *text = malloc (room);
+  while ((got = fread (text + len, 1, room - len, stdin))) if ((len += got) == room) text = realloc (text, room *= 2);
+  mask = 1023; table = calloc (mask + 1, 4);
+  const char *p = text, *end = text + len;
+  for (long at = 1; p < end; at++) {
+    const char *e = memchr (p, '\n', end - p);
+    if (!e) e = end;
+    if (!line (p, e)) { printf ("line %ld refused\n", at); return 0; }
+    p = e + 1;
+  }
+  printf ("%u commands\n", commanded);
+  return 0;
+}
+C
+cat >"$work/spent.c" <<'C'
+/* Runs a program over a file as its input, and says how many seconds of the processor it took, and how many KiB it had at the most. */
+#include <stdio.h>
+#include <stdlib.h>
+#include <sys/resource.h>
+#include <sys/wait.h>
+#include <unistd.h>
+
+int main (int argc, char **argv)
+{
+  if (argc < 3 || !freopen (argv[1], "r", stdin)) return 2;
+  pid_t child = fork ();
+  if (!child) { execv (argv[2], argv + 2); _exit (127); }
+  int status; struct rusage used;
+  if (wait4 (child, &status, 0, &used) < 0 || !WIFEXITED (status) || WEXITSTATUS (status)) return 3;
+  fprintf (stderr, "%.4f %ld\n", used.ru_utime.tv_sec + used.ru_stime.tv_sec + (used.ru_utime.tv_usec + used.ru_stime.tv_usec) / 1e6, used.ru_maxrss);
+  return 0;
+}
+C
+cc -O2 -o "$work/reader" "$work/reader.c"
+cc -O2 -o "$work/spent" "$work/spent.c"
+for name in $names; do (cd "$work/crates/$name" && rt lib) >"$work/log" 2>&1 || { cat "$work/log" >&2; exit 2; }; done
+printf 'heap\n' >"$work/crates/read_script/stdin"
+(cd "$work/crates/read_script" && rt run) >"$work/log" 2>&1 || { cat "$work/log" >&2; exit 2; }
+program=$work/crates/read_script/out/read_script
+
+# Seconds of the processor that a reader takes for a script, at the best of five runs, beyond those for one whose first line is refused.
+seconds() {
+  { echo x; cat "$2"; } >"$work/refused"
+  for _ in 1 2 3 4 5; do echo "$("$work/spent" "$2" "$1" 2>&1 >/dev/null) $("$work/spent" "$work/refused" "$1" 2>&1 >/dev/null)"; done |
+    awk 'NR == 1 || $1 < a { a = $1 } NR == 1 || $3 < b { b = $3 } END { print a - b }'
+}
+for count in 100000 1000000; do
+  yes 'set $a.f $b' | head -n $count >"$work/script" || true
+  ours=$(seconds "$program" "$work/script")
+  c=$(seconds "$work/reader" "$work/script")
+  awk -v n=$count -v a="$ours" -v c="$c" 'BEGIN { printf "%7d lines: %.4f s, in C %.4f s, ratio %.2f\n", n, a, c, a / c }'
+done
+
+# What a script takes, of what is allowed.
+memory() {
+  "$work/spent" "$work/script" "$program" 2>"$work/took" >"$work/answer"
+  awk -v n="$(wc -c <"$work/script")" -v k="$1" -v w="$(cat "$work/answer")" \
+    '{ a = 8 * n / 1024 + 65536; printf "%-10s %9d bytes: %7d KiB of %7d, %.3f (%s)\n", k, n, $2, a, $2 / a, w }' "$work/took"
+}
+yes 'set $a.f $b' | head -n 1000000 >"$work/script" || true
+memory sets
+{ printf '@print $a'; yes .f | head -n 16777190 | tr -d '\n'; echo; } >"$work/script" || true
+memory long_path
+yes '@print $a.f.f.f.f.f.f.f.f.f.f.f' | head -n 1000000 >"$work/script" || true
+memory many_hops
+{ yes 'a ' | head -n 16777200 | tr -d '\n'; echo; } >"$work/script" || true
+memory many_words

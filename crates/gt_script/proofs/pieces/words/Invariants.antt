@@ -1,9 +1,0 @@
-use Rattle.std.proofs.Common.{length}
-use Rattle.gt_script.proofs.Cuts.{SoFar}
-use Rattle.gt_script.proofs.pieces.words.Given as goal
-
-abbrev pub invariant-loop-rest : goal.invariant-loop-rest
-invariant-loop-rest l = SoFar l.text l.words.items l.rest
-
-abbrev pub decreases-loop-rest : goal.decreases-loop-rest
-decreases-loop-rest l = length l.rest
