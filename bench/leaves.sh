@@ -1,5 +1,5 @@
 #!/usr/bin/env bash
-# Times writes of one leaf in place, by the program value_table: an element of the array at the end of a structure, once of 64 elements
+# Times writes of one leaf in place, by the program leaf_table: an element of the array at the end of a structure, once of 64 elements
 # and once of 65,536. The time that N writes take is that of a run with N less that of a run without one. Run by hand, from any folder.
 # A write takes O(path), whatever the size of the block: the two arrays should cost the same, and ten times the writes ten times as much.
 # On a busy machine a million writes took 0.1 s, 8.8 times as long as 100,000, and 1.08 times as long in the larger array.
@@ -7,13 +7,13 @@ set -eu
 root=$(cd "$(dirname "$0")/.." && pwd)
 work=$(mktemp -d)
 trap 'rm -rf "$work"' EXIT
-(cd "$root/crates/value_table" && rt run </dev/null) >"$work/log" 2>&1 || { cat "$work/log" >&2; exit 2; }
-cp "$root/crates/value_table/out/value_table" "$work/value_table"
+(cd "$root/crates/leaf_table" && rt run </dev/null) >"$work/log" 2>&1 || { cat "$work/log" >&2; exit 2; }
+cp "$root/crates/leaf_table/out/leaf_table" "$work/leaf_table"
 # The seconds that WRITES writes take in an array of ELEMENTS, with what lies around them.
 seconds() {
   local TIMEFORMAT='%U %S'
   printf 'times %d vecb %d 1=%d at 2.7=5 -> written\n' "$1" "$2" "$2" >"$work/rows"
-  { time "$work/value_table" <"$work/rows" >"$work/out"; } 2>&1 | awk '{ print $1 + $2 }'
+  { time "$work/leaf_table" <"$work/rows" >"$work/out"; } 2>&1 | awk '{ print $1 + $2 }'
   grep -q ', 0 differ' "$work/out" || { head -c 300 "$work/out" >&2; exit 2; }
 }
 best() { for _ in 1 2 3 4 5; do seconds "$1" "$2"; done | sort -n | head -n 1; }

@@ -4,6 +4,8 @@ use Rattle.std.specs.Prelude.{◌↔◌, Contains, Any, flat_map, fold, option_t
 use Rattle.std.specs.Str.{bytes_eq}
 use Rattle.std.proofs.lemmas.Slice.Eq.{bytes_eq-Decides}
 use Rattle.std.proofs.lemmas.Bool.Decides.{Decides-eqb}
+use Rattle.gt_types.specs.declared.expressions.Base.{Base}
+use Rattle.gt_types.specs.declared.expressions.Base.TheVariants.{Here, Outer, Outermost}
 use Rattle.gt_types.specs.declared.expressions.Expr.{Expr, roll-Expr}
 use Rattle.gt_types.specs.declared.expressions.Expr.TheFolds.{fold-roll-Expr, ind-Expr, map-Expr}
 use Rattle.gt_types.specs.declared.expressions.Expr.TheOpen as node
@@ -31,10 +33,10 @@ record Grows (g : Ends → Ends) (N : List ℕ → Type 0) (R : ℕ → Type 0) 
   names : (k : Ends) (n : List ℕ) → Contains (g k).names n ↔ (Contains k.names n ⊎ N n)
   roots : (k : Ends) (i : ℕ) → Contains (g k).roots i ↔ (Contains k.roots i ⊎ R i)
 
-either-none : {A N : Type 0} → ¬ N → A ↔ (A ⊎ N)
+pub either-none : {A N : Type 0} → ¬ N → A ↔ (A ⊎ N)
 either-none not = (λ a. inl a, λ h. elim h [ inl a ↦ a | inr n ↦ absurd (not n) ])
 
-either-both : {A B C N M K : Type 0} → C ↔ (B ⊎ M) → B ↔ (A ⊎ N) → K ↔ (N ⊎ M) → C ↔ (A ⊎ K)
+pub either-both : {A B C N M K : Type 0} → C ↔ (B ⊎ M) → B ↔ (A ⊎ N) → K ↔ (N ⊎ M) → C ↔ (A ⊎ K)
 either-both {A} {B} {C} {N} {M} {K} f g h = (there, back)
   where
     there : C → A ⊎ K
@@ -48,7 +50,7 @@ either-both {A} {B} {C} {N} {M} {K} f g h = (there, back)
     back (inl a) = f.1 (inl (g.1 (inl a)))
     back (inr k) = more (h.0 k)
 
-either-same : {A C N K : Type 0} → C ↔ (A ⊎ N) → N ↔ K → C ↔ (A ⊎ K)
+pub either-same : {A C N K : Type 0} → C ↔ (A ⊎ N) → N ↔ K → C ↔ (A ⊎ K)
 either-same f h = (λ c. elim (f.0 c) [ inl a ↦ inl a | inr n ↦ inr (h.0 n) ], λ e. elim e [ inl a ↦ f.1 (inl a) | inr k ↦ f.1 (inr (h.1 k)) ])
 
 grows-none : {N : List ℕ → Type 0} {R : ℕ → Type 0} → ((n : List ℕ) → ¬ N n) → ((i : ℕ) → ¬ R i) → Grows (λ k. k) N R
@@ -93,6 +95,12 @@ Reads ways roots g = Grows g (λ n. Any (EndsIn n) ways) (λ i. Contains roots i
 reads-both : {f g : Ends → Ends} (ways more : List Way) (roots others : List ℕ) → Reads ways roots f → Reads more others g → Reads (ways ++ more) (roots ++ others) (λ k. g (f k))
 reads-both ways more roots others p q = grows-both p q (λ n. any-append (EndsIn n) ways more) (λ i. contains-append roots others i)
 
+outermost-last : (steps : List (List ℕ)) (n : List ℕ) → (slice_get steps (length steps - 1) ≡ Some n) ↔ EndsIn n (Outermost, steps)
+outermost-last steps n = (λ e. let found = (last-is steps n).0 e in (refl, found.0, found.1), λ ends. (last-is steps n).1 (ends.1, ends.2))
+
+no-outermost : (base : Base) (steps : List (List ℕ)) (n : List ℕ) → ¬ (base ≡ Outermost) → ¬ EndsIn n (base, steps)
+no-outermost base steps n not ends = not ends.0
+
 abbrev IsReadAll : Expr → Type 0
 IsReadAll e = Reads (paths_of e) (roots_of e) (with_expr e)
 
@@ -102,8 +110,10 @@ first-of y = map-Expr ((e : Expr) × IsReadAll e) Expr (λ e. e.0) y
 expr-layer : (y : Expr-F ((e : Expr) × IsReadAll e))
     → Reads (paths_step (map-Expr Expr (List Way) paths_of (first-of y))) (roots_step (map-Expr Expr (List ℕ) roots_of (first-of y))) (expr_step (map-Expr Expr (Ends → Ends) with_expr (first-of y)))
 expr-layer (node.Int n) = grows-none (λ n. any-none (EndsIn n)) (λ i. nothing i)
-expr-layer (node.Path base steps) =
-    grows-same (grows-end (slice_get steps (length steps - 1))) (λ n. iff-both (last-is steps n) (any-one (EndsIn n) (base, steps))) (λ i. (λ h. absurd h, λ c. nothing i c))
+expr-layer (node.Path Outermost steps) =
+    grows-same (grows-end (slice_get steps (length steps - 1))) (λ n. iff-both (outermost-last steps n) (any-one (EndsIn n) (Outermost, steps))) (λ i. (λ h. absurd h, λ c. nothing i c))
+expr-layer (node.Path Here steps) = grows-none (λ n a. no-outermost Here steps n (λ e. cc) ((any-one (EndsIn n) (Here, steps)).1 a)) (λ i. nothing i)
+expr-layer (node.Path Outer steps) = grows-none (λ n a. no-outermost Outer steps n (λ e. cc) ((any-one (EndsIn n) (Outer, steps)).1 a)) (λ i. nothing i)
 expr-layer (node.Root i) = grows-same (grows-root i) (λ n. (λ h. absurd h, λ a. any-none (EndsIn n) a)) (λ j. only-one i j)
 expr-layer (node.One op a) = a.1
 expr-layer (node.Two op a b) = reads-both (paths_of a.0) (paths_of b.0) (roots_of a.0) (roots_of b.0) a.1 b.1

@@ -1,3 +1,8 @@
+pub mod Eaches
+pub mod Adding
+pub mod FirstNames
+pub mod PathWalks
+pub mod SeekLemmas
 pub mod Swaps
 pub mod SwapReads
 pub mod Alongs

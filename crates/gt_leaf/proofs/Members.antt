@@ -1,7 +1,7 @@
 -- Elements of lists: of one to which another is added where it is new, of those of each of several, and at the same places of two.
-use Rattle.std.proofs.Common.{◌≡◌, ℕ, zero, suc, ◌-◌, ◌||◌, Bool, true, false, List, [], ◌∷◌, ◌++◌, map, length, refl, ap, sym, subst, ◌∙◌, ◌⊎◌, arith, Some, inl, inr, if◌then◌else◌}
-use Rattle.std.specs.Prelude.{◌↔◌, Contains, Any, flat_map, slice_get}
-use Rattle.std.specs.List.{list_any, AllZip}
+use Rattle.std.proofs.Common.{◌≡◌, ℕ, zero, suc, ◌-◌, ◌||◌, Bool, true, false, Option, None, List, [], ◌∷◌, ◌++◌, map, length, refl, ap, sym, subst, ◌∙◌, ◌⊎◌, arith, Some, inl, inr, if◌then◌else◌}
+use Rattle.std.specs.Prelude.{◌↔◌, Contains, Any, flat_map, filter_map, slice_get}
+use Rattle.std.specs.List.{list_any, cons_option, AllZip}
 use Rattle.std.proofs.lemmas.List.Elements.{Contains-append_left, Contains-append_right, Contains-append_cases, Contains-push, Contains-push_cases}
 use Rattle.std.proofs.lemmas.List.Folds.{list_any-from_Any}
 
@@ -77,6 +77,36 @@ flat-step {X} {Y} f x xs y rest = (there, back)
 pub contains-flat : {X Y : Type 0} (f : X → List Y) (xs : List X) (y : Y) → Contains (flat_map f xs) y ↔ ((x : X) × Contains xs x × Contains (f x) y)
 contains-flat f [] y = (λ c. absurd (nothing y c), λ h. absurd (nothing h.0 h.1))
 contains-flat f (x ∷ xs) y = flat-step f x xs y (contains-flat f xs y)
+
+-- ---- what is given of some items
+
+module _ {Y : Type 0} where
+  option-cases : (o : Option Y) (l : List Y) (y : Y) → Contains (cons_option o l) y ↔ ((o ≡ Some y) ⊎ Contains l y)
+  option-cases None l y = (λ c. inr c, λ h. elim h [ inl e ↦ absurd (cc) | inr c ↦ c ])
+  option-cases (Some w) l y = (there, back)
+    where
+      there : Contains (w ∷ l) y → (Some w ≡ Some y) ⊎ Contains l y
+      there c = elim (first-or-later w y l c) [ inl is ↦ inl (ap Some is) | inr after ↦ inr after ]
+
+      back : (Some w ≡ Some y) ⊎ Contains l y → Contains (w ∷ l) y
+      back (inl e) = let is : w ≡ y = cc in subst (Contains (w ∷ l)) is (first w l)
+      back (inr c) = later w y l c
+
+module _ {X Y : Type 0} where
+  filter-step : (h : X → Option Y) (x : X) (xs : List X) (y : Y) → Contains (filter_map h xs) y ↔ ((z : X) × Contains xs z × (h z ≡ Some y))
+      → Contains (cons_option (h x) (filter_map h xs)) y ↔ ((z : X) × Contains (x ∷ xs) z × (h z ≡ Some y))
+  filter-step h x xs y rest = (there, back)
+    where
+      there : Contains (cons_option (h x) (filter_map h xs)) y → (z : X) × Contains (x ∷ xs) z × (h z ≡ Some y)
+      there c = elim ((option-cases (h x) (filter_map h xs) y).0 c) [ inl e ↦ (x, first x xs, e) | inr d ↦ let found = rest.0 d in (found.0, later x found.0 xs found.1, found.2) ]
+
+      back : (z : X) × Contains (x ∷ xs) z × (h z ≡ Some y) → Contains (cons_option (h x) (filter_map h xs)) y
+      back (z, c, e) = (option-cases (h x) (filter_map h xs) y).1 (elim (first-or-later x z xs c) [ inl is ↦ inl (ap h is ∙ e) | inr after ↦ inr (rest.1 (z, after, e)) ])
+
+  -- what is given of some item
+  pub filter-contains : (h : X → Option Y) (xs : List X) (y : Y) → Contains (filter_map h xs) y ↔ ((x : X) × Contains xs x × (h x ≡ Some y))
+  filter-contains h [] y = (λ c. absurd (nothing y c), λ (x, c, e). absurd (nothing x c))
+  filter-contains h (x ∷ xs) y = filter-step h x xs y (filter-contains h xs y)
 
 -- ---- the last of a list
 

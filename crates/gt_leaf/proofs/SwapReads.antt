@@ -1,4 +1,4 @@
--- Paths whose last names expressions read find the same numbers in two values that differ in a leaf that none reads.
+-- Paths that end in numbers that expressions read find the same numbers in two values that differ in a leaf that none reads.
 use Rattle.std.proofs.Common.{◌≡◌, ℕ, zero, suc, Bool, true, false, cond, IsTrue, List, [], ◌∷◌, refl, ap, sym, subst, ◌∙◌, Option, Some, None}
 use Rattle.std.specs.Prelude.{slice_get}
 use Rattle.gt_types.specs.declared.expressions.Expr.{Expr}
@@ -22,18 +22,12 @@ use Rattle.gt_tree.proofs.PathParts.{get-map}
 use Rattle.gt_tree.proofs.WriteReads.{named-place, step-taken, read-desc, node-type, first-types}
 use Rattle.gt_value.specs.declared.places.Holder.{Holder}
 use Rattle.gt_value.specs.declared.places.Holder.TheVariants as lies_in
-use Rattle.gt_leaf.specs.Unread.{IsUnread, IsReadName}
+use Rattle.gt_leaf.specs.Unread.{IsUnread, IsReadField, EndsAt}
 use Rattle.gt_leaf.proofs.Swaps.{Swap, OneSwaps}
 
--- the last name of a path is one that expressions read
-abbrev pub LastRead : Program → List (List ℕ) → Type 0
-LastRead program [] = Unit {0}
-LastRead program (name ∷ []) = IsReadName program name
-LastRead program (name ∷ next ∷ names) = LastRead program (next ∷ names)
-
-last-read-next : (program : Program) (name : List ℕ) (names : List (List ℕ)) → LastRead program (name ∷ names) → LastRead program names
-last-read-next program name [] read = tt
-last-read-next program name (next ∷ names) read = read
+-- the number in which a path of names ends from a structure on is one that expressions read
+abbrev pub EndRead : Program → TypeId → List (List ℕ) → Type 0
+EndRead program node names = (end : TypeId) (i : ℕ) (s : Structure) (f : Field) → HasStructure program end s → slice_get s.fields i ≡ Some f → is_number f.ty ≡ true → EndsAt program node names end i → IsReadField program end i
 
 -- ---- numbers
 
@@ -151,7 +145,7 @@ module _ {program : Program} (settled : Settled program) where
 
   -- ---- a path
 
-  pub reads-swapped : {node : TypeId} {steps : List (List ℕ)} {type : Ty} → Leads program by_name node steps type → IsTrue (is_number type) → LastRead program steps → (h : Holder) (desc : Option Expr) (o n : Tree)
+  pub reads-swapped : {node : TypeId} {steps : List (List ℕ)} {type : Ty} → Leads program by_name node steps type → IsTrue (is_number type) → EndRead program node steps → (h : Holder) (desc : Option Expr) (o n : Tree)
       → Swap program h (ty.Node node desc) o n → read_path program steps (ty.Node node None) o ≡ read_path program steps (ty.Node node None) n
   reads-swapped (last_step {node} {x = name} {s} {f} has named may) number read h desc o n r = go s.is_union refl
     where
@@ -159,13 +153,18 @@ module _ {program : Program} (settled : Settled program) where
       go true union = let c = may.common union in let none = ap is_number c.2 in absurd (cc)
       go false struct =
           let found = named-place program settled node s f name has may.there named in
-          let is_read = λ (unread : IsUnread program (lies_in.Field node found.0)). unread s f has found.2 number (subst (IsReadName program) (sym named) read) in
+          let is_read = λ (unread : IsUnread program (lies_in.Field node found.0)). unread (read node found.0 s f has found.2 number (EndsAt.at_last (s, has, found.1, found.2))) in
           ap (λ x. x then λ next. read_path program [] next.type next.value) (step-taken program node s f name found.0 false o has struct found.1 found.2)
           ∙ field-then [] (lies_in.Field node found.0) f.ty (λ p q swap. number-swap swap is_read) (field-swap node desc s f found.0 has struct found.2 r)
           ∙ sym (ap (λ x. x then λ next. read_path program [] next.type next.value) (step-taken program node s f name found.0 false n has struct found.1 found.2))
   reads-swapped (next_step {node} {next} {x = name} {xs = names} {s} {f} {desc = inner} {type} has named may is rest) number read h desc o n r =
-      go (reads-swapped rest number (last-read-next program name names read)) s.is_union refl
+      go (reads-swapped rest number after) s.is_union refl
     where
+      after : EndRead program next names
+      after = λ end i t g there get is_number_there ends.
+          let found = named-place program settled node s f name has may.there named in
+          read end i t g there get is_number_there (EndsAt.at_next (s, has, found.1, found.2) is ends)
+
       go : ReadsOn next names → (b : Bool) → s.is_union ≡ b → read_path program (name ∷ names) (ty.Node node None) o ≡ read_path program (name ∷ names) (ty.Node node None) n
       go later true union =
           let c = may.common union in

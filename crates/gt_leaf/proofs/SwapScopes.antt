@@ -1,7 +1,8 @@
 -- Expressions of the program have the same values in two scopes from whose structures the paths that they read lead to the same numbers.
-use Rattle.std.proofs.Common.{◌≡◌, ℕ, true, List, [], ◌∷◌, ◌++◌, refl, ap, ◌∙◌, Option, Some, None}
+use Rattle.std.proofs.Common.{◌≡◌, ℕ, true, List, refl, ◌∙◌, Option, Some, None, inl, inr}
 use Rattle.std.specs.Prelude.{Contains}
 use Rattle.std.proofs.lemmas.List.Elements.{All-contains, All-contains_itself, All-weaker}
+use Rattle.gt_types.specs.declared.expressions.Base.{Base}
 use Rattle.gt_types.specs.declared.expressions.Base.TheVariants.{Here, Outer, Outermost}
 use Rattle.gt_types.specs.declared.expressions.Expr.{Expr}
 use Rattle.gt_types.specs.declared.types.TypeId.{TypeId}
@@ -19,14 +20,15 @@ use Rattle.gt_tree.specs.Fits.{desc_value}
 use Rattle.gt_tree.specs.PathLaws.{LeadsInScope}
 use Rattle.gt_tree.proofs.PathExprs.{worth-same}
 use Rattle.gt_tree.proofs.FixedExprs.{roots-worth}
-use Rattle.gt_leaf.specs.Unread.{IsExpressionOf, IsReadName, IsReadRoot}
-use Rattle.gt_leaf.proofs.SwapReads.{LastRead}
+use Rattle.gt_leaf.specs.Unread.{IsExpressionOf, BeginsAt, IsReadRoot}
+use Rattle.gt_leaf.proofs.PathWalks.{ends-named}
+use Rattle.gt_leaf.proofs.SwapReads.{EndRead}
 use Rattle.gt_leaf.proofs.Alongs.{Along, IsMet, count-met, desc-met}
 
 -- paths that expressions read lead to the same numbers in two values of a structure
 abbrev pub ReadSame : Program → TypeId → Tree → Tree → Type 0
 ReadSame program node v w =
-    (steps : List (List ℕ)) → LeadsToNumber program node steps → LastRead program steps → read_path program steps (ty.Node node None) v ≡ read_path program steps (ty.Node node None) w
+    (steps : List (List ℕ)) → LeadsToNumber program node steps → EndRead program node steps → read_path program steps (ty.Node node None) v ≡ read_path program steps (ty.Node node None) w
 
 -- two values of one structure in which they do; or none twice
 pub data HeldSame (program : Program) : Option Held → Option Held → Type 0 where
@@ -51,33 +53,31 @@ module _ {program : Program} where
   pub inside-same : {s t : Scope} (node : TypeId) (v w : Tree) → ScopesSame program s t → ReadSame program node v w → ScopesSame program (inside s node v) (inside t node w)
   inside-same node v w p r = record { here = HeldSame.both r; outer = p.here; outermost = first-same p.outermost (HeldSame.both r); roots = p.roots }
 
-  -- ---- the names in which paths end
+  -- ---- the numbers in which paths end
 
-  last-read : (names : List (List ℕ)) → ((front : List (List ℕ)) (name : List ℕ) → names ≡ front ++ name ∷ [] → IsReadName program name) → LastRead program names
-  last-read [] all = tt
-  last-read (name ∷ []) all = all [] name refl
-  last-read (name ∷ next ∷ names) all = last-read (next ∷ names) (λ front last e. all (name ∷ front) last (ap (λ l. name ∷ l) e))
+  end-read : (e : Expr) (base : Base) (begin : TypeId) (names : List (List ℕ)) → BeginsAt program e base begin → Contains (paths_of e) (base, names) → EndRead program begin names
+  end-read e base begin names begins c = λ end i s f has get number ends. (s, f, has, get, number, inl (e, base, begin, names, begins, c, ends))
 
-  way-read : (e : Expr) (way : Way) → IsExpressionOf program e → Contains (paths_of e) way → LastRead program way.1
-  way-read e way known c = last-read way.1 (λ front name is. (e, known, (c.0, way, c.1, c.2, (front, is))))
+  name-read : (e : Expr) (begin : TypeId) (names : List (List ℕ)) → IsExpressionOf program e → Contains (paths_of e) (Outermost, names) → EndRead program begin names
+  name-read e begin names known c = λ end i s f has get number ends. let found = ends-named ends s f has get in (s, f, has, get, number, inr (e, known, (c.0, (Outermost, names), c.1, c.2, (refl, found.0, found.1))))
 
   -- ---- what is read
 
-  base-same : {x y : Option Held} → HeldSame program x y → (steps : List (List ℕ)) → ((held : Held) → x ≡ Some held → LeadsToNumber program held.node steps) → LastRead program steps
+  base-same : {x y : Option Held} → HeldSame program x y → (steps : List (List ℕ)) → ((held : Held) → x ≡ Some held → LeadsToNumber program held.node steps) → ((held : Held) → x ≡ Some held → EndRead program held.node steps)
       → (x then λ held. read_path program steps (ty.Node held.node None) held.value) ≡ (y then λ held. read_path program steps (ty.Node held.node None) held.value)
   base-same HeldSame.neither steps leads read = refl
-  base-same (HeldSame.both {node} {v} {w} r) steps leads read = r steps (leads (record { node = node; value = v }) refl) read
+  base-same (HeldSame.both {node} {v} {w} r) steps leads read = r steps (leads (record { node = node; value = v }) refl) (read (record { node = node; value = v }) refl)
 
-  leaf-same : (s t : Scope) → ScopesSame program s t → (path : Way) → LeadsInScope program s path → LastRead program path.1 → leaf_in program s path.0 path.1 ≡ leaf_in program t path.0 path.1
-  leaf-same s t p (Here, steps) leads read = base-same p.here steps leads read
-  leaf-same s t p (Outer, steps) leads read = base-same p.outer steps leads read
-  leaf-same s t p (Outermost, steps) leads read = base-same p.outermost steps leads read
+  leaf-same : (s t : Scope) (e : Expr) → ScopesSame program s t → IsMet program s e → (path : Way) → LeadsInScope program s path → Contains (paths_of e) path → leaf_in program s path.0 path.1 ≡ leaf_in program t path.0 path.1
+  leaf-same s t e p met (Here, steps) leads c = base-same p.here steps leads (λ held is. end-read e Here held.node steps (met.begins.here held is) c)
+  leaf-same s t e p met (Outer, steps) leads c = base-same p.outer steps leads (λ held is. end-read e Outer held.node steps (met.begins.outer held is) c)
+  leaf-same s t e p met (Outermost, steps) leads c = base-same p.outermost steps leads (λ held is. name-read e held.node steps met.known c)
 
   pub eval-same : (s t : Scope) (e : Expr) → ScopesSame program s t → IsMet program s e → eval_in program s e ≡ eval_in program t e
   eval-same s t e p met =
       worth-same (leaf_in program s) (leaf_in program t) (root_in s) (root_in s) (λ i. refl) e
       (All-weaker (Contains (paths_of e)) (λ path. leaf_in program s path.0 path.1 ≡ leaf_in program t path.0 path.1)
-      (λ path c. leaf-same s t p path (All-contains (LeadsInScope program s) (paths_of e) path met.readable.leads c) (way-read e path met.known c)) (paths_of e) (All-contains_itself (paths_of e)))
+      (λ path c. leaf-same s t e p met path (All-contains (LeadsInScope program s) (paths_of e) path met.readable.leads c) c) (paths_of e) (All-contains_itself (paths_of e)))
       ∙ roots-worth (leaf_in program t) (leaf_in program t) (root_in s) (root_in t) (λ base steps. refl) e
       (All-weaker (Contains (roots_of e)) (λ i. root_in s i ≡ root_in t i) (λ i c. p.roots i (e, met.known, c)) (roots_of e) (All-contains_itself (roots_of e)))
 

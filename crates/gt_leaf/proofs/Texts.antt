@@ -16,7 +16,7 @@ same_answer false true f g = g refl
 same_answer false false f g = refl
 
 -- two texts are equal where the characters of one are those of the other
-bytes_eq-characters : (a b name : List ℕ) → IsUtf8 a → IsUtf8 b → name ≡ chars a → bytes_eq a b ≡ bytes_eq (chars b) name
+pub bytes_eq-characters : (a b name : List ℕ) → IsUtf8 a → IsUtf8 b → name ≡ chars a → bytes_eq a b ≡ bytes_eq (chars b) name
 bytes_eq-characters a b name u v e =
     same_answer _ _
     (λ y. (bytes_eq-Decides (chars b) name).1 (sym (ap chars ((bytes_eq-Decides a b).0 y)) ∙ sym e))

@@ -1,7 +1,9 @@
--- What the names and roots that expressions read are collected from, in the order of the code. It is no promise of this crate.
+-- What the names in which paths from `%0` end, and the roots, are collected from, in the order of the code. It is no promise of this
+-- crate.
 use Rattle.std.specs.Prelude.{ℕ, List, [], ◌∷◌, ◌++◌, Option, Some, None, if◌then◌else◌, ◌-◌, nat_eq, fold, length, slice_get}
 use Rattle.std.specs.List.{list_any}
 use Rattle.std.specs.Str.{bytes_eq}
+use Rattle.gt_types.specs.declared.expressions.Base.TheVariants.{Outermost}
 use Rattle.gt_types.specs.declared.expressions.Expr.{Expr}
 use Rattle.gt_types.specs.declared.expressions.Expr.TheOpen.{Expr-F, Int, Path, Root, One, Two, Cond}
 use Rattle.gt_types.specs.declared.expressions.Expr.TheFolds.{fold-Expr}
@@ -29,7 +31,7 @@ with_place places i = if list_any (nat_eq i) places then places else places ++ i
 abbrev pub ends : List (List ℕ) → List ℕ → Ends
 ends names roots = record { names = names; roots = roots }
 
--- with the last name of a path, where it has one
+-- with the last name of a path from `%0`, where it has one
 abbrev pub with_end : Ends → Option (List ℕ) → Ends
 with_end old (Some name) = ends (with_name old.names name) old.roots
 with_end old None = old
@@ -45,7 +47,8 @@ with_root old i = ends old.names (with_place old.roots i)
 -- with the ends of one part of an expression, from its operands on
 abbrev pub expr_step : Expr-F (Ends → Ends) → Ends → Ends
 expr_step (Int n) old = old
-expr_step (Path base steps) old = with_last old steps
+expr_step (Path Outermost steps) old = with_last old steps
+expr_step (Path base steps) old = old
 expr_step (Root i) old = with_root old i
 expr_step (One op a) old = a old
 expr_step (Two op a b) old = b (a old)

@@ -1,7 +1,7 @@
 pub mod Unread
-pub mod Collecting
-pub mod Marks
 pub mod Tables
+pub mod Collecting
+pub mod Seeking
 pub mod HeldTypes
 pub mod Writing
 pub mod Verdicts

@@ -1,28 +1,16 @@
 -- The table of what expressions read.
-use Rattle.std.specs.Prelude.{◌≡◌, ℕ, true, List, Contains, ◌↔◌}
-use Rattle.std.specs.List.{AllZip}
-use Rattle.gt_types.specs.declared.program.Field.{Field}
+use Rattle.std.specs.Prelude.{ℕ, Contains, ◌↔◌}
+use Rattle.gt_types.specs.declared.types.TypeId.{TypeId}
 use Rattle.gt_types.specs.declared.program.Program.{Program}
-use Rattle.gt_types.specs.Shapes.{is_number}
-use Rattle.gt_leaf.specs.declared.reads.Mark.{Mark}
-use Rattle.gt_leaf.specs.declared.reads.Mark.TheVariants.{Read, Unread}
+use Rattle.gt_leaf.specs.declared.fields.FieldPlace.{FieldPlace}
 use Rattle.gt_leaf.specs.declared.reads.Reads.{Reads}
-use Rattle.gt_leaf.specs.Unread.{IsReadName, IsReadRoot}
+use Rattle.gt_leaf.specs.Unread.{IsReadField, IsReadRoot}
 
--- a mark tells whether something is read
-abbrev pub Tells : Mark → Type 0 → Type 0
-Tells Read is_read = is_read
-Tells Unread is_read = ¬ is_read
+-- the place of a field: its structure, and which field of it
+abbrev pub field_place : ℕ → ℕ → FieldPlace
+field_place node i = record { structure = node; place = i }
 
--- expressions may read a field: it is a number, and some path ends in its name
-abbrev pub IsReadField : Program → Field → Type 0
-IsReadField program f = (is_number f.ty ≡ true) × IsReadName program f.name
-
--- a mark for each field, in their order
-abbrev pub TellFields : Program → List Field → List Mark → Type 0
-TellFields program fields marks = AllZip (λ f mark. Tells mark (IsReadField program f)) fields marks
-
--- the table of a program: a mark for each field of each structure, and the places of the roots that are read
+-- the table of a program: the places of the fields that are read, and those of the roots
 pub record IsTableOf (program : Program) (table : Reads) : Type 0 where
-  pub fields : AllZip (λ s marks. TellFields program s.fields marks) program.structures table.fields
+  pub fields : (node : TypeId) (i : ℕ) → Contains table.fields (field_place node.0 i) ↔ IsReadField program node i
   pub roots : (i : ℕ) → Contains table.roots i ↔ IsReadRoot program i

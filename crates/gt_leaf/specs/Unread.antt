@@ -1,8 +1,14 @@
 -- Which leaves no expression reads, and what follows for writing them.
-use Rattle.std.specs.Prelude.{◌≡◌, ◌⊎◌, ℕ, ◌∷◌, List, [], ◌++◌, Some, true, IsTrue, Contains, option_to_list, slice_get, Any}
+use Rattle.std.specs.Prelude.{◌≡◌, ◌⊎◌, ℕ, ◌∷◌, List, [], ◌++◌, Option, Some, true, IsTrue, Contains, option_to_list, slice_get, Any}
+use Rattle.std.specs.List.{position_from}
+use Rattle.std.specs.Str.{bytes_eq}
+use Rattle.gt_types.specs.declared.expressions.Base.{Base}
+use Rattle.gt_types.specs.declared.expressions.Base.TheVariants.{Here, Outer, Outermost}
 use Rattle.gt_types.specs.declared.expressions.Expr.{Expr}
+use Rattle.gt_types.specs.declared.types.TypeId.{TypeId}
 use Rattle.gt_types.specs.declared.types.Ty.{Ty}
 use Rattle.gt_types.specs.declared.types.Ty.TheOpen as part
+use Rattle.gt_types.specs.declared.types.Ty.TheVariants as ty
 use Rattle.gt_types.specs.declared.types.Ty.TheOpen.{Ty-F}
 use Rattle.gt_types.specs.declared.types.Ty.TheFolds.{fold-Ty}
 use Rattle.gt_types.specs.declared.types.PtrKind.{PtrKind}
@@ -11,9 +17,9 @@ use Rattle.gt_types.specs.declared.program.Structure.{Structure}
 use Rattle.gt_types.specs.declared.program.Field.{Field}
 use Rattle.gt_types.specs.declared.program.Root.{Root as RootOf}
 use Rattle.gt_types.specs.declared.program.Program.{Program}
-use Rattle.gt_types.specs.Shapes.{is_number}
-use Rattle.gt_types.specs.Contains.{HasStructure}
-use Rattle.gt_types.specs.Paths.{Way, paths_of, roots_of}
+use Rattle.gt_types.specs.Shapes.{innermost, is_number}
+use Rattle.gt_types.specs.Contains.{HasStructure, ContainsStructure}
+use Rattle.gt_types.specs.Paths.{Way, paths_of, roots_of, own_expressions}
 use Rattle.gt_layout.specs.declared.planes.Plane.{Plane}
 use Rattle.gt_layout.specs.declared.planes.Spot.{Spot}
 use Rattle.gt_tree.specs.Trees.{Tree, Rec, Trees, is_leaf, with_part, without_pointers}
@@ -49,24 +55,60 @@ pub data IsExpressionOf (program : Program) (e : Expr) : Type 0 where
   of_desc : (s : Structure) → Contains program.structures s → s.desc ≡ Some e → IsExpressionOf program e
   of_root : (r : RootOf) → Contains program.roots r → Contains (expressions_of r.ty) e → IsExpressionOf program e
 
--- a path ends in a name
-abbrev pub EndsIn : List ℕ → Way → Type 0
-EndsIn name way = (names : List (List ℕ)) × (way.1 ≡ names ++ name ∷ [])
+-- The structures at which the paths of an expression begin. For a length of a field of a structure, and for the `desc` of a union
+-- itself, `%h` is this structure, and `%1` each that contains it. For the `desc` of a field that holds a union, `%h` is the union, and
+-- `%1` the field's structure. For the `desc` of a root, `%h` is the union.
+pub data BeginsAt (program : Program) (e : Expr) : Base → TypeId → Type 0 where
+  own_here : {node : TypeId} {s : Structure} → HasStructure program node s → Contains (own_expressions s) e → BeginsAt program e Here node
+  own_outer : (node : TypeId) {outer : TypeId} {s : Structure} → HasStructure program node s → Contains (own_expressions s) e → ContainsStructure program outer node
+      → BeginsAt program e Outer outer
+  desc_here : (node : TypeId) {union : TypeId} {s : Structure} {f : Field} → HasStructure program node s → Contains s.fields f → innermost f.ty ≡ ty.Node union (Some e)
+      → BeginsAt program e Here union
+  desc_outer : {node union : TypeId} {s : Structure} {f : Field} → HasStructure program node s → Contains s.fields f → innermost f.ty ≡ ty.Node union (Some e)
+      → BeginsAt program e Outer node
+  root_here : {r : RootOf} {union : TypeId} → Contains program.roots r → innermost r.ty ≡ ty.Node union (Some e) → BeginsAt program e Here union
 
--- some path of an expression of the program ends in this name of a field
+-- a name picks the first field of this name in a structure: its place, and the field
+abbrev pub Picks : Program → TypeId → List ℕ → ℕ → Field → Type 0
+Picks program node name i f =
+    (s : Structure) × HasStructure program node s × (position_from (λ g. bytes_eq g.name name) 0 s.fields ≡ Some i) × (slice_get s.fields i ≡ Some f)
+
+-- A path of names ends, from a structure on, in the field at a place of a structure. Each name but the last picks a structure by value,
+-- in which the next one picks.
+pub data EndsAt (program : Program) : TypeId → List (List ℕ) → TypeId → ℕ → Type 0 where
+  at_last : {node : TypeId} {name : List ℕ} {i : ℕ} {f : Field} → Picks program node name i f → EndsAt program node (name ∷ []) node i
+  at_next : {node next end : TypeId} {name : List ℕ} {names : List (List ℕ)} {i j : ℕ} {f : Field} {desc : Option Expr} → Picks program node name j f → f.ty ≡ ty.Node next desc
+      → EndsAt program next names end i → EndsAt program node (name ∷ names) end i
+
+-- some path from `%h` or `%1` ends in the field at a place of a structure
+abbrev pub IsEnd : Program → TypeId → ℕ → Type 0
+IsEnd program node i =
+    (e : Expr) × (base : Base) × (begin : TypeId) × (names : List (List ℕ)) × BeginsAt program e base begin × Contains (paths_of e) (base, names) × EndsAt program begin names node i
+
+-- a path from `%0` ends in a name
+abbrev pub EndsIn : List ℕ → Way → Type 0
+EndsIn name way = (way.0 ≡ Outermost) × (names : List (List ℕ)) × (way.1 ≡ names ++ name ∷ [])
+
+-- some path from `%0` of an expression of the program ends in this name of a field
 abbrev pub IsReadName : Program → List ℕ → Type 0
 IsReadName program name = (e : Expr) × IsExpressionOf program e × Any (EndsIn name) (paths_of e)
+
+-- Expressions read the field at a place of a structure: it is a number, and some path from `%h` or `%1` ends there, or some path from
+-- `%0` in its name. A path from `%0` begins at whatever structure is outermost, so its last name counts in each structure.
+abbrev pub IsReadField : Program → TypeId → ℕ → Type 0
+IsReadField program node i =
+    (s : Structure) × (f : Field) × HasStructure program node s × (slice_get s.fields i ≡ Some f) × (is_number f.ty ≡ true) × (IsEnd program node i ⊎ IsReadName program f.name)
 
 -- some expression of the program names this root
 abbrev pub IsReadRoot : Program → ℕ → Type 0
 IsReadRoot program i = (e : Expr) × IsExpressionOf program e × Contains (roots_of e) i
 
--- No expression of the program reads a leaf that lies in this. Only a field that is a number can be read, and it is not where no path
--- ends in its name; a root is not where none names it. An element of a block lies in neither.
+-- No expression of the program reads a leaf that lies in this. What is no number is never read. An element of a block lies in neither a
+-- field nor a root.
 abbrev pub IsUnread : Program → Holder → Type 0
 IsUnread program lies_in.Element = Unit {0}
 IsUnread program (lies_in.Root i) = ¬ IsReadRoot program i
-IsUnread program (lies_in.Field node i) = (s : Structure) (f : Field) → HasStructure program node s → slice_get s.fields i ≡ Some f → is_number f.ty ≡ true → ¬ IsReadName program f.name
+IsUnread program (lies_in.Field node i) = ¬ IsReadField program node i
 
 -- ---- laws
 

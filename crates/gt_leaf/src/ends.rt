@@ -1,13 +1,13 @@
-// Where the expressions of a program end: the last names of their paths, and the roots that they name.
+// The last names of the paths of expressions from `%0`, and the roots that expressions name.
 ghost use Rattle.gt_leaf.specs.Collecting.{with_last, with_expr, with_option, with_kind, with_type, with_fields, with_structure, with_structures, with_roots, ends_of};
 ghost use Rattle.std.specs.Prelude.{◌≡◌, [], IfOk, OnOk};
 
 use crate::names::NameSet;
 use crate::places::PlaceSet;
-use gt_types::{Expr, Field, Program, PtrKind, Root, Structure, Ty, Word};
+use gt_types::{Base, Expr, Field, Program, PtrKind, Root, Structure, Ty, Word};
 use std::alloc::{AllocError, Global};
 
-/// The last names of the paths of expressions, and the roots that expressions name.
+/// The last names of the paths of expressions from `%0`, and the roots that expressions name.
 #[derive(Drop)]
 pub struct Ends {
     pub names: NameSet,
@@ -102,7 +102,11 @@ impl Ends {
     {
         match e {
             Expr::Int(_) => Ok(()),
-            Expr::Path { steps, .. } => self.add_last(steps.as_slice()),
+            Expr::Path {
+                base: Base::Outermost,
+                steps,
+            } => self.add_last(steps.as_slice()),
+            Expr::Path { .. } => Ok(()),
             Expr::Root(place) => self.roots.add(*place),
             Expr::One { a, .. } => self.add_expr(a.get()),
             Expr::Two { a, b, .. } => {
@@ -117,7 +121,7 @@ impl Ends {
         }
     }
 
-    // A path reads the field of its last name.
+    // A path from `%0` reads the field of its last name in each structure.
     fn add_last(&mut self, steps: &[Word]) -> Result<(), AllocError>
         ensures added { OnOk result (self.new ≡ with_last self.old steps.now) }
     {

@@ -3,13 +3,16 @@
 #![tactic(auto)]
 
 mod ends;
-mod laws;
+mod fields;
+mod index;
+pub mod laws;
 mod names;
 mod places;
 mod reads;
+mod seeking;
 mod types;
 mod writing;
 
 pub use laws::unread_leaves_keep_values_fitting;
-pub use reads::{Mark, Reads};
+pub use reads::Reads;
 pub use writing::{LeafWrite, write_leaf, write_static_leaf};

@@ -1,19 +1,26 @@
 // The type of a leaf, by what it lies in.
 ghost use Rattle.std.specs.Prelude.{◌≡◌, option_copied};
-ghost use Rattle.gt_types.specs.Shapes.{innermost};
+ghost use Rattle.gt_types.specs.Shapes.{innermost, is_number};
 ghost use Rattle.gt_leaf.specs.HeldTypes.{field_type, root_type, held_type};
 
 use gt_types::{Program, Ty, TypeId};
 use gt_value::Holder;
 
-// What an array has as elements, through arrays of arrays.
-fn innermost(ty: &Ty) -> &Ty
+/// What an array has as elements, through arrays of arrays.
+pub fn innermost(ty: &Ty) -> &Ty
     ensures { result.now ≡ innermost ty.now }
 {
     match ty {
         Ty::Arr { elem, .. } | Ty::Tail { elem, .. } => innermost(elem.get()),
         _ => ty,
     }
+}
+
+/// Whether values of a type are numbers.
+pub fn is_number(ty: &Ty) -> bool
+    ensures { result ≡ is_number ty.now }
+{
+    matches!(ty, Ty::Num(_) | Ty::Bits { .. })
 }
 
 // The type of the field at a place of a structure.

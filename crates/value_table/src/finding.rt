@@ -5,16 +5,9 @@ ghost use Rattle.gt_tree.specs.Trees.{Tree, Trees};
 ghost use Rattle.gt_value.specs.Values.{tree_of};
 ghost use Rattle.gt_value.specs.Bytes.{IsElement, IsRoomFor, StandsFor, StandForStatics, Takes};
 ghost use Rattle.gt_assign.specs.Results.{FitsBeside};
-ghost use Rattle.value_table.specs.Blocks.{blocks};
-ghost use Rattle.value_table.specs.Trials.{IsReady};
+ghost use Rattle.value_notation.specs.Blocks.{blocks};
+ghost use Rattle.value_notation.specs.Trials.{IsReady};
 
-use crate::leaves::{Leaf, Write};
-use crate::rows::Row;
-use crate::samples::Sample;
-use crate::structures::{element, pointer};
-use crate::trials::{
-    BEFORE, FILLED, Room, Stop, fresh_space, last_value, room_in, size_of, write_one,
-};
 use gt_space::Space;
 use gt_store::store;
 use gt_types::Ty;
@@ -22,6 +15,10 @@ use gt_value::{
     Holder, LeafContent, LeafKind, Place, Value, leaf_at, leaf_in_statics, read_leaf, zero,
 };
 use std::alloc::{AllocError, Global};
+use value_notation::{
+    BEFORE, FILLED, Leaf, Room, Row, Sample, Stop, Write, element, fresh_space, last_value,
+    pointer, room_in, size_of, write_one,
+};
 
 /// How many bytes a pointer has.
 const POINTER_BYTES: u64 = 8;

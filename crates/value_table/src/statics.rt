@@ -1,20 +1,16 @@
 // The static record, which is zero.
-ghost use Rattle.std.specs.Prelude.{◌≡◌, ◌⊎◌, IfOk};
+ghost use Rattle.std.specs.Prelude.{◌≡◌, IfOk};
 ghost use Rattle.gt_space.specs.Range.{IsInside, KeepsAddresses};
-ghost use Rattle.gt_tree.specs.Trees.{Trees, Rec};
+ghost use Rattle.gt_tree.specs.Trees.{Trees};
 ghost use Rattle.gt_value.specs.Bytes.{StandForStatics};
-ghost use Rattle.gt_value.specs.Values.{tree_of};
-ghost use Rattle.gt_leaf.specs.Writing.{StaticsStandBeside};
-ghost use Rattle.value_table.specs.Blocks.{blocks};
-ghost use Rattle.value_table.specs.Trials.{IsReady};
+ghost use Rattle.value_notation.specs.Trials.{IsReady};
 
 use crate::finding::{Seen, find_root};
-use crate::samples::Sample;
-use crate::trials::{FILLED, Stop, fresh_space, room_in};
 use gt_space::Space;
 use gt_store::store_statics;
-use gt_value::{read_statics, zero_statics};
+use gt_value::read_statics;
 use std::alloc::AllocError;
+use value_notation::{FILLED, Sample, Stop, zero_space};
 
 /// The leaf at a path of the static record.
 pub fn try_root(on: &Sample, path: &[u32]) -> Result<Option<Seen>, Stop>
@@ -49,21 +45,4 @@ fn store_again(on: &Sample, space: &mut Space) -> Result<(), AllocError>
     space.fill(start, on.layouts.statics.size as u64, FILLED);
     store_statics(&on.program, &on.layouts, space, &values);
     Ok(())
-}
-
-/// A space from whose lowest address on the static record stands.
-pub fn zero_space(on: &Sample) -> Result<Space, Stop>
-    requires ready { IsReady on.now.program on.now.layouts }
-    ensures inside { IfOk result (λ space. IsInside space space.start on.now.layouts.statics.size) }
-    ensures stands { IfOk result (λ space. (values : Trees) × StaticsStandBeside on.now.program on.now.layouts blocks space values) }
-{
-    let size = on.layouts.statics.size as u64;
-    let values = zero_statics(on.alloc, &on.program)?;
-    let mut space = fresh_space(on)?;
-    let Some(room) = room_in(&space, 0, size) else {
-        return Err(Stop::TooLarge);
-    };
-    space.fill(room.addr, size, FILLED);
-    store_statics(&on.program, &on.layouts, &mut space, &values);
-    Ok(space)
 }

@@ -14,5 +14,4 @@ try_rows-requires c = record {
     laid = c.in-Ok.ensures.laid_out;
     within = c.in-Ok.ensures.within;
   };
-  table = c.in_ok-reads.ensures.table;
 }

@@ -3,8 +3,8 @@ use Rattle.gt_types.specs.Paths.{MayStand}
 use Rattle.gt_tree.specs.Trees.{End}
 use Rattle.gt_tree.specs.Blocks.{Pointers}
 use Rattle.sample_program.specs.Sample.{node}
-use Rattle.value_table.specs.Blocks.{blocks}
-use Rattle.value_table.proofs.Alone.{item_stands}
+use Rattle.value_notation.specs.Blocks.{blocks}
+use Rattle.value_notation.proofs.Alone.{item_stands}
 use Rattle.value_table.proofs.finding.try_element.Goals as goal
 
 pub zero-requires-clause-element : goal.zero-requires-clause-element

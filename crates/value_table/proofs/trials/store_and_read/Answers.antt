@@ -3,9 +3,9 @@ use Rattle.std.proofs.lemmas.Result.{IfOk-weaker}
 use Rattle.gt_space.specs.Range.{IsInside}
 use Rattle.gt_value.specs.Values.{tree_of}
 use Rattle.gt_assign.specs.Results.{FitsBeside}
-use Rattle.value_table.specs.Blocks.{blocks}
-use Rattle.value_table.specs.Addresses.{addresses}
-use Rattle.value_table.proofs.Rereads.{inside-kept, stands-stored}
+use Rattle.value_notation.specs.Blocks.{blocks}
+use Rattle.value_notation.specs.Addresses.{addresses}
+use Rattle.value_notation.proofs.Rereads.{inside-kept, stands-stored}
 use Rattle.value_table.proofs.trials.store_and_read.Goals as goal
 
 pub store-requires-clause-inside : goal.store-requires-clause-inside

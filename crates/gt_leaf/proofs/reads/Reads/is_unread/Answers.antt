@@ -8,5 +8,5 @@ returns-in-Root c = record {
 
 pub returns-in-Field : goal.returns-in-Field
 returns-in-Field c = record {
-  unread = λ program t. field-answer program c.args.self.now c.in-Field.structure c.in-Field.place c.is_marked.result c.args.holder c.is_marked.ensures.marked c.in-Field.is t;
+  unread = λ program t. field-answer program c.args.self.now c.in-Field.structure c.in-Field.place c.has-in-Field.result c.args.holder c.has-in-Field.ensures.there c.in-Field.is t;
 }

@@ -1,0 +1,310 @@
+-- The numbers in which paths from `%h` and `%1` end are what is added step by step.
+use Rattle.std.proofs.Common.{◌≡◌, ℕ, Bool, true, false, ◌&&◌, List, [], ◌∷◌, ◌++◌, refl, ap, ap₂, sym, subst, ◌∙◌, ◌⊎◌, Option, Some, None, inl, inr, if◌then◌else◌}
+use Rattle.std.specs.Prelude.{◌↔◌, Contains, filter_map, option_to_list, nat_eq, slice_get}
+use Rattle.std.proofs.lemmas.Bool.{eqb-true}
+use Rattle.std.proofs.lemmas.Bool.Decides.{Decides-eqb}
+use Rattle.gt_types.specs.declared.expressions.Base.{Base}
+use Rattle.gt_types.specs.declared.expressions.Base.TheVariants.{Here, Outer, Outermost}
+use Rattle.gt_types.specs.declared.expressions.Expr.{Expr, roll-Expr}
+use Rattle.gt_types.specs.declared.expressions.Expr.TheFolds.{fold-roll-Expr, ind-Expr, map-Expr}
+use Rattle.gt_types.specs.declared.expressions.Expr.TheOpen as node
+use Rattle.gt_types.specs.declared.expressions.Expr.TheOpen.{Expr-F}
+use Rattle.gt_types.specs.declared.types.TypeId.{TypeId}
+use Rattle.gt_types.specs.declared.types.Ty.{Ty}
+use Rattle.gt_types.specs.declared.types.Ty.TheVariants as ty
+use Rattle.gt_types.specs.declared.program.Field.{Field}
+use Rattle.gt_types.specs.declared.program.Structure.{Structure}
+use Rattle.gt_types.specs.declared.program.Root.{Root}
+use Rattle.gt_types.specs.declared.program.Program.{Program}
+use Rattle.gt_types.specs.Contains.{ContainsStructure, held_by}
+use Rattle.gt_types.specs.Paths.{Way, paths_of, paths_step, own_expressions}
+use Rattle.gt_types.specs.Shapes.{innermost, count_of}
+use Rattle.gt_leaf.specs.declared.fields.FieldPlace.{FieldPlace}
+use Rattle.gt_leaf.specs.declared.seeking.Start.{Start}
+use Rattle.gt_leaf.specs.Seeking.{Names, same_place, with_field, with_end, end_of, same_base, starting, seek_step, seek_expr, seek_option, seek_counts, seek_own, seek_own_of, seek_union, seek_outside, seek_desc, seek_descs, with_inner, with_inners, seek_inners, seek_structure, seek_all}
+use Rattle.gt_leaf.specs.Unread.{BeginsAt}
+use Rattle.gt_leaf.proofs.Adding.{Adds, adds-none, adds-both, adds-same, adds-fold, adds-each}
+use Rattle.gt_leaf.proofs.Alongs.{Contains-only}
+use Rattle.gt_leaf.proofs.Members.{nothing, first, first-or-later, added, contains-append, filter-contains}
+
+-- ---- one place
+
+pub both-true : (a b : Bool) → (a && b) ≡ true → (a ≡ true) × (b ≡ true)
+both-true true b e = (refl, e)
+both-true false b e = absurd (cc)
+
+one-place : (a b : FieldPlace) → a.structure ≡ b.structure → a.place ≡ b.place → a ≡ b
+one-place a b e h = ap₂ (λ s p. let y : FieldPlace = record { structure = s; place = p } in y) e h
+
+pub same-field : (a b : FieldPlace) → same_place a b ≡ true → a ≡ b
+same-field a b e =
+    let both = both-true _ _ e in
+    one-place a b (eqb-true a.structure b.structure both.0) (eqb-true a.place b.place both.1)
+
+pub adds-field : (x : FieldPlace) → Adds (with_field x) (λ y. x ≡ y)
+adds-field x = record { each = λ k y. added (same_place x) k x y (λ z e. sym (same-field x z e)) }
+
+adds-end : (o : Option FieldPlace) → Adds (with_end o) (λ y. o ≡ Some y)
+adds-end None = adds-none (λ y e. cc)
+adds-end (Some x) = adds-same (adds-field x) (λ y. (λ e. ap Some e, λ e. cc))
+
+-- ---- one expression
+
+base-is : (a b : Base) → same_base a b ≡ true → a ≡ b
+base-is Here Here e = refl
+base-is Outer Outer e = refl
+base-is Outermost Outermost e = refl
+base-is Here Outer e = absurd (cc)
+base-is Here Outermost e = absurd (cc)
+base-is Outer Here e = absurd (cc)
+base-is Outer Outermost e = absurd (cc)
+base-is Outermost Here e = absurd (cc)
+base-is Outermost Outer e = absurd (cc)
+
+base-self : (a : Base) → same_base a a ≡ true
+base-self Here = refl
+base-self Outer = refl
+base-self Outermost = refl
+
+append-ways : (P : Way → Type 0) (xs ys : List Way) → ((way : Way) × Contains (xs ++ ys) way × P way) ↔ (((way : Way) × Contains xs way × P way) ⊎ ((way : Way) × Contains ys way × P way))
+append-ways P xs ys = (there, back)
+  where
+    there : (way : Way) × Contains (xs ++ ys) way × P way → ((way : Way) × Contains xs way × P way) ⊎ ((way : Way) × Contains ys way × P way)
+    there (way, c, p) = elim ((contains-append xs ys way).0 c) [ inl d ↦ inl (way, d, p) | inr d ↦ inr (way, d, p) ]
+
+    back : ((way : Way) × Contains xs way × P way) ⊎ ((way : Way) × Contains ys way × P way) → (way : Way) × Contains (xs ++ ys) way × P way
+    back (inl (way, c, p)) = (way, (contains-append xs ys way).1 (inl c), p)
+    back (inr (way, c, p)) = (way, (contains-append xs ys way).1 (inr c), p)
+
+module _ (program : Program) (index : List Names) where
+  -- a path from a base ends at a place
+  abbrev pub EndsThere : Start → FieldPlace → Way → Type 0
+  EndsThere at y way = (way.0 ≡ at.base) × (end_of program index at.structure way.1 ≡ Some y)
+
+  -- some path of several does
+  abbrev pub EndOf : Start → List Way → FieldPlace → Type 0
+  EndOf at ways y = (way : Way) × Contains ways way × EndsThere at y way
+
+  module _ (at : Start) where
+    abbrev IsSought : Expr → Type 0
+    IsSought e = Adds (seek_expr program index at e) (EndOf at (paths_of e))
+
+    abbrev first-of : Expr-F ((e : Expr) × IsSought e) → Expr-F Expr
+    first-of y = map-Expr ((e : Expr) × IsSought e) Expr (λ e. e.0) y
+
+    none-of : Adds (λ k. k) (EndOf at [])
+    none-of = adds-none (λ y (way, c, p). nothing way c)
+
+    one-path : (base : Base) (names : List (List ℕ)) (b : Bool) → same_base base at.base ≡ b → Adds (λ k. if b then with_end (end_of program index at.structure names) k else k) (EndOf at ((base, names) ∷ []))
+    one-path base names true e = adds-same (adds-end (end_of program index at.structure names)) (λ y. (there y, back y))
+      where
+        there : (y : FieldPlace) → end_of program index at.structure names ≡ Some y → EndOf at ((base, names) ∷ []) y
+        there y h = ((base, names), first (base, names) [], (base-is base at.base e, h))
+
+        back : (y : FieldPlace) → EndOf at ((base, names) ∷ []) y → end_of program index at.structure names ≡ Some y
+        back y (way, c, (is, h)) = elim (first-or-later (base, names) way [] c) [
+          | inl same ↦ ap (λ (w : Way). end_of program index at.structure w.1) same ∙ h
+          | inr none ↦ absurd (nothing way none)
+        ]
+    one-path base names false e = adds-none not
+      where
+        not : (y : FieldPlace) → ¬ EndOf at ((base, names) ∷ []) y
+        not y (way, c, (is, h)) = elim (first-or-later (base, names) way [] c) [
+          | inl same ↦
+              let equal : base ≡ at.base = ap (λ (w : Way). w.0) same ∙ is in
+              let yes_is : same_base base at.base ≡ true = subst (λ b. same_base base b ≡ true) equal (base-self base) in
+              absurd (cc)
+          | inr none ↦ absurd (nothing way none)
+        ]
+
+    both-of : {f g : List FieldPlace → List FieldPlace} (xs ys : List Way) → Adds f (EndOf at xs) → Adds g (EndOf at ys) → Adds (λ k. g (f k)) (EndOf at (xs ++ ys))
+    both-of xs ys p q = adds-both p q (λ y. append-ways (EndsThere at y) xs ys)
+
+    expr-layer : (y : Expr-F ((e : Expr) × IsSought e))
+        → Adds (seek_step program index at (map-Expr Expr (List FieldPlace → List FieldPlace) (seek_expr program index at) (first-of y))) (EndOf at (paths_step (map-Expr Expr (List Way) paths_of (first-of y))))
+    expr-layer (node.Int n) = none-of
+    expr-layer (node.Path base names) = one-path base names (same_base base at.base) refl
+    expr-layer (node.Root i) = none-of
+    expr-layer (node.One op a) = a.1
+    expr-layer (node.Two op a b) = both-of (paths_of a.0) (paths_of b.0) a.1 b.1
+    expr-layer (node.Cond t a b) = both-of (paths_of t.0 ++ paths_of a.0) (paths_of b.0) (both-of (paths_of t.0) (paths_of a.0) t.1 a.1) b.1
+
+    expr-same : (f g : List FieldPlace → List FieldPlace) (xs ys : List Way) → f ≡ g → xs ≡ ys → Adds f (EndOf at xs) → Adds g (EndOf at ys)
+    expr-same f g xs ys e h p = subst (λ x. Adds g (EndOf at x)) h (subst (λ z. Adds z (EndOf at xs)) e p)
+
+    expr-whole : (y : Expr-F ((e : Expr) × IsSought e)) → IsSought (roll-Expr (first-of y))
+    expr-whole y =
+        expr-same (seek_step program index at (map-Expr Expr (List FieldPlace → List FieldPlace) (seek_expr program index at) (first-of y))) (seek_expr program index at (roll-Expr (first-of y)))
+        (paths_step (map-Expr Expr (List Way) paths_of (first-of y))) (paths_of (roll-Expr (first-of y)))
+        (sym (fold-roll-Expr (List FieldPlace → List FieldPlace) (seek_step program index at) (first-of y))) (sym (fold-roll-Expr (List Way) paths_step (first-of y))) (expr-layer y)
+
+    pub of-expr : (e : Expr) → IsSought e
+    of-expr = ind-Expr IsSought (λ x y is. subst (λ z. IsSought (roll-Expr z)) is (expr-whole y))
+
+    -- ---- the expressions of a structure
+
+    of-option : (o : Option Expr) → Adds (seek_option program index at o) (λ y. (e : Expr) × (o ≡ Some e) × EndOf at (paths_of e) y)
+    of-option None = adds-none (λ y (e, h, p). cc)
+    of-option (Some e) = adds-same (of-expr e) (λ y. (λ p. (e, refl, p), λ (d, h, p). let is : e ≡ d = cc in subst (λ x. EndOf at (paths_of x) y) (sym is) p))
+
+    abbrev CountEnds : Field → FieldPlace → Type 0
+    CountEnds f y = (e : Expr) × (count_of f.ty ≡ Some e) × EndOf at (paths_of e) y
+
+    of-counts : (fields : List Field) → Adds (seek_counts program index at fields) (λ y. (f : Field) × Contains fields f × CountEnds f y)
+    of-counts fields = adds-fold (λ f. seek_option program index at (count_of f.ty)) CountEnds (λ f. of-option (count_of f.ty)) fields
+
+    -- some path of an expression that speaks of the structure as `%h` ends there
+    abbrev pub OwnEnds : Structure → FieldPlace → Type 0
+    OwnEnds s y = (e : Expr) × Contains (own_expressions s) e × EndOf at (paths_of e) y
+
+    own-split : (s : Structure) (y : FieldPlace) → OwnEnds s y ↔ (((f : Field) × Contains s.fields f × CountEnds f y) ⊎ ((e : Expr) × (s.desc ≡ Some e) × EndOf at (paths_of e) y))
+    own-split s y = (there, back)
+      where
+        there : OwnEnds s y → ((f : Field) × Contains s.fields f × CountEnds f y) ⊎ ((e : Expr) × (s.desc ≡ Some e) × EndOf at (paths_of e) y)
+        there (e, c, p) = elim ((contains-append (filter_map (λ (f : Field). count_of f.ty) s.fields) (option_to_list s.desc) e).0 c) [
+          | inl d ↦ let found = (filter-contains (λ (f : Field). count_of f.ty) s.fields e).0 d in inl (found.0, found.1, (e, found.2, p))
+          | inr d ↦ inr (e, Contains-only s.desc e d, p)
+        ]
+
+        back : ((f : Field) × Contains s.fields f × CountEnds f y) ⊎ ((e : Expr) × (s.desc ≡ Some e) × EndOf at (paths_of e) y) → OwnEnds s y
+        back (inl (f, c, (e, h, p))) =
+            (e, (contains-append (filter_map (λ (f : Field). count_of f.ty) s.fields) (option_to_list s.desc) e).1 (inl ((filter-contains (λ (f : Field). count_of f.ty) s.fields e).1 (f, c, h))), p)
+        back (inr (e, h, p)) =
+            (e, (contains-append (filter_map (λ (f : Field). count_of f.ty) s.fields) (option_to_list s.desc) e).1 (inr (subst (λ o. Contains (option_to_list o) e) (sym h) (first e []))), p)
+
+    of-own : (s : Structure) → Adds (seek_own program index at s) (OwnEnds s)
+    of-own s = adds-both (of-counts s.fields) (of-option s.desc) (own-split s)
+
+    of-own_of : (o : Option Structure) → Adds (seek_own_of program index at o) (λ y. (s : Structure) × (o ≡ Some s) × OwnEnds s y)
+    of-own_of None = adds-none (λ y (s, h, p). cc)
+    of-own_of (Some s) = adds-same (of-own s) (λ y. (λ p. (s, refl, p), λ (t, h, p). let is : s ≡ t = cc in subst (λ x. OwnEnds x y) (sym is) p))
+
+  -- ---- the `desc` of a field or root
+
+  abbrev UnionEnds : Ty → FieldPlace → Type 0
+  UnionEnds type y = (union : TypeId) × (e : Expr) × (type ≡ ty.Node union (Some e)) × EndOf (starting Here union.0) (paths_of e) y
+
+  of-union : (type : Ty) → Adds (seek_union program index type) (UnionEnds type)
+  of-union (ty.Node union desc) = adds-same (of-option (starting Here union.0) desc) (λ y. (there y, back y))
+    where
+      there : (y : FieldPlace) → (e : Expr) × (desc ≡ Some e) × EndOf (starting Here union.0) (paths_of e) y → UnionEnds (ty.Node union desc) y
+      there y (e, h, p) = (union, e, ap (ty.Node union) h, p)
+
+      back : (y : FieldPlace) → UnionEnds (ty.Node union desc) y → (e : Expr) × (desc ≡ Some e) × EndOf (starting Here union.0) (paths_of e) y
+      back y (other, e, h, p) =
+          let one : union ≡ other = cc in
+          let same : desc ≡ Some e = cc in
+          (e, same, subst (λ n. EndOf (starting Here n.0) (paths_of e) y) (sym one) p)
+  of-union type = adds-none (λ y (union, e, h, p). cc)
+
+  abbrev OutsideEnds : ℕ → Ty → FieldPlace → Type 0
+  OutsideEnds at type y = (union : TypeId) × (e : Expr) × (type ≡ ty.Node union (Some e)) × EndOf (starting Outer at) (paths_of e) y
+
+  of-outside : (at : ℕ) (type : Ty) → Adds (seek_outside program index at type) (OutsideEnds at type)
+  of-outside at (ty.Node union desc) = adds-same (of-option (starting Outer at) desc) (λ y. (λ (e, h, p). (union, e, ap (ty.Node union) h, p), λ (other, e, h, p). let same : desc ≡ Some e = cc in (e, same, p)))
+  of-outside at type = adds-none (λ y (union, e, h, p). cc)
+
+  abbrev DescEnds : ℕ → Field → FieldPlace → Type 0
+  DescEnds at f y = UnionEnds (innermost f.ty) y ⊎ OutsideEnds at (innermost f.ty) y
+
+  of-descs : (at : ℕ) (fields : List Field) → Adds (seek_descs program index at fields) (λ y. (f : Field) × Contains fields f × DescEnds at f y)
+  of-descs at fields =
+      adds-fold (λ f. seek_desc program index at f.ty) (DescEnds at)
+      (λ f. adds-both (of-union (innermost f.ty)) (of-outside at (innermost f.ty)) (λ y. (λ h. h, λ h. h))) fields
+
+  -- ---- what a structure contains
+
+  abbrev HoldsPlace : Field → ℕ → Type 0
+  HoldsPlace f i = (inner : TypeId) × (held_by f.ty ≡ Some inner) × (inner.0 ≡ i)
+
+  of-inner : (o : Option TypeId) → Adds (λ k. with_inner k o) (λ i. (inner : TypeId) × (o ≡ Some inner) × (inner.0 ≡ i))
+  of-inner None = adds-none (λ i (inner, h, e). cc)
+  of-inner (Some n) = adds-same (record { each = λ k i. added (nat_eq n.0) k n.0 i (λ z e. sym ((Decides-eqb n.0 z).0 e)) }) (λ i. (λ e. (n, refl, e), λ (inner, h, e). let same : n ≡ inner = cc in ap (λ (x : TypeId). x.0) same ∙ e))
+
+  of-inners : (fields : List Field) (i : ℕ) → Contains (with_inners fields []) i ↔ ((f : Field) × Contains fields f × HoldsPlace f i)
+  of-inners fields i =
+      let every = adds-fold (λ f k. with_inner k (held_by f.ty)) HoldsPlace (λ f. of-inner (held_by f.ty)) fields in
+      let all = every.each [] i in
+      (λ c. elim (all.0 c) [ inl none ↦ absurd (nothing i none) | inr h ↦ h ], λ h. all.1 (inr h))
+
+  abbrev InnerEnds : ℕ → ℕ → FieldPlace → Type 0
+  InnerEnds at inner y = (s : Structure) × (slice_get program.structures inner ≡ Some s) × OwnEnds (starting Outer at) s y
+
+  of-seek_inners : (at : ℕ) (inners : List ℕ) → Adds (seek_inners program index at inners) (λ y. (i : ℕ) × Contains inners i × InnerEnds at i y)
+  of-seek_inners at inners =
+      adds-fold (λ inner. seek_own_of program index (starting Outer at) (slice_get program.structures inner)) (InnerEnds at) (λ inner. of-own_of (starting Outer at) (slice_get program.structures inner)) inners
+
+  -- ---- a program
+
+  abbrev StructureEnds : ℕ → Structure → FieldPlace → Type 0
+  StructureEnds at s y =
+      (OwnEnds (starting Here at) s y ⊎ ((f : Field) × Contains s.fields f × DescEnds at f y)) ⊎ ((i : ℕ) × Contains (with_inners s.fields []) i × InnerEnds at i y)
+
+  of-structure : (at : ℕ) (s : Structure) → Adds (seek_structure program index at s) (StructureEnds at s)
+  of-structure at s =
+      adds-both (adds-both (of-own (starting Here at) s) (of-descs at s.fields) (λ y. (λ h. h, λ h. h))) (of-seek_inners at (with_inners s.fields [])) (λ y. (λ h. h, λ h. h))
+
+  abbrev ProgramEnds : FieldPlace → Type 0
+  ProgramEnds y = ((i : ℕ) × (s : Structure) × (slice_get program.structures i ≡ Some s) × StructureEnds i s y) ⊎ ((r : Root) × Contains program.roots r × UnionEnds (innermost r.ty) y)
+
+  of-program : Adds (seek_all program index) ProgramEnds
+  of-program =
+      adds-both (adds-each (seek_structure program index) StructureEnds of-structure program.structures)
+      (adds-fold (λ (r : Root). seek_union program index (innermost r.ty)) (λ r. UnionEnds (innermost r.ty)) (λ r. of-union (innermost r.ty)) program.roots) (λ y. (λ h. h, λ h. h))
+
+  -- ---- where the paths begin
+
+  -- some path that begins at a structure ends at a place
+  pub record Seen (y : FieldPlace) : Type 0 where
+    pub e : Expr
+    pub base : Base
+    pub begin : TypeId
+    pub begins : BeginsAt program e base begin
+    pub names : List (List ℕ)
+    pub there : Contains (paths_of e) (base, names)
+    pub end : end_of program index begin.0 names ≡ Some y
+
+  seen : (e : Expr) (base : Base) (begin : TypeId) (y : FieldPlace) → BeginsAt program e base begin → EndOf (starting base begin.0) (paths_of e) y → Seen y
+  seen e base begin y b (way, c, (is, h)) = record {
+    e = e;
+    base = base;
+    begin = begin;
+    begins = b;
+    names = way.1;
+    there = subst (λ (x : Base). Contains (paths_of e) (x, way.1)) is c;
+    end = h;
+  }
+
+  abbrev numbered : ℕ → TypeId
+  numbered i = record { 0 = i }
+
+  container : (at : ℕ) (s : Structure) (i : ℕ) → slice_get program.structures at ≡ Some s → Contains (with_inners s.fields []) i → ContainsStructure program (numbered at) (numbered i)
+  container at s i has c =
+      let found = (of-inners s.fields i).0 c in
+      let inner = found.2.0 in
+      let is : inner ≡ numbered i = ap numbered found.2.2 in
+      (s, found.0, has, found.1, subst (λ n. held_by found.0.ty ≡ Some n) is found.2.1)
+
+  structure-seen : (at : ℕ) (s : Structure) (y : FieldPlace) → slice_get program.structures at ≡ Some s → StructureEnds at s y → Seen y
+  structure-seen at s y has (inl (inl (e, c, p))) = seen e Here (numbered at) y (BeginsAt.own_here {node = numbered at} {s = s} has c) p
+  structure-seen at s y has (inl (inr (f, c, inl (union, e, h, p)))) = seen e Here union y (BeginsAt.desc_here (numbered at) {s = s} {f = f} has c h) p
+  structure-seen at s y has (inl (inr (f, c, inr (union, e, h, p)))) = seen e Outer (numbered at) y (BeginsAt.desc_outer {union = union} {s = s} {f = f} has c h) p
+  structure-seen at s y has (inr (i, c, (t, there, (e, d, p)))) =
+      seen e Outer (numbered at) y (BeginsAt.own_outer (numbered i) {s = t} there d (container at s i has c)) p
+
+  all-seen : (y : FieldPlace) → ProgramEnds y → Seen y
+  all-seen y (inl (i, s, has, h)) = structure-seen i s y has h
+  all-seen y (inr (r, c, (union, e, h, p))) = seen e Here union y (BeginsAt.root_here {r = r} c h) p
+
+  seen-all : (y : FieldPlace) (e : Expr) (base : Base) (begin : TypeId) → BeginsAt program e base begin → EndOf (starting base begin.0) (paths_of e) y → ProgramEnds y
+  seen-all y e base begin (BeginsAt.own_here {node} {s} has c) p = inl (node.0, s, has, inl (inl (e, c, p)))
+  seen-all y e base begin (BeginsAt.own_outer node {outer} {s} has c (o, f, there, in_it, held)) p =
+      inl (outer.0, o, there, inr (node.0, (of-inners o.fields node.0).1 (f, in_it, (node, held, refl)), (s, has, (e, c, p))))
+  seen-all y e base begin (BeginsAt.desc_here node {union} {s} {f} has c h) p = inl (node.0, s, has, inl (inr (f, c, inl (union, e, h, p))))
+  seen-all y e base begin (BeginsAt.desc_outer {node} {union} {s} {f} has c h) p = inl (node.0, s, has, inl (inr (f, c, inr (union, e, h, p))))
+  seen-all y e base begin (BeginsAt.root_here {r} {union} c h) p = inr (r, c, (union, e, h, p))
+
+  -- what is added is where such paths end
+  pub adds-seen : Adds (seek_all program index) Seen
+  adds-seen =
+      adds-same of-program (λ y. (all-seen y, λ s. seen-all y s.e s.base s.begin s.begins ((s.base, s.names), s.there, (refl, s.end))))

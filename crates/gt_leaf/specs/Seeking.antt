@@ -1,0 +1,198 @@
+-- Where the paths from `%h` and `%1` end, in the order of the code. It is no promise of this crate.
+use Rattle.std.specs.Prelude.{ℕ, suc, Bool, true, false, ◌&&◌, ◌==◌, List, [], ◌∷◌, ◌++◌, Option, Some, None, if◌then◌else◌, fold, map, slice_get}
+use Rattle.std.specs.List.{list_any}
+use Rattle.std.specs.Map.{lookup}
+use Rattle.std.specs.Str.{bytes_eq}
+use Rattle.gt_types.specs.declared.expressions.Base.{Base}
+use Rattle.gt_types.specs.declared.expressions.Base.TheVariants.{Here, Outer, Outermost}
+use Rattle.gt_types.specs.declared.expressions.Expr.{Expr}
+use Rattle.gt_types.specs.declared.expressions.Expr.TheOpen.{Expr-F, Int, Path, Root, One, Two, Cond}
+use Rattle.gt_types.specs.declared.expressions.Expr.TheFolds.{fold-Expr}
+use Rattle.gt_types.specs.declared.types.TypeId.{TypeId}
+use Rattle.gt_types.specs.declared.types.Ty.{Ty}
+use Rattle.gt_types.specs.declared.types.Ty.TheVariants as ty
+use Rattle.gt_types.specs.declared.program.Field.{Field}
+use Rattle.gt_types.specs.declared.program.Structure.{Structure}
+use Rattle.gt_types.specs.declared.program.Root.{Root as RootOf}
+use Rattle.gt_types.specs.declared.program.Program.{Program}
+use Rattle.gt_types.specs.Shapes.{innermost, count_of, is_number}
+use Rattle.gt_types.specs.Contains.{held_by, itself}
+use Rattle.gt_tree.specs.Scopes.{◌then◌}
+use Rattle.gt_leaf.specs.declared.fields.FieldPlace.{FieldPlace}
+use Rattle.gt_leaf.specs.declared.seeking.Start.{Start}
+use Rattle.gt_leaf.specs.Collecting.{with_place}
+use Rattle.gt_leaf.specs.Tables.{field_place}
+
+-- what is made step by step of the items of a list, each with its place
+abbrev pub with_each : {X S : Type 0} → (ℕ → X → S → S) → ℕ → List X → S → S
+with_each g i [] old = old
+with_each g i (x ∷ xs) old = with_each g (suc i) xs (g i x old)
+
+-- ---- the fields of names
+
+-- the names of the fields of a structure, each with the place of the first field of the name
+abbrev pub Names : Type 0
+Names = List (List ℕ × ℕ)
+
+-- the place of a name
+abbrev pub place_of : List ℕ → Names → Option ℕ
+place_of name names = lookup (λ other. bytes_eq other name) names
+
+abbrev pub with_new : Names → List ℕ → ℕ → Option ℕ → Names
+with_new names name i (Some other) = names
+with_new names name i None = names ++ (name, i) ∷ []
+
+-- with a name, where it is new
+abbrev pub with_field_name : Names → List ℕ → ℕ → Names
+with_field_name names name i = with_new names name i (place_of name names)
+
+-- those of fields
+abbrev pub with_field_names : List Field → Names → Names
+with_field_names fields names = with_each (λ i f old. with_field_name old f.name i) 0 fields names
+
+-- those of each structure
+abbrev pub names_of_all : List Structure → List Names
+names_of_all structures = map (λ s. with_field_names s.fields []) structures
+
+-- ---- places of fields
+
+-- two places are one
+abbrev pub same_place : FieldPlace → FieldPlace → Bool
+same_place a b = (a.structure == b.structure) && (a.place == b.place)
+
+-- distinct places with one more, where it is new
+abbrev pub with_field : FieldPlace → List FieldPlace → List FieldPlace
+with_field x places = if list_any (same_place x) places then places else places ++ x ∷ []
+
+abbrev pub with_end : Option FieldPlace → List FieldPlace → List FieldPlace
+with_end (Some x) places = with_field x places
+with_end None places = places
+
+-- ---- numbers of the names that are read
+
+-- with a field, where it is a number of one of these names
+abbrev pub with_named : List (List ℕ) → ℕ → ℕ → Field → List FieldPlace → List FieldPlace
+with_named names node i f old = if is_number f.ty && list_any (λ other. bytes_eq other f.name) names then with_field (field_place node i) old else old
+
+-- with those of a structure
+abbrev pub with_named_fields : List (List ℕ) → ℕ → List Field → List FieldPlace → List FieldPlace
+with_named_fields names node fields old = with_each (with_named names node) 0 fields old
+
+-- with those of structures
+abbrev pub with_all_named : List (List ℕ) → List Structure → List FieldPlace → List FieldPlace
+with_all_named names structures old = with_each (λ node s. with_named_fields names node s.fields) 0 structures old
+
+-- ---- the end of a path
+
+-- the place of the field that a name picks
+abbrev pub pick : List Names → ℕ → List ℕ → Option ℕ
+pick index node name = slice_get index node then λ names. place_of name names
+
+-- the field at a place
+abbrev pub field_at : Program → ℕ → ℕ → Option Field
+field_at program node i = slice_get program.structures node then λ s. slice_get s.fields i
+
+abbrev pub number_there : ℕ → ℕ → Ty → Option FieldPlace
+number_there node i type = if is_number type then Some (field_place node i) else None
+
+-- the place of the number that a name picks
+abbrev pub pick_number : Program → List Names → ℕ → List ℕ → Option FieldPlace
+pick_number program index node name = pick index node name then λ i. field_at program node i then λ f. number_there node i f.ty
+
+-- the structure by value that a name picks
+abbrev pub pick_structure : Program → List Names → ℕ → List ℕ → Option TypeId
+pick_structure program index node name = pick index node name then λ i. field_at program node i then λ f. itself f.ty
+
+-- the number in which a path of names ends
+abbrev pub end_of : Program → List Names → ℕ → List (List ℕ) → Option FieldPlace
+end_of program index node [] = None
+end_of program index node (name ∷ []) = pick_number program index node name
+end_of program index node (name ∷ next ∷ names) = pick_structure program index node name then λ inner. end_of program index inner.0 (next ∷ names)
+
+-- ---- the ends of the paths of expressions
+
+abbrev pub same_base : Base → Base → Bool
+same_base Here Here = true
+same_base Outer Outer = true
+same_base Outermost Outermost = true
+same_base a b = false
+
+-- where paths from a base begin
+abbrev pub starting : Base → ℕ → Start
+starting base node = record { base = base; structure = node }
+
+abbrev pub seek_step : Program → List Names → Start → Expr-F (List FieldPlace → List FieldPlace) → List FieldPlace → List FieldPlace
+seek_step program index at (Int n) old = old
+seek_step program index at (Path base steps) old = if same_base base at.base then with_end (end_of program index at.structure steps) old else old
+seek_step program index at (Root i) old = old
+seek_step program index at (One op a) old = a old
+seek_step program index at (Two op a b) old = b (a old)
+seek_step program index at (Cond test a b) old = b (a (test old))
+
+-- with the ends of the paths of an expression from one base, which begin at this structure
+abbrev pub seek_expr : Program → List Names → Start → Expr → List FieldPlace → List FieldPlace
+seek_expr program index at = fold-Expr (List FieldPlace → List FieldPlace) (seek_step program index at)
+
+abbrev pub seek_option : Program → List Names → Start → Option Expr → List FieldPlace → List FieldPlace
+seek_option program index at (Some e) old = seek_expr program index at e old
+seek_option program index at None old = old
+
+-- with those of the lengths of fields
+abbrev pub seek_counts : Program → List Names → Start → List Field → List FieldPlace → List FieldPlace
+seek_counts program index at fields old = fold (λ k f. seek_option program index at (count_of f.ty) k) old fields
+
+-- with those of the expressions that speak of a structure as `%h`
+abbrev pub seek_own : Program → List Names → Start → Structure → List FieldPlace → List FieldPlace
+seek_own program index at s old = seek_option program index at s.desc (seek_counts program index at s.fields old)
+
+abbrev pub seek_own_of : Program → List Names → Start → Option Structure → List FieldPlace → List FieldPlace
+seek_own_of program index at (Some s) old = seek_own program index at s old
+seek_own_of program index at None old = old
+
+-- ---- the `desc` of a field or root
+
+abbrev pub seek_union : Program → List Names → Ty → List FieldPlace → List FieldPlace
+seek_union program index (ty.Node union desc) old = seek_option program index (starting Here union.0) desc old
+seek_union program index type old = old
+
+abbrev pub seek_outside : Program → List Names → ℕ → Ty → List FieldPlace → List FieldPlace
+seek_outside program index node (ty.Node union desc) old = seek_option program index (starting Outer node) desc old
+seek_outside program index node type old = old
+
+-- with the ends of the paths of the `desc` of a field of a structure, where it holds a union
+abbrev pub seek_desc : Program → List Names → ℕ → Ty → List FieldPlace → List FieldPlace
+seek_desc program index node type old = seek_outside program index node (innermost type) (seek_union program index (innermost type) old)
+
+abbrev pub seek_descs : Program → List Names → ℕ → List Field → List FieldPlace → List FieldPlace
+seek_descs program index node fields old = fold (λ k f. seek_desc program index node f.ty k) old fields
+
+-- ---- what a structure contains
+
+abbrev pub with_inner : List ℕ → Option TypeId → List ℕ
+with_inner inners (Some node) = with_place inners node.0
+with_inner inners None = inners
+
+-- the structures that fields hold by value, each once
+abbrev pub with_inners : List Field → List ℕ → List ℕ
+with_inners fields old = fold (λ k f. with_inner k (held_by f.ty)) old fields
+
+-- with the ends of the paths from `%1` of the expressions of structures that a structure contains
+abbrev pub seek_inners : Program → List Names → ℕ → List ℕ → List FieldPlace → List FieldPlace
+seek_inners program index node inners old = fold (λ k inner. seek_own_of program index (starting Outer node) (slice_get program.structures inner) k) old inners
+
+-- ---- a program
+
+-- with the ends of the paths that begin at a structure, and of those of its fields
+abbrev pub seek_structure : Program → List Names → ℕ → Structure → List FieldPlace → List FieldPlace
+seek_structure program index node s old =
+    seek_inners program index node (with_inners s.fields []) (seek_descs program index node s.fields (seek_own program index (starting Here node) s old))
+
+abbrev pub seek_structures : Program → List Names → List FieldPlace → List FieldPlace
+seek_structures program index old = with_each (seek_structure program index) 0 program.structures old
+
+abbrev pub seek_roots : Program → List Names → List FieldPlace → List FieldPlace
+seek_roots program index old = fold (λ k (r : RootOf). seek_union program index (innermost r.ty) k) old program.roots
+
+-- with the numbers in which the paths of all expressions from `%h` and `%1` end
+abbrev pub seek_all : Program → List Names → List FieldPlace → List FieldPlace
+seek_all program index old = seek_roots program index (seek_structures program index old)

@@ -1,0 +1,87 @@
+// The structures whose values are tried.
+ghost use Rattle.std.specs.Prelude.{◌≡◌, IfOk};
+ghost use Rattle.gt_types.specs.Paths.{MayStand};
+ghost use Rattle.gt_tree.specs.Blocks.{Nodes, element_type};
+ghost use Rattle.sample_program.specs.Sample.{sample, pointer_to};
+ghost use Rattle.value_notation.specs.Trials.{IsReady};
+
+use crate::samples::Sample;
+use gt_types::{Copied, PtrKind, Target, Ty, TypeId};
+use std::alloc::AllocError;
+
+/// A structure of the sample that may stand alone.
+#[derive(Clone, Copy, Debug, PartialEq, Eq)]
+pub enum Kind {
+    Item,
+    Base,
+    Wide,
+    Form,
+    Cell,
+    Vec,
+    Hold,
+    Two,
+    Vecb,
+    Any,
+}
+
+impl Kind {
+    /// The structure of this name.
+    pub fn named(name: &str) -> Option<Kind> {
+        match name {
+            "item" => Some(Kind::Item),
+            "base" => Some(Kind::Base),
+            "wide" => Some(Kind::Wide),
+            "form" => Some(Kind::Form),
+            "cell" => Some(Kind::Cell),
+            "vec" => Some(Kind::Vec),
+            "hold" => Some(Kind::Hold),
+            "two" => Some(Kind::Two),
+            "vecb" => Some(Kind::Vecb),
+            "any" => Some(Kind::Any),
+            _ => None,
+        }
+    }
+
+    /// Its number in the sample.
+    pub fn id(self) -> TypeId
+        ensures { MayStand sample result }
+    {
+        match self {
+            Kind::Item => TypeId(0),
+            Kind::Base => TypeId(1),
+            Kind::Wide => TypeId(2),
+            Kind::Form => TypeId(3),
+            Kind::Cell => TypeId(5),
+            Kind::Vec => TypeId(6),
+            Kind::Hold => TypeId(7),
+            Kind::Two => TypeId(9),
+            Kind::Vecb => TypeId(10),
+            Kind::Any => TypeId(11),
+        }
+    }
+}
+
+/// The type of the elements of a block of such structures.
+pub fn element(on: &Sample, id: TypeId) -> Result<Ty, AllocError>
+    requires ready { IsReady on.now.program on.now.layouts }
+    requires stands { MayStand on.now.program id }
+    ensures { IfOk result (λ ty. ty ≡ element_type on.now.program (Nodes id)) }
+{
+    let structure = &on.program.structures.as_slice()[id.0 as usize];
+    let desc = match &structure.desc {
+        Some(desc) => Some(desc.copy(on.alloc)?),
+        None => None,
+    };
+    Ok(Ty::Node { id, desc })
+}
+
+/// The type of the elements of a block of pointers to items.
+pub fn pointer() -> Ty
+    ensures { result ≡ pointer_to 0 }
+{
+    Ty::Ptr {
+        target: Some(Target::Node(TypeId(0))),
+        kind: PtrKind::Plain,
+        reorder: false,
+    }
+}

@@ -1,6 +1,0 @@
-use Rattle.gt_tree.specs.Trees.{End}
-use Rattle.value_table.specs.Blocks.{blocks}
-use Rattle.value_table.proofs.trials.last_value.Goals as goal
-
-pub write_all-requires-clause-fits : goal.write_all-requires-clause-fits
-write_all-requires-clause-fits c = (End, (c.in_ok-nothing.ensures.zero blocks End).fits)
