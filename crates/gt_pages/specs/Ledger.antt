@@ -1,5 +1,5 @@
 -- Where objects lie: the sizes that are given out, the pages, and which place a new block may have.
-use Rattle.std.specs.Prelude.{◌≡◌, ℕ, ◌+◌, ◌-◌, ◌*◌, ◌/◌, ◌%◌, ◌<◌, ◌≤◌, ◌⊎◌, List, [], ◌∷◌, ◌++◌, Option, nat_le, find, All, Contains}
+use Rattle.std.specs.Prelude.{◌≡◌, ℕ, ◌+◌, ◌-◌, ◌*◌, ◌/◌, ◌%◌, ◌<◌, ◌≤◌, ◌⊎◌, if◌then◌else◌, List, [], ◌∷◌, Option, nat_lt, nat_le, find, All, Contains}
 use Rattle.gt_space.specs.declared.TheConstants.{PAGE_BYTES, HEAP_START}
 use Rattle.gt_space.specs.Laws.{IsApart}
 
@@ -13,9 +13,8 @@ sizes =
 abbrev pub rounded : ℕ → Option ℕ
 rounded need = find (λ size. nat_le need size) sizes
 
--- the block of an object: its address, and its size in bytes
+-- a block: its address, and its size in bytes
 pub record Block : Type 0 where
-  pub id : ℕ
   pub address : ℕ
   pub size : ℕ
 
@@ -24,7 +23,7 @@ pub record PageRange : Type 0 where
   pub first : ℕ
   pub count : ℕ
 
--- the blocks of all objects, the pages of the image, and how many pages the space has
+-- the blocks by rising address, the pages of the image, and how many pages the space has
 pub record Ledger : Type 0 where
   pub blocks : List Block
   pub image : PageRange
@@ -95,20 +94,44 @@ pub record AreFree (ledger : Ledger) (first count : ℕ) : Type 0 where
   pub in_space : first + count ≤ ledger.pages
   pub each : (page : ℕ) → first ≤ page → page < first + count → (IsImagePage ledger page → ⊥) × All (λ b. IsOffPage b.address b.size page) ledger.blocks
 
+-- a page of this size has a free place
+abbrev pub HasSharedPage : Ledger → ℕ → Type 0
+HasSharedPage ledger size = (page : ℕ) × HasFreePlace ledger size page
+
 -- there is a place for a block of this size: a free place in a page of its size, or enough free pages
 abbrev pub Room : Ledger → ℕ → Type 0
-Room ledger size = ((page : ℕ) × HasFreePlace ledger size page) ⊎ ((page : ℕ) × AreFree ledger page (pages_of size))
+Room ledger size = HasSharedPage ledger size ⊎ ((page : ℕ) × AreFree ledger page (pages_of size))
 
--- the ledger with one more block
+-- one more item, at its place by rising keys
+abbrev pub insert_by : {X : Type 0} → (X → ℕ) → X → List X → List X
+insert_by key x [] = x ∷ []
+insert_by key x (y ∷ ys) = if nat_lt (key x) (key y) then x ∷ y ∷ ys else y ∷ insert_by key x ys
+
+-- the ledger with one more block, at its place by address
 abbrev pub with_block : Ledger → Block → Ledger
-with_block ledger block = record ledger { blocks = ledger.blocks ++ block ∷ [] }
+with_block ledger block = record ledger { blocks = insert_by (λ b. b.address) block ledger.blocks }
 
 -- a new block may lie here: outside the image, so that the ledger stays sound; in a page of its size where one has a free
 -- place; else in the lowest free pages
 pub record Place (ledger : Ledger) (block : Block) : Type 0 where
   pub outside : LiesOutside ledger block.address block.size
   pub sound : Sound (with_block ledger block)
-  pub shares : ((page : ℕ) × HasFreePlace ledger block.size page) → HasFreePlace ledger block.size (page_of block.address)
-  pub opens : (((page : ℕ) × HasFreePlace ledger block.size page) → ⊥)
+  pub shares : HasSharedPage ledger block.size → HasFreePlace ledger block.size (page_of block.address)
+  pub opens : ¬ (HasSharedPage ledger block.size)
       → AreFree ledger (page_of block.address) (pages_of block.size)
       × ((page : ℕ) → AreFree ledger page (pages_of block.size) → page_of block.address ≤ page)
+
+-- where so many pages go that would like to start at a page: there, where they are free, else in the lowest such run
+pub record Base (ledger : Ledger) (preferred count page : ℕ) : Type 0 where
+  pub free : AreFree ledger page count
+  pub lowest : (page ≡ preferred) ⊎ (¬ (AreFree ledger preferred count) × ((other : ℕ) → AreFree ledger other count → page ≤ other))
+
+-- so many pages are the longest run of free pages
+pub record Largest (ledger : Ledger) (count : ℕ) : Type 0 where
+  pub free : (page : ℕ) × AreFree ledger page count
+  pub most : (page other : ℕ) → AreFree ledger page other → other ≤ count
+
+-- there is no such run; the longest one has so many pages
+pub record IsTooLong (ledger : Ledger) (count largest : ℕ) : Type 0 where
+  pub none : (page : ℕ) → ¬ (AreFree ledger page count)
+  pub longest : Largest ledger largest

@@ -1,7 +1,8 @@
 pub mod Ledger
-pub mod Plain
-pub mod Lists
-pub mod Blocks
-pub mod Table
-pub mod Free
-pub mod Pages
+pub mod Slots
+pub mod Contents
+pub mod Images
+pub mod Tables
+pub mod Parts
+pub mod Changes
+pub mod Spots

@@ -1,16 +1,13 @@
-//! Blocks of many sizes in the pages of a space. The layers above ask for a place for a block of a listed size, say which
-//! blocks stay, and look up a block by its address; they know of the blocks their order, addresses and sizes alone.
+//! Blocks of many sizes in the pages of a space. The layers above ask for a place for a block of a listed size, mark the
+//! blocks that stay, sweep the others, and look up a block by any of its addresses; they know of the blocks their
+//! addresses, sizes and marks alone.
 #![tactic(auto)]
 
-mod blocks;
-mod free;
 mod pages;
-mod plain;
+mod parts;
 mod sizes;
-mod span;
-mod table;
+mod store;
+mod tables;
 
-pub use pages::{Pages, SlotFail};
-pub use plain::is_sound;
+pub use pages::{CACHED, LISTS, PageEntry, Pages, Run, SlotFail};
 pub use sizes::{SIZES, all_sizes, rounded_size};
-pub use span::Span;

@@ -1,19 +1,23 @@
-//! The blocks of a space, and the places that are free for more of them.
-ghost use Rattle.std.specs.Prelude.{◌≡◌, ◌≤◌, ◌↔◌, [], Contains, IfErr, IfOk, IsTrue, MatchOption, OnErr, OnOk, length, slice_get};
+//! The blocks of a space, their marks, and the places that are free for more of them.
+ghost use Rattle.std.specs.Prelude.{◌≡◌, ◌≢◌, ℕ, ◌≤◌, ◌<◌, ◌↔◌, [], false, map, filter, count_by, length, Contains, IfErr, IfOk, IsTrue, MatchResult, OnErr, OnOk, None};
 ghost use Rattle.gt_space.specs.declared.TheConstants.{MIN_PAGES, MAX_PAGES};
-ghost use Rattle.gt_pages.specs.Blocks.{StartsAt, StartsNone, span_at};
-ghost use Rattle.gt_pages.specs.Ledger.{Place, Room, sizes};
-ghost use Rattle.gt_pages.specs.Lists.{flagged};
-ghost use Rattle.gt_pages.specs.Pages.{AreLaidOut, IsFullOnly, IsShared, Shares, block_at, ledger_of, with_span};
+ghost use Rattle.gt_links.specs.Lists.{Holds, nodes_of, with_nodes};
+ghost use Rattle.gt_pages.specs.Ledger.{AreFree, Base, IsTooLong, Place, Room, sizes};
+ghost use Rattle.gt_pages.specs.Slots.{StartsSome, block_of, is_marked, is_pending, is_unmarked, mark_at, new_mark, next_slot, owner_of, slot_at, told_of, unmarked, walked, with_mark_at, with_slot};
+ghost use Rattle.gt_pages.specs.Contents.{AreLaidOut, HasLists, IsEntry, IsInFirst, KeepsPages, empty_contents, ledger_of, with_slots};
+ghost use Rattle.gt_pages.specs.Images.{AreRuns, IsImage, image_pages};
 
-use crate::blocks::{Blocks, flagged_blocks};
-use crate::free::{first_free, free_lists, list_of, other_places, place_address};
-use crate::span::Span;
-use crate::table::{lowest_run, mark, pages_of, table_of};
-use gt_space::PAGE_BYTES;
+use crate::store::Store;
+use gt_entries::Mark;
+use gt_links::Links;
 use std::alloc::{AllocError, Global};
-use std::collections::VecDeque;
 use std::marker::Model;
+
+/// How many lists of entries there are: one for each size, in the order of the sizes, and the one of cached entries.
+pub const LISTS: u32 = 30;
+
+/// The list of cached entries.
+pub const CACHED: u32 = 29;
 
 /// Why a block got no place: no place is left for its size, or memory is wanting.
 #[derive(Clone, Copy, Debug, PartialEq, Eq)]
@@ -22,155 +26,134 @@ pub enum SlotFail {
     Memory,
 }
 
+/// A run of blocks of an image: the size of each in bytes, and how many there are.
+#[derive(Clone, Copy, Debug, PartialEq, Eq)]
+pub struct Run {
+    pub size: u32,
+    pub count: u32,
+}
+
+/// The entry of a page, or of a block that is larger than a page: the first page, the size of the blocks in bytes, and how
+/// many places are free.
+#[derive(Clone, Copy, Debug, PartialEq, Eq)]
+pub struct PageEntry {
+    pub page: u32,
+    pub size: u32,
+    pub free: u32,
+}
+
 /// The blocks of a space.
 #[derive(Drop)]
 pub struct Pages {
-    alloc: Global,
-    // How many pages the space has.
-    pages: u32,
-    blocks: Blocks,
-    // For each page the size of the blocks that lie in it, and 0 where there are none.
-    table: Vec<u32>,
-    // For each multiple of 8 up to the bytes of a page the free places for blocks of this size.
-    free: Vec<VecDeque<u64>>,
+    store: Store,
 }
 
 impl Model for Pages {
-    ghost use Rattle.gt_pages.specs.Pages.{IsKept, Spans, spans_code};
+    ghost use Rattle.gt_pages.specs.Contents.{Contents};
 
-    ghost Value = { Spans };
+    ghost Value = { Contents };
 
-    ghost coded = { spans_code };
+    ghost use Rattle.gt_pages.specs.Parts.{contents_of, parts_of, IsKept};
 
-    ghost view = { λ p. record { spans = p.blocks; pages = p.pages } };
+    ghost view = { λ p. contents_of (parts_of p.store) };
 
-    ghost invariant = { λ p. IsKept (λ q. q.items) p.pages p.blocks p.table.items p.free.items };
+    ghost invariant = { λ p. IsKept (parts_of p.store) };
 }
 
 impl Pages {
-    /// A space of so many pages without blocks.
+    /// A space of so many pages without blocks. It fails only for want of memory.
     pub fn new(alloc: Global, pages: u32) -> Result<Pages, AllocError>
         requires at_least { MIN_PAGES ≤ pages }
         requires at_most { pages ≤ MAX_PAGES }
-        ensures empty { IfOk result (λ p. (p.spans ≡ []) × (p.pages ≡ pages)) }
+        ensures empty { IfOk result (λ p. p ≡ empty_contents pages) }
     {
-        let blocks = Blocks::new(alloc);
-        let table = table_of(alloc, blocks.all(), pages)?;
-        let free = free_lists(alloc, &blocks, &table)?;
         Ok(Pages {
-            alloc,
-            pages,
-            blocks,
-            table,
-            free,
+            store: Store::new(alloc, pages)?,
         })
     }
 
-    /// Makes a block of a listed size, in bytes, and gives its address. `Full` says that there is no room for this size.
-    pub fn alloc_slot(&mut self, size: u32) -> Result<u64, SlotFail>
-        requires listed { Contains sizes size }
-        ensures placed { IfOk result (λ addr. Place (ledger_of self.old) (block_at addr size)) }
-        ensures added { IfOk result (λ addr. self.new ≡ with_span self.old (span_at addr size)) }
-        ensures full { IfErr result (λ e. IsFullOnly self.old size e) }
-        ensures room { OnOk result (Room (ledger_of self.old) size) }
-        ensures unchanged { OnErr result (self.new ≡ self.old) }
+    /// The block that has the byte at an address: its own address, and its size in bytes. `None` says that there is none.
+    pub fn owner(&self, addr: u64) -> Option<(u64, u32)>
+        ensures owner { result ≡ owner_of self.now.slots addr }
     {
-        match self.share(size) {
-            Ok(Some(addr)) => Ok(addr),
-            Ok(None) => self.open(size),
-            Err(_) => Err(SlotFail::Memory),
-        }
+        self.store.owner(addr)
     }
 
-    // Makes a block at a free place in a page of its size. None where there is no such place.
-    fn share(&mut self, size: u32) -> Result<Option<u64>, AllocError>
-        requires listed { Contains sizes size }
-        ensures shares { IfOk result (λ place. MatchOption place ((IsShared self.old size → ⊥) × (self.new ≡ self.old)) (λ addr. Shares self.old size addr self.new)) }
-        ensures unchanged { OnErr result (self.new ≡ self.old) }
+    /// Takes all marks away, and releases the cached entries.
+    pub fn clear_marks(&mut self)
+        ensures cleared { self.new
+            ≡ record (with_slots self.old (map unmarked self.old.slots)) { lists = with_nodes self.old.lists CACHED [] } }
     {
-        let Some(addr) = first_free(&self.free, size) else {
-            return Ok(None);
-        };
-        self.blocks.push(Span { addr, size })?;
-        self.free[list_of(size)].pop_front();
-        Ok(Some(addr))
+        self.store.clear_marks();
     }
 
-    // Makes a block in the lowest pages without blocks, where no page of its size has a free place.
-    fn open(&mut self, size: u32) -> Result<u64, SlotFail>
-        requires listed { Contains sizes size }
-        requires alone { IsShared self.old size → ⊥ }
-        ensures placed { IfOk result (λ addr. Place (ledger_of self.old) (block_at addr size)) }
-        ensures added { IfOk result (λ addr. self.new ≡ with_span self.old (span_at addr size)) }
-        ensures full { IfErr result (λ e. IsFullOnly self.old size e) }
-        ensures room { OnOk result (Room (ledger_of self.old) size) }
-        ensures unchanged { OnErr result (self.new ≡ self.old) }
+    /// Marks the block that starts at an address as one that is still to be walked, by this walk and with this count, and
+    /// says whether it was not marked before. Where it was, nothing changes.
+    pub fn mark(&mut self, addr: u64, walk: u32, count: u32) -> bool
+        requires start { StartsSome self.old.slots addr }
+        ensures fresh { IsTrue result ↔ (mark_at self.old.slots addr ≡ None) }
+        ensures marked { IsTrue result → self.new
+            ≡ with_slots self.old (with_mark_at self.old.slots addr (Some (new_mark walk count))) }
+        ensures unchanged { result ≡ false → self.new ≡ self.old }
     {
-        let Some(page) = lowest_run(&self.table, pages_of(size)) else {
-            return Err(SlotFail::Full);
-        };
-        let Ok(others) = other_places(self.alloc, page, size) else {
-            return Err(SlotFail::Memory);
-        };
-        let addr = place_address(page, size, 0);
-        let Ok(()) = self.blocks.push(Span { addr, size }) else {
-            return Err(SlotFail::Memory);
-        };
-        mark(&mut self.table, page, pages_of(size), size);
-        if size as u64 <= PAGE_BYTES {
-            self.free[list_of(size)] = others;
-        }
-        Ok(addr)
+        self.store.mark(addr, walk, count)
     }
 
-    /// Whether there is a place for one more block of a listed size, in bytes.
-    pub fn has_room(&self, size: u32) -> bool
-        requires listed { Contains sizes size }
-        ensures room { IsTrue result ↔ Room (ledger_of self.now) size }
+    /// Whether the block that starts at an address is marked.
+    pub fn marked(&self, addr: u64) -> bool
+        requires start { StartsSome self.now.slots addr }
+        ensures marked { IsTrue result ↔ (mark_at self.now.slots addr ≢ None) }
     {
-        first_free(&self.free, size).is_some() || lowest_run(&self.table, pages_of(size)).is_some()
+        self.marked_as(addr).is_some()
     }
 
-    /// Keeps the blocks whose flag is set, in order, and frees the others.
-    pub fn keep(&mut self, kept: &[bool]) -> Result<(), AllocError>
-        requires count { length kept.now ≡ length self.old.spans }
-        ensures kept { OnOk result (self.new ≡ record (self.old) { spans = flagged self.old.spans kept.now }) }
-        ensures unchanged { OnErr result (self.new ≡ self.old) }
+    /// The mark of the block that starts at an address, or `None` where it is not marked.
+    pub fn marked_as(&self, addr: u64) -> Option<Mark>
+        requires start { StartsSome self.now.slots addr }
+        ensures mark { result ≡ mark_at self.now.slots addr }
     {
-        let blocks = flagged_blocks(self.alloc, self.blocks.all(), kept)?;
-        let table = table_of(self.alloc, blocks.all(), self.pages)?;
-        let free = free_lists(self.alloc, &blocks, &table)?;
-        self.blocks = blocks;
-        self.table = table;
-        self.free = free;
-        Ok(())
+        self.store.marked_as(addr)
     }
 
-    /// How many blocks there are.
-    pub fn len(&self) -> u32
-        ensures count { result ≡ length self.now.spans }
+    /// The block that starts at an address is no more to be walked.
+    pub fn set_walked(&mut self, addr: u64)
+        requires start { StartsSome self.old.slots addr }
+        ensures walked { self.new
+            ≡ with_slots self.old (with_mark_at self.old.slots addr (walked (mark_at self.old.slots addr))) }
     {
-        self.blocks.len()
+        self.store.set_walked(addr);
     }
 
-    /// A block, by its place in the order in which the blocks were made.
-    pub fn get(&self, i: u32) -> Option<Span>
-        ensures span { result ≡ slice_get self.now.spans i }
+    /// The least address above `after` of a marked block, with its walk and count; `None` where there is none.
+    pub fn next_marked(&self, after: u64) -> Option<(u64, u32, u32)>
+        ensures next { result ≡ told_of (next_slot is_marked self.now.slots after) }
     {
-        self.blocks.get(i)
+        self.store.next_marked(after)
     }
 
-    /// The place of the block that starts at an address. `None` says that no block starts there.
-    pub fn place(&self, addr: u64) -> Option<u32>
-        ensures place { MatchOption result (StartsNone self.now.spans addr) (λ i. StartsAt self.now.spans addr i) }
+    /// The least address above `after` of a marked block that is still to be walked, with its walk and count; `None` where
+    /// there is none.
+    pub fn next_pending(&self, after: u64) -> Option<(u64, u32, u32)>
+        ensures next { result ≡ told_of (next_slot is_pending self.now.slots after) }
     {
-        self.blocks.place(addr)
+        self.store.next_pending(after)
     }
 
-    /// Says what holds of the blocks of each space, and does nothing.
-    pub fn sound(&self)
-        ensures laid { AreLaidOut self.now }
+    /// Frees the blocks that are not marked, and says how many these were. The others stay as they are, with their marks.
+    pub fn sweep(&mut self) -> u32
+        ensures kept { self.new.slots ≡ filter is_marked self.old.slots }
+        ensures pages { KeepsPages self.old self.new }
+        ensures freed { result ≡ count_by is_unmarked self.old.slots }
     {
-        let _ = &self.table;
+        self.store.sweep()
+    }
+
+    /// Where an image of so many pages goes that would like to start at a page: there, where these pages are in the space
+    /// and free, else in the lowest such run. Where there is none, how many pages the longest run of free pages has.
+    pub fn fit(&self, need: u32, preferred: u32) -> Result<u32, u32>
+        ensures fits { IfOk result (λ page. Base (ledger_of self.now) preferred need page) }
+        ensures longest { IfErr result (λ count. IsTooLong (ledger_of self.now) need count) }
+    {
+        self.store.fit(need, preferred)
     }
 }

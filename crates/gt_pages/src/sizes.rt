@@ -1,5 +1,5 @@
 // The sizes of blocks, which are few, so that each page holds blocks of one size, as in GCC's page collector (ggc-page.cc).
-ghost use Rattle.std.specs.Prelude.{◌≡◌, ◌≤◌};
+ghost use Rattle.std.specs.Prelude.{◌≡◌, ◌<◌, ◌≤◌, Contains, slice_get, Some};
 ghost use Rattle.gt_pages.specs.Ledger.{rounded, sizes};
 
 /// The sizes of blocks in bytes.
@@ -20,4 +20,19 @@ pub fn rounded_size(need: u32) -> Option<u32>
     ensures { result ≡ rounded need }
 {
     SIZES.iter().copied().find(|size| need <= *size)
+}
+
+/// The number of a listed size, in their order.
+pub(crate) fn list_of(size: u32) -> u32
+    requires { Contains sizes size }
+    ensures number { slice_get sizes result ≡ Some size }
+    ensures below { result < 29 }
+{
+    if size < 16 {
+        return 0;
+    }
+    if size <= 256 {
+        return size / 16;
+    }
+    size.trailing_zeros() + 8
 }

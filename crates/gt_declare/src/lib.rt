@@ -1,0 +1,2 @@
+//! The program that a draft declares.
+#![tactic(auto)]

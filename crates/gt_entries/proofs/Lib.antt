@@ -1,0 +1,4 @@
+pub mod Totals
+pub mod Bits
+pub mod CellLemmas
+pub mod Changes

@@ -1,0 +1,6 @@
+use Rattle.std.proofs.Common.{length, sym, ap, ◌∙◌}
+use Rattle.gt_entries.proofs.CellLemmas.{len_cells}
+use Rattle.gt_entries.proofs.places.Places.len.Goals as goal
+
+pub returns : goal.returns
+returns c = sym (len_cells c.self.inside.count c.self.inside.used.items c.self.inside.marked.items c.self.inside.pending.items c.self.inside.tags.items) ∙ ap (λ cells. length cells) c.self.view_is

@@ -1,0 +1,15 @@
+use Rattle.std.proofs.Common.{subst}
+use Rattle.gt_bits.specs.Sets.{has, IsNext}
+use Rattle.gt_entries.specs.Cells.{IsFirstFrom, is_pending}
+use Rattle.gt_entries.specs.Places.{tag_at}
+use Rattle.gt_entries.proofs.Bits.{pending_bit}
+use Rattle.gt_entries.proofs.CellLemmas.{first_from}
+use Rattle.gt_entries.proofs.places.Places.next_pending.Goals as goal
+
+pub returns : goal.returns
+returns c =
+    subst (λ cells. IsFirstFrom is_pending cells c.args.from c.next.result) c.self.view_is
+    (first_from c.self.inside.count c.self.inside.used.items c.self.inside.marked.items c.self.inside.pending.items c.self.inside.tags.items c.self.invariant c.self.inside.pending.items is_pending c.args.from c.next.result
+    (λ k. pending_bit (has c.self.inside.used.items k) (has c.self.inside.marked.items k) (has c.self.inside.pending.items k) (tag_at c.self.inside.tags.items k) (c.self.invariant.marks_used k) (c.self.invariant.pending_marked k))
+    (λ k pending. c.self.invariant.within k (c.self.invariant.marks_used k (c.self.invariant.pending_marked k pending)))
+    (subst (λ words. IsNext words c.args.from c.next.result) c.deref.ensures.value c.next.ensures))

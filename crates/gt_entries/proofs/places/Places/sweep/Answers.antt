@@ -1,0 +1,27 @@
+use Rattle.std.proofs.Common.{◌≡◌, length, map, count_by, ap, ◌∙◌, arith}
+use Rattle.gt_bits.specs.Sets.{members}
+use Rattle.gt_entries.specs.Cells.{is_lost, swept}
+use Rattle.gt_entries.specs.Places.{cells_of}
+use Rattle.gt_entries.proofs.CellLemmas.{count_lost}
+use Rattle.gt_entries.proofs.Changes.{cells_sweep}
+use Rattle.gt_entries.proofs.places.Places.sweep.Goals as goal
+
+pub overflow_sub-freed : goal.overflow_sub-freed
+overflow_sub-freed c =
+    let split = count_lost c.self.inside.count c.self.inside.used.items c.self.inside.marked.items c.self.inside.pending.items c.self.inside.tags.items c.self.invariant in
+    let used : c.count.result ≡ length (members c.self.inside.used.items) = c.count.ensures ∙ ap (λ words. length (members words)) c.deref.ensures.value in
+    let marked : c.count-2.result ≡ length (members c.self.inside.marked.items) = c.count-2.ensures ∙ ap (λ words. length (members words)) c.deref-2.ensures.value in
+    omega (arith, split, used, marked)
+
+pub returns-clause-swept : goal.returns-clause-swept
+returns-clause-swept c =
+    let words : c.copy_from_slice.new.self.items ≡ c.self.inside.marked.items = c.copy_from_slice.ensures.items ∙ c.deref-3.ensures.value in
+    rw words (cells_sweep c.self.inside.count c.self.inside.used.items c.self.inside.marked.items c.self.inside.pending.items c.self.inside.tags.items c.self.invariant ∙ ap (λ cells. map swept cells) c.self.view_is)
+
+pub returns-clause-freed : goal.returns-clause-freed
+returns-clause-freed c =
+    let split = count_lost c.self.inside.count c.self.inside.used.items c.self.inside.marked.items c.self.inside.pending.items c.self.inside.tags.items c.self.invariant in
+    let used : c.count.result ≡ length (members c.self.inside.used.items) = c.count.ensures ∙ ap (λ words. length (members words)) c.deref.ensures.value in
+    let marked : c.count-2.result ≡ length (members c.self.inside.marked.items) = c.count-2.ensures ∙ ap (λ words. length (members words)) c.deref-2.ensures.value in
+    let seen : count_by is_lost (cells_of c.self.inside.count c.self.inside.used.items c.self.inside.marked.items c.self.inside.pending.items c.self.inside.tags.items) ≡ count_by is_lost c.args.self.now = ap (λ cells. count_by is_lost cells) c.self.view_is in
+    omega (arith, split, used, marked, seen)

@@ -1,0 +1,230 @@
+//! The places of one entry: bits for those in use, marked and still to be walked, and a tag for each.
+ghost use Rattle.std.specs.Prelude.{◌≡◌, ℕ, ◌*◌, ◌<◌, ◌≤◌, ◌↔◌, true, false, not, [], length, map, replicate, count_by, slice_set, IfOk, IfSome, IfNone, IsTrue, Some, None};
+ghost use Rattle.gt_bits.specs.Sets as bits;
+ghost use Rattle.gt_entries.specs.Cells.{Free, Used, IsFirstFrom, cell_at, is_free, is_lost, is_marked, is_pending, mark_in, swept, unmarked, walked};
+
+use crate::marks::Mark;
+use gt_bits::{clear, count, has, insert, next, next_gap, remove};
+use std::alloc::{AllocError, Global};
+use std::marker::Model;
+
+/// How many places an entry may have.
+pub const MAX_PLACES: u32 = 0x1000_0000;
+
+/// What the mark of a place says, where it is marked.
+#[derive(Clone, Copy)]
+struct Tag {
+    walk: u32,
+    count: u32,
+}
+
+/// Places for blocks, by their numbers from 0, each free or with a block that may be marked.
+#[derive(Drop)]
+pub struct Places {
+    count: u32,
+    used: Vec<u64>,
+    marked: Vec<u64>,
+    pending: Vec<u64>,
+    tags: Vec<Tag>,
+}
+
+impl Model for Places {
+    ghost use Rattle.std.specs.Prelude.{List};
+    ghost use Rattle.gt_entries.specs.Cells.{Cell};
+
+    ghost Value = { List Cell };
+
+    ghost use Rattle.gt_entries.specs.Places.{cells_of, AreKept};
+
+    ghost view = { λ p. cells_of p.count p.used.items p.marked.items p.pending.items p.tags.items };
+
+    ghost invariant = { λ p. AreKept p.count p.used.items p.marked.items p.pending.items p.tags.items };
+}
+
+impl Places {
+    /// No places. It takes no memory.
+    pub fn none(alloc: Global) -> Places
+        ensures { result ≡ [] }
+    {
+        Places {
+            count: 0,
+            used: Vec::new(alloc),
+            marked: Vec::new(alloc),
+            pending: Vec::new(alloc),
+            tags: Vec::new(alloc),
+        }
+    }
+
+    /// So many free places, in the memory of these, which is given back where it does not suffice. It fails only for
+    /// want of memory.
+    pub fn renew(self, count: u32) -> Result<Places, AllocError>
+        requires { count ≤ MAX_PLACES }
+        ensures { IfOk result (λ places. places ≡ replicate count Free) }
+    {
+        let words = (count as usize + 63) / 64;
+        let tag = Tag { walk: 0, count: 0 };
+        let used = filled(self.used, 0, words)?;
+        let marked = filled(self.marked, 0, words)?;
+        let pending = filled(self.pending, 0, words)?;
+        let tags = filled_tags(self.tags, tag, count as usize)?;
+        Ok(Places {
+            count,
+            used,
+            marked,
+            pending,
+            tags,
+        })
+    }
+
+    /// How many places there are.
+    pub fn len(&self) -> u32
+        ensures { result ≡ length self.now }
+    {
+        self.count
+    }
+
+    /// How many places are free.
+    pub fn free_count(&self) -> u32
+        ensures { result ≡ count_by is_free self.now }
+    {
+        self.count - count(&self.used)
+    }
+
+    /// Whether a place has a block.
+    pub fn is_used(&self, k: u32) -> bool
+        ensures { result ≡ not (is_free (cell_at self.now k)) }
+    {
+        has(&self.used, k)
+    }
+
+    /// Whether some place is free.
+    pub fn has_free(&self) -> bool
+        ensures { IsTrue result ↔ (0 < count_by is_free self.now) }
+    {
+        next_gap(&self.used, 0, self.count).is_some()
+    }
+
+    /// Puts an unmarked block at a free place, and gives this place; `None` where no place is free.
+    pub fn take_free(&mut self) -> Option<u32>
+        ensures free { IfSome result (λ k. (k < length self.old) × (cell_at self.old k ≡ Free)) }
+        ensures taken { IfSome result (λ k. self.new ≡ slice_set self.old k (Used None)) }
+        ensures full { IfNone result (count_by is_free self.old ≡ 0) }
+        ensures unchanged { IfNone result (self.new ≡ self.old) }
+    {
+        let k = next_gap(&self.used, 0, self.count)?;
+        insert(&mut self.used, k);
+        Some(k)
+    }
+
+    /// Puts an unmarked block at each place.
+    pub fn fill(&mut self)
+        ensures { self.new ≡ replicate (length self.old) (Used None) }
+    {
+        clear(&mut self.marked);
+        clear(&mut self.pending);
+        insert_all(&mut self.used, self.count);
+    }
+
+    /// The mark of the block at a place; `None` where there is no block or it is not marked.
+    pub fn mark_of(&self, k: u32) -> Option<Mark>
+        ensures { result ≡ mark_in (cell_at self.now k) }
+    {
+        if !has(&self.marked, k) {
+            return None;
+        }
+        let tag = self.tags[k as usize];
+        Some(Mark {
+            walk: tag.walk,
+            count: tag.count,
+            pending: has(&self.pending, k),
+        })
+    }
+
+    /// Marks the block at a place as one that is still to be walked, and says whether it was not marked before. Where it
+    /// was, nothing changes.
+    pub fn mark(&mut self, k: u32, walk: u32, count: u32) -> bool
+        requires { is_free (cell_at self.old k) ≡ false }
+        ensures fresh { result ≡ not (is_marked (cell_at self.old k)) }
+        ensures marked { IsTrue result → self.new
+            ≡ slice_set self.old k (Used (Some (record { walk = walk; count = count; pending = true }))) }
+        ensures unchanged { result ≡ false → self.new ≡ self.old }
+    {
+        if has(&self.marked, k) {
+            return false;
+        }
+        insert(&mut self.marked, k);
+        insert(&mut self.pending, k);
+        self.tags[k as usize] = Tag { walk, count };
+        true
+    }
+
+    /// The block at a place is no more to be walked.
+    pub fn set_walked(&mut self, k: u32)
+        requires { k < length self.old }
+        ensures { self.new ≡ slice_set self.old k (walked (cell_at self.old k)) }
+    {
+        remove(&mut self.pending, k);
+    }
+
+    /// The first place from `from` on with a marked block, or `None` where there is none.
+    pub fn next_marked(&self, from: u32) -> Option<u32>
+        ensures { IsFirstFrom is_marked self.now from result }
+    {
+        next(&self.marked, from)
+    }
+
+    /// The first place from `from` on with a block that is marked and still to be walked, or `None` where there is none.
+    pub fn next_pending(&self, from: u32) -> Option<u32>
+        ensures { IsFirstFrom is_pending self.now from result }
+    {
+        next(&self.pending, from)
+    }
+
+    /// Takes the blocks away that are not marked, and says how many these were.
+    pub fn sweep(&mut self) -> u32
+        ensures swept { self.new ≡ map swept self.old }
+        ensures freed { result ≡ count_by is_lost self.old }
+    {
+        let freed = count(&self.used) - count(&self.marked);
+        self.used.copy_from_slice(&self.marked);
+        freed
+    }
+
+    /// Takes the marks away.
+    pub fn clear_marks(&mut self)
+        ensures { self.new ≡ map unmarked self.old }
+    {
+        clear(&mut self.marked);
+        clear(&mut self.pending);
+    }
+}
+
+// Puts the numbers below `end` into a set.
+fn insert_all(words: &mut [u64], end: u32)
+    requires { end ≤ 64 * length words.old }
+    ensures len { length words.new ≡ length words.old }
+    ensures held { (i : ℕ) → i < end → bits.has words.new i ≡ true }
+    ensures others { (i : ℕ) → end ≤ i → bits.has words.new i ≡ bits.has words.old i }
+{
+    for i in 0..end {
+        insert(words, i);
+    }
+}
+
+// So many words of this value, in the memory of a vector.
+fn filled(mut words: Vec<u64>, value: u64, len: usize) -> Result<Vec<u64>, AllocError>
+    ensures { IfOk result (λ new. new.items ≡ replicate len value) }
+{
+    words.clear();
+    words.resize(len, value)?;
+    Ok(words)
+}
+
+// So many tags of this value, in the memory of a vector.
+fn filled_tags(mut tags: Vec<Tag>, value: Tag, len: usize) -> Result<Vec<Tag>, AllocError>
+    ensures { IfOk result (λ new. new.items ≡ replicate len value) }
+{
+    tags.clear();
+    tags.resize(len, value)?;
+    Ok(tags)
+}

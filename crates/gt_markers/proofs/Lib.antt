@@ -1,0 +1,4 @@
+mod LookupLemmas
+mod Firsts
+mod WalkingLemmas
+mod MarkerLemmas

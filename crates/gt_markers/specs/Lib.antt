@@ -1,0 +1,12 @@
+pub mod Options
+pub mod Expressions
+pub mod Actives
+pub mod Typing
+pub mod Sites
+pub mod MarkerFaults
+pub mod Sound
+pub mod SiteViews
+pub mod Lookups
+pub mod NameScopes
+pub mod FirstFaults
+pub mod Walking

@@ -1,0 +1,81 @@
+-- The faults of options that a draft alone tells.
+use Rattle.std.specs.Prelude.{ℕ, Bool, true, false, ◌&&◌, ◌||◌, not, codes, List, [], ◌∷◌, ◌++◌, Option, Some, None, is_none, flat_map}
+use Rattle.std.specs.List.{list_any}
+use Rattle.std.specs.Ordering.{int_eq}
+use Rattle.gt_types.specs.declared.faults.Fault.{Fault}
+use Rattle.gt_types.specs.declared.program.Active.{Active}
+use Rattle.gt_types.specs.declared.program.Active.TheVariants.{Tag, Other}
+use Rattle.gt_items.specs.declared.items.RawOption.{RawOption}
+use Rattle.gt_resolve.specs.declared.draft.Draft.{Draft}
+use Rattle.gt_resolve.specs.declared.draft.DraftCache.{DraftCache}
+use Rattle.gt_resolve.specs.declared.draft.DraftField.{DraftField}
+use Rattle.gt_resolve.specs.declared.draft.DraftRoot.{DraftRoot}
+use Rattle.gt_resolve.specs.declared.draft.DraftStructure.{DraftStructure}
+use Rattle.gt_resolve.specs.Drafts.{has_option, has_skip}
+use Rattle.gt_resolve.specs.Faults.{fault_if}
+use Rattle.gt_markers.specs.declared.TheConstants.{WRONG_PLACE, MISSING_DESC, DUPLICATE_TAG}
+use Rattle.gt_markers.specs.Options.{option_named}
+use Rattle.gt_markers.specs.Expressions.{Names, constants, constants_and_roots}
+use Rattle.gt_markers.specs.Typing.{says, walked_type}
+use Rattle.gt_markers.specs.Actives.{active_of}
+use Rattle.gt_markers.specs.Sites.{at_field, at_structure, at_root, at_cache, marker_faults}
+
+-- ---- by the draft alone
+
+-- without `skip`, a type that cannot be walked
+abbrev pub is_untyped : Names → Draft → List RawOption → DraftField → Bool
+is_untyped names draft options f = not (has_skip options) && is_none (walked_type draft (says names options) f.ty)
+
+-- two members would be active at once
+abbrev pub same_active : Active → Active → Bool
+same_active (Tag a) (Tag b) = int_eq a b
+same_active Other Other = true
+same_active a b = false
+
+-- a tag or a default that a member before has too, at the option
+abbrev pub repeated_faults : List Active → ℕ → Active → Option RawOption → List Fault
+repeated_faults before file active (Some o) = fault_if (list_any (same_active active) before) DUPLICATE_TAG file o.name.at
+repeated_faults before file active None = []
+
+-- the option that says when a member is active
+abbrev pub active_option : Active → List RawOption → Option RawOption
+active_option (Tag value) options = option_named (codes "tag") options
+active_option Other options = option_named (codes "default") options
+active_option active options = None
+
+-- a member of a union needs a tag, or `default`, or `skip`
+abbrev pub is_unmarked : List RawOption → Bool
+is_unmarked options = not (has_option (codes "tag") options || has_option (codes "default") options || has_skip options)
+
+-- the faults of a field that the draft tells; the fields before it are active so
+abbrev pub field_faults : Draft → DraftStructure → List Active → (last : Bool) → DraftField → List Fault
+field_faults draft s before last f =
+    marker_faults draft (at_field s.is_union last f.ty) s.file f.options
+    ++ fault_if (is_untyped (constants draft) draft f.options f) WRONG_PLACE s.file f.name.at
+    ++ fault_if (s.is_union && is_unmarked f.options) MISSING_DESC s.file f.name.at
+    ++ repeated_faults before s.file (active_of draft s.is_union f.options) (active_option (active_of draft s.is_union f.options) f.options)
+
+abbrev pub is_empty : {A : Type 0} → List A → Bool
+is_empty [] = true
+is_empty (x ∷ xs) = false
+
+unfoldable pub fields_faults : Draft → DraftStructure → List Active → List DraftField → List Fault
+fields_faults draft s before [] = []
+fields_faults draft s before (f ∷ fs) =
+    field_faults draft s before (is_empty fs) f ++ fields_faults draft s (before ++ active_of draft s.is_union f.options ∷ []) fs
+
+abbrev pub structure_faults : Draft → DraftStructure → List Fault
+structure_faults draft s = marker_faults draft (at_structure s.is_union) s.file s.options ++ fields_faults draft s [] s.fields
+
+abbrev pub root_faults : Draft → DraftRoot → List Fault
+root_faults draft r =
+    marker_faults draft (at_root r.ty) r.file r.options
+    ++ fault_if (not (has_skip r.options) && is_none (walked_type draft (says (constants_and_roots draft) r.options) r.ty)) WRONG_PLACE r.file r.name.at
+
+abbrev pub cache_faults : Draft → DraftCache → List Fault
+cache_faults draft c = marker_faults draft at_cache c.file c.options
+
+-- the faults that the draft alone tells
+abbrev pub draft_faults : Draft → List Fault
+draft_faults draft =
+    flat_map (structure_faults draft) draft.structures ++ flat_map (root_faults draft) draft.roots ++ flat_map (cache_faults draft) draft.caches

@@ -1,0 +1,46 @@
+//! The options of markers: which options there are, where each may stand, what their expressions and types come to, and the faults
+//! that a draft alone tells.
+#![tactic(auto)]
+
+mod constants;
+mod earliest;
+mod expressions;
+mod field_faults;
+mod kinds;
+mod lookups;
+mod marker_faults;
+mod options;
+mod sites;
+mod walking;
+
+pub use constants::constant_value;
+pub use expressions::{Scope, are_named, with_names};
+pub use kinds::OptionKind;
+pub use lookups::Lookup;
+pub use marker_faults::Marker;
+pub use sites::Site;
+pub use walking::is_walked;
+
+/// The number of the fault of an option that is not known.
+pub const UNKNOWN_OPTION: u8 = 16;
+
+/// The number of the fault of an option, or of a type, where it may not stand.
+pub const WRONG_PLACE: u8 = 17;
+
+/// The number of the fault of a union without a `desc`, or of a member of a union without a tag.
+pub const MISSING_DESC: u8 = 18;
+
+/// The number of the fault of a tag or a default that stands twice.
+pub const DUPLICATE_TAG: u8 = 19;
+
+/// The number of the fault of a path, a name or a constant expression that leads to nothing.
+pub const BAD_PATH: u8 = 20;
+
+/// The number of the fault of a chain that leads to no pointer to its own structure.
+pub const CHAIN_NOT_OWN_POINTER: u8 = 21;
+
+/// The number of the fault of a hook that is not known.
+pub const UNKNOWN_HOOK: u8 = 22;
+
+/// The number of the fault of a cache whose key or value is no pointer to a structure that may stand alone.
+pub const CACHE_SHAPE: u8 = 23;

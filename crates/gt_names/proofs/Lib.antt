@@ -1,0 +1,3 @@
+pub mod NameTests
+pub mod NameLists
+pub mod TableLemmas

@@ -1,0 +1,11 @@
+use Rattle.std.proofs.Common.{◌-◌}
+use Rattle.gt_entries.specs.Cells.{is_pending}
+use Rattle.gt_pages.specs.Parts.{parts_of}
+use Rattle.gt_pages.proofs.NextLemmas.{Skips}
+use Rattle.gt_pages.proofs.store.Store.next_pending.Given as goal
+
+abbrev pub invariant-entries : goal.invariant-entries
+invariant-entries l = Skips is_pending (parts_of l.self) l.after l.from
+
+abbrev pub decreases-entries : goal.decreases-entries
+decreases-entries l = l.self.pages - l.from.page

@@ -1,0 +1,84 @@
+-- What calls do to the parts.
+use Rattle.std.specs.Prelude.{◌≡◌, ℕ, ◌+◌, ◌/◌, ◌<◌, ◌≤◌, ◌⊎◌, ◌↔◌, true, false, ◌≢◌, [], ◌∷◌, length, filter, map, replicate, slice_set, IsTrue, None}
+use Rattle.gt_bits.specs.Sets.{has}
+use Rattle.gt_links.specs.Lists.{Lists, Holds, empty_lists, nodes_of, with_nodes, without}
+use Rattle.gt_entries.specs.Cells.{swept, unmarked}
+use Rattle.gt_pages.specs.Slots.{is_marked}
+use Rattle.gt_pages.specs.Tables.{Leads}
+use Rattle.gt_pages.specs.declared.pages.TheConstants.{LISTS, CACHED}
+use Rattle.gt_pages.specs.declared.store.Entry.{Entry}
+use Rattle.gt_pages.specs.Parts.{Parts, empty_entry, entry_at, entry_pages, page_slots}
+
+-- what new pages are made of
+pub record IsNew (p : Parts) : Type 0 where
+  pub image : p.image ≡ record { first = 0; count = 0 }
+  pub entries : p.entries ≡ replicate p.pages empty_entry
+  pub start_words : length p.starts ≡ (p.pages + 63) / 64
+  pub starts : (i : ℕ) → has p.starts i ≡ false
+  pub free_words : length p.free ≡ (p.pages + 63) / 64
+  pub free : (i : ℕ) → IsTrue (has p.free i) ↔ (i < p.pages)
+  pub table : p.table ≡ replicate p.pages None
+  pub lists : p.lists ≡ empty_lists LISTS p.pages
+
+-- the parts with another entry of this number
+abbrev pub with_entry : Parts → ℕ → Entry → Parts
+with_entry p page entry = record p { entries = slice_set p.entries page entry }
+
+-- the entry, and its blocks without their marks
+abbrev pub cleared_entry : Entry → Entry
+cleared_entry entry = record { size = entry.size; places = map unmarked entry.places }
+
+-- the entries in use below a page have no marks now, and all else is as it was
+pub record ClearsMarks (old : Parts) (end : ℕ) (new : Parts) : Type 0 where
+  pub entries : length new.entries ≡ length old.entries
+  pub rest : new ≡ record old { entries = new.entries }
+  pub cleared : (page : ℕ) → page < end → has old.starts page ≡ true
+      → entry_at new.entries page ≡ cleared_entry (entry_at old.entries page)
+  pub others : (page : ℕ) → (has old.starts page ≡ false) ⊎ (end ≤ page)
+      → entry_at new.entries page ≡ entry_at old.entries page
+
+-- the parts with a cached entry released: it has no places, and is not cached
+abbrev pub without_cached : Parts → ℕ → Parts
+without_cached p node = record p {
+  entries = slice_set p.entries node (record { size = (entry_at p.entries node).size; places = [] });
+  lists = with_nodes p.lists CACHED (without node (nodes_of p.lists CACHED));
+}
+
+-- cached entries were released: each entry in use is as it was, and so are the other lists and all else
+pub record Releases (old new : Parts) : Type 0 where
+  pub entries : length new.entries ≡ length old.entries
+  pub rest : new ≡ record old { entries = new.entries; lists = with_nodes old.lists CACHED (nodes_of new.lists CACHED) }
+  pub in_use : (page : ℕ) → has old.starts page ≡ true → entry_at new.entries page ≡ entry_at old.entries page
+
+-- the entry without the blocks that are not marked
+abbrev pub swept_entry : Entry → Entry
+swept_entry entry = record { size = entry.size; places = map swept entry.places }
+
+-- the parts with an entry moved to the front of list i
+abbrev pub with_first : Parts → (i page : ℕ) → Parts
+with_first p i page = record p { lists = with_nodes p.lists i (page ∷ without page (nodes_of p.lists i)) }
+
+-- the lists with an entry moved from list i to the front of the cached ones
+abbrev pub to_cached : Lists → (i page : ℕ) → Lists
+to_cached s i page = with_nodes (with_nodes s i (without page (nodes_of s i))) CACHED (page ∷ nodes_of (with_nodes s i (without page (nodes_of s i))) CACHED)
+
+-- an entry is in use no more: its pages are free and lead nowhere, and it is cached
+pub record Closes (old : Parts) (page : ℕ) (new : Parts) : Type 0 where
+  pub rest : new ≡ record old { starts = new.starts; free = new.free; table = new.table; lists = new.lists }
+  pub start_words : length new.starts ≡ length old.starts
+  pub gone : has new.starts page ≡ false
+  pub starts : (j : ℕ) → j ≢ page → has new.starts j ≡ has old.starts j
+  pub table : Leads old.table page (entry_pages (entry_at old.entries page)) None new.table
+  pub free_words : length new.free ≡ length old.free
+  pub freed : (j : ℕ) → page ≤ j → j < page + entry_pages (entry_at old.entries page) → has new.free j ≡ true
+  pub free : (j : ℕ) → (j < page) ⊎ (page + entry_pages (entry_at old.entries page) ≤ j) → has new.free j ≡ has old.free j
+  pub lists : (i : ℕ) → Holds old.lists i page → new.lists ≡ to_cached old.lists i page
+  pub unlisted : (i j : ℕ) → Holds old.lists i page → ¬ (Holds (with_nodes old.lists i (without page (nodes_of old.lists i))) j page)
+
+-- the blocks of an entry that are not marked are gone, and the blocks of the other entries are as they were
+pub record Sweeps (old : Parts) (page : ℕ) (new : Parts) : Type 0 where
+  pub pages : new.pages ≡ old.pages
+  pub image : new.image ≡ old.image
+  pub swept : page_slots new page ≡ filter is_marked (page_slots old page)
+  pub others : (j : ℕ) → j ≢ page → page_slots new j ≡ page_slots old j
+  pub starts : (j : ℕ) → j ≢ page → has new.starts j ≡ has old.starts j

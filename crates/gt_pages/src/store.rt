@@ -1,0 +1,560 @@
+//! The parts of the pages: the entries, the sets of pages, the table and the lists, and how they change together.
+ghost use Rattle.std.specs.Prelude.{◌≡◌, ◌≢◌, ℕ, ◌+◌, ◌-◌, ◌*◌, ◌/◌, ◌^◌, ◌<◌, ◌≤◌, ◌↔◌, true, false, not, length, IsTrue, Some, None, IfErr, IfOk, IfSome, IfNone, [], map, filter, count_by};
+ghost use Rattle.gt_space.specs.declared.TheConstants.{MIN_PAGES, MAX_PAGES};
+ghost use Rattle.gt_bits.specs.Sets.{has};
+ghost use Rattle.gt_pages.specs.Ledger.{AreFree, Base, IsTooLong, page_address as ledger_page_address};
+ghost use Rattle.gt_pages.specs.Parts.{IsKept, IsOfImage, contents_of, empty_entry, entry_at, entry_pages, free_places, parts_of};
+ghost use Rattle.gt_pages.specs.Spots.{HasNoneAbove, IsAbove, IsFirstIn, IsNextSpot, IsNowhere, IsSpot, block_at, told_at, with_mark_spot};
+ghost use Rattle.gt_pages.specs.Slots as slots;
+ghost use Rattle.gt_entries.specs.Cells as cells;
+ghost use Rattle.gt_pages.specs.Slots.{StartsSome, is_unmarked, mark_at, new_mark, next_slot, owner_of, told_of, unmarked, walked, with_mark_at};
+ghost use Rattle.gt_pages.specs.Contents.{KeepsPages, ledger_of, with_slots};
+ghost use Rattle.gt_entries.specs.Cells.{cell_at, is_free, is_lost, is_marked, mark_in};
+ghost use Rattle.gt_pages.specs.Changes.{ClearsMarks, Closes, IsNew, Releases, Sweeps, cleared_entry, swept_entry, with_entry, with_first, without_cached};
+ghost use Rattle.gt_links.specs.Lists.{Holds, nodes_of, with_nodes, without};
+
+use crate::pages::{CACHED, LISTS, Run, SlotFail};
+use crate::parts::{
+    Spot, empty_entries, first_pages, insert_range, no_pages, page_address, pages_of,
+    place_address, places_of, remove_range,
+};
+use crate::sizes::list_of;
+use crate::tables::PageTable;
+use gt_bits::{first_run, insert, longest_run, next, next_gap, remove};
+use gt_entries::{Mark, Places};
+use gt_links::Links;
+use gt_space::{HEAP_START, PAGE_BYTES};
+use std::alloc::{AllocError, Global};
+
+/// The blocks of one page, of one larger block, or of one run of the image.
+#[derive(Drop)]
+pub(crate) struct Entry {
+    pub(crate) size: u32,
+    pub(crate) places: Places,
+}
+
+/// The parts.
+#[derive(Drop)]
+pub(crate) struct Store {
+    pub(crate) alloc: Global,
+    // How many pages the space has.
+    pub(crate) pages: u32,
+    // The pages of the image.
+    pub(crate) image_first: u32,
+    pub(crate) image_count: u32,
+    // The entries, each under the number of its first page.
+    pub(crate) entries: Vec<Entry>,
+    // The first pages of the entries in use.
+    pub(crate) starts: Vec<u64>,
+    // The pages that are in no entry and outside the image.
+    pub(crate) free: Vec<u64>,
+    // For each page the first page of its entry.
+    pub(crate) table: PageTable,
+    // The entries of pages of each size, and cached entries.
+    pub(crate) lists: Links,
+}
+
+impl Entry {
+    /// An entry without places. It takes no memory.
+    pub(crate) fn empty(alloc: Global) -> Entry
+        ensures { result ≡ empty_entry }
+    {
+        Entry {
+            size: 0,
+            places: Places::none(alloc),
+        }
+    }
+
+    /// How many pages it has.
+    fn page_count(&self) -> u32
+        requires { self.now.size * length self.now.places < 2 ^ 40 }
+        ensures { result ≡ entry_pages self.now }
+    {
+        pages_of(self.size as u64 * self.places.len() as u64)
+    }
+}
+
+impl Store {
+    pub(crate) fn new(alloc: Global, pages: u32) -> Result<Store, AllocError>
+        requires { pages ≤ MAX_PAGES }
+        ensures pages { IfOk result (λ s. s.pages ≡ pages) }
+        ensures fresh { IfOk result (λ s. IsNew (parts_of s)) }
+    {
+        let entries = empty_entries(alloc, pages)?;
+        let starts = no_pages(alloc, pages)?;
+        let free = first_pages(alloc, pages)?;
+        let table = PageTable::new(alloc, pages)?;
+        let lists = Links::new(alloc, LISTS, pages)?;
+        Ok(Store {
+            alloc,
+            pages,
+            image_first: 0,
+            image_count: 0,
+            entries,
+            starts,
+            free,
+            table,
+            lists,
+        })
+    }
+
+    pub(crate) fn owner(&self, addr: u64) -> Option<(u64, u32)>
+        requires { IsKept (parts_of self.now) }
+        ensures { result ≡ owner_of (contents_of (parts_of self.now)).slots addr }
+    {
+        match self.spot(addr) {
+            None => None,
+            Some(spot) => self.block_at(spot),
+        }
+    }
+
+    // The block at a place: where it starts, and its size.
+    fn block_at(&self, spot: Spot) -> Option<(u64, u32)>
+        requires kept { IsKept (parts_of self.now) }
+        requires starts { has (parts_of self.now).starts spot.page ≡ true }
+        ensures { result ≡ block_at (parts_of self.now) spot }
+    {
+        let entry = &self.entries[spot.page as usize];
+        if !entry.places.is_used(spot.place) {
+            return None;
+        }
+        Some((place_address(spot.page, entry.size, spot.place), entry.size))
+    }
+
+    pub(crate) fn clear_marks(&mut self)
+        requires { IsKept (parts_of self.old) }
+        ensures kept { IsKept (parts_of self.new) }
+        ensures cleared { contents_of (parts_of self.new) ≡ record (with_slots (contents_of (parts_of self.old))
+            (map unmarked (contents_of (parts_of self.old)).slots)) { lists = with_nodes (contents_of (parts_of self.old)).lists CACHED [] } }
+    {
+        self.release_cached();
+        self.clear_entries();
+    }
+
+    // Takes the marks of all entries away.
+    fn clear_entries(&mut self)
+        requires { IsKept (parts_of self.old) }
+        ensures { ClearsMarks (parts_of self.old) (parts_of self.old).pages (parts_of self.new) }
+    {
+        let mut from = 0;
+        'entries: loop {
+            match next(&self.starts, from) {
+                None => return,
+                Some(page) => {
+                    self.clear_entry(page);
+                    from = page + 1;
+                }
+            }
+        }
+    }
+
+    // Takes the marks of an entry away.
+    fn clear_entry(&mut self, page: u32)
+        requires { page < length (parts_of self.old).entries }
+        ensures { parts_of self.new
+            ≡ with_entry (parts_of self.old) page (cleared_entry (entry_at (parts_of self.old).entries page)) }
+    {
+        let entry = &mut self.entries[page as usize];
+        entry.places.clear_marks();
+    }
+
+    pub(crate) fn mark(&mut self, addr: u64, walk: u32, count: u32) -> bool
+        requires kept { IsKept (parts_of self.old) }
+        requires start { StartsSome (contents_of (parts_of self.old)).slots addr }
+        ensures kept { IsKept (parts_of self.new) }
+        ensures fresh { IsTrue result ↔ (mark_at (contents_of (parts_of self.old)).slots addr ≡ None) }
+        ensures marked { IsTrue result → contents_of (parts_of self.new)
+            ≡ with_slots (contents_of (parts_of self.old)) (with_mark_at (contents_of (parts_of self.old)).slots addr (Some (new_mark walk count))) }
+        ensures unchanged { result ≡ false → contents_of (parts_of self.new) ≡ contents_of (parts_of self.old) }
+    {
+        match self.spot(addr) {
+            None => false,
+            Some(spot) => self.mark_spot(spot, walk, count),
+        }
+    }
+
+    // Marks the block at a place.
+    fn mark_spot(&mut self, spot: Spot, walk: u32, count: u32) -> bool
+        requires page { spot.page < length (parts_of self.old).entries }
+        requires used { is_free (cell_at (entry_at (parts_of self.old).entries spot.page).places spot.place) ≡ false }
+        ensures fresh { result ≡ not (is_marked (cell_at (entry_at (parts_of self.old).entries spot.page).places spot.place)) }
+        ensures marked { IsTrue result → parts_of self.new ≡ with_mark_spot (parts_of self.old) spot (Some (new_mark walk count)) }
+        ensures unchanged { result ≡ false → parts_of self.new ≡ parts_of self.old }
+    {
+        let entry = &mut self.entries[spot.page as usize];
+        entry.places.mark(spot.place, walk, count)
+    }
+
+    pub(crate) fn marked_as(&self, addr: u64) -> Option<Mark>
+        requires kept { IsKept (parts_of self.now) }
+        requires start { StartsSome (contents_of (parts_of self.now)).slots addr }
+        ensures { result ≡ mark_at (contents_of (parts_of self.now)).slots addr }
+    {
+        match self.spot(addr) {
+            None => None,
+            Some(spot) => self.mark_of(spot),
+        }
+    }
+
+    // The mark of the block at a place.
+    fn mark_of(&self, spot: Spot) -> Option<Mark>
+        requires { spot.page < length (parts_of self.now).entries }
+        ensures { result ≡ mark_in (cell_at (entry_at (parts_of self.now).entries spot.page).places spot.place) }
+    {
+        let entry = &self.entries[spot.page as usize];
+        entry.places.mark_of(spot.place)
+    }
+
+    pub(crate) fn set_walked(&mut self, addr: u64)
+        requires kept { IsKept (parts_of self.old) }
+        requires start { StartsSome (contents_of (parts_of self.old)).slots addr }
+        ensures kept { IsKept (parts_of self.new) }
+        ensures walked { contents_of (parts_of self.new) ≡ with_slots (contents_of (parts_of self.old))
+            (with_mark_at (contents_of (parts_of self.old)).slots addr (walked (mark_at (contents_of (parts_of self.old)).slots addr))) }
+    {
+        match self.spot(addr) {
+            None => {}
+            Some(spot) => self.set_spot_walked(spot),
+        }
+    }
+
+    // The block at a place is no more to be walked.
+    fn set_spot_walked(&mut self, spot: Spot)
+        requires page { spot.page < length (parts_of self.old).entries }
+        requires used { is_free (cell_at (entry_at (parts_of self.old).entries spot.page).places spot.place) ≡ false }
+        ensures { parts_of self.new ≡ with_mark_spot (parts_of self.old) spot
+            (walked (mark_in (cell_at (entry_at (parts_of self.old).entries spot.page).places spot.place))) }
+    {
+        let entry = &mut self.entries[spot.page as usize];
+        entry.places.set_walked(spot.place);
+    }
+
+    pub(crate) fn next_marked(&self, after: u64) -> Option<(u64, u32, u32)>
+        requires { IsKept (parts_of self.now) }
+        ensures { result ≡ told_of (next_slot slots.is_marked (contents_of (parts_of self.now)).slots after) }
+    {
+        let mut from = self.spot_above(after)?;
+        'entries: loop {
+            match self.next_marked_in(from) {
+                Some(spot) => return self.tell(spot),
+                None => match self.next_spot(from.page + 1) {
+                    None => return None,
+                    Some(next) => from = next,
+                },
+            }
+        }
+    }
+
+    // The first marked place of an entry from a spot on.
+    fn next_marked_in(&self, from: Spot) -> Option<Spot>
+        requires { from.page < length (parts_of self.now).entries }
+        ensures { IsFirstIn cells.is_marked (parts_of self.now) from result }
+    {
+        let place = self.entries[from.page as usize]
+            .places
+            .next_marked(from.place)?;
+        Some(Spot {
+            page: from.page,
+            place,
+        })
+    }
+
+    pub(crate) fn next_pending(&self, after: u64) -> Option<(u64, u32, u32)>
+        requires { IsKept (parts_of self.now) }
+        ensures { result ≡ told_of (next_slot slots.is_pending (contents_of (parts_of self.now)).slots after) }
+    {
+        let mut from = self.spot_above(after)?;
+        'entries: loop {
+            match self.next_pending_in(from) {
+                Some(spot) => return self.tell(spot),
+                None => match self.next_spot(from.page + 1) {
+                    None => return None,
+                    Some(next) => from = next,
+                },
+            }
+        }
+    }
+
+    // The first place with a block still to be walked of an entry from a spot on.
+    fn next_pending_in(&self, from: Spot) -> Option<Spot>
+        requires { from.page < length (parts_of self.now).entries }
+        ensures { IsFirstIn cells.is_pending (parts_of self.now) from result }
+    {
+        let place = self.entries[from.page as usize]
+            .places
+            .next_pending(from.place)?;
+        Some(Spot {
+            page: from.page,
+            place,
+        })
+    }
+
+    pub(crate) fn sweep(&mut self) -> u32
+        requires { IsKept (parts_of self.old) }
+        ensures kept { IsKept (parts_of self.new) }
+        ensures pages { KeepsPages (contents_of (parts_of self.old)) (contents_of (parts_of self.new)) }
+        ensures slots { (contents_of (parts_of self.new)).slots ≡ filter slots.is_marked (contents_of (parts_of self.old)).slots }
+        ensures freed { result ≡ count_by is_unmarked (contents_of (parts_of self.old)).slots }
+    {
+        let mut freed = 0;
+        let mut from = 0;
+        'entries: loop {
+            match next(&self.starts, from) {
+                None => return freed,
+                Some(page) => {
+                    freed += self.sweep_entry(page);
+                    from = page + 1;
+                }
+            }
+        }
+    }
+
+    pub(crate) fn fit(&self, need: u32, preferred: u32) -> Result<u32, u32>
+        requires { IsKept (parts_of self.now) }
+        ensures fits { IfOk result (Base (ledger_of (contents_of (parts_of self.now))) preferred need) }
+        ensures longest { IfErr result (IsTooLong (ledger_of (contents_of (parts_of self.now))) need) }
+    {
+        if self.are_free(preferred, need) {
+            return Ok(preferred);
+        }
+        if need == 0 {
+            return Ok(0);
+        }
+        match first_run(&self.free, need, self.pages) {
+            Some(page) => Ok(page),
+            None => Err(longest_run(&self.free, self.pages)),
+        }
+    }
+
+    /// The place that has the byte at an address, which may be free; `None` where the address is in no entry.
+    pub(crate) fn spot(&self, addr: u64) -> Option<Spot>
+        requires { IsKept (parts_of self.now) }
+        ensures none { IfNone result (IsNowhere (parts_of self.now) addr) }
+        ensures some { IfSome result (IsSpot (parts_of self.now) addr) }
+    {
+        if addr < HEAP_START {
+            return None;
+        }
+        let page = (addr - HEAP_START) / PAGE_BYTES;
+        if page >= self.pages as u64 {
+            return None;
+        }
+        match self.table.get(page as u32) {
+            None => None,
+            Some(first) => Some(self.spot_in(first, addr)),
+        }
+    }
+
+    // The place of an entry that has the byte at an address of its pages.
+    fn spot_in(&self, page: u32, addr: u64) -> Spot
+        requires kept { IsKept (parts_of self.now) }
+        requires starts { has (parts_of self.now).starts page ≡ true }
+        requires above { ledger_page_address page ≤ addr }
+        requires below { addr < 2 ^ 30 }
+        ensures page { result.page ≡ page }
+        ensures place { result.place ≡ (addr - ledger_page_address page) / (entry_at (parts_of self.now).entries page).size }
+    {
+        let size = self.entries[page as usize].size as u64;
+        let place = ((addr - page_address(page)) / size) as u32;
+        Spot { page, place }
+    }
+
+    /// The first place of those in use or free that starts above an address; `None` where there is none.
+    pub(crate) fn spot_above(&self, after: u64) -> Option<Spot>
+        requires { IsKept (parts_of self.now) }
+        ensures above { IfSome result (IsAbove (parts_of self.now) after) }
+        ensures none { IfNone result (HasNoneAbove (parts_of self.now) after) }
+    {
+        match self.spot(after) {
+            None => self.first_above(after),
+            Some(spot) => Some(Spot {
+                page: spot.page,
+                place: spot.place + 1,
+            }),
+        }
+    }
+
+    // The same for an address in no entry.
+    fn first_above(&self, after: u64) -> Option<Spot>
+        requires kept { IsKept (parts_of self.now) }
+        requires nowhere { IsNowhere (parts_of self.now) after }
+        ensures above { IfSome result (IsAbove (parts_of self.now) after) }
+        ensures none { IfNone result (HasNoneAbove (parts_of self.now) after) }
+    {
+        if after < HEAP_START {
+            return self.next_spot(0);
+        }
+        let page = (after - HEAP_START) / PAGE_BYTES + 1;
+        if page >= self.pages as u64 {
+            return None;
+        }
+        self.next_spot(page as u32)
+    }
+
+    /// The first place of the first entry from a page on.
+    pub(crate) fn next_spot(&self, page: u32) -> Option<Spot>
+        requires { IsKept (parts_of self.now) }
+        ensures { IsNextSpot (parts_of self.now) page result }
+    {
+        let page = next(&self.starts, page)?;
+        Some(Spot { page, place: 0 })
+    }
+
+    /// The address, walk and count of the marked block at a place.
+    pub(crate) fn tell(&self, spot: Spot) -> Option<(u64, u32, u32)>
+        requires kept { IsKept (parts_of self.now) }
+        requires starts { has (parts_of self.now).starts spot.page ≡ true }
+        ensures { result ≡ told_at (parts_of self.now) spot }
+    {
+        let entry = &self.entries[spot.page as usize];
+        let mark = entry.places.mark_of(spot.place)?;
+        let addr = place_address(spot.page, entry.size, spot.place);
+        Some((addr, mark.walk, mark.count))
+    }
+
+    /// Whether so many pages from one on are in the space and free.
+    pub(crate) fn are_free(&self, page: u32, count: u32) -> bool
+        requires { IsKept (parts_of self.now) }
+        ensures { IsTrue result ↔ AreFree (ledger_of (contents_of (parts_of self.now))) page count }
+    {
+        if page as u64 + count as u64 > self.pages as u64 {
+            return false;
+        }
+        next_gap(&self.free, page, page + count).is_none()
+    }
+
+    /// Gives the memory of the cached entries back.
+    pub(crate) fn release_cached(&mut self)
+        requires { IsKept (parts_of self.old) }
+        ensures kept { IsKept (parts_of self.new) }
+        ensures released { Releases (parts_of self.old) (parts_of self.new) }
+        ensures none { nodes_of (parts_of self.new).lists CACHED ≡ [] }
+    {
+        'cached: loop {
+            match self.lists.first(CACHED) {
+                None => return,
+                Some(node) => self.release(node),
+            }
+        }
+    }
+
+    // Gives the memory of a cached entry back.
+    fn release(&mut self, node: u32)
+        requires entry { node < length (parts_of self.old).entries }
+        requires node { node < (parts_of self.old).lists.nodes }
+        requires cached { Holds (parts_of self.old).lists CACHED node }
+        ensures { parts_of self.new ≡ without_cached (parts_of self.old) node }
+    {
+        self.lists.unlink(node);
+        let entry = &mut self.entries[node as usize];
+        entry.places = Places::none(self.alloc);
+    }
+
+    /// Frees the blocks of an entry that are not marked, and says how many these were. An entry without blocks outside the
+    /// image is cached; one that was full and has a free place now goes to the front of its list.
+    pub(crate) fn sweep_entry(&mut self, page: u32) -> u32
+        requires kept { IsKept (parts_of self.old) }
+        requires starts { has (parts_of self.old).starts page ≡ true }
+        ensures kept { IsKept (parts_of self.new) }
+        ensures swept { Sweeps (parts_of self.old) page (parts_of self.new) }
+        ensures freed { result ≡ count_by is_lost (entry_at (parts_of self.old).entries page).places }
+    {
+        if self.is_of_image(page) {
+            return self.sweep_places(page);
+        }
+        if self.is_unmarked(page) {
+            self.close(page);
+            return self.sweep_places(page);
+        }
+        self.sweep_listed(page)
+    }
+
+    // Whether a page is of the image.
+    fn is_of_image(&self, page: u32) -> bool
+        requires { IsKept (parts_of self.now) }
+        ensures { IsTrue result ↔ IsOfImage (parts_of self.now) page }
+    {
+        page >= self.image_first && page < self.image_first + self.image_count
+    }
+
+    // Whether an entry has no marked block.
+    fn is_unmarked(&self, page: u32) -> bool
+        requires { page < length (parts_of self.now).entries }
+        ensures { IsTrue result
+            ↔ ((k : ℕ) → is_marked (cell_at (entry_at (parts_of self.now).entries page).places k) ≡ false) }
+    {
+        let entry = &self.entries[page as usize];
+        entry.places.next_marked(0).is_none()
+    }
+
+    // Frees the blocks of an entry that are not marked, and says how many these were.
+    fn sweep_places(&mut self, page: u32) -> u32
+        requires { page < length (parts_of self.old).entries }
+        ensures swept { parts_of self.new
+            ≡ with_entry (parts_of self.old) page (swept_entry (entry_at (parts_of self.old).entries page)) }
+        ensures freed { result ≡ count_by is_lost (entry_at (parts_of self.old).entries page).places }
+    {
+        let entry = &mut self.entries[page as usize];
+        entry.places.sweep()
+    }
+
+    // The same for an entry with a marked block outside the image.
+    fn sweep_listed(&mut self, page: u32) -> u32
+        requires kept { IsKept (parts_of self.old) }
+        requires starts { has (parts_of self.old).starts page ≡ true }
+        requires outside { ¬ (IsOfImage (parts_of self.old) page) }
+        requires marked { ¬ ((k : ℕ) → is_marked (cell_at (entry_at (parts_of self.old).entries page).places k) ≡ false) }
+        ensures kept { IsKept (parts_of self.new) }
+        ensures swept { Sweeps (parts_of self.old) page (parts_of self.new) }
+        ensures freed { result ≡ count_by is_lost (entry_at (parts_of self.old).entries page).places }
+    {
+        let was_full = self.is_full(page);
+        let freed = self.sweep_places(page);
+        if was_full && freed > 0 {
+            self.move_front(page);
+        }
+        freed
+    }
+
+    // Whether an entry has no free place.
+    fn is_full(&self, page: u32) -> bool
+        requires { page < length (parts_of self.now).entries }
+        ensures { IsTrue result ↔ (free_places (parts_of self.now) page ≡ 0) }
+    {
+        let entry = &self.entries[page as usize];
+        !entry.places.has_free()
+    }
+
+    // Moves an entry to the front of its list.
+    fn move_front(&mut self, page: u32)
+        requires { page < (parts_of self.old).lists.nodes }
+        ensures moved { (i : ℕ) → Holds (parts_of self.old).lists i page → parts_of self.new ≡ with_first (parts_of self.old) i page }
+
+        // It is in one list alone.
+        ensures alone { (i j : ℕ) → Holds (parts_of self.old).lists i page
+            → ¬ (Holds (with_nodes (parts_of self.old).lists i (without page (nodes_of (parts_of self.old).lists i))) j page) }
+    {
+        match self.lists.list_of(page) {
+            None => {}
+            Some(list) => {
+                self.lists.unlink(page);
+                self.lists.push_front(list, page);
+            }
+        }
+    }
+
+    /// Takes an entry out of its pages, and caches it.
+    fn close(&mut self, page: u32)
+        requires kept { IsKept (parts_of self.old) }
+        requires starts { has (parts_of self.old).starts page ≡ true }
+        requires outside { ¬ (IsOfImage (parts_of self.old) page) }
+        ensures { Closes (parts_of self.old) page (parts_of self.new) }
+    {
+        let count = self.entries[page as usize].page_count();
+        self.table.clear(page, count);
+        remove(&mut self.starts, page);
+        insert_range(&mut self.free, page, count);
+        self.lists.unlink(page);
+        self.lists.push_front(CACHED, page);
+    }
+}

@@ -1,0 +1,141 @@
+-- The faults of options.
+use Rattle.std.specs.Prelude.{◌≡◌, ◌⊎◌, ℕ, true, false, codes, IsTrue, List, Option, Some, None, IsSome, slice_get, Contains, All}
+use Rattle.gt_types.specs.declared.expressions.Expr.{Expr}
+use Rattle.gt_types.specs.declared.faults.Fault.{Fault}
+use Rattle.gt_types.specs.declared.types.Target.TheVariants as target
+use Rattle.gt_types.specs.declared.types.Ty.{Ty}
+use Rattle.gt_types.specs.declared.types.Ty.TheVariants as ty
+use Rattle.gt_types.specs.declared.types.TypeId.{TypeId}
+use Rattle.gt_types.specs.declared.program.Field.{Field}
+use Rattle.gt_types.specs.declared.program.Structure.{Structure}
+use Rattle.gt_types.specs.declared.program.Root.{Root}
+use Rattle.gt_types.specs.declared.program.Program.{Program}
+use Rattle.gt_types.specs.Shapes.{innermost}
+use Rattle.gt_types.specs.Contains.{HasStructure, held_by}
+use Rattle.gt_types.specs.Paths.{IsInner, MayStand, LeadsToOwnPointer, IsOption, IsFieldDesc, IsRootCount, IsRootDesc}
+use Rattle.gt_types.specs.Settled.{NamesSortable}
+use Rattle.gt_expr.specs.declared.raw.RawExpr.{RawExpr}
+use Rattle.gt_items.specs.declared.items.Parameter.{Parameter}
+use Rattle.gt_items.specs.declared.items.Parameter.TheVariants.{Expression}
+use Rattle.gt_items.specs.declared.items.RawOption.{RawOption}
+use Rattle.gt_resolve.specs.declared.draft.Draft.{Draft}
+use Rattle.gt_resolve.specs.declared.draft.DraftCache.{DraftCache}
+use Rattle.gt_resolve.specs.declared.draft.DraftField.{DraftField}
+use Rattle.gt_resolve.specs.declared.draft.DraftRoot.{DraftRoot}
+use Rattle.gt_resolve.specs.declared.draft.DraftStructure.{DraftStructure}
+use Rattle.gt_resolve.specs.Drafts.{has_skip}
+use Rattle.gt_resolve.specs.Faults.{is_no_later}
+use Rattle.gt_markers.specs.declared.TheConstants.{WRONG_PLACE, MISSING_DESC, BAD_PATH, CHAIN_NOT_OWN_POINTER, CACHE_SHAPE}
+use Rattle.gt_markers.specs.Options.{kind_of, option_named}
+use Rattle.gt_markers.specs.Expressions.{Names, constants, constants_and_roots, names_in, with_names}
+use Rattle.gt_declare.specs.Programs.{chain_kind, path_places, key_type}
+use Rattle.gt_markers.specs.MarkerFaults.{draft_faults}
+
+-- ---- by the program
+
+-- a union without a `desc` of its own
+abbrev pub IsBareUnion : Program → TypeId → Type 0
+IsBareUnion program id = (s : Structure) × HasStructure program id s × (s.is_union ≡ true) × (s.desc ≡ None)
+
+-- a union by value has no `desc` to be read with, or what is pointed to is a union without one of its own
+abbrev pub LacksDesc : Program → Ty → Type 0
+LacksDesc program (ty.Node id None) = (s : Structure) × HasStructure program id s × (s.is_union ≡ true)
+LacksDesc program (ty.Ptr (Some (target.Node id)) kind reorder) = IsBareUnion program id
+LacksDesc program (ty.Ptr (Some (target.Pointers id)) kind reorder) = IsBareUnion program id
+LacksDesc program type = ⊥
+
+-- what is pointed to is an inner structure, which may not stand alone
+abbrev pub PointsToInner : Program → Ty → Type 0
+PointsToInner program (ty.Ptr (Some (target.Node id)) kind reorder) = IsInner program id
+PointsToInner program (ty.Ptr (Some (target.Pointers id)) kind reorder) = IsInner program id
+PointsToInner program type = ⊥
+
+-- the parameter is an expression whose names all stand for something, and with what they stand for it is good
+pub record IsGood (names : Names) (good : Expr → Type 0) (parameter : Parameter) : Type 0 where
+  pub e : RawExpr
+  pub expression : parameter ≡ Expression e
+  pub named : All (λ word. IsSome (names word)) (names_in e)
+  pub fits : good (with_names names e)
+
+-- a field of a structure: as the draft has it, and as the program has it
+pub record IsFieldAt (draft : Draft) (program : Program) (id : TypeId) (ds : DraftStructure) (df : DraftField) (f : Field) : Type 0 where
+  pub structure : slice_get draft.structures id.0 ≡ Some ds
+  pub s : Structure
+  pub there : HasStructure program id s
+  pub place : ℕ
+  pub drafted : slice_get ds.fields place ≡ Some df
+  pub made : slice_get s.fields place ≡ Some f
+
+-- a root: as the draft has it, and as the program has it
+pub record IsRootAt (draft : Draft) (program : Program) (dr : DraftRoot) (r : Root) : Type 0 where
+  pub place : ℕ
+  pub drafted : slice_get draft.roots place ≡ Some dr
+  pub made : slice_get program.roots place ≡ Some r
+
+-- the option of a name that is read: the first, and none beside `skip`
+abbrev pub IsReadOption : List RawOption → List ℕ → RawOption → Type 0
+IsReadOption options name o = (has_skip options ≡ false) × (option_named name options ≡ Some o)
+
+-- a length, of elements or of characters
+abbrev pub IsLengthOption : List RawOption → RawOption → Type 0
+IsLengthOption options o = IsReadOption options (codes "length") o ⊎ IsReadOption options (codes "string_length") o
+
+-- a key or a value points to a structure that may stand alone
+abbrev pub StandsAlone : Program → Option TypeId → Type 0
+StandsAlone program (Some id) = MayStand program id
+StandsAlone program None = ⊥
+
+abbrev pub fault : (number file at : ℕ) → Fault
+fault number file at = record { number = number; file = file; at = at }
+
+-- the faults of a draft that only the program tells which it declares
+pub data HasProgramFault (draft : Draft) (program : Program) : Fault → Type 0 where
+  -- at the name: a union without `desc`, a pointer to an inner structure, a root of an inner type
+  field_without_desc : {id : TypeId} {ds : DraftStructure} {df : DraftField} {f : Field} → IsFieldAt draft program id ds df f
+      → LacksDesc program (innermost f.ty) → HasProgramFault draft program (fault MISSING_DESC ds.file df.name.at)
+  field_to_inner : {id : TypeId} {ds : DraftStructure} {df : DraftField} {f : Field} → IsFieldAt draft program id ds df f
+      → PointsToInner program (innermost f.ty) → HasProgramFault draft program (fault BAD_PATH ds.file df.name.at)
+  root_without_desc : {dr : DraftRoot} {r : Root} → IsRootAt draft program dr r
+      → LacksDesc program (innermost r.ty) → HasProgramFault draft program (fault MISSING_DESC dr.file dr.name.at)
+  root_to_inner : {dr : DraftRoot} {r : Root} → IsRootAt draft program dr r
+      → PointsToInner program (innermost r.ty) → HasProgramFault draft program (fault BAD_PATH dr.file dr.name.at)
+  root_of_inner : {dr : DraftRoot} {r : Root} {id : TypeId} → IsRootAt draft program dr r → held_by r.ty ≡ Some id → IsInner program id
+      → HasProgramFault draft program (fault BAD_PATH dr.file dr.name.at)
+  -- at the option: an expression that leads to nothing
+  field_length : {id : TypeId} {ds : DraftStructure} {df : DraftField} {f : Field} {o : RawOption} → IsFieldAt draft program id ds df f
+      → IsLengthOption df.options o → ¬ IsGood (constants draft) (IsOption program id) o.parameter
+      → HasProgramFault draft program (fault BAD_PATH ds.file o.name.at)
+  field_desc : {id union : TypeId} {ds : DraftStructure} {df : DraftField} {f : Field} {o : RawOption} → IsFieldAt draft program id ds df f
+      → IsReadOption df.options (codes "desc") o → held_by f.ty ≡ Some union
+      → ¬ IsGood (constants draft) (IsFieldDesc program id union) o.parameter
+      → HasProgramFault draft program (fault BAD_PATH ds.file o.name.at)
+  union_desc : {id : TypeId} {ds : DraftStructure} {o : RawOption} → slice_get draft.structures id.0 ≡ Some ds → ds.is_union ≡ true
+      → option_named (codes "desc") ds.options ≡ Some o → ¬ IsGood (constants draft) (IsOption program id) o.parameter
+      → HasProgramFault draft program (fault BAD_PATH ds.file o.name.at)
+  root_length : {dr : DraftRoot} {r : Root} {o : RawOption} → IsRootAt draft program dr r → IsReadOption dr.options (codes "length") o
+      → ¬ IsGood (constants_and_roots draft) (IsRootCount program) o.parameter → HasProgramFault draft program (fault BAD_PATH dr.file o.name.at)
+  root_desc : {dr : DraftRoot} {r : Root} {union : TypeId} {o : RawOption} → IsRootAt draft program dr r → IsReadOption dr.options (codes "desc") o
+      → held_by r.ty ≡ Some union → ¬ IsGood (constants_and_roots draft) (IsRootDesc program union) o.parameter
+      → HasProgramFault draft program (fault BAD_PATH dr.file o.name.at)
+  -- at the option: what is sorted in an image is no struct that ends in plain pointers
+  field_reorder : {id : TypeId} {ds : DraftStructure} {df : DraftField} {f : Field} {o : RawOption} → IsFieldAt draft program id ds df f
+      → IsReadOption df.options (codes "reorder") o → ¬ NamesSortable program f.ty → HasProgramFault draft program (fault WRONG_PLACE ds.file o.name.at)
+  root_reorder : {dr : DraftRoot} {r : Root} {o : RawOption} → IsRootAt draft program dr r → IsReadOption dr.options (codes "reorder") o
+      → ¬ NamesSortable program r.ty → HasProgramFault draft program (fault WRONG_PLACE dr.file o.name.at)
+  -- at the option: a chain that leads to no plain pointer to its own structure
+  chain : {id : TypeId} {ds : DraftStructure} {o : RawOption} → slice_get draft.structures id.0 ≡ Some ds → Contains ds.options o
+      → IsSome (chain_kind (kind_of o.name.word))
+      → ((path : List ℕ) → path_places program.structures id o.parameter ≡ Some path → ¬ LeadsToOwnPointer program id path)
+      → HasProgramFault draft program (fault CHAIN_NOT_OWN_POINTER ds.file o.name.at)
+  -- at the cache's name: a key or a value that may not stand alone
+  cache_shape : {c : DraftCache} → Contains draft.caches c → ¬ (StandsAlone program (key_type c.key) × StandsAlone program (key_type c.value))
+      → HasProgramFault draft program (fault CACHE_SHAPE c.file c.name.at)
+
+-- the faults of a draft that declares this program
+abbrev pub HasFault : Draft → Program → Fault → Type 0
+HasFault draft program f = Contains (draft_faults draft) f ⊎ HasProgramFault draft program f
+
+-- of some faults the first: the one at the earliest place, and of those at one place the one with the lowest number
+pub record IsFirstOf (has : Fault → Type 0) (f : Fault) : Type 0 where
+  pub there : has f
+  pub first : (other : Fault) → has other → IsTrue (is_no_later f other)

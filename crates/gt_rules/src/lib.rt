@@ -1,0 +1,2 @@
+//! The faults of options that only the whole program tells.
+#![tactic(auto)]

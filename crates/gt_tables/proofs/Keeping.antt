@@ -1,0 +1,217 @@
+-- What is known of parts, and the walks that are added for them.
+use Rattle.std.specs.Global.{Vec}
+use Rattle.std.proofs.Common.{◌≡◌, ◌∙◌, ℕ, ◌+◌, ◌-◌, ◌≤◌, Bool, true, false, cond, List, [], ◌∷◌, ◌++◌, length, refl, ap, sym, subst, Option, Some, None, Ok, Err, get_or, ◌⊎◌, inl, inr, arith}
+use Rattle.std.specs.Prelude.{IfSome, IfOk, OnOk, All, flat_map}
+use Rattle.std.specs.Option.{option_map}
+use Rattle.std.specs.Ordering.{nat_cmp, ordering_then, is_eq}
+use Rattle.std.specs.declared.cmp.Ordering.{Ordering}
+use Rattle.std.specs.declared.cmp.Ordering.TheVariants.{Less, Equal, Greater}
+use Rattle.std.specs.BTreeMap.{BTreeMap, get, is_at}
+use Rattle.std.proofs.lemmas.Map.Lookups.{exact_unsigned}
+use Rattle.std.proofs.lemmas.List.{length-append, append-nil, get_or-append_right}
+use Rattle.std.proofs.Math.Seq.{get_or-append_seam}
+use Rattle.std.proofs.lemmas.List.Elements.{All-append, All-nil, All-cons, All-weaker}
+use Rattle.gt_types.specs.declared.program.Program.{Program}
+use Rattle.gt_types.specs.Settled.{Settled}
+use Rattle.gt_layout.specs.Progress.{IsWithinDepth}
+use Rattle.gt_walk.specs.declared.rows.Arm.{Arm, out-Arm}
+use Rattle.gt_walk.specs.declared.rows.RowExpr.{RowExpr}
+use Rattle.gt_walk.specs.declared.rows.WalkRow.{WalkRow}
+use Rattle.gt_walk.specs.declared.rows.WalkRow.TheVariants as row
+use Rattle.gt_walk.specs.declared.tables.Tables.{Tables}
+use Rattle.gt_walk.specs.Rows.{rows_of}
+use Rattle.gt_walk.specs.Nested.{parts_in}
+use Rattle.gt_tables.specs.declared.sources.Part.{Part}
+use Rattle.gt_tables.specs.declared.parts.Parts.{Parts}
+use Rattle.gt_tables.specs.Numbers.{first_part}
+use Rattle.gt_tables.specs.Building.{part_cmp, HaveWalks, PartsWithin, IsWalkOf, IsRow, AreRows, IsPointerRow, Shallow, AreParts, Grows, Keeps}
+use Rattle.gt_tables.proofs.Growing.{fewer, length-tables, nests-of, append-assoc, rows-grow, rows-deeper, row-grows, row-deeper, row-sub, row-rep, row-tail, row-pointer, row-switch, walk-grows, IsArm}
+
+-- ---- results
+
+pub on-ok : {X E : Type 0} (P : X → Type 0) (Q : Type 0) (r : _) → ((x : X) → P x → Q) → IfOk {E = E} r P → OnOk {E = E} r Q
+on-ok P Q (Ok x) f h = f x h
+on-ok P Q (Err e) f h = tt
+
+pub if-ok : {X E : Type 0} (P Q : X → Type 0) (r : _) → ((x : X) → P x → Q x) → IfOk {E = E} r P → IfOk {E = E} r Q
+if-ok P Q (Ok x) f h = f x h
+if-ok P Q (Err e) f h = tt
+
+-- ---- parts grow
+
+pub grows-not : (program : Program) (parts : Parts) → AreParts program parts → Grows program parts parts
+grows-not program parts are = record { more = []; walks = sym (append-nil parts.walks.items); are = are }
+
+pub grows-on : (program : Program) (a b c : Parts) → Grows program a b → Grows program b c → Grows program a c
+grows-on program a b c first second = record {
+  more = first.more ++ second.more;
+  walks = second.walks ∙ ap (λ ws. ws ++ second.more) first.walks ∙ append-assoc a.walks.items first.more second.more;
+  are = second.are;
+}
+
+module _ (first : ℕ) (program : Program) (a b : Parts) (grows : Grows program a b) where
+  pub rows-on : (deep : ℕ → Type 0) (rows : List WalkRow) → AreRows first a.walks.items deep rows → AreRows first b.walks.items deep rows
+  rows-on deep rows are = subst (λ ws. AreRows first ws deep rows) (sym grows.walks) (rows-grow first a.walks.items grows.more deep rows are)
+
+  some-on : (deep : ℕ → Type 0) (o : Option WalkRow) → IfSome o (IsRow first a.walks.items deep) → IfSome o (IsRow first b.walks.items deep)
+  some-on deep None is = tt
+  some-on deep (Some r) is = subst (λ ws. IsRow first ws deep r) (sym grows.walks) (row-grows first a.walks.items grows.more deep r is)
+
+  pub arms-on : (deep : ℕ → Type 0) (arms : List Arm) → All (IsArm first a.walks.items deep) arms → All (IsArm first b.walks.items deep) arms
+  arms-on deep arms all = All-weaker (IsArm first a.walks.items deep) (IsArm first b.walks.items deep) (λ arm is. some-on deep (out-Arm arm).row is) arms all
+
+-- ---- rows where there are some
+
+module _ (first : ℕ) (walks : List (List WalkRow)) (deep deeper : ℕ → Type 0) (more : (depth : ℕ) → deeper depth → deep depth) where
+  pub some-deeper : (o : Option WalkRow) → IfSome o (IsRow first walks deep) → IfSome o (IsRow first walks deeper)
+  some-deeper None is = tt
+  some-deeper (Some r) is = row-deeper first walks deep deeper r more is
+
+  rep-some : (offset n size : ℕ) (o : Option WalkRow) → IfSome o (IsRow first walks deep) → IfSome (option_map (row.Rep offset n size) o) (IsRow first walks deeper)
+  rep-some offset n size None is = tt
+  rep-some offset n size (Some r) is = row-rep first walks deeper offset n size r (row-deeper first walks deep deeper r more is)
+
+  pub rep-row : {E : Type 0} (offset n size : ℕ) (o : Option WalkRow) (r : _) → IfSome o (IsRow first walks deep) → IfOk {E = E} r (λ made. made ≡ option_map (row.Rep offset n size) o)
+      → IfOk {E = E} r (λ made. IfSome made (IsRow first walks deeper))
+  rep-row offset n size o r is =
+      if-ok (λ made. made ≡ option_map (row.Rep offset n size) o) (λ made. IfSome made (IsRow first walks deeper)) r (λ made e. subst (λ m. IfSome m (IsRow first walks deeper)) (sym e) (rep-some offset n size o is))
+
+  tail-some : (offset size : ℕ) (len : RowExpr) (o : Option WalkRow) → IfSome o (IsRow first walks deep) → IfSome (option_map (row.Tail offset len size) o) (IsRow first walks deeper)
+  tail-some offset size len None is = tt
+  tail-some offset size len (Some r) is = row-tail first walks deeper offset len size r (row-deeper first walks deep deeper r more is)
+
+  pub tail-row : {E : Type 0} (offset size : ℕ) (o : Option WalkRow) (r : _) → IfSome o (IsRow first walks deep)
+      → IfOk {E = E} r (λ made. (len : RowExpr) × (made ≡ option_map (row.Tail offset len size) o)) → IfOk {E = E} r (λ made. IfSome made (IsRow first walks deeper))
+  tail-row offset size o r is =
+      if-ok (λ made. (len : RowExpr) × (made ≡ option_map (row.Tail offset len size) o)) (λ made. IfSome made (IsRow first walks deeper)) r
+      (λ made e. subst (λ m. IfSome m (IsRow first walks deeper)) (sym e.1) (tail-some offset size e.0 o is))
+
+module _ (first : ℕ) (walks : List (List WalkRow)) (deep : ℕ → Type 0) where
+  pointer-some : (o : Option WalkRow) → IfSome o (IsPointerRow first) → IfSome o (IsRow first walks deep)
+  pointer-some None is = tt
+  pointer-some (Some r) is = row-pointer first walks deep r is
+
+  pub pointer-row : {E : Type 0} (r : _) → IfOk {E = E} r (λ o. IfSome o (IsPointerRow first)) → IfOk {E = E} r (λ o. IfSome o (IsRow first walks deep))
+  pointer-row r = if-ok (λ o. IfSome o (IsPointerRow first)) (λ o. IfSome o (IsRow first walks deep)) r pointer-some
+
+  sub-some : (program : Program) (node offset : ℕ) → ((depth : ℕ) → deep depth → (1 ≤ depth) × IsWithinDepth program node (depth - 1)) → (walk : Option ℕ)
+      → IfSome walk (IsWalkOf program first walks node) → IfSome (option_map (row.Sub offset) walk) (IsRow first walks deep)
+  sub-some program node offset deeper None is = tt
+  sub-some program node offset deeper (Some walk) is = row-sub first walks program deep node offset walk deeper is
+
+  pub sub-row : (program : Program) (node offset : ℕ) → ((depth : ℕ) → deep depth → (1 ≤ depth) × IsWithinDepth program node (depth - 1)) → (walk : Option ℕ) (made : Option WalkRow)
+      → made ≡ option_map (row.Sub offset) walk → IfSome walk (IsWalkOf program first walks node) → IfSome made (IsRow first walks deep)
+  sub-row program node offset deeper walk made e is = subst (λ m. IfSome m (IsRow first walks deep)) (sym e) (sub-some program node offset deeper walk is)
+
+  pub switch-some : (arms : Vec Arm) (o : Option WalkRow) → All (IsArm first walks deep) arms.items → IfSome o (λ made. (value : RowExpr) × (made ≡ row.Switch value arms)) → IfSome o (IsRow first walks deep)
+  switch-some arms None all is = tt
+  switch-some arms (Some r) all is = subst (IsRow first walks deep) (sym is.1) (row-switch first walks deep is.0 arms all)
+
+-- ---- the walk that is added
+
+module _ (program : Program) (first : ℕ) (walks : List (List WalkRow)) (node : ℕ) (rows : List WalkRow) where
+  rows-there : (tables : Tables) → HaveWalks first (walks ++ rows ∷ []) tables → rows_of tables (first + length walks) ≡ rows
+  rows-there tables h =
+      let here : first + length walks - first ≡ length walks = omega arith in
+      let far : first ≤ first + length walks = omega arith in
+      ap (λ ws. get_or ws (first + length walks) []) h.is ∙ get_or-append_right h.front ((walks ++ rows ∷ []) ++ h.rest) first (first + length walks) [] h.long far
+      ∙ ap (λ i. get_or ((walks ++ rows ∷ []) ++ h.rest) i []) here ∙ ap (λ ws. get_or ws (length walks) []) (append-assoc walks (rows ∷ []) h.rest) ∙ get_or-append_seam walks rows h.rest []
+
+  pub walk-new : AreRows first walks (IsWithinDepth program node) rows → IsWalkOf program first (walks ++ rows ∷ []) node (first + length walks)
+  walk-new are tables h =
+      let long = length-tables first (walks ++ rows ∷ []) tables h in
+      let more = length-append walks (rows ∷ []) in
+      record {
+        there = omega (arith, long, more);
+        nests = λ depth within.
+            nests-of tables depth (first + length walks)
+            (subst (λ rs. PartsWithin tables depth (flat_map parts_in rs)) (sym (rows-there tables h)) (are.nests tables (fewer first walks (rows ∷ []) tables h) depth within));
+      }
+
+-- structures stand inside one another at most so deep
+shallow-enough : (program : Program) (node : ℕ) → Settled program → (depth : ℕ) → Shallow depth → IsWithinDepth program node depth
+shallow-enough program node settled depth deep n inner nests = omega (arith, deep, settled.depth n (record { 0 = node }) inner nests)
+
+-- ---- parts that are kept
+
+is-eq-first : (o rest : Ordering) → is_eq (ordering_then o rest) ≡ true → o ≡ Equal
+is-eq-first Less rest e = absurd (cc)
+is-eq-first Equal rest e = refl
+is-eq-first Greater rest e = absurd (cc)
+
+same-node : (p q : Part) → is_at (part_cmp p) q ≡ true → q.node ≡ p.node
+same-node p q e = sym (exact_unsigned p.node q.node (is-eq-first (nat_cmp p.node q.node) _ e))
+
+put-cases : (p q : Part) (walk : Option ℕ) (n : ℕ) (old new : Option (Option ℕ)) (b : Bool) → is_at (part_cmp p) q ≡ b → new ≡ cond b (Some walk) old → new ≡ Some (Some n)
+    → (old ≡ Some (Some n)) ⊎ ((q.node ≡ p.node) × (walk ≡ Some n))
+put-cases p q walk n old new true at is there =
+    let got : Some walk ≡ Some (Some n) = sym is ∙ there in
+    let same : walk ≡ Some n = cc in
+    inr (same-node p q at, same)
+put-cases p q walk n old new false at is there = inl (sym is ∙ there)
+
+pub put-known : (p : Part) (part : Option Part) (walk : Option ℕ) (old new : BTreeMap Part (Option ℕ)) → part ≡ Some p → ((q : Part) → get part_cmp new q ≡ cond (is_at (part_cmp p) q) (Some walk) (get part_cmp old q))
+    → (q : Part) (n : ℕ) → get part_cmp new q ≡ Some (Some n) → (get part_cmp old q ≡ Some (Some n)) ⊎ ((p : Part) × (part ≡ Some p) × (q.node ≡ p.node) × (walk ≡ Some n))
+put-known p part walk old new is updates q n there = elim (put-cases p q walk n (get part_cmp old q) (get part_cmp new q) (is_at (part_cmp p) q) refl (updates q) there) [
+  | inl h ↦ inl h
+  | inr h ↦ inr (p, is, h.0, h.1)
+]
+
+at-some : (part : Option Part) (p : Part) (id : ℕ) → part ≡ Some p → IfSome part (λ p. p.node ≡ id) → p.node ≡ id
+at-some part p id e h = subst (λ o. IfSome o (λ p. p.node ≡ id)) e h
+
+some-known : (program : Program) (parts : Parts) (id : ℕ) (p : Part) (known : Option ℕ) → AreParts program parts → p.node ≡ id → get part_cmp parts.known p ≡ Some known
+    → IfSome known (IsWalkOf program (first_part program) parts.walks.items id)
+some-known program parts id p None are e there = tt
+some-known program parts id p (Some n) are e there = subst (λ i. IsWalkOf program (first_part program) parts.walks.items i n) e (are.known p n there)
+
+pub known-walk : (program : Program) (parts : Parts) → AreParts program parts → (part : Option Part) (id : ℕ) → IfSome part (λ p. p.node ≡ id) → (known : Option ℕ)
+    → ((p : Part) × (part ≡ Some p) × (get part_cmp parts.known p ≡ Some known)) → IfSome known (IsWalkOf program (first_part program) parts.walks.items id)
+known-walk program parts are part id node known h = some-known program parts id h.0 known are (at-some part h.0 id h.1 node) h.2
+
+module _ (program : Program) (settled : Settled program) (part : Option Part) (id : ℕ) (rows : List WalkRow) (old new : Parts) where
+  kept-some : (n : ℕ) → AreRows (first_part program) old.walks.items (IsWithinDepth program id) rows → Keeps (first_part program) part rows old new (Some n) → IsWalkOf program (first_part program) new.walks.items id n
+  kept-some n are keeps =
+      let walks : new.walks.items ≡ old.walks.items ++ rows ∷ [] = keeps.walks ∙ ap (λ ws. old.walks.items ++ ws) keeps.added.1 in
+      subst (λ ws. IsWalkOf program (first_part program) ws id n) (sym walks)
+      (subst (IsWalkOf program (first_part program) (old.walks.items ++ rows ∷ []) id) (sym keeps.added.0) (walk-new program (first_part program) old.walks.items id rows are))
+
+  pub kept-walk : (walk : Option ℕ) → AreRows (first_part program) old.walks.items (IsWithinDepth program id) rows → Keeps (first_part program) part rows old new walk
+      → IfSome walk (IsWalkOf program (first_part program) new.walks.items id)
+  kept-walk None are keeps = tt
+  kept-walk (Some n) are keeps = kept-some n are keeps
+
+  more-rows : (walk : Option ℕ) → AreRows (first_part program) old.walks.items (IsWithinDepth program id) rows → (keeps : Keeps (first_part program) part rows old new walk)
+      → All (AreRows (first_part program) old.walks.items Shallow) keeps.more
+  more-rows None are keeps = subst (All (AreRows (first_part program) old.walks.items Shallow)) (sym (keeps.none refl)) (All-nil (AreRows (first_part program) old.walks.items Shallow))
+  more-rows (Some n) are keeps =
+      let P = AreRows (first_part program) old.walks.items Shallow in
+      subst (All P) (sym keeps.added.1)
+      (All-cons P rows [] (rows-deeper (first_part program) old.walks.items (IsWithinDepth program id) Shallow rows (λ depth deep. shallow-enough program id settled depth deep) are) (All-nil P))
+
+  kept-known : (walk : Option ℕ) → AreParts program old → AreRows (first_part program) old.walks.items (IsWithinDepth program id) rows → Keeps (first_part program) part rows old new walk
+      → IfSome part (λ p. p.node ≡ id) → (q : Part) (n : ℕ) → get part_cmp new.known q ≡ Some (Some n) → IsWalkOf program (first_part program) new.walks.items q.node n
+  kept-known walk parts are keeps node q n there = elim (keeps.known q n there) [
+    | inl h ↦ subst (λ ws. IsWalkOf program (first_part program) ws q.node n) (sym keeps.walks) (walk-grows (first_part program) old.walks.items keeps.more program q.node n (parts.known q n h))
+    | inr h ↦
+        let same : q.node ≡ id = h.2 ∙ at-some part h.0 id h.1 node in
+        subst (λ i. IsWalkOf program (first_part program) new.walks.items i n) (sym same)
+        (kept-some n are (subst (Keeps (first_part program) part rows old new) h.3 keeps))
+  ]
+
+  pub kept-grows : (walk : Option ℕ) → AreParts program old → AreRows (first_part program) old.walks.items (IsWithinDepth program id) rows → Keeps (first_part program) part rows old new walk
+      → IfSome part (λ p. p.node ≡ id) → Grows program old new
+  kept-grows walk parts are keeps node =
+      let first = first_part program in
+      let P = AreRows first old.walks.items Shallow in
+      record {
+        more = keeps.more;
+        walks = keeps.walks;
+        are = record {
+          known = kept-known walk parts are keeps node;
+          rows =
+              subst (λ ws. All (AreRows first ws Shallow) ws) (sym keeps.walks)
+              (All-weaker P (AreRows first (old.walks.items ++ keeps.more) Shallow) (λ rs is. rows-grow first old.walks.items keeps.more Shallow rs is) (old.walks.items ++ keeps.more)
+              (All-append P old.walks.items keeps.more parts.rows (more-rows walk are keeps)));
+        };
+      }

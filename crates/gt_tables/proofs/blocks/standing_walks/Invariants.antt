@@ -1,0 +1,11 @@
+use Rattle.std.proofs.Common.{◌≡◌, length}
+use Rattle.std.specs.Prelude.{All}
+use Rattle.gt_tables.specs.Building.{first_of, AreRows, Grows, Shallow}
+use Rattle.gt_tables.proofs.blocks.standing_walks.Given as goal
+
+abbrev pub invariant-loop-i : goal.invariant-loop-i
+invariant-loop-i l = record {
+  grows : Grows l.source.program.now l.fn.parts l.parts;
+  walks : All (AreRows (first_of l.source) l.parts.walks.items Shallow) l.walks.items;
+  long : length l.walks.items ≡ l.i;
+}
