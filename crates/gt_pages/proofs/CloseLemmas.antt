@@ -154,7 +154,7 @@ module _ (p q : Parts) (page : ℕ) (kept : IsKept p) (started : has p.starts pa
   not_of_image j from to of =
       let in-use = kept.in_use page started in
       elim (cases_lt page p.image.first) [
-        | inl before ↦ let ends = in-use.before before in omega (arith, ends, of.0, to)
+        | inl before ↦ let ends = in-use.before before (omega (arith, of.0, of.1)) in omega (arith, ends, of.0, to)
         | inr past ↦ outside (past, let low = of.1 in omega (arith, low, from))
       ]
 

@@ -22,14 +22,14 @@ map_at f (y ∷ xs) x zero low is = (0, omega arith, ap f is)
 map_at f (y ∷ xs) x (suc k) low is =
     Contains-append_right (f y ∷ []) (map f xs) (f x) (map_at f xs x k (omega (arith, low)) is)
 
-Contains-map : {X Y : Type 0} (f : X → Y) (xs : List X) (x : X) → Contains xs x → Contains (map f xs) (f x)
+pub Contains-map : {X Y : Type 0} (f : X → Y) (xs : List X) (x : X) → Contains xs x → Contains (map f xs) (f x)
 Contains-map f xs x there = map_at f xs x there.0 there.1 there.2
 
 -- a place with a block gives a block
-abbrev slot_there : (start size : ℕ) → List Cell → ℕ → Slot
+abbrev pub slot_there : (start size : ℕ) → List Cell → ℕ → Slot
 slot_there start size cells k = record { address = start + size * k; size = size; mark = mark_in (cell_at cells k) }
 
-has_slot : (start size : ℕ) (cells : List Cell) (k : ℕ) → k < length cells → is_free (cell_at cells k) ≡ false
+pub has_slot : (start size : ℕ) (cells : List Cell) (k : ℕ) → k < length cells → is_free (cell_at cells k) ≡ false
     → Contains (slots_in start size cells) (slot_there start size cells k)
 has_slot start size [] k low used = absurd (true≢false used)
 has_slot start size (Free ∷ cells) zero low used = absurd (true≢false used)
@@ -48,7 +48,7 @@ has_slot start size (Used m ∷ cells) (suc k) low used =
     (has_slot (start + size) size cells k (omega (arith, low)) used))
 
 -- where not all places are free, one has a block
-some_used : (cells : List Cell) → count_by is_free cells < length cells → (k : ℕ) × (k < length cells) × (is_free (cell_at cells k) ≡ false)
+pub some_used : (cells : List Cell) → count_by is_free cells < length cells → (k : ℕ) × (k < length cells) × (is_free (cell_at cells k) ≡ false)
 some_used [] fewer = absurd (let impossible : 1 ≤ 0 = omega (arith, fewer) in omega (arith, impossible))
 some_used (c ∷ cells) fewer = elim (cases_Bool (is_free c)) [
   | inl free ↦

@@ -11,3 +11,12 @@ pub mod ClearLemmas
 pub mod NextLemmas
 pub mod CloseLemmas
 pub mod SweepLemmas
+pub mod PlaceLemmas
+pub mod RoomLemmas
+pub mod ShareLemmas
+pub mod OpenLemmas
+pub mod ViewLemmas
+pub mod PlacedLemmas
+pub mod ListViewLemmas
+pub mod ImageLemmas
+pub mod RunLemmas

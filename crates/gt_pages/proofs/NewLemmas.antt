@@ -24,7 +24,7 @@ same_item n i x = elim (cases_lt i n) [
 none_in : {X : Type 0} (xs : List X) (x : X) → xs ≡ [] → Contains xs x → ⊥
 none_in xs x none there = let len = ap (λ ys. length ys) none in let no : 1 ≤ 0 = omega (arith, there.1, len) in omega (arith, no)
 
-none_held : (lists nodes i x : ℕ) → Holds (empty_lists lists nodes) i x → ⊥
+pub none_held : (lists nodes i x : ℕ) → Holds (empty_lists lists nodes) i x → ⊥
 none_held lists nodes i x held = none_in (nodes_of (empty_lists lists nodes) i) x (same_item lists i []) held
 
 no_slots : (p : Parts) (page : ℕ) → has p.starts page ≡ false → page_slots p page ≡ []

@@ -25,7 +25,7 @@ in_use_same p page old new same is =
       in_space = omega (arith, is.in_space, pages);
       table = λ q high low. is.table q high (omega (arith, low, pages));
       inside = λ of. let in' = is.inside of in omega (arith, in', pages);
-      before = λ low. let be = is.before low in omega (arith, be, pages);
+      before = λ low some. let be = is.before low some in omega (arith, be, pages);
       count = λ out. same.len ∙ (is.count out ∙ ap (λ n. places_of n) (sym same.sized));
       used = λ out. let u = is.used out in omega (arith, u, same.len, same.free);
     }

@@ -12,7 +12,7 @@ use Rattle.gt_pages.specs.Ledger.{sizes}
 contains_none : (y : ℕ) → Contains [] y → ⊥
 contains_none y there = let no : 1 ≤ 0 = omega (arith, there.1) in omega (arith, no)
 
-each_passes : (passes : ℕ → Bool) (xs : List ℕ) → list_all passes xs ≡ true → (x : ℕ) → Contains xs x → passes x ≡ true
+pub each_passes : (passes : ℕ → Bool) (xs : List ℕ) → list_all passes xs ≡ true → (x : ℕ) → Contains xs x → passes x ≡ true
 each_passes passes [] all x there = absurd (contains_none x there)
 each_passes passes (y ∷ xs) all x there =
     let parts = and_parts (passes y) (list_all passes xs) all in

@@ -174,7 +174,7 @@ module _ (p : Parts) (page : ℕ) where
           in_space = omega (arith, is.in_space, pages_here);
           table = λ q from to. is.table q from (omega (arith, to, pages_here));
           inside = λ of. let in' = is.inside of in omega (arith, in', pages_here);
-          before = λ low. let be = is.before low in omega (arith, be, pages_here);
+          before = λ low some. let be = is.before low some in omega (arith, be, pages_here);
           count = λ out. len ∙ is.count out;
           used = λ out. used starts out;
         }

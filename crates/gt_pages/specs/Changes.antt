@@ -1,8 +1,8 @@
 -- What calls do to the parts.
-use Rattle.std.specs.Prelude.{◌≡◌, ℕ, ◌+◌, ◌/◌, ◌<◌, ◌≤◌, ◌⊎◌, ◌↔◌, true, false, ◌≢◌, [], ◌∷◌, length, filter, map, replicate, slice_set, IsTrue, None}
+use Rattle.std.specs.Prelude.{◌≡◌, ℕ, ◌+◌, ◌/◌, ◌<◌, ◌≤◌, ◌⊎◌, ◌↔◌, true, false, ◌≢◌, List, [], ◌∷◌, length, filter, map, replicate, slice_set, IsTrue, Some, None}
 use Rattle.gt_bits.specs.Sets.{has}
 use Rattle.gt_links.specs.Lists.{Lists, Holds, empty_lists, nodes_of, with_nodes, without}
-use Rattle.gt_entries.specs.Cells.{swept, unmarked}
+use Rattle.gt_entries.specs.Cells.{Used, swept, unmarked}
 use Rattle.gt_pages.specs.Slots.{is_marked}
 use Rattle.gt_pages.specs.Tables.{Leads}
 use Rattle.gt_pages.specs.declared.pages.TheConstants.{LISTS, CACHED}
@@ -23,6 +23,12 @@ pub record IsNew (p : Parts) : Type 0 where
 -- the parts with another entry of this number
 abbrev pub with_entry : Parts → ℕ → Entry → Parts
 with_entry p page entry = record p { entries = slice_set p.entries page entry }
+
+-- the parts with an unmarked block at a place of an entry
+abbrev pub with_place : Parts → (page place : ℕ) → Parts
+with_place p page place =
+    let entry = entry_at p.entries page in
+    with_entry p page (record { size = entry.size; places = slice_set entry.places place (Used None) })
 
 -- the entry, and its blocks without their marks
 abbrev pub cleared_entry : Entry → Entry
@@ -58,6 +64,10 @@ swept_entry entry = record { size = entry.size; places = map swept entry.places 
 abbrev pub with_first : Parts → (i page : ℕ) → Parts
 with_first p i page = record p { lists = with_nodes p.lists i (page ∷ without page (nodes_of p.lists i)) }
 
+-- the parts with other nodes in list i
+abbrev pub with_list : Parts → ℕ → List ℕ → Parts
+with_list p i nodes = record p { lists = with_nodes p.lists i nodes }
+
 -- the lists with an entry moved from list i to the front of the cached ones
 abbrev pub to_cached : Lists → (i page : ℕ) → Lists
 to_cached s i page = with_nodes (with_nodes s i (without page (nodes_of s i))) CACHED (page ∷ nodes_of (with_nodes s i (without page (nodes_of s i))) CACHED)
@@ -74,6 +84,18 @@ pub record Closes (old : Parts) (page : ℕ) (new : Parts) : Type 0 where
   pub free : (j : ℕ) → (j < page) ⊎ (page + entry_pages (entry_at old.entries page) ≤ j) → has new.free j ≡ has old.free j
   pub lists : (i : ℕ) → Holds old.lists i page → new.lists ≡ to_cached old.lists i page
   pub unlisted : (i j : ℕ) → Holds old.lists i page → ¬ (Holds (with_nodes old.lists i (without page (nodes_of old.lists i))) j page)
+
+-- pages from one on are those of a new entry: they lead to it and are free no more, and all else is as it was
+pub record Opens (old : Parts) (page : ℕ) (entry : Entry) (new : Parts) : Type 0 where
+  pub rest : new ≡ record old { entries = new.entries; starts = new.starts; free = new.free; table = new.table }
+  pub entries : new.entries ≡ slice_set old.entries page entry
+  pub start_words : length new.starts ≡ length old.starts
+  pub start : has new.starts page ≡ true
+  pub starts : (j : ℕ) → j ≢ page → has new.starts j ≡ has old.starts j
+  pub table : Leads old.table page (entry_pages entry) (Some page) new.table
+  pub free_words : length new.free ≡ length old.free
+  pub taken : (j : ℕ) → page ≤ j → j < page + entry_pages entry → has new.free j ≡ false
+  pub free : (j : ℕ) → (j < page) ⊎ (page + entry_pages entry ≤ j) → has new.free j ≡ has old.free j
 
 -- the blocks of an entry that are not marked are gone, and the blocks of the other entries are as they were
 pub record Sweeps (old : Parts) (page : ℕ) (new : Parts) : Type 0 where

@@ -6,3 +6,5 @@ pub mod Tables
 pub mod Parts
 pub mod Changes
 pub mod Spots
+pub mod Places
+pub mod Runs

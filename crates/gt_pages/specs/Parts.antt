@@ -80,7 +80,7 @@ pub record IsInUse (p : Parts) (page : ℕ) (entry : Entry) : Type 0 where
   pub in_space : page + entry_pages entry ≤ p.pages
   pub table : (q : ℕ) → page ≤ q → q < page + entry_pages entry → page_at p.table q ≡ Some page
   pub inside : IsOfImage p page → page + entry_pages entry ≤ p.image.first + p.image.count
-  pub before : page < p.image.first → page + entry_pages entry ≤ p.image.first
+  pub before : page < p.image.first → 1 ≤ p.image.count → page + entry_pages entry ≤ p.image.first
   pub count : ¬ (IsOfImage p page) → length entry.places ≡ places_of entry.size
   pub used : ¬ (IsOfImage p page) → count_by is_free entry.places < length entry.places
 

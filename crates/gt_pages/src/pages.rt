@@ -72,6 +72,33 @@ impl Pages {
         })
     }
 
+    /// Makes an unmarked block of a listed size, in bytes, and gives its address. `Full` says that there is no room for this
+    /// size. At an error there are the same blocks; cached entries may have been released.
+    pub fn alloc_slot(&mut self, size: u32) -> Result<u64, SlotFail>
+        requires listed { Contains sizes size }
+        ensures placed { IfOk result (λ addr. Place (ledger_of self.old) (block_of (slot_at addr size))) }
+        ensures added { IfOk result (λ addr. self.new.slots ≡ with_slot self.old.slots (slot_at addr size)) }
+        ensures first { IfOk result (λ addr. IsInFirst self.old size addr) }
+        ensures kept { KeepsPages self.old self.new }
+        ensures room { OnOk result (Room (ledger_of self.old) size) }
+        ensures full { IfErr result (λ e. e ≡ SlotFail.Full → ¬ (Room (ledger_of self.old) size)) }
+        ensures memory { IfErr result (λ e. e ≡ SlotFail.Memory → Room (ledger_of self.old) size) }
+        ensures unchanged { OnErr result (self.new.slots ≡ self.old.slots) }
+
+        // Cached entries are released before `Full` is answered.
+        ensures released { IfErr result (λ e. e ≡ SlotFail.Full → nodes_of self.new.lists CACHED ≡ []) }
+    {
+        self.store.alloc_slot(size)
+    }
+
+    /// Whether there is a place for one more block of a listed size, in bytes.
+    pub fn has_room(&self, size: u32) -> bool
+        requires listed { Contains sizes size }
+        ensures room { IsTrue result ↔ Room (ledger_of self.now) size }
+    {
+        self.store.has_room(size)
+    }
+
     /// The block that has the byte at an address: its own address, and its size in bytes. `None` says that there is none.
     pub fn owner(&self, addr: u64) -> Option<(u64, u32)>
         ensures owner { result ≡ owner_of self.now.slots addr }
@@ -155,5 +182,46 @@ impl Pages {
         ensures longest { IfErr result (λ count. IsTooLong (ledger_of self.now) need count) }
     {
         self.store.fit(need, preferred)
+    }
+
+    /// The blocks are from now on those of the runs of an image, unmarked, the first run from the start of a page and each
+    /// further one from the start of the next page. At an error nothing changes.
+    pub fn take_image(&mut self, page: u32, runs: &[Run]) -> Result<(), AllocError>
+        requires runs { AreRuns runs.now }
+        requires fits { AreFree (ledger_of self.old) page (image_pages runs.now) }
+        ensures image { OnOk result (IsImage self.old page runs.now self.new) }
+        ensures unchanged { OnErr result (self.new ≡ self.old) }
+    {
+        self.store.take_image(page, runs)
+    }
+
+    /// The lists of entries.
+    pub fn lists(&self) -> &Links
+        ensures lists { result.now ≡ self.now.lists }
+        ensures ordered { HasLists self.now }
+    {
+        let lists = &self.store.lists;
+        lists.lists_are_disjoint();
+        lists
+    }
+
+    /// An entry of one of the lists of sizes, by its number.
+    pub fn entry(&self, node: u32) -> PageEntry
+        requires { (i : ℕ) × (i < CACHED) × Holds self.now.lists i node }
+        ensures entry { IsEntry self.now node result }
+    {
+        let entry = &self.store.entries[node as usize];
+        PageEntry {
+            page: node,
+            size: entry.size,
+            free: entry.places.free_count(),
+        }
+    }
+
+    /// Says what holds of the blocks at all times, and does nothing.
+    pub fn sound(&self)
+        ensures laid { AreLaidOut self.now }
+    {
+        let _ = &self.store.table;
     }
 }

@@ -1,17 +1,20 @@
 //! The parts of the pages: the entries, the sets of pages, the table and the lists, and how they change together.
-ghost use Rattle.std.specs.Prelude.{◌≡◌, ◌≢◌, ℕ, ◌+◌, ◌-◌, ◌*◌, ◌/◌, ◌^◌, ◌<◌, ◌≤◌, ◌↔◌, true, false, not, length, IsTrue, Some, None, IfErr, IfOk, IfSome, IfNone, [], map, filter, count_by};
+ghost use Rattle.std.specs.Prelude.{◌≡◌, ◌≢◌, ℕ, ◌+◌, ◌-◌, ◌*◌, ◌/◌, ◌^◌, ◌<◌, ◌≤◌, ◌↔◌, true, false, not, length, replicate, slice_set, Contains, IsTrue, Some, None, IfErr, IfOk, IfSome, IfNone, OnErr, OnOk, [], ◌∷◌, ◌++◌, map, filter, count_by};
 ghost use Rattle.gt_space.specs.declared.TheConstants.{MIN_PAGES, MAX_PAGES};
-ghost use Rattle.gt_bits.specs.Sets.{has};
-ghost use Rattle.gt_pages.specs.Ledger.{AreFree, Base, IsTooLong, page_address as ledger_page_address};
+ghost use Rattle.gt_bits.specs.Sets.{has, HasRun};
+ghost use Rattle.gt_pages.specs.Ledger.{AreFree, Base, HasSharedPage, IsTooLong, Place, Room, page_address as ledger_page_address, pages_of as ledger_pages_of, sizes};
 ghost use Rattle.gt_pages.specs.Parts.{IsKept, IsOfImage, contents_of, empty_entry, entry_at, entry_pages, free_places, parts_of};
 ghost use Rattle.gt_pages.specs.Spots.{HasNoneAbove, IsAbove, IsFirstIn, IsNextSpot, IsNowhere, IsSpot, block_at, told_at, with_mark_spot};
 ghost use Rattle.gt_pages.specs.Slots as slots;
 ghost use Rattle.gt_entries.specs.Cells as cells;
-ghost use Rattle.gt_pages.specs.Slots.{StartsSome, is_unmarked, mark_at, new_mark, next_slot, owner_of, told_of, unmarked, walked, with_mark_at};
-ghost use Rattle.gt_pages.specs.Contents.{KeepsPages, ledger_of, with_slots};
-ghost use Rattle.gt_entries.specs.Cells.{cell_at, is_free, is_lost, is_marked, mark_in};
-ghost use Rattle.gt_pages.specs.Changes.{ClearsMarks, Closes, IsNew, Releases, Sweeps, cleared_entry, swept_entry, with_entry, with_first, without_cached};
-ghost use Rattle.gt_links.specs.Lists.{Holds, nodes_of, with_nodes, without};
+ghost use Rattle.gt_pages.specs.Slots.{StartsSome, block_of, is_unmarked, mark_at, new_mark, next_slot, owner_of, slot_at, told_of, unmarked, walked, with_mark_at, with_slot};
+ghost use Rattle.gt_pages.specs.Contents.{IsInFirst, KeepsPages, ledger_of, with_slots};
+ghost use Rattle.gt_pages.specs.Places.{IsWithin, Shares};
+ghost use Rattle.gt_entries.specs.Cells.{Free, Used, cell_at, is_free, is_lost, is_marked, mark_in};
+ghost use Rattle.gt_pages.specs.Images.{AreRuns, IsImage, image_pages, run_pages};
+ghost use Rattle.gt_pages.specs.Runs.{AddsRun, image_end};
+ghost use Rattle.gt_pages.specs.Changes.{ClearsMarks, Closes, IsNew, Opens, Releases, Sweeps, cleared_entry, swept_entry, with_entry, with_first, with_list, with_place, without_cached};
+ghost use Rattle.gt_links.specs.Lists.{Holds, IsFree, IsInList, nodes_of, with_nodes, without};
 
 use crate::pages::{CACHED, LISTS, Run, SlotFail};
 use crate::parts::{
@@ -21,7 +24,7 @@ use crate::parts::{
 use crate::sizes::list_of;
 use crate::tables::PageTable;
 use gt_bits::{first_run, insert, longest_run, next, next_gap, remove};
-use gt_entries::{Mark, Places};
+use gt_entries::{MAX_PLACES, Mark, Places};
 use gt_links::Links;
 use gt_space::{HEAP_START, PAGE_BYTES};
 use std::alloc::{AllocError, Global};
@@ -74,6 +77,18 @@ impl Entry {
     }
 }
 
+// So many places in the memory of these, one of them with an unmarked block, and its number.
+fn new_places(places: Places, count: u32) -> Result<(Places, u32), AllocError>
+    requires some { 0 < count }
+    requires few { count ≤ MAX_PLACES }
+    ensures place { IfOk result (λ made. made.1 < count) }
+    ensures places { IfOk result (λ made. made.0 ≡ slice_set (replicate count Free) made.1 (Used None)) }
+{
+    let mut new = places.renew(count)?;
+    let place = new.take_free().unwrap();
+    Ok((new, place))
+}
+
 impl Store {
     pub(crate) fn new(alloc: Global, pages: u32) -> Result<Store, AllocError>
         requires { pages ≤ MAX_PAGES }
@@ -96,6 +111,57 @@ impl Store {
             table,
             lists,
         })
+    }
+
+    pub(crate) fn alloc_slot(&mut self, size: u32) -> Result<u64, SlotFail>
+        requires kept { IsKept (parts_of self.old) }
+        requires listed { Contains sizes size }
+        ensures kept { IsKept (parts_of self.new) }
+        ensures pages { KeepsPages (contents_of (parts_of self.old)) (contents_of (parts_of self.new)) }
+        ensures placed { IfOk result (λ addr. Place (ledger_of (contents_of (parts_of self.old))) (block_of (slot_at addr size))) }
+        ensures added { IfOk result (λ addr. (contents_of (parts_of self.new)).slots
+            ≡ with_slot (contents_of (parts_of self.old)).slots (slot_at addr size)) }
+        ensures first { IfOk result (λ addr. IsInFirst (contents_of (parts_of self.old)) size addr) }
+        ensures room { OnOk result (Room (ledger_of (contents_of (parts_of self.old))) size) }
+        ensures full { IfErr result (λ e. e ≡ SlotFail.Full → ¬ (Room (ledger_of (contents_of (parts_of self.old))) size)) }
+        ensures memory { IfErr result (λ e. e ≡ SlotFail.Memory → Room (ledger_of (contents_of (parts_of self.old))) size) }
+        ensures unchanged { OnErr result ((contents_of (parts_of self.new)).slots ≡ (contents_of (parts_of self.old)).slots) }
+        ensures released { IfErr result (λ e. e ≡ SlotFail.Full → nodes_of (parts_of self.new).lists CACHED ≡ []) }
+    {
+        if let Some(addr) = self.share(size) {
+            return Ok(addr);
+        }
+        let Some(page) = first_run(&self.free, pages_of(size as u64), self.pages) else {
+            self.release_cached();
+            return Err(SlotFail::Full);
+        };
+        match self.open(page, size) {
+            Ok(addr) => Ok(addr),
+            Err(_) => Err(SlotFail::Memory),
+        }
+    }
+
+    pub(crate) fn has_room(&self, size: u32) -> bool
+        requires kept { IsKept (parts_of self.now) }
+        requires listed { Contains sizes size }
+        ensures { IsTrue result ↔ Room (ledger_of (contents_of (parts_of self.now))) size }
+    {
+        if self.has_shared(size) {
+            return true;
+        }
+        first_run(&self.free, pages_of(size as u64), self.pages).is_some()
+    }
+
+    // Whether a page of this size has a free place: the first entry of the size has one then.
+    fn has_shared(&self, size: u32) -> bool
+        requires kept { IsKept (parts_of self.now) }
+        requires listed { Contains sizes size }
+        ensures { IsTrue result ↔ HasSharedPage (ledger_of (contents_of (parts_of self.now))) size }
+    {
+        match self.lists.first(list_of(size)) {
+            None => false,
+            Some(page) => self.entries[page as usize].places.has_free(),
+        }
     }
 
     pub(crate) fn owner(&self, addr: u64) -> Option<(u64, u32)>
@@ -326,6 +392,20 @@ impl Store {
         }
     }
 
+    pub(crate) fn take_image(&mut self, page: u32, runs: &[Run]) -> Result<(), AllocError>
+        requires kept { IsKept (parts_of self.old) }
+        requires runs { AreRuns runs.now }
+        requires fits { page + image_pages runs.now ≤ (parts_of self.old).pages }
+        ensures kept { IsKept (parts_of self.new) }
+        ensures image { OnOk result (IsImage (contents_of (parts_of self.old)) page runs.now (contents_of (parts_of self.new))) }
+        ensures unchanged { OnErr result (parts_of self.new ≡ parts_of self.old) }
+    {
+        let mut fresh = Store::new(self.alloc, self.pages)?;
+        fresh.add_runs(page, runs)?;
+        *self = fresh;
+        Ok(())
+    }
+
     /// The place that has the byte at an address, which may be free; `None` where the address is in no entry.
     pub(crate) fn spot(&self, addr: u64) -> Option<Spot>
         requires { IsKept (parts_of self.now) }
@@ -421,6 +501,145 @@ impl Store {
             return false;
         }
         next_gap(&self.free, page, page + count).is_none()
+    }
+
+    /// Makes a block at a free place in the page of the first entry of its size; `None` where that has none.
+    fn share(&mut self, size: u32) -> Option<u64>
+        requires kept { IsKept (parts_of self.old) }
+        requires listed { Contains sizes size }
+        ensures kept { IsKept (parts_of self.new) }
+        ensures pages { KeepsPages (contents_of (parts_of self.old)) (contents_of (parts_of self.new)) }
+        ensures shares { IfSome result (Shares (contents_of (parts_of self.old)) size) }
+        ensures added { IfSome result (λ addr. (contents_of (parts_of self.new)).slots
+            ≡ with_slot (contents_of (parts_of self.old)).slots (slot_at addr size)) }
+        ensures none { IfNone result (¬ (HasSharedPage (ledger_of (contents_of (parts_of self.old))) size)) }
+        ensures unchanged { IfNone result (parts_of self.new ≡ parts_of self.old) }
+    {
+        let page = self.lists.first(list_of(size))?;
+        let place = self.take_place(page)?;
+        self.move_full(page);
+        Some(place_address(page, size, place))
+    }
+
+    // Puts an unmarked block at a free place of an entry; `None` where it has none.
+    fn take_place(&mut self, page: u32) -> Option<u32>
+        requires { page < length (parts_of self.old).entries }
+        ensures free { IfSome result (λ k. (k < length (entry_at (parts_of self.old).entries page).places)
+            × (cell_at (entry_at (parts_of self.old).entries page).places k ≡ Free)) }
+        ensures taken { IfSome result (λ k. parts_of self.new ≡ with_place (parts_of self.old) page k) }
+        ensures full { IfNone result (free_places (parts_of self.old) page ≡ 0) }
+        ensures unchanged { IfNone result (parts_of self.new ≡ parts_of self.old) }
+    {
+        let entry = &mut self.entries[page as usize];
+        entry.places.take_free()
+    }
+
+    /// Makes an entry for blocks of a size in free pages from one on, with a block at one of its places.
+    fn open(&mut self, page: u32, size: u32) -> Result<u64, AllocError>
+        requires kept { IsKept (parts_of self.old) }
+        requires listed { Contains sizes size }
+        requires run { HasRun (parts_of self.old).free (ledger_pages_of size) (parts_of self.old).pages page }
+        ensures kept { IsKept (parts_of self.new) }
+        ensures pages { KeepsPages (contents_of (parts_of self.old)) (contents_of (parts_of self.new)) }
+        ensures within { IfOk result (IsWithin page size) }
+        ensures added { IfOk result (λ addr. (contents_of (parts_of self.new)).slots
+            ≡ with_slot (contents_of (parts_of self.old)).slots (slot_at addr size)) }
+        ensures unchanged { OnErr result ((contents_of (parts_of self.new)).slots ≡ (contents_of (parts_of self.old)).slots) }
+    {
+        let cached = self.take_cached(page);
+        let (places, place) = new_places(cached, places_of(size))?;
+        self.put_entry(page, Entry { size, places });
+        self.push_entry(list_of(size), page);
+        Ok(place_address(page, size, place))
+    }
+
+    // Moves an entry to the back of its list where it has no free place.
+    fn move_full(&mut self, page: u32)
+        requires entry { page < length (parts_of self.old).entries }
+        requires node { page < (parts_of self.old).lists.nodes }
+        requires linked { IsInList (parts_of self.old).lists page }
+        ensures full { free_places (parts_of self.old) page ≡ 0 → (i : ℕ) → Holds (parts_of self.old).lists i page
+            → parts_of self.new ≡ with_list (parts_of self.old) i (without page (nodes_of (parts_of self.old).lists i) ++ page ∷ []) }
+        ensures unchanged { 0 < free_places (parts_of self.old) page → parts_of self.new ≡ parts_of self.old }
+    {
+        if self.is_full(page) {
+            self.lists.move_back(page);
+        }
+    }
+
+    // Puts an entry into a list: to its front where the entry has a free place, else to its back.
+    fn push_entry(&mut self, list: u32, page: u32)
+        requires entry { page < length (parts_of self.old).entries }
+        requires list { list < length (parts_of self.old).lists.lists }
+        requires node { page < (parts_of self.old).lists.nodes }
+        requires free { IsFree (parts_of self.old).lists page }
+        ensures back { free_places (parts_of self.old) page ≡ 0
+            → parts_of self.new ≡ with_list (parts_of self.old) list (nodes_of (parts_of self.old).lists list ++ page ∷ []) }
+        ensures front { 0 < free_places (parts_of self.old) page
+            → parts_of self.new ≡ with_list (parts_of self.old) list (page ∷ nodes_of (parts_of self.old).lists list) }
+    {
+        if self.is_full(page) {
+            self.lists.push_back(list, page);
+        } else {
+            self.lists.push_front(list, page);
+        }
+    }
+
+    /// Puts an entry into free pages from one on.
+    fn put_entry(&mut self, page: u32, entry: Entry)
+        requires kept { IsKept (parts_of self.old) }
+        requires some { 1 ≤ length entry.places }
+        requires listed { Contains sizes entry.size }
+        requires room { page + entry_pages entry ≤ (parts_of self.old).pages }
+        requires bytes { entry.size * length entry.places < 2 ^ 40 }
+        ensures { Opens (parts_of self.old) page entry (parts_of self.new) }
+    {
+        let count = entry.page_count();
+        self.table.set(page, count, page);
+        insert(&mut self.starts, page);
+        remove_range(&mut self.free, page, count);
+        self.entries[page as usize] = entry;
+    }
+
+    /// The places of a cached entry, which is cached no more: the one of this page where there is one, else the first. No
+    /// places where no entry is cached.
+    fn take_cached(&mut self, page: u32) -> Places
+        requires kept { IsKept (parts_of self.old) }
+        requires page { page < (parts_of self.old).pages }
+        ensures kept { IsKept (parts_of self.new) }
+        ensures released { Releases (parts_of self.old) (parts_of self.new) }
+        ensures own { ¬ (Holds (parts_of self.new).lists CACHED page) }
+    {
+        match self.cached_for(page) {
+            None => Places::none(self.alloc),
+            Some(node) => self.take_places(node),
+        }
+    }
+
+    // The cached entry of a page where there is one, else the first one.
+    fn cached_for(&self, page: u32) -> Option<u32>
+        requires kept { IsKept (parts_of self.now) }
+        requires page { page < (parts_of self.now).pages }
+        ensures cached { IfSome result (λ node. Holds (parts_of self.now).lists CACHED node) }
+        ensures bounded { IfSome result (λ node. node < (parts_of self.now).lists.nodes) }
+        ensures own { Holds (parts_of self.now).lists CACHED page → result ≡ Some page }
+    {
+        if self.lists.list_of(page) == Some(CACHED) {
+            return Some(page);
+        }
+        self.lists.first(CACHED)
+    }
+
+    /// The places of a cached entry, which has none after and is cached no more.
+    fn take_places(&mut self, node: u32) -> Places
+        requires entry { node < length (parts_of self.old).entries }
+        requires node { node < (parts_of self.old).lists.nodes }
+        requires cached { Holds (parts_of self.old).lists CACHED node }
+        ensures { parts_of self.new ≡ without_cached (parts_of self.old) node }
+    {
+        self.lists.unlink(node);
+        let entry = &mut self.entries[node as usize];
+        std::mem::replace(&mut entry.places, Places::none(self.alloc))
     }
 
     /// Gives the memory of the cached entries back.
@@ -556,5 +775,43 @@ impl Store {
         insert_range(&mut self.free, page, count);
         self.lists.unlink(page);
         self.lists.push_front(CACHED, page);
+    }
+
+    /// Puts the runs of an image into fresh pages, the first from a page on, each further one from the next page on.
+    fn add_runs(&mut self, first: u32, runs: &[Run]) -> Result<(), AllocError>
+        requires fresh { IsNew (parts_of self.old) }
+        requires at_least { MIN_PAGES ≤ (parts_of self.old).pages }
+        requires at_most { (parts_of self.old).pages ≤ MAX_PAGES }
+        requires runs { AreRuns runs.now }
+        requires fits { first + image_pages runs.now ≤ (parts_of self.old).pages }
+        ensures kept { OnOk result (IsKept (parts_of self.new)) }
+        ensures image { OnOk result (IsImage (contents_of (parts_of self.old)) first runs.now (contents_of (parts_of self.new))) }
+    {
+        self.image_first = first;
+        for run in runs {
+            self.add_run(*run)?;
+        }
+        Ok(())
+    }
+
+    /// Puts a run of blocks into the pages behind those of the image, which has them from now on.
+    fn add_run(&mut self, run: Run) -> Result<(), AllocError>
+        requires kept { IsKept (parts_of self.old) }
+        requires listed { Contains sizes run.size }
+        requires some { 1 ≤ run.count }
+        requires fits { image_end (parts_of self.old) + run_pages run ≤ (parts_of self.old).pages }
+        ensures added { OnOk result (AddsRun (parts_of self.old) run (parts_of self.new)) }
+    {
+        let page = self.image_first + self.image_count;
+        let mut places = Places::none(self.alloc).renew(run.count)?;
+        places.fill();
+        let entry = Entry {
+            size: run.size,
+            places,
+        };
+        let count = entry.page_count();
+        self.put_entry(page, entry);
+        self.image_count += count;
+        Ok(())
     }
 }

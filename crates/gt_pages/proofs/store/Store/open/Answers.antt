@@ -1,0 +1,70 @@
+use Rattle.std.proofs.Common.{ap, sym, subst, ◌∙◌, arith}
+use Rattle.gt_pages.specs.Slots.{slot_at, with_slot}
+use Rattle.gt_pages.specs.Places.{IsWithin}
+use Rattle.gt_pages.specs.Changes.{Opens}
+use Rattle.gt_pages.specs.Parts.{contents_of, parts_of}
+use Rattle.gt_pages.proofs.CachedLemmas.{contents_released}
+use Rattle.gt_pages.proofs.OpenLemmas.{at_error, free_node, opened_all, places_made}
+use Rattle.gt_pages.proofs.PlaceLemmas.{place_bytes, place_within, shape}
+use Rattle.gt_pages.proofs.SizeLemmas.{size_bounds}
+use Rattle.gt_pages.proofs.store.Store.open.Goals as goal
+
+pub take_cached-cached-requires-clause-page : goal.take_cached-cached-requires-clause-page
+take_cached-cached-requires-clause-page c =
+    let some = (size_bounds c.args.size c.requires.listed).0 in
+    let room = c.requires.run.0 in
+    omega (arith, some, room)
+
+pub places_of-requires : goal.places_of-requires
+places_of-requires c = (size_bounds c.args.size c.requires.listed).0
+
+pub new_places-requires-clause-some : goal.new_places-requires-clause-some
+new_places-requires-clause-some c =
+    let some = (shape c.args.size c.requires.listed).some in let is = c.places_of.ensures in omega (arith, some, is)
+
+pub returns-in_err-places-clause-unchanged : goal.returns-in_err-places-clause-unchanged
+returns-in_err-places-clause-unchanged c =
+    at_error c.from_residual.result _
+    (ap (λ x. x.slots) (contents_released (parts_of c.args.self.now) (parts_of c.take_cached-cached.new.self) c.take_cached-cached.ensures.released))
+
+pub push_entry-requires-clause-free : goal.push_entry-requires-clause-free
+push_entry-requires-clause-free c =
+    free_node (parts_of c.args.self.now) (parts_of c.take_cached-cached.new.self) (parts_of c.put_entry.new.self) c.args.page c.args.size
+    c.take_cached-cached.ensures.kept c.take_cached-cached.ensures.released c.requires.listed c.requires.run c.take_cached-cached.ensures.own
+    (ap (λ x. x.lists) c.put_entry.ensures.rest)
+
+pub place_address-requires : goal.place_address-requires
+place_address-requires c =
+    let count = c.places_of.ensures in
+    let low = c.in_ok-places.ensures.place in
+    place_bytes c.args.size c.in_ok-places.place c.requires.listed (omega (arith, low, count))
+
+pub returns-clause-within : goal.returns-clause-within
+returns-clause-within c =
+    let count = c.places_of.ensures in
+    let low = c.in_ok-places.ensures.place in
+    subst (λ a. IsWithin c.args.page c.args.size a) (sym c.place_address.ensures)
+    (place_within c.args.page c.args.size c.in_ok-places.place c.requires.listed (omega (arith, low, count)))
+
+pub returns-clause-kept : goal.returns-clause-kept
+returns-clause-kept c =
+    let count = c.places_of.ensures in
+    let low = c.in_ok-places.ensures.place in
+    let is = places_made c.args.size c.places_of.result c.in_ok-places.place c.in_ok-places.places count c.in_ok-places.ensures.places in
+    (opened_all (parts_of c.args.self.now) (parts_of c.take_cached-cached.new.self) (parts_of c.put_entry.new.self) (parts_of c.push_entry.new.self)
+    c.args.page c.args.size c.in_ok-places.place c.list_of.result c.take_cached-cached.ensures.kept c.take_cached-cached.ensures.released c.list_of.ensures.number
+    c.requires.run (omega (arith, low, count)) c.take_cached-cached.ensures.own
+    (subst (λ e. Opens (parts_of c.take_cached-cached.new.self) c.args.page e (parts_of c.put_entry.new.self)) is c.put_entry.ensures)
+    c.push_entry.ensures.back c.push_entry.ensures.front).0
+
+pub returns-clause-added : goal.returns-clause-added
+returns-clause-added c =
+    let count = c.places_of.ensures in
+    let low = c.in_ok-places.ensures.place in
+    let is = places_made c.args.size c.places_of.result c.in_ok-places.place c.in_ok-places.places count c.in_ok-places.ensures.places in
+    (opened_all (parts_of c.args.self.now) (parts_of c.take_cached-cached.new.self) (parts_of c.put_entry.new.self) (parts_of c.push_entry.new.self)
+    c.args.page c.args.size c.in_ok-places.place c.list_of.result c.take_cached-cached.ensures.kept c.take_cached-cached.ensures.released c.list_of.ensures.number
+    c.requires.run (omega (arith, low, count)) c.take_cached-cached.ensures.own
+    (subst (λ e. Opens (parts_of c.take_cached-cached.new.self) c.args.page e (parts_of c.put_entry.new.self)) is c.put_entry.ensures)
+    c.push_entry.ensures.back c.push_entry.ensures.front).1
+    ∙ ap (λ a. with_slot (contents_of (parts_of c.args.self.now)).slots (slot_at a c.args.size)) (sym c.place_address.ensures)

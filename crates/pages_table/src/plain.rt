@@ -1,0 +1,314 @@
+//! A plain list of blocks, to compare with: each call looks at all of them.
+use gt_pages::{PageEntry, Run, SIZES};
+use gt_space::{HEAP_START, PAGE_BYTES};
+use std::alloc::{AllocError, Global};
+
+/// A block, with its walk and count where it is marked, and whether it is still to be walked.
+#[derive(Clone, Copy, Debug, PartialEq, Eq)]
+pub struct Block {
+    pub addr: u64,
+    pub size: u64,
+    pub mark: Option<(u32, u32)>,
+    pub pending: bool,
+}
+
+/// How a page is used: the size of its blocks in bytes, and how many of them start there. It has none where no block does.
+#[derive(Clone, Copy)]
+struct PageUse {
+    size: u64,
+    blocks: u64,
+}
+
+/// The blocks by rising address, and the pages of the image.
+#[derive(Drop)]
+pub struct Plain {
+    pub blocks: Vec<Block>,
+    pub pages: u64,
+    pub image_first: u64,
+    pub image_count: u64,
+}
+
+/// The page of an address.
+pub fn page_of(addr: u64) -> u64 {
+    addr.saturating_sub(HEAP_START) / PAGE_BYTES
+}
+
+fn address_of(page: u64) -> u64 {
+    HEAP_START.saturating_add(page.saturating_mul(PAGE_BYTES))
+}
+
+// How many pages so many bytes take up.
+fn pages_for(bytes: u64) -> u64 {
+    bytes.saturating_add(PAGE_BYTES.saturating_sub(1)) / PAGE_BYTES
+}
+
+fn are_apart(a: u64, m: u64, b: u64, n: u64) -> bool {
+    a.saturating_add(m) <= b || b.saturating_add(n) <= a
+}
+
+impl Plain {
+    /// A space of so many pages without blocks.
+    pub fn new(alloc: Global, pages: u64) -> Plain {
+        Plain {
+            blocks: Vec::new(alloc),
+            pages,
+            image_first: 0,
+            image_count: 0,
+        }
+    }
+
+    fn is_image_page(&self, page: u64) -> bool {
+        page >= self.image_first && page < self.image_first.saturating_add(self.image_count)
+    }
+
+    /// Whether no block has a byte of these.
+    pub fn is_free(&self, addr: u64, size: u64) -> bool {
+        self.blocks
+            .iter()
+            .all(|b| are_apart(b.addr, b.size, addr, size))
+    }
+
+    /// Whether a page outside the image has no block.
+    pub fn is_free_page(&self, page: u64) -> bool {
+        !self.is_image_page(page) && self.is_free(address_of(page), PAGE_BYTES)
+    }
+
+    /// Whether a page outside the image holds blocks of this size and has a free place.
+    pub fn has_free_place(&self, page: u64, size: u64) -> bool {
+        if size > PAGE_BYTES || size == 0 || self.is_image_page(page) {
+            return false;
+        }
+        if !self
+            .blocks
+            .iter()
+            .any(|b| b.size == size && page_of(b.addr) == page)
+        {
+            return false;
+        }
+        for k in 0..PAGE_BYTES / size {
+            if self.is_free(
+                address_of(page).saturating_add(size.saturating_mul(k)),
+                size,
+            ) {
+                return true;
+            }
+        }
+        false
+    }
+
+    /// Whether so many pages from one on are in the space and free.
+    pub fn are_free_pages(&self, first: u64, count: u64) -> bool {
+        let end = first.saturating_add(count);
+        if end > self.pages {
+            return false;
+        }
+        for page in first..end {
+            if !self.is_free_page(page) {
+                return false;
+            }
+        }
+        true
+    }
+
+    /// The lowest run of so many free pages.
+    pub fn lowest_run(&self, count: u64) -> Option<u64> {
+        (0..self.pages).find(|first| self.are_free_pages(*first, count))
+    }
+
+    /// Some page with a free place for this size.
+    pub fn some_free_place(&self, size: u64) -> Option<u64> {
+        (0..self.pages).find(|page| self.has_free_place(*page, size))
+    }
+
+    /// Whether a new block of this size may lie at an address, or may have none.
+    pub fn allows(&self, size: u64, answer: Option<u64>) -> bool {
+        let pages = pages_for(size);
+        let Some(addr) = answer else {
+            return self.some_free_place(size).is_none() && self.lowest_run(pages).is_none();
+        };
+        let page = page_of(addr);
+        let offset = addr.saturating_sub(address_of(page));
+        if !self.is_free(addr, size) {
+            return false;
+        }
+        if self.some_free_place(size).is_some() {
+            return self.has_free_place(page, size) && offset.checked_rem(size) == Some(0);
+        }
+        offset == 0 && self.lowest_run(pages) == Some(page)
+    }
+
+    /// One more block, at its place by address.
+    pub fn add(&mut self, addr: u64, size: u64) -> Result<(), AllocError> {
+        let at = self
+            .blocks
+            .iter()
+            .position(|b| b.addr > addr)
+            .unwrap_or(self.blocks.len());
+        self.blocks.insert(
+            at,
+            Block {
+                addr,
+                size,
+                mark: None,
+                pending: false,
+            },
+        )?;
+        Ok(())
+    }
+
+    /// The block that has the byte at an address.
+    pub fn owner(&self, addr: u64) -> Option<(u64, u64)> {
+        let found = self
+            .blocks
+            .iter()
+            .find(|b| b.addr <= addr && addr < b.addr.saturating_add(b.size))?;
+        Some((found.addr, found.size))
+    }
+
+    /// Marks the block at an address, and says whether it was not marked before.
+    pub fn mark(&mut self, addr: u64, walk: u32, count: u32) -> bool {
+        for b in &mut self.blocks {
+            if b.addr == addr && b.mark.is_none() {
+                b.mark = Some((walk, count));
+                b.pending = true;
+                return true;
+            }
+        }
+        false
+    }
+
+    /// The block at an address is no more to be walked.
+    pub fn set_walked(&mut self, addr: u64) {
+        for b in &mut self.blocks {
+            if b.addr == addr {
+                b.pending = false;
+            }
+        }
+    }
+
+    pub fn clear(&mut self) {
+        for b in &mut self.blocks {
+            b.mark = None;
+            b.pending = false;
+        }
+    }
+
+    /// Takes the unmarked blocks away, and says how many these were.
+    pub fn sweep(&mut self) -> usize {
+        let before = self.blocks.len();
+        self.blocks.retain(|b| b.mark.is_some());
+        before.saturating_sub(self.blocks.len())
+    }
+
+    /// The first marked block above an address.
+    pub fn next_marked(&self, after: u64) -> Option<(u64, u32, u32)> {
+        let found = self
+            .blocks
+            .iter()
+            .find(|b| b.addr > after && b.mark.is_some())?;
+        let (walk, count) = found.mark?;
+        Some((found.addr, walk, count))
+    }
+    /// The first block above an address that is still to be walked.
+    pub fn next_pending(&self, after: u64) -> Option<(u64, u32, u32)> {
+        let found = self.blocks.iter().find(|b| b.addr > after && b.pending)?;
+        let (walk, count) = found.mark?;
+        Some((found.addr, walk, count))
+    }
+
+    /// Where so many pages go that would like to start at a page; where there is no room, the length of the longest run.
+    pub fn fit(&self, need: u64, preferred: u64) -> Result<u64, u64> {
+        if self.are_free_pages(preferred, need) {
+            return Ok(preferred);
+        }
+        match self.lowest_run(need) {
+            Some(page) => Ok(page),
+            None => Err(self.longest_run()),
+        }
+    }
+
+    // How many pages the longest run of free pages has.
+    fn longest_run(&self) -> u64 {
+        let mut longest = 0u64;
+        let mut run = 0u64;
+        for page in 0..self.pages {
+            run = if self.is_free_page(page) {
+                run.saturating_add(1)
+            } else {
+                0
+            };
+            longest = longest.max(run);
+        }
+        longest
+    }
+
+    /// The blocks are those of the runs of an image from now on.
+    pub fn take_image(&mut self, page: u64, runs: &[Run]) -> Result<(), AllocError> {
+        self.blocks.clear();
+        self.image_first = page;
+        let mut next = page;
+        for run in runs {
+            let first = address_of(next);
+            for k in 0..run.count as u64 {
+                self.add(
+                    first.saturating_add(k.saturating_mul(run.size as u64)),
+                    run.size as u64,
+                )?;
+            }
+            let bytes = run.size as u64 * run.count as u64;
+            next = next.saturating_add(pages_for(bytes));
+        }
+        self.image_count = next.saturating_sub(page);
+        Ok(())
+    }
+
+    /// Whether these are the entries of all sizes, of which each list has those of one size: each page or larger block
+    /// outside the image stands once, with its free places, and pages with a free place stand first.
+    pub fn has_entries(&self, alloc: Global, lists: &[Vec<PageEntry>]) -> Result<bool, AllocError> {
+        let mut uses = self.page_uses(alloc)?;
+        for (list, size) in lists.iter().zip(SIZES.iter()) {
+            if !fits(&mut uses, list, *size as u64) {
+                return Ok(false);
+            }
+        }
+        Ok(lists.len() == SIZES.len() && uses.iter().all(|page| page.blocks == 0))
+    }
+
+    // How each page is used by blocks outside the image.
+    fn page_uses(&self, alloc: Global) -> Result<Vec<PageUse>, AllocError> {
+        let mut uses = Vec::new(alloc);
+        for _ in 0..self.pages {
+            uses.push(PageUse { size: 0, blocks: 0 })?;
+        }
+        for block in &self.blocks {
+            let page = page_of(block.addr);
+            if self.is_image_page(page) {
+                continue;
+            }
+            if let Some(page) = uses.get_mut(page as usize) {
+                page.size = block.size;
+                page.blocks = page.blocks.saturating_add(1);
+            }
+        }
+        Ok(uses)
+    }
+}
+
+// Whether the entries of a list are each of a page that is used for this size; these pages are taken out of the uses.
+fn fits(uses: &mut [PageUse], list: &[PageEntry], size: u64) -> bool {
+    let mut full = false;
+    for entry in list {
+        let Some(page) = uses.get_mut(entry.page as usize) else {
+            return false;
+        };
+        let places = PAGE_BYTES.checked_div(size).unwrap_or(0).max(1);
+        let free = places.saturating_sub(page.blocks);
+        let same = page.blocks > 0 && page.size == size && entry.size as u64 == size;
+        if !same || entry.free as u64 != free || (full && free > 0) {
+            return false;
+        }
+        full = free == 0;
+        page.blocks = 0;
+    }
+    true
+}
