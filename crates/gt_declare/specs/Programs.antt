@@ -160,9 +160,9 @@ program_by draft planes =
       words = map word_of draft.words;
     }
 
--- A draft declares a program: each field, structure, root, cache and word is what its options say, and a structure that is passed
--- over with `skip` takes as many bytes as this program gives it.
-pub record Declares (draft : Draft) (program : Program) : Type 0 where
+-- A program is made of a draft, with faults or without: each field, structure, root, cache and word is what its options say, and a
+-- structure that is passed over with `skip` takes as many bytes as this program gives it. Each draft that is sound makes one program.
+pub record IsMadeOf (draft : Draft) (program : Program) : Type 0 where
   pub planes : List Plane
   pub laid : AreLaidOut program planes
   pub made : program ≡ program_by draft planes

@@ -1,6 +1,6 @@
 -- The earliest of faults is found part by part, and it is the first.
 use Rattle.std.proofs.Common.{◌≡◌, ◌∙◌, ℕ, suc, ◌+◌, ◌<◌, Bool, true, false, List, [], ◌∷◌, ◌++◌, length, get_or, drop, Option, Some, None, refl, sym, ap, subst, arith, inl, inr, append_assoc, ◌≤◌}
-use Rattle.std.specs.Prelude.{nat_lt, nat_le, ◌==◌, ◌&&◌, ◌||◌, IsTrue, if◌then◌else◌, ◌⊎◌, Result, Ok, Err, IfOk}
+use Rattle.std.specs.Prelude.{nat_lt, nat_le, ◌==◌, ◌&&◌, ◌||◌, IsTrue, if◌then◌else◌, ◌⊎◌, flat_map, Result, Ok, Err, IfOk}
 use Rattle.std.proofs.lemmas.Bool.Decides.{nat_tests}
 use Rattle.std.proofs.lemmas.List.{drop_more, append-nil, drop_all}
 use Rattle.std.proofs.lemmas.List.Elements.{All-nil, All-push, All-weaker, Contains-push, Contains-append_left}
@@ -34,6 +34,12 @@ first_from_more {X} f F step e e1 i xs x l is h =
     first_from_both e e1 (first_from e1 (F (i + 1) (drop (i + 1) xs))) (f i x) (F (i + 1) (drop (i + 1) xs)) h refl
     ∙ ap (λ (n : ℕ). first_from e (f i x ++ F n (drop (i + 1) xs))) next ∙ ap (first_from e) (sym (step i x (drop (i + 1) xs)))
     ∙ ap (λ (ys : List X). first_from e (F i ys)) (sym item)
+
+-- the same, where the faults of an item are its own
+pub first_from_item :
+    {X : Type 0} (f : X → List Fault) (e e1 : Option Fault) (i : ℕ) (xs : List X) (x : X) → i < length xs → x ≡ get_or xs i x → e1 ≡ first_from e (f x)
+    → first_from e1 (flat_map f (drop (i + 1) xs)) ≡ first_from e (flat_map f (drop i xs))
+first_from_item {X} f = first_from_more (λ (i : ℕ) (x : X). f x) (λ (i : ℕ) (xs : List X). flat_map f xs) (λ i x xs. refl)
 
 -- ---- order
 
@@ -103,6 +109,9 @@ first_of_more before (f ∷ faults) e h =
 pub first_from_first : (faults : List Fault) → IsFirstOf faults (first_from None faults)
 first_from_first faults = first_of_more [] faults None refl
 
+pub first_of_all : (faults : List Fault) (e : Option Fault) → e ≡ first_from None faults → IsFirstOf faults e
+first_of_all faults e h = subst (IsFirstOf faults) (sym h) (first_from_first faults)
+
 -- ---- parts of the parts
 
 -- what follows from what is true of an answer
@@ -118,6 +127,9 @@ first_from_if e e1 b there number file at h same = h ∙ ap (λ (x : Bool). firs
 pub first_from_end : {X : Type 0} (F : ℕ → List X → List Fault) → ((i : ℕ) → F i [] ≡ []) → (e : Option Fault) (i : ℕ) (xs : List X) → length xs ≤ i → e ≡ first_from e (F i (drop i xs))
 first_from_end {X} F none e i xs l =
     sym (first_from_nil e) ∙ ap (first_from e) (sym (none i)) ∙ ap (λ (ys : List X). first_from e (F i ys)) (sym (drop_all i xs l))
+
+pub first_from_items : {X : Type 0} (f : X → List Fault) (e : Option Fault) (i : ℕ) (xs : List X) → length xs ≤ i → e ≡ first_from e (flat_map f (drop i xs))
+first_from_items {X} f = first_from_end (λ (i : ℕ) (xs : List X). flat_map f xs) (λ i. refl)
 
 -- the same with another number
 pub first_from_numbered : (e e1 : Option Fault) (b there : Bool) (n number file at : ℕ) → e1 ≡ first_from e (fault_if b n file at) → b ≡ there → n ≡ number → e1 ≡ first_from e (fault_if there number file at)

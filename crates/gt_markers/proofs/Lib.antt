@@ -2,3 +2,5 @@ mod LookupLemmas
 mod Firsts
 mod WalkingLemmas
 mod MarkerLemmas
+mod MemberLemmas
+mod FieldLemmas

@@ -9,9 +9,10 @@ use Rattle.gt_resolve.specs.Drafts.{has_option}
 use Rattle.gt_markers.specs.Options.{option_named}
 use Rattle.gt_markers.specs.Expressions.{constant_value}
 
+-- a tag without a value, which is a fault, counts as the default
 abbrev pub tag_of : Option ℤ → Active
 tag_of (Some value) = Tag value
-tag_of None = Never
+tag_of None = Other
 
 abbrev pub without_tag : List RawOption → Active
 without_tag options = if has_option (codes "default") options then Other else Never

@@ -10,3 +10,4 @@ pub mod Lookups
 pub mod NameScopes
 pub mod FirstFaults
 pub mod Walking
+pub mod Members

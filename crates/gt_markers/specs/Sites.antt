@@ -70,9 +70,10 @@ is_sorted_base false (Structure id) One = true
 is_sorted_base true (Structure id) Two = true
 is_sorted_base counted base stars = false
 
--- what may be sorted in an image: a pointer to one structure, or to pointers with `length`
+-- what may be sorted in an image: a pointer to one structure, or to pointers with `length`; none whose block is never scanned
 abbrev pub is_sorted : List RawOption → DeclaredType → Bool
-is_sorted options t = is_single t && is_sorted_base (has_option (codes "length") options) t.resolved.base t.resolved.stars
+is_sorted options t =
+    is_single t && is_sorted_base (has_option (codes "length") options) t.resolved.base t.resolved.stars && not (has_option (codes "atomic") options)
 
 -- ---- where options may stand
 

@@ -1,5 +1,5 @@
 -- What holds of each draft that headers resolve to.
-use Rattle.std.specs.Prelude.{◌≡◌, ◌≢◌, ◌≤◌, ◌<◌, ℕ, pos, Bool, true, false, List, [], ◌∷◌, ◌++◌, map, length, Some, IfSome, All, AllPairs}
+use Rattle.std.specs.Prelude.{◌≡◌, ◌≢◌, ◌≤◌, ◌<◌, ℕ, pos, Bool, true, false, List, [], ◌∷◌, ◌++◌, map, length, Some, None, IfSome, All, AllPairs}
 use Rattle.gt_types.specs.declared.limits.TheConstants.{MAX_STRUCTURES, MAX_FIELDS, MAX_ROOTS, MAX_CACHES, MAX_DEPTH, MAX_DIMENSIONS, MAX_BOUND}
 use Rattle.gt_types.specs.Names.{IsName}
 use Rattle.gt_types.specs.Operators.{HasOperators}
@@ -88,6 +88,7 @@ pub record IsSoundRoot (draft : Draft) (r : DraftRoot) : Type 0 where
   pub name : IsName r.name.word
   pub options : AreWellFormed r.options
   pub type : IsSoundType draft false r.options r.ty
+  pub no_bits : r.ty.bits ≡ None
 
 -- the names of roots, caches and typedefs, which are of one name space
 abbrev pub global_names : Draft → List (List ℕ)

@@ -1,5 +1,5 @@
 -- The types of fields and roots, by their options.
-use Rattle.std.specs.Prelude.{ℕ, pos, ◌*◌, min, Bool, true, false, ◌&&◌, not, if◌then◌else◌, codes, List, [], ◌∷◌, Option, Some, None, option_map, slice_get}
+use Rattle.std.specs.Prelude.{ℕ, pos, ◌*◌, min, true, false, ◌&&◌, not, if◌then◌else◌, codes, List, [], ◌∷◌, Option, Some, None, option_map, slice_get}
 use Rattle.std.specs.Option.{option_map_or}
 use Rattle.gt_types.specs.declared.limits.TheConstants.{TOO_LARGE}
 use Rattle.gt_types.specs.declared.expressions.Expr.{Expr}
@@ -23,6 +23,7 @@ use Rattle.gt_resolve.specs.declared.types.DeclaredType.{DeclaredType}
 use Rattle.gt_resolve.specs.declared.draft.DraftStructure.{DraftStructure}
 use Rattle.gt_resolve.specs.Drafts.{has_option, has_skip}
 use Rattle.gt_resolve.specs.Faults.{is_zero}
+use Rattle.gt_markers.specs.declared.type_options.TypeOptions.{TypeOptions}
 use Rattle.gt_markers.specs.Options.{option_named}
 use Rattle.gt_resolve.specs.declared.draft.Draft.{Draft}
 use Rattle.gt_markers.specs.Expressions.{Names, constants, expression_of}
@@ -34,15 +35,7 @@ abbrev pub expression_named : Names → List ℕ → List RawOption → Option E
 expression_named names name options = option_map (λ o. expression_of names o.parameter) (option_named name options)
 
 -- what the options of a field or a root say of its type
-pub record Says : Type 0 where
-  pub length : Option Expr
-  pub string_length : Option Expr
-  pub desc : Option Expr
-  pub atomic : Bool
-  pub maybe_undef : Bool
-  pub reorder : Bool
-
-abbrev pub says : Names → List RawOption → Says
+abbrev pub says : Names → List RawOption → TypeOptions
 says names options =
     record {
       length = expression_named names (codes "length") options;
@@ -54,7 +47,7 @@ says names options =
     }
 
 -- of the elements of an array the options say no more than the `desc`
-abbrev pub of_elements : Says → Says
+abbrev pub of_elements : TypeOptions → TypeOptions
 of_elements o = record { length = None; string_length = None; desc = o.desc; atomic = false; maybe_undef = false; reorder = false }
 
 -- ---- the desc of a union
@@ -86,7 +79,7 @@ kind_by None = kind.Plain
 
 -- One star on a structure is a pointer to it, or to as many as `length` says; two stars on one, or on characters, need `length`; one
 -- star on characters is a string; a pointer to what is not defined needs `maybe_undef`. No other pointer can be walked.
-abbrev pub pointer_type : Says → BaseType → Stars → Option Ty
+abbrev pub pointer_type : TypeOptions → BaseType → Stars → Option Ty
 pointer_type o (Structure id) One = Some (ty.Ptr (Some (target.Node (node id))) (kind_by o.length) o.reorder)
 pointer_type o (Structure id) Two = option_map (λ count. ty.Ptr (Some (target.Pointers (node id))) (kind.Length count) o.reorder) o.length
 pointer_type o (Number scalar true) One = Some (ty.Str o.string_length)
@@ -95,17 +88,17 @@ pointer_type o (Undefined keyword tag) One = if o.maybe_undef then Some (ty.Ptr 
 pointer_type o base stars = None
 
 -- a number, or a structure by value
-abbrev pub value_type : Draft → Says → BaseType → Option Ty
+abbrev pub value_type : Draft → TypeOptions → BaseType → Option Ty
 value_type draft o (Number scalar is_char) = Some (ty.Num scalar)
 value_type draft o (Structure id) = Some (ty.Node (node id) (desc_at draft id o.desc))
 value_type draft o base = None
 
 -- a pointer with `atomic` names a block that is never scanned, whatever it points to
-abbrev pub pointer_or_atomic : Says → BaseType → Stars → Option Ty
+abbrev pub pointer_or_atomic : TypeOptions → BaseType → Stars → Option Ty
 pointer_or_atomic o base stars = if o.atomic then Some (ty.Ptr None kind.Atomic o.reorder) else pointer_type o base stars
 
 -- what is no array: none where it can be no part of a walked value
-abbrev pub single_type : Draft → Says → DeclaredType → Option Ty
+abbrev pub single_type : Draft → TypeOptions → DeclaredType → Option Ty
 single_type draft o t =
     if t.is_function then None
     else (if is_zero t.resolved.stars then value_type draft o t.resolved.base else pointer_or_atomic o t.resolved.base t.resolved.stars)
@@ -131,12 +124,12 @@ bits_type (Number scalar is_char) count = Some (ty.Bits scalar count)
 bits_type base count = None
 
 -- the type of what is walked
-abbrev pub walked_by : Draft → Says → DeclaredType → Option Amount → List Amount → Option Ty
+abbrev pub walked_by : Draft → TypeOptions → DeclaredType → Option Amount → List Amount → Option Ty
 walked_by draft o t (Some count) bounds = bits_type t.resolved.base (amount count)
 walked_by draft o t None [] = single_type draft o t
 walked_by draft o t None (bound ∷ bounds) = option_map (array_type o.length bound bounds) (single_type draft (of_elements o) t)
 
-abbrev pub walked_type : Draft → Says → DeclaredType → Option Ty
+abbrev pub walked_type : Draft → TypeOptions → DeclaredType → Option Ty
 walked_type draft o t = walked_by draft o t t.bits t.bounds
 
 -- ---- types with `skip`

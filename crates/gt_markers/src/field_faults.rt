@@ -20,8 +20,8 @@ use gt_resolve::{DeclaredType, Draft, DraftCache, DraftRoot};
 use gt_types::Fault;
 use std::alloc::{AllocError, Global};
 
-// Whether a type cannot be walked, and `skip` does not stand there.
-fn is_untyped(options: &[RawOption], ty: &DeclaredType) -> bool
+/// Whether a type cannot be walked, and `skip` does not stand there.
+pub fn is_untyped(options: &[RawOption], ty: &DeclaredType) -> bool
     ensures untyped { (names : Names) (draft : Draft) → result ≡ (not (has_skip options.now) && is_none (walked_type draft (says names options.now) ty.now)) }
 {
     if has_skip(options) {

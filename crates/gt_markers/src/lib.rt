@@ -3,22 +3,30 @@
 #![tactic(auto)]
 
 mod constants;
+mod draft_faults;
 mod earliest;
 mod expressions;
 mod field_faults;
 mod kinds;
 mod lookups;
 mod marker_faults;
+mod members;
 mod options;
 mod sites;
+mod structure_faults;
+mod type_options;
 mod walking;
 
 pub use constants::constant_value;
+pub use draft_faults::first_draft_fault;
 pub use expressions::{Scope, are_named, with_names};
 pub use kinds::OptionKind;
 pub use lookups::Lookup;
 pub use marker_faults::Marker;
+pub use members::active_of;
+pub use options::{has_option, has_skip, option_named};
 pub use sites::Site;
+pub use type_options::TypeOptions;
 pub use walking::is_walked;
 
 /// The number of the fault of an option that is not known.

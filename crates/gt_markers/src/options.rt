@@ -42,3 +42,10 @@ pub fn has_length_option(options: &[RawOption]) -> bool
 {
     has_option(options, "length")
 }
+
+/// Whether `atomic` stands there.
+pub fn has_atomic_option(options: &[RawOption]) -> bool
+    ensures there { result ≡ has_option (codes "atomic") options.now }
+{
+    has_option(options, "atomic")
+}

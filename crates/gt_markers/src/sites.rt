@@ -9,7 +9,7 @@ ghost use Rattle.gt_resolve.specs.Faults.{is_zero};
 ghost use Rattle.gt_resolve.specs.Shapes.{held_type};
 
 use crate::kinds::OptionKind;
-use crate::options::{has_length_option, has_skip};
+use crate::options::{has_atomic_option, has_length_option, has_skip};
 use crate::{CACHE_SHAPE, WRONG_PLACE};
 use gt_items::{RawOption, Stars};
 use gt_resolve::{BaseType, DeclaredType, DraftStructure};
@@ -137,12 +137,14 @@ fn is_sorted_base(counted: bool, base: &BaseType, stars: Stars) -> bool
     }
 }
 
-// What may be sorted in an image: a pointer to one structure, or to pointers with `length`.
+// What may be sorted in an image: a pointer to one structure, or to pointers with `length`; none whose block is never scanned.
 fn is_sorted(options: &[RawOption], ty: &DeclaredType) -> bool
     ensures { result ≡ is_sorted options.now ty.now }
 {
     let counted = has_length_option(options);
-    is_single(ty) && is_sorted_base(counted, &ty.resolved.base, ty.resolved.stars)
+    is_single(ty)
+        && is_sorted_base(counted, &ty.resolved.base, ty.resolved.stars)
+        && !has_atomic_option(options)
 }
 
 // ---- where options may stand

@@ -3,7 +3,8 @@ ghost use Rattle.std.specs.Prelude.{◌≡◌, ℕ, is_some, not};
 ghost use Rattle.gt_resolve.specs.Shapes.{is_nil};
 ghost use Rattle.gt_resolve.specs.declared.draft.Draft.{Draft};
 ghost use Rattle.gt_markers.specs.Expressions.{Names};
-ghost use Rattle.gt_markers.specs.Typing.{Says, says, of_elements, pointer_type, pointer_or_atomic, value_type, single_type, bits_type, walked_type};
+ghost use Rattle.gt_markers.specs.declared.type_options.TypeOptions.{TypeOptions};
+ghost use Rattle.gt_markers.specs.Typing.{says, of_elements, pointer_type, pointer_or_atomic, value_type, single_type, bits_type, walked_type};
 ghost use Rattle.gt_markers.specs.Walking.{AreOptionsOf};
 
 use crate::options::has_option;
@@ -19,7 +20,7 @@ pub struct PointerOptions {
 }
 
 fn is_pointer_walked(options: PointerOptions, base: &BaseType, stars: Stars) -> bool
-    ensures walked { (says : Says) → AreOptionsOf says options → result ≡ is_some (pointer_type says base.now stars) }
+    ensures walked { (says : TypeOptions) → AreOptionsOf says options → result ≡ is_some (pointer_type says base.now stars) }
 {
     match (base, stars) {
         (BaseType::Structure(_), Stars::One) => true,
@@ -32,14 +33,14 @@ fn is_pointer_walked(options: PointerOptions, base: &BaseType, stars: Stars) -> 
 }
 
 fn is_value_walked(base: &BaseType) -> bool
-    ensures walked { (draft : Draft) (says : Says) → result ≡ is_some (value_type draft says base.now) }
+    ensures walked { (draft : Draft) (says : TypeOptions) → result ≡ is_some (value_type draft says base.now) }
 {
     matches!(base, BaseType::Number { .. } | BaseType::Structure(_))
 }
 
 // Whether what is no array can be walked.
 fn is_single_walked(options: PointerOptions, ty: &DeclaredType) -> bool
-    ensures walked { (draft : Draft) (says : Says) → AreOptionsOf says options → result ≡ is_some (single_type draft says ty.now) }
+    ensures walked { (draft : Draft) (says : TypeOptions) → AreOptionsOf says options → result ≡ is_some (single_type draft says ty.now) }
 {
     if ty.is_function {
         return false;
@@ -69,7 +70,7 @@ fn pointer_options(options: &[RawOption]) -> PointerOptions
 
 // Of the elements of an array the options say nothing of pointers.
 fn options_of_elements() -> PointerOptions
-    ensures options { (says : Says) → AreOptionsOf (of_elements says) result }
+    ensures options { (says : TypeOptions) → AreOptionsOf (of_elements says) result }
 {
     PointerOptions {
         counted: false,

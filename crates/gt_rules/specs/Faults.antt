@@ -1,8 +1,7 @@
 -- The faults of options.
-use Rattle.std.specs.Prelude.{◌≡◌, ◌⊎◌, ℕ, true, false, codes, IsTrue, List, Option, Some, None, IsSome, slice_get, Contains, All}
+use Rattle.std.specs.Prelude.{◌≡◌, ◌⊎◌, ◌||◌, ℕ, true, false, if◌then◌else◌, codes, IsTrue, List, Option, Some, None, IsSome, slice_get, Contains, All}
 use Rattle.gt_types.specs.declared.expressions.Expr.{Expr}
 use Rattle.gt_types.specs.declared.faults.Fault.{Fault}
-use Rattle.gt_types.specs.declared.types.Target.TheVariants as target
 use Rattle.gt_types.specs.declared.types.Ty.{Ty}
 use Rattle.gt_types.specs.declared.types.Ty.TheVariants as ty
 use Rattle.gt_types.specs.declared.types.TypeId.{TypeId}
@@ -18,6 +17,11 @@ use Rattle.gt_expr.specs.declared.raw.RawExpr.{RawExpr}
 use Rattle.gt_items.specs.declared.items.Parameter.{Parameter}
 use Rattle.gt_items.specs.declared.items.Parameter.TheVariants.{Expression}
 use Rattle.gt_items.specs.declared.items.RawOption.{RawOption}
+use Rattle.gt_items.specs.declared.items.Stars.{Stars}
+use Rattle.gt_items.specs.declared.items.Stars.TheVariants.{One, Two}
+use Rattle.gt_resolve.specs.declared.types.BaseType.{BaseType}
+use Rattle.gt_resolve.specs.declared.types.BaseType.TheVariants.{Structure as StructureOf}
+use Rattle.gt_resolve.specs.declared.types.DeclaredType.{DeclaredType}
 use Rattle.gt_resolve.specs.declared.draft.Draft.{Draft}
 use Rattle.gt_resolve.specs.declared.draft.DraftCache.{DraftCache}
 use Rattle.gt_resolve.specs.declared.draft.DraftField.{DraftField}
@@ -28,8 +32,9 @@ use Rattle.gt_resolve.specs.Faults.{is_no_later}
 use Rattle.gt_markers.specs.declared.TheConstants.{WRONG_PLACE, MISSING_DESC, BAD_PATH, CHAIN_NOT_OWN_POINTER, CACHE_SHAPE}
 use Rattle.gt_markers.specs.Options.{kind_of, option_named}
 use Rattle.gt_markers.specs.Expressions.{Names, constants, constants_and_roots, names_in, with_names}
-use Rattle.gt_declare.specs.Programs.{chain_kind, path_places, key_type}
+use Rattle.gt_declare.specs.Programs.{IsMadeOf, chain_kind, path_places, key_type}
 use Rattle.gt_markers.specs.MarkerFaults.{draft_faults}
+use Rattle.gt_markers.specs.Typing.{node}
 
 -- ---- by the program
 
@@ -37,18 +42,28 @@ use Rattle.gt_markers.specs.MarkerFaults.{draft_faults}
 abbrev pub IsBareUnion : Program → TypeId → Type 0
 IsBareUnion program id = (s : Structure) × HasStructure program id s × (s.is_union ≡ true) × (s.desc ≡ None)
 
--- a union by value has no `desc` to be read with, or what is pointed to is a union without one of its own
+-- a union by value has no `desc` to be read with
 abbrev pub LacksDesc : Program → Ty → Type 0
 LacksDesc program (ty.Node id None) = (s : Structure) × HasStructure program id s × (s.is_union ≡ true)
-LacksDesc program (ty.Ptr (Some (target.Node id)) kind reorder) = IsBareUnion program id
-LacksDesc program (ty.Ptr (Some (target.Pointers id)) kind reorder) = IsBareUnion program id
 LacksDesc program type = ⊥
 
--- what is pointed to is an inner structure, which may not stand alone
-abbrev pub PointsToInner : Program → Ty → Type 0
-PointsToInner program (ty.Ptr (Some (target.Node id)) kind reorder) = IsInner program id
-PointsToInner program (ty.Ptr (Some (target.Pointers id)) kind reorder) = IsInner program id
-PointsToInner program type = ⊥
+-- the structure that a pointer, or a pointer to pointers, names by its declaration
+abbrev pub named_by : BaseType → Stars → Option ℕ
+named_by (StructureOf id) One = Some id
+named_by (StructureOf id) Two = Some id
+named_by base stars = None
+
+-- What pointers without `skip` name by their declarations, with `atomic` too: in the program an atomic pointer names no structure.
+abbrev pub names_node : List RawOption → DeclaredType → Option ℕ
+names_node options t = if has_skip options || t.is_function then None else named_by t.resolved.base t.resolved.stars
+
+-- what is named is a union without a `desc` of its own
+abbrev pub NamesBareUnion : Program → List RawOption → DeclaredType → Type 0
+NamesBareUnion program options t = (id : ℕ) × (names_node options t ≡ Some id) × IsBareUnion program (node id)
+
+-- what is named is an inner structure, which may not stand alone
+abbrev pub NamesInner : Program → List RawOption → DeclaredType → Type 0
+NamesInner program options t = (id : ℕ) × (names_node options t ≡ Some id) × IsInner program (node id)
 
 -- the parameter is an expression whose names all stand for something, and with what they stand for it is good
 pub record IsGood (names : Names) (good : Expr → Type 0) (parameter : Parameter) : Type 0 where
@@ -93,12 +108,16 @@ pub data HasProgramFault (draft : Draft) (program : Program) : Fault → Type 0 
   -- at the name: a union without `desc`, a pointer to an inner structure, a root of an inner type
   field_without_desc : {id : TypeId} {ds : DraftStructure} {df : DraftField} {f : Field} → IsFieldAt draft program id ds df f
       → LacksDesc program (innermost f.ty) → HasProgramFault draft program (fault MISSING_DESC ds.file df.name.at)
+  field_to_bare_union : {id : TypeId} {ds : DraftStructure} {df : DraftField} {f : Field} → IsFieldAt draft program id ds df f
+      → NamesBareUnion program df.options df.ty → HasProgramFault draft program (fault MISSING_DESC ds.file df.name.at)
   field_to_inner : {id : TypeId} {ds : DraftStructure} {df : DraftField} {f : Field} → IsFieldAt draft program id ds df f
-      → PointsToInner program (innermost f.ty) → HasProgramFault draft program (fault BAD_PATH ds.file df.name.at)
+      → NamesInner program df.options df.ty → HasProgramFault draft program (fault BAD_PATH ds.file df.name.at)
   root_without_desc : {dr : DraftRoot} {r : Root} → IsRootAt draft program dr r
       → LacksDesc program (innermost r.ty) → HasProgramFault draft program (fault MISSING_DESC dr.file dr.name.at)
+  root_to_bare_union : {dr : DraftRoot} {r : Root} → IsRootAt draft program dr r
+      → NamesBareUnion program dr.options dr.ty → HasProgramFault draft program (fault MISSING_DESC dr.file dr.name.at)
   root_to_inner : {dr : DraftRoot} {r : Root} → IsRootAt draft program dr r
-      → PointsToInner program (innermost r.ty) → HasProgramFault draft program (fault BAD_PATH dr.file dr.name.at)
+      → NamesInner program dr.options dr.ty → HasProgramFault draft program (fault BAD_PATH dr.file dr.name.at)
   root_of_inner : {dr : DraftRoot} {r : Root} {id : TypeId} → IsRootAt draft program dr r → held_by r.ty ≡ Some id → IsInner program id
       → HasProgramFault draft program (fault BAD_PATH dr.file dr.name.at)
   -- at the option: an expression that leads to nothing
@@ -131,11 +150,18 @@ pub data HasProgramFault (draft : Draft) (program : Program) : Fault → Type 0 
   cache_shape : {c : DraftCache} → Contains draft.caches c → ¬ (StandsAlone program (key_type c.key) × StandsAlone program (key_type c.value))
       → HasProgramFault draft program (fault CACHE_SHAPE c.file c.name.at)
 
--- the faults of a draft that declares this program
+-- the faults of a draft of which this program is made
 abbrev pub HasFault : Draft → Program → Fault → Type 0
 HasFault draft program f = Contains (draft_faults draft) f ⊎ HasProgramFault draft program f
 
--- of some faults the first: the one at the earliest place, and of those at one place the one with the lowest number
-pub record IsFirstOf (has : Fault → Type 0) (f : Fault) : Type 0 where
-  pub there : has f
-  pub first : (other : Fault) → has other → IsTrue (is_no_later f other)
+-- a draft declares the program that is made of it, where it has no fault
+pub record Declares (draft : Draft) (program : Program) : Type 0 where
+  pub made : IsMadeOf draft program
+  pub faultless : (f : Fault) → ¬ HasFault draft program f
+
+-- the first fault of a draft: the one at the earliest place, and of those at one place the one with the lowest number
+pub record IsFirstFault (draft : Draft) (f : Fault) : Type 0 where
+  pub program : Program
+  pub made : IsMadeOf draft program
+  pub there : HasFault draft program f
+  pub first : (other : Fault) → HasFault draft program other → IsTrue (is_no_later f other)

@@ -1,0 +1,20 @@
+// Names of typedefs that mean structures.
+ghost use Rattle.std.specs.Prelude.{◌≡◌, ◌<◌, ◌^◌, IfOk};
+ghost use Rattle.gt_declare.specs.Programs.{word_of};
+
+use gt_resolve::DraftWord;
+use gt_types::{Copied, TypeWord};
+use gt_typing::node;
+use std::alloc::{AllocError, Global};
+
+/// A name of a typedef, as the program has it. It answers want of memory alone.
+pub fn word_of(alloc: Global, word: &DraftWord) -> Result<TypeWord, AllocError>
+    requires small { word.now.id < 2 ^ 32 }
+    ensures made { IfOk result (λ made. made ≡ word_of word.now) }
+{
+    Ok(TypeWord {
+        name: word.name.copy(alloc)?,
+        pointer: word.pointer,
+        id: node(word.id),
+    })
+}

@@ -1,0 +1,164 @@
+// The faults of structures and of their fields.
+ghost use Rattle.std.specs.Prelude.{◌≡◌, ◌&&◌, ◌∷◌, ◌++◌, [], IfOk, OnOk, List};
+ghost use Rattle.gt_types.specs.declared.program.Active.{Active};
+ghost use Rattle.gt_markers.specs.Actives.{active_of};
+ghost use Rattle.gt_markers.specs.FirstFaults.{first_from};
+ghost use Rattle.gt_markers.specs.Lookups.{IsLookupOf};
+ghost use Rattle.gt_markers.specs.MarkerFaults.{active_option, field_faults, fields_faults, is_unmarked, repeated_faults, structure_faults};
+ghost use Rattle.gt_markers.specs.Members.{AreMembers, own_faults};
+
+use crate::earliest::with_fault;
+use crate::field_faults::is_untyped;
+use crate::lookups::Lookup;
+use crate::marker_faults::{Marker, of_marker};
+use crate::members::{Members, active_of, active_option};
+use crate::options::{has_option, has_skip};
+use crate::sites::Site;
+use crate::{DUPLICATE_TAG, MISSING_DESC, WRONG_PLACE};
+use gt_items::RawOption;
+use gt_resolve::{Draft, DraftField, DraftStructure};
+use gt_types::{Active, Fault};
+use std::alloc::{AllocError, Global};
+
+// A field of a structure, which is its last or not.
+#[derive(Clone, Copy)]
+struct Member<'a> {
+    structure: &'a DraftStructure,
+    field: &'a DraftField,
+    last: bool,
+}
+
+// Whether it is a member of a union, and has neither a tag, nor `default`, nor `skip`.
+fn is_unmarked(in_union: bool, options: &[RawOption]) -> bool
+    ensures unmarked { result ≡ (in_union && is_unmarked options.now) }
+{
+    in_union && !(has_option(options, "tag") || has_option(options, "default") || has_skip(options))
+}
+
+// The earliest fault with those of a field that do not rest on the fields before it.
+fn of_own(
+    alloc: Global,
+    earliest: Option<Fault>,
+    draft: &Draft,
+    lookup: &Lookup,
+    member: Member,
+) -> Result<Option<Fault>, AllocError>
+    requires lookup { IsLookupOf draft.now lookup.now }
+    ensures earliest { IfOk result (λ r. r ≡ first_from earliest (own_faults draft.now member.entry.structure.now member.entry.last member.entry.field.now)) }
+{
+    let structure = member.structure;
+    let field = member.field;
+    let options = field.options.as_slice();
+    let site = Site::Field {
+        in_union: structure.is_union,
+        last: member.last,
+        ty: &field.ty,
+    };
+    let marker = Marker {
+        site,
+        file: structure.file,
+        options,
+    };
+    let earliest = of_marker(alloc, earliest, draft, lookup, marker)?;
+    let at = field.name.at;
+    let untyped = is_untyped(options, &field.ty);
+    let earliest = with_fault(earliest, untyped, WRONG_PLACE, structure.file, at);
+    let unmarked = is_unmarked(structure.is_union, options);
+    Ok(with_fault(earliest, unmarked, MISSING_DESC, structure.file, at))
+}
+
+// The earliest fault with that of a field which is active at once with one before it.
+fn of_repeated(
+    earliest: Option<Fault>,
+    before: &Members,
+    file: u32,
+    active: Active,
+    options: &[RawOption],
+) -> Option<Fault>
+    ensures earliest { (actives : List Active) → AreMembers actives before.now → result ≡ first_from earliest (repeated_faults actives file active (active_option active options.now)) }
+{
+    match active_option(active, options) {
+        Some(option) => {
+            let repeated = before.hold(active);
+            with_fault(earliest, repeated, DUPLICATE_TAG, file, option.name.at)
+        }
+        None => earliest,
+    }
+}
+
+// The earliest fault with those of a field, which is added to those before it.
+fn of_field(
+    alloc: Global,
+    earliest: Option<Fault>,
+    draft: &Draft,
+    lookup: &Lookup,
+    before: &mut Members,
+    member: Member,
+) -> Result<Option<Fault>, AllocError>
+    requires lookup { IsLookupOf draft.now lookup.now }
+    ensures earliest { IfOk result (λ r. (actives : List Active) → AreMembers actives before.old → r ≡ first_from earliest (field_faults draft.now member.entry.structure.now actives member.entry.last member.entry.field.now)) }
+    ensures members { OnOk result ((actives : List Active) → AreMembers actives before.old → AreMembers (actives ++ active_of draft.now member.entry.structure.now.is_union member.entry.field.now.options ∷ []) before.new) }
+{
+    let structure = member.structure;
+    let options = member.field.options.as_slice();
+    let earliest = of_own(alloc, earliest, draft, lookup, member)?;
+    let active = active_of(alloc, lookup, structure.is_union, options)?;
+    let earliest = of_repeated(earliest, before, structure.file, active, options);
+    before.add(active)?;
+    Ok(earliest)
+}
+
+// The earliest fault with those of the fields of a structure.
+fn of_fields(
+    alloc: Global,
+    earliest: Option<Fault>,
+    draft: &Draft,
+    lookup: &Lookup,
+    structure: &DraftStructure,
+    fields: &[DraftField],
+) -> Result<Option<Fault>, AllocError>
+    requires lookup { IsLookupOf draft.now lookup.now }
+    ensures earliest { IfOk result (λ r. r ≡ first_from earliest (fields_faults draft.now structure.now [] fields.now)) }
+{
+    let mut earliest = earliest;
+    let mut before = Members::new(alloc);
+    for (place, field) in fields.iter().enumerate() {
+        let last = place + 1 == fields.len();
+        let member = Member {
+            structure,
+            field,
+            last,
+        };
+        earliest = of_field(alloc, earliest, draft, lookup, &mut before, member)?;
+    }
+    Ok(earliest)
+}
+
+/// The earliest fault with those of a structure and of its fields. It answers want of memory alone.
+pub fn of_structure(
+    alloc: Global,
+    earliest: Option<Fault>,
+    draft: &Draft,
+    lookup: &Lookup,
+    structure: &DraftStructure,
+) -> Result<Option<Fault>, AllocError>
+    requires lookup { IsLookupOf draft.now lookup.now }
+    ensures earliest { IfOk result (λ r. r ≡ first_from earliest (structure_faults draft.now structure.now)) }
+{
+    let marker = Marker {
+        site: Site::Structure {
+            is_union: structure.is_union,
+        },
+        file: structure.file,
+        options: structure.options.as_slice(),
+    };
+    let earliest = of_marker(alloc, earliest, draft, lookup, marker)?;
+    of_fields(
+        alloc,
+        earliest,
+        draft,
+        lookup,
+        structure,
+        structure.fields.as_slice(),
+    )
+}
