@@ -1,0 +1,6 @@
+pub mod Reached
+pub mod Marks
+pub mod Rounds
+pub mod Chains
+pub mod Steps
+pub mod Wide

@@ -1,0 +1,155 @@
+-- What the marker is while it works. Only the functions inside the crate cite this; it promises nothing.
+use Rattle.std.specs.Prelude.{◌≡◌, ◌≢◌, ◌⊎◌, ◌≤◌, ◌<◌, ◌+◌, ◌*◌, ◌^◌, ℕ, Bool, true, false, List, [], ◌∷◌, ◌++◌, length, map, count_by, Option, Some, None, option_map, is_some, IsTrue, IfSome, Contains, All}
+use Rattle.gt_space.specs.Range.{Range}
+use Rattle.gt_entries.specs.declared.marks.Mark.{Mark}
+use Rattle.gt_entries.specs.Cells.{has_pending}
+use Rattle.gt_pages.specs.Slots.{Slot, StartsSome, is_unmarked, mark_at, new_mark, with_mark, with_mark_at}
+use Rattle.gt_pages.specs.Contents.{Contents, Rises, with_slots}
+use Rattle.gt_walk.specs.declared.tables.Tables.{Tables}
+use Rattle.gt_walk.specs.Rows.{Edge}
+use Rattle.gt_mark.specs.declared.stack.Block.{Block}
+use Rattle.gt_mark.specs.declared.stack.TheConstants.{MOST_BLOCKS}
+use Rattle.gt_mark.specs.declared.marker.Marker.{Marker}
+use Rattle.gt_mark.specs.Reached.{Walks, CanMark, IsReached, block_edges, own_mark}
+
+-- what the marker holds
+pub record State : Type 0 where
+  pub pages : Contents
+  pub stack : List Block
+  pub overflowed : Bool
+  pub chain : Option ℕ
+  pub next : Option Block
+
+abbrev pub state_of : Marker → State
+state_of m = record { pages = m.pages.now; stack = m.stack.items; overflowed = m.overflowed; chain = m.chain; next = m.next }
+
+-- a marker that has taken no edge
+abbrev pub start_state : Contents → State
+start_state pages = record { pages = pages; stack = []; overflowed = false; chain = None; next = None }
+
+-- ---- one edge
+
+-- the block that an edge names
+abbrev pub block_in : Edge → Block
+block_in e = record { addr = e.target; walk = e.walk; count = e.count }
+
+-- the pages with the target marked, which is still to be walked
+abbrev pub marked_pages : Contents → Edge → Contents
+marked_pages pages e = with_slots pages (with_mark_at pages.slots e.target (Some (new_mark e.walk e.count)))
+
+-- the block is the next of the chain
+pub record IsNext (old : State) (e : Edge) (new : State) : Type 0 where
+  pub free : old.next ≡ None
+  pub place : old.chain ≡ Some e.place
+  pub result : new ≡ record old { pages = marked_pages old.pages e; next = Some (block_in e) }
+
+-- the block is on the stack, since the chain pointer does not lie there, or named another block already
+pub record IsPushed (old : State) (e : Edge) (new : State) : Type 0 where
+  pub aside : old.next ≡ None → old.chain ≢ Some e.place
+  pub room : length old.stack < MOST_BLOCKS
+  pub result : new ≡ record old { pages = marked_pages old.pages e; stack = old.stack ++ block_in e ∷ [] }
+
+-- the stack, onto which it would have to come for the same reason, has no room for it
+pub record IsLost (old : State) (e : Edge) (new : State) : Type 0 where
+  pub aside : old.next ≡ None → old.chain ≢ Some e.place
+  pub full : length old.stack ≡ MOST_BLOCKS
+  pub result : new ≡ record old { pages = marked_pages old.pages e; overflowed = true }
+
+-- a target that is marked changes nothing; another is marked and kept
+pub data TakesEdge (old : State) (e : Edge) (new : State) : Type 0 where
+  known : mark_at old.pages.slots e.target ≢ None → new ≡ old → TakesEdge old e new
+  next : mark_at old.pages.slots e.target ≡ None → IsNext old e new → TakesEdge old e new
+  pushed : mark_at old.pages.slots e.target ≡ None → IsPushed old e new → TakesEdge old e new
+  lost : mark_at old.pages.slots e.target ≡ None → IsLost old e new → TakesEdge old e new
+
+-- what an edge leaves of the marker; its place is an address
+pub record Leaves (old : Marker) (e : Edge) (new : Marker) : Type 0 where
+  pub small : e.place < 2 ^ 64
+  pub same_reference : new.pages.ghost_name ≡ old.pages.ghost_name
+  pub step : TakesEdge (state_of old) e (state_of new)
+
+-- ---- the whole work
+
+-- what is to be marked: from where, and in which pages
+pub record Task (tables : Tables) (space : Range) : Type 0 where
+  pub walks : Walks
+  pub starts : List ℕ
+  pub before : Contents
+  pub can : CanMark tables space walks before.slots starts
+  pub rises : Rises before.slots
+  pub positive : (s : Slot) → Contains before.slots s → 0 < s.address
+
+-- the block with the mark of its address
+abbrev pub remarked : (ℕ → Option Mark) → Slot → Slot
+remarked marks s = with_mark (marks s.address) s
+
+module _ {tables : Tables} {space : Range} (t : Task tables space) where
+  -- a block that was not marked is reached, and has its own walk and count
+  pub record IsNew (address : ℕ) (mark : Option Mark) : Type 0 where
+    pub unmarked : mark_at t.before.slots address ≡ None
+    pub reached : IsReached tables space t.walks t.starts address
+    pub pending : Bool
+    pub is : mark ≡ Some (record { walk = (t.walks address).walk; count = (t.walks address).count; pending = pending })
+
+  -- a block that is reached, with its own walk and count
+  pub record Fits (b : Block) : Type 0 where
+    pub starts : StartsSome t.before.slots b.addr
+    pub reached : IsReached tables space t.walks t.starts b.addr
+    pub walk : b.walk ≡ (t.walks b.addr).walk
+    pub count : b.count ≡ (t.walks b.addr).count
+
+-- the pass has not come to the address
+abbrev pub IsAbove : Option ℕ → ℕ → Type 0
+IsAbove None address = ⊥
+IsAbove (Some after) address = after < address
+
+-- where a block is that is still to be walked
+abbrev pub Waits : Option ℕ → State → ℕ → Type 0
+Waits pass st address = ((b : Block) × Contains st.stack b × (b.addr ≡ address)) ⊎ (option_map (λ b. b.addr) st.next ≡ Some address) ⊎ (st.overflowed ≡ true) ⊎ IsAbove pass address
+
+-- What holds while the marker works: targets that were taken are marked; of one block the edges are being taken; one that is to be
+-- walked is held; and a pass has come to an address.
+pub record Good {tables : Tables} {space : Range} (t : Task tables space) (begun : List ℕ) (opened held pass : Option ℕ) (st : State) : Type 0 where
+  pub marks : ℕ → Option Mark
+  pub pages : st.pages ≡ with_slots t.before (map (remarked marks) t.before.slots)
+  pub status : (a : ℕ) → (marks a ≡ mark_at t.before.slots a) ⊎ IsNew t a (marks a)
+  pub closed : (a : ℕ) (e : Edge) → opened ≢ Some a → marks a ≡ Some (own_mark t.walks a) → Contains (block_edges tables space t.walks a) e → IsTrue (is_some (marks e.target))
+  pub waits : (a : ℕ) → StartsSome t.before.slots a → has_pending (marks a) ≡ true → (held ≡ Some a) ⊎ Waits pass st a
+  pub fit : All (Fits t) st.stack
+  pub next : IfSome st.next (Fits t)
+  pub began : (a : ℕ) → Contains begun a → IsTrue (is_some (marks a))
+
+-- the marker has this block in hand, and no next one
+pub record Holds {tables : Tables} {space : Range} (t : Task tables space) (begun : List ℕ) (hand : Option Block) (pass : Option ℕ) (st : State) : Type 0 where
+  pub good : Good t begun None (option_map (λ b. b.addr) hand) pass st
+  pub idle : st.next ≡ None
+  pub unchained : st.chain ≡ None
+  pub fits : IfSome hand (Fits t)
+
+-- how much is left to do: two for each unmarked block, and one for each that waits
+abbrev pub left : State → ℕ
+left st = 2 * count_by is_unmarked st.pages.slots + length st.stack
+
+abbrev pub one_if : Bool → ℕ
+one_if true = 1
+one_if false = 0
+
+-- nothing is marked but what lessens the work, and what is lost is newly marked
+pub record Lessens (old new : State) (more : ℕ) : Type 0 where
+  pub left : left new + more ≤ left old
+  pub lost : count_by is_unmarked new.pages.slots + one_if new.overflowed ≤ count_by is_unmarked old.pages.slots + one_if old.overflowed
+
+-- the marker went on from one block in hand to another
+pub record Goes {tables : Tables} {space : Range} (t : Task tables space) (begun : List ℕ) (hand : Option Block) (pass : Option ℕ) (old new : State) : Type 0 where
+  pub holds : Holds t begun hand pass new
+  pub lessens : Lessens old new (one_if (is_some hand))
+
+-- the marker is done after so many rounds
+pub record Ends {tables : Tables} {space : Range} (t : Task tables space) (begun : List ℕ) (rounds : ℕ) (old new : State) : Type 0 where
+  pub holds : Holds t begun None None new
+  pub rounds_are : rounds + count_by is_unmarked new.pages.slots + one_if new.overflowed ≤ 1 + count_by is_unmarked old.pages.slots + one_if old.overflowed
+
+-- the targets of edges, and others
+abbrev pub with_targets : List Edge → List ℕ → List ℕ
+with_targets [] begun = begun
+with_targets (e ∷ es) begun = with_targets es (e.target ∷ begun)
