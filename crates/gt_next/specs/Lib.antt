@@ -1,0 +1,11 @@
+pub mod States
+pub mod Kinds
+pub mod Spots
+pub mod Paths
+pub mod Leaves
+pub mod Making
+pub mod Texts
+pub mod Caching
+pub mod Collecting
+pub mod Next
+pub mod Laws

@@ -1,0 +1,22 @@
+//! The typed-object machine over values of every type: what a command answers and leaves. These are definitions alone, with the
+//! types of answers that they speak of; no contract cites them yet.
+#![tactic(auto)]
+
+mod answer;
+
+pub use answer::{Answer, Why};
+
+/// The most bytes of a block.
+pub const MAX_BLOCK: u32 = 1048576;
+
+/// The most hundredths by which a heap may grow before a collection.
+pub const MAX_MIN_EXPAND: u32 = 1000;
+
+/// The most units of 1,024 bytes below which a heap counts as so large.
+pub const MAX_MIN_HEAPSIZE: u32 = 1048576;
+
+/// The most bytes that all blocks together can have.
+pub const MAX_ALLOCATED: u64 = 67108864;
+
+/// The most variables that are bound at one time.
+pub const MAX_VARIABLES: usize = 65536;
