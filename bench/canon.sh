@@ -2,16 +2,9 @@
 # Writes the canonical text of a program of 4,096 structures of 1,024 fields and of one of 409 such structures, and compares the
 # times. Run by hand, from any folder; the ratio should stay under 12. The program that does it is written and built in a copy of
 # the crates that it needs.
-set -eu
-root=$(cd "$(dirname "$0")/.." && pwd)
-work=$(mktemp -d)
-trap 'rm -rf "$work"' EXIT
-names='gt_types gt_digits gt_canon'
+. "$(dirname "$0")/shared.sh"
 mkdir -p "$work/crates/write_canon/src"
-for name in $names; do
-  (cd "$root/crates" && tar -c --exclude=out "$name") | tar -x -C "$work/crates"
-  grep "^$name:" "$root/crates.txt" >>"$work/crates.txt"
-done
+copy_crates gt_types gt_digits gt_canon
 echo 'write_canon: gt_types gt_canon' >>"$work/crates.txt"
 cat >"$work/crates/write_canon/src/main.rt" <<'RT'
 //! Makes a program of as many structures as the first line says, each of 1,024 fields, and as many canonical texts of it as the
@@ -96,9 +89,9 @@ fn main(rt: HostRuntime) -> io::Result<()> {
     println!(rt; "{bytes}")
 }
 RT
-for name in $names; do (cd "$work/crates/$name" && rt lib) >"$work/log" 2>&1 || { cat "$work/log" >&2; exit 2; }; done
+build_copied gt_types gt_digits gt_canon
 printf '1\n1\n' >"$work/crates/write_canon/stdin"
-(cd "$work/crates/write_canon" && rt run) >"$work/log" 2>&1 || { cat "$work/log" >&2; exit 2; }
+(cd "$work/crates/write_canon" && quiet rt run)
 program=$work/crates/write_canon/out/write_canon
 
 # The processor time of the best of five runs: so many structures, and so many texts. All texts are kept, so that both sizes

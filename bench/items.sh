@@ -1,16 +1,9 @@
 #!/usr/bin/env bash
 # Reads headers of 1 MB and of a tenth of that up to their items, and compares the times. Run by hand, from any folder; each
 # ratio should stay under 12. The program that reads them is written and built in a copy of the crates that it needs.
-set -eu
-root=$(cd "$(dirname "$0")/.." && pwd)
-work=$(mktemp -d)
-trap 'rm -rf "$work"' EXIT
-names='gt_types gt_text gt_io gt_lex gt_expr gt_parse'
+. "$(dirname "$0")/shared.sh"
 mkdir -p "$work/crates/read_items/src"
-for name in $names; do
-  (cd "$root/crates" && tar -c --exclude=out "$name") | tar -x -C "$work/crates"
-  grep "^$name:" "$root/crates.txt" >>"$work/crates.txt"
-done
+copy_crates gt_types gt_text gt_io gt_lex gt_expr gt_items gt_parse
 echo 'read_items: gt_types gt_io gt_lex gt_parse' >>"$work/crates.txt"
 cat >"$work/crates/read_items/src/main.rt" <<'END'
 //! Reads the header `header.h` up to its items.
@@ -48,9 +41,9 @@ fn main(rt: HostRuntime) -> ExitCode {
     items(alloc, bytes.as_slice())
 }
 END
-for name in $names; do (cd "$work/crates/$name" && rt lib) >"$work/log" 2>&1 || { cat "$work/log" >&2; exit 2; }; done
+build_copied gt_types gt_text gt_io gt_lex gt_expr gt_items gt_parse
 echo >"$work/crates/read_items/header.h"
-(cd "$work/crates/read_items" && rt run) >"$work/log" 2>&1 || { cat "$work/log" >&2; exit 2; }
+(cd "$work/crates/read_items" && quiet rt run)
 program=$work/crates/read_items/out/read_items
 
 # So many times the text, in which N is the number of the turn.

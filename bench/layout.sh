@@ -2,11 +2,8 @@
 # Lays out 4,096 structures of 1,024 fields, a quarter of them, and a chain of 32 structures one inside another, and compares
 # the times, reading included. Run by hand, from any folder, after `rt run` in crates/layout_table, whose program it takes. The
 # ratio should stay under 5.
-set -eu
-root=$(cd "$(dirname "$0")/.." && pwd)
+. "$(dirname "$0")/shared.sh"
 table=$root/crates/layout_table/out/layout_table
-work=$(mktemp -d)
-trap 'rm -rf "$work"' EXIT
 
 rows() { # structures fields
   awk -v structures="$1" -v fields="$2" 'BEGIN {

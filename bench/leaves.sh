@@ -3,11 +3,8 @@
 # and once of 65,536. The time that N writes take is that of a run with N less that of a run without one. Run by hand, from any folder.
 # A write takes O(path), whatever the size of the block: the two arrays should cost the same, and ten times the writes ten times as much.
 # On a busy machine a million writes took 0.1 s, 8.8 times as long as 100,000, and 1.08 times as long in the larger array.
-set -eu
-root=$(cd "$(dirname "$0")/.." && pwd)
-work=$(mktemp -d)
-trap 'rm -rf "$work"' EXIT
-(cd "$root/crates/leaf_table" && rt run </dev/null) >"$work/log" 2>&1 || { cat "$work/log" >&2; exit 2; }
+. "$(dirname "$0")/shared.sh"
+(cd "$root/crates/leaf_table" && quiet rt run </dev/null)
 cp "$root/crates/leaf_table/out/leaf_table" "$work/leaf_table"
 # The seconds that WRITES writes take in an array of ELEMENTS, with what lies around them.
 seconds() {

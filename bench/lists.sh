@@ -1,10 +1,7 @@
 #!/usr/bin/env bash
 # Makes a list of 15,000 objects and one of 30,000, which a collection goes along, and compares the times. Run by hand, from
 # any folder; the ratio should stay under 3.
-set -eu
-root=$(cd "$(dirname "$0")/.." && pwd)
-work=$(mktemp -d)
-trap 'rm -rf "$work"' EXIT
+. "$(dirname "$0")/shared.sh"
 cp "$root/examples/node.h" "$work/node.h"
 for n in 15000 30000; do
   {

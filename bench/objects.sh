@@ -1,9 +1,6 @@
 #!/usr/bin/env bash
 # Makes 32,768 and 65,536 objects and compares the times. Run by hand, from any folder; the ratio should stay under 3.
-set -eu
-root=$(cd "$(dirname "$0")/.." && pwd)
-work=$(mktemp -d)
-trap 'rm -rf "$work"' EXIT
+. "$(dirname "$0")/shared.sh"
 cp "$root/examples/node.h" "$work/node.h"
 for n in 32768 65536; do
   for ((i = 0; i < n; i++)); do echo "new \$v$i node"; done >"$work/$n.gty"

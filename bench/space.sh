@@ -2,10 +2,7 @@
 # Times the calls of a space on its block of raw memory and on the vector that stood in its place before, and moves of 64 MiB
 # beside the memmove of the C library. Run by hand, from any folder; no call should be slower on the block, and a move should
 # take about as long as memmove. Both bodies, with the one program that times them, are proved and built in a temporary folder.
-set -eu
-root=$(cd "$(dirname "$0")/.." && pwd)
-work=$(mktemp -d)
-trap 'rm -rf "$work"' EXIT
+. "$(dirname "$0")/shared.sh"
 for body in block vector; do
   mkdir -p "$work/$body/crates/time_space/src"
   (cd "$root/crates" && tar -c --exclude=out --exclude=must-fail gt_space) | tar -x -C "$work/$body/crates"
@@ -262,8 +259,8 @@ for body in block vector; do
   for call in write_u64 fill copy_in move_within move_all; do mkdir -p "$program/proofs/$call"; done
   for call in write_u64 fill copy_in move_within; do invariant $call invariant-loop-i '268435456 131072' >"$program/proofs/$call/Invariants.antt"; done
   invariant move_all invariant-loop '268431360 67112960' >"$program/proofs/move_all/Invariants.antt"
-  (cd "$work/$body/crates/gt_space" && rt lib) >"$work/log" 2>&1 || { cat "$work/log" >&2; exit 2; }
-  (cd "$program" && rt run -- none) >"$work/log" 2>&1 || { cat "$work/log" >&2; exit 2; }
+  (cd "$work/$body/crates/gt_space" && quiet rt lib)
+  (cd "$program" && quiet rt run -- none)
   cp "$program/out/time_space" "$work/time_$body"
 done
 cat >"$work/memmove.c" <<'END'

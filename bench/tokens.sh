@@ -1,16 +1,9 @@
 #!/usr/bin/env bash
 # Cuts headers of 1 MB and of a tenth of that into tokens, and compares the times. Run by hand, from any folder; each
 # ratio should stay under 12. The program that reads them is written and built in a copy of the crates that it needs.
-set -eu
-root=$(cd "$(dirname "$0")/.." && pwd)
-work=$(mktemp -d)
-trap 'rm -rf "$work"' EXIT
-names='gt_types gt_text gt_io gt_lex'
+. "$(dirname "$0")/shared.sh"
 mkdir -p "$work/crates/read_tokens/src"
-for name in $names; do
-  (cd "$root/crates" && tar -c --exclude=out "$name") | tar -x -C "$work/crates"
-  grep "^$name:" "$root/crates.txt" >>"$work/crates.txt"
-done
+copy_crates gt_types gt_text gt_io gt_lex
 echo 'read_tokens: gt_types gt_io gt_lex' >>"$work/crates.txt"
 cat >"$work/crates/read_tokens/src/main.rt" <<'END'
 //! Says how many tokens the header `header.h` has.
@@ -36,9 +29,9 @@ fn main(rt: HostRuntime) -> ExitCode {
     }
 }
 END
-for name in $names; do (cd "$work/crates/$name" && rt lib) >"$work/log" 2>&1 || { cat "$work/log" >&2; exit 2; }; done
+build_copied gt_types gt_text gt_io gt_lex
 echo >"$work/crates/read_tokens/header.h"
-(cd "$work/crates/read_tokens" && rt run) >"$work/log" 2>&1 || { cat "$work/log" >&2; exit 2; }
+(cd "$work/crates/read_tokens" && quiet rt run)
 program=$work/crates/read_tokens/out/read_tokens
 
 # A header of so many bytes, the word again and again.

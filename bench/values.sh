@@ -2,11 +2,8 @@
 # Times zero, a write, showing, storing, reading back and showing again of one value, by the program value_table: a structure that
 # ends in N pointers, with ten times as many from run to run. Run by hand, from any folder; ten times the size should cost about ten
 # times: the last step, whose values no longer fit the caches, took 12.4 to 13.2 times on a busy machine.
-set -eu
-root=$(cd "$(dirname "$0")/.." && pwd)
-work=$(mktemp -d)
-trap 'rm -rf "$work"' EXIT
-(cd "$root/crates/value_table" && rt run </dev/null) >"$work/log" 2>&1 || { cat "$work/log" >&2; exit 2; }
+. "$(dirname "$0")/shared.sh"
+(cd "$root/crates/value_table" && quiet rt run </dev/null)
 cp "$root/crates/value_table/out/value_table" "$work/value_table"
 # So many rows, each of a structure with N pointers at its end.
 rows() { awk -v rows="$1" -v n="$2" 'BEGIN {

@@ -2,10 +2,7 @@
 # Binds 50,000 variables and then answers `set` and `get` lines over them, 475,000 and twice as many, and compares the times
 # behind those of the bindings alone. All fills the 1,000,000 commands that a script may have. Run by hand, from any folder; the
 # ratio should stay under 2.5.
-set -eu
-root=$(cd "$(dirname "$0")/.." && pwd)
-work=$(mktemp -d)
-trap 'rm -rf "$work"' EXIT
+. "$(dirname "$0")/shared.sh"
 cp "$root/examples/node.h" "$work/node.h"
 
 # 50,000 new variables, and so many lines by turns `set` and `get`, over variables that are far apart.

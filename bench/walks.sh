@@ -4,17 +4,10 @@
 # visits of tails of 6,554 and of 65,536 pointers. Run by hand, from any folder. The nodes should take at most four times the loop
 # that calls: they took 1.1 to 1.4 times that one, and 5 to 7 times the other. The second tail should take about ten times the first.
 # The program that visits is proved and built in a copy of the crates that it needs.
-set -eu
-root=$(cd "$(dirname "$0")/.." && pwd)
-work=$(mktemp -d)
-trap 'rm -rf "$work"' EXIT
-names='gt_types gt_layout gt_space gt_tree gt_unions gt_value gt_walk'
+. "$(dirname "$0")/shared.sh"
 program=$work/crates/time_walks
 mkdir -p "$program/src" "$program/proofs/visit_times"
-for name in $names; do
-  (cd "$root/crates" && tar -c --exclude=out --exclude=must-fail "$name") | tar -x -C "$work/crates"
-  grep "^$name:" "$root/crates.txt" >>"$work/crates.txt"
-done
+copy_crates gt_types gt_layout gt_space gt_tree gt_unions gt_value gt_walk
 echo 'time_walks: gt_types gt_space gt_walk' >>"$work/crates.txt"
 cat >"$program/proofs/visit_times/Answers.antt" <<'END'
 use Rattle.gt_space.specs.declared.TheConstants.{HEAP_START}
@@ -234,7 +227,7 @@ int main(int argc, char **argv) {
 END
 gcc -O2 -o "$work/walks" "$work/walks.c"
 : >"$program/stdin"
-(cd "$program" && rt run -- nodes 1 1) >"$work/log" 2>&1 || { cat "$work/log" >&2; exit 2; }
+(cd "$program" && quiet rt run -- nodes 1 1)
 
 # The processor time of the best of nine runs, for one visit.
 seconds() {

@@ -2,10 +2,7 @@
 # Reads scripts of 1,000,000 lines and 32 MB, and such of half as many lines, and compares the times. Run by hand, from any
 # folder; each ratio should stay under 2.5. In `padded` and `comments` the commands run too; `refused` ends with a line that is
 # no command, so that all is read and nothing runs.
-set -eu
-root=$(cd "$(dirname "$0")/.." && pwd)
-work=$(mktemp -d)
-trap 'rm -rf "$work"' EXIT
+. "$(dirname "$0")/shared.sh"
 cp "$root/examples/node.h" "$work/node.h"
 echo '@print head' >"$work/small"
 "$root/gtyheap" "$work/small" "$work/node.h"

@@ -3,16 +3,9 @@
 # words and interns the names, and compares the times: the ratio should stay under 2. Then it reads scripts that are made to take
 # memory, and says how much of what is allowed, eight times the bytes of the script and 64 MiB, each takes at the most: all should
 # stay under 1. Run by hand, from any folder. The program around gt_script is written and built in a copy of the crates that it needs.
-set -eu
-root=$(cd "$(dirname "$0")/.." && pwd)
-work=$(mktemp -d)
-trap 'rm -rf "$work"' EXIT
-names='gt_types gt_text gt_script'
+. "$(dirname "$0")/shared.sh"
 mkdir -p "$work/crates/read_script/src"
-for name in $names; do
-  (cd "$root/crates" && tar -c --exclude=out "$name") | tar -x -C "$work/crates"
-  grep "^$name:" "$root/crates.txt" >>"$work/crates.txt"
-done
+copy_crates gt_types gt_text gt_script
 echo 'read_script: gt_script' >>"$work/crates.txt"
 cat >"$work/crates/read_script/src/main.rt" <<'RT'
 //! Reads a script and says how many commands it has.
@@ -163,30 +156,11 @@ int main (void)
   return 0;
 }
 C
-cat >"$work/spent.c" <<'C'
-/* Runs a program over a file as its input, and says how many seconds of the processor it took, and how many KiB it had at the most. */
-#include <stdio.h>
-#include <stdlib.h>
-#include <sys/resource.h>
-#include <sys/wait.h>
-#include <unistd.h>
-
-int main (int argc, char **argv)
-{
-  if (argc < 3 || !freopen (argv[1], "r", stdin)) return 2;
-  pid_t child = fork ();
-  if (!child) { execv (argv[2], argv + 2); _exit (127); }
-  int status; struct rusage used;
-  if (wait4 (child, &status, 0, &used) < 0 || !WIFEXITED (status) || WEXITSTATUS (status)) return 3;
-  fprintf (stderr, "%.4f %ld\n", used.ru_utime.tv_sec + used.ru_stime.tv_sec + (used.ru_utime.tv_usec + used.ru_stime.tv_usec) / 1e6, used.ru_maxrss);
-  return 0;
-}
-C
 cc -O2 -o "$work/reader" "$work/reader.c"
-cc -O2 -o "$work/spent" "$work/spent.c"
-for name in $names; do (cd "$work/crates/$name" && rt lib) >"$work/log" 2>&1 || { cat "$work/log" >&2; exit 2; }; done
+build_spent
+build_copied gt_types gt_text gt_script
 printf 'heap\n' >"$work/crates/read_script/stdin"
-(cd "$work/crates/read_script" && rt run) >"$work/log" 2>&1 || { cat "$work/log" >&2; exit 2; }
+(cd "$work/crates/read_script" && quiet rt run)
 program=$work/crates/read_script/out/read_script
 
 # Seconds of the processor that a reader takes for a script, at the best of five runs, beyond those for one whose first line is refused.

@@ -1,0 +1,261 @@
+#!/usr/bin/env bash
+# Makes blocks in pages and collects them, beside a small allocator in C with the same sizes, which keeps a bit for each place: a list of
+# so many nodes of 24 bytes, and for each third node one more that names it and that nothing names. Making and collecting should each
+# take at most three times as long as in C. The program asks for the owner of each address before it marks it, since `mark` wants the
+# start of a block; that is one search more for each edge than a marker needs. Then it says how many bytes the pages take, beyond those of
+# the space, with a block of a page in each, and with blocks of 8 bytes. Run by hand, from any folder; the program around gt_pages is
+# written and built in a copy of the crates that it needs.
+. "$(dirname "$0")/shared.sh"
+copy_crates gt_space gt_links gt_bits gt_entries gt_pages
+program=$work/crates/time_pages
+mkdir -p "$program/src"
+echo 'time_pages: gt_space gt_pages' >>"$work/crates.txt"
+mkdir -p "$program/proofs/starts" "$program/proofs/make_block"
+cp "$root/crates/pages_table/proofs/Found.antt" "$program/proofs"
+echo 'mod Found' >"$program/proofs/Lib.antt"
+cat >"$program/proofs/make_block/Answers.antt" <<'END'
+use Rattle.std.proofs.Common.{sym, ◌∙◌}
+use Rattle.time_pages.proofs.Found.{rounded_listed}
+use Rattle.time_pages.proofs.make_block.Goals as goal
+
+pub alloc_slot-requires : goal.alloc_slot-requires
+alloc_slot-requires c = record { listed = rounded_listed c.args.bytes c.in-Some.size (sym c.rounded_size.ensures ∙ c.in-Some.is) }
+END
+cat >"$program/proofs/starts/Answers.antt" <<'END'
+use Rattle.std.proofs.Common.{sym, subst, ◌∙◌}
+use Rattle.std.proofs.lemmas.Bool.{eqb-true}
+use Rattle.gt_pages.specs.Slots.{StartsSome}
+use Rattle.time_pages.proofs.Found.{owner_starts}
+use Rattle.time_pages.proofs.starts.Goals as goal
+
+pub returns-in-Some : goal.returns-in-Some
+returns-in-Some c = λ same.
+    subst (λ a. StartsSome c.args.pages.now.slots a) (eqb-true c.in-Some.start c.args.addr same)
+    (owner_starts c.args.pages.now.slots c.args.addr c.in-Some.start c.in-Some._size (sym c.owner.ensures.owner ∙ c.in-Some.is))
+END
+cat >"$program/src/main.rt" <<'RT'
+//! Makes nodes in pages and collects them. The words are `make`, `collect`, `pages`, `bytes` or `none`, and how many there are; what is
+//! printed is how many blocks a collection keeps, or how many were made.
+#![tactic(auto)]
+
+ghost use Rattle.std.specs.Prelude.{◌≡◌, IsTrue};
+ghost use Rattle.gt_pages.specs.Slots.{StartsSome};
+
+use gt_pages::{Pages, SlotFail, rounded_size};
+use gt_space::Space;
+use std::alloc::Global;
+use std::env;
+use std::io;
+
+/// How many pages the space has.
+const PAGES: u32 = 16384;
+
+fn put(space: &mut Space, addr: u64, value: u64) {
+    if addr >= space.start() && addr < 4294967296 && addr + 8 <= space.start() + space.len() {
+        space.write_u64(addr, value);
+    }
+}
+
+fn get(space: &Space, addr: u64) -> u64 {
+    if addr >= space.start() && addr < 4294967296 && addr + 8 <= space.start() + space.len() {
+        return space.read_u64(addr);
+    }
+    0
+}
+
+// Makes a block for so many bytes.
+fn make_block(pages: &mut Pages, bytes: u32) -> Result<u64, SlotFail> {
+    match rounded_size(bytes) {
+        Some(size) => pages.alloc_slot(size),
+        None => Err(SlotFail::Full),
+    }
+}
+
+// A block of 32 bytes, which are zero, for a node of 24.
+fn node(pages: &mut Pages, space: &mut Space, key: u64) -> u64 {
+    let Ok(addr) = make_block(pages, 24) else {
+        return 0;
+    };
+    let addr = addr % 4294967296;
+    put(space, addr, 0);
+    put(space, addr.wrapping_add(8), 0);
+    put(space, addr.wrapping_add(16), key);
+    put(space, addr.wrapping_add(24), 0);
+    addr
+}
+
+fn make(pages: &mut Pages, space: &mut Space, n: u64) -> u64 {
+    let mut last = 0;
+    for i in 0..n {
+        let next = node(pages, space, i);
+        put(space, next, last);
+        last = next;
+        if i % 3 == 2 {
+            let other = node(pages, space, 0);
+            put(space, other.wrapping_add(8) % 4294967296, next);
+        }
+    }
+    last
+}
+
+// Whether a block starts at an address.
+fn starts(pages: &Pages, addr: u64) -> bool
+    ensures { IsTrue result → StartsSome pages.now.slots addr }
+{
+    match pages.owner(addr) {
+        Some((start, _size)) => start == addr,
+        None => false,
+    }
+}
+
+fn reach(pages: &mut Pages, addr: u64, stack: &mut Vec<u64>) -> io::Result<()> {
+    if addr != 0 && starts(pages, addr) && pages.mark(addr, 0, 1) {
+        stack.push(addr)?;
+    }
+    Ok(())
+}
+
+fn collect(alloc: Global, pages: &mut Pages, space: &Space, head: u64, most: u64) -> io::Result<u64> {
+    let mut stack = Vec::new(alloc);
+    let mut kept = 0u64;
+    pages.clear_marks();
+    reach(pages, head, &mut stack)?;
+    for _ in 0..most {
+        let Some(addr) = stack.pop() else {
+            break;
+        };
+        kept = kept.wrapping_add(1);
+        reach(pages, get(space, addr % 4294967296), &mut stack)?;
+        reach(pages, get(space, addr.wrapping_add(8) % 4294967296), &mut stack)?;
+    }
+    pages.sweep();
+    Ok(kept)
+}
+
+// As many blocks of a size as there is room for, but no more than so many.
+fn fill(pages: &mut Pages, size: u32, most: u64) -> u64 {
+    let mut made = 0u64;
+    for _ in 0..most {
+        match make_block(pages, size) {
+            Ok(_) => made = made.wrapping_add(1),
+            Err(SlotFail::Full) => return made,
+            Err(SlotFail::Memory) => return 0,
+        }
+    }
+    made
+}
+
+fn main(rt: HostRuntime) -> io::Result<()> {
+    let alloc = rt.alloc();
+    let mut words = env::args(&rt)?;
+    let _ = words.next();
+    let Some(what) = words.next() else {
+        return Ok(());
+    };
+    let n = match words.next() {
+        Some(word) => word.as_str().parse::<u64>().unwrap_or(0),
+        None => 0,
+    };
+    if what.as_str() == "none" {
+        return println!(rt; "0");
+    }
+    let mut pages = Pages::new(alloc, PAGES)?;
+    let mut space = Space::empty(alloc);
+    match what.as_str() {
+        "pages" => return println!(rt; "{}", fill(&mut pages, 4096, n)),
+        "bytes" => return println!(rt; "{}", fill(&mut pages, 8, n)),
+        _ => {}
+    }
+    space.resize_fresh(PAGES, 1)?;
+    let head = make(&mut pages, &mut space, n);
+    if what.as_str() != "collect" {
+        return println!(rt; "{n}");
+    }
+    println!(rt; "{}", collect(alloc, &mut pages, &space, head, n)?)
+}
+RT
+cat >"$work/pages.c" <<'C'
+/* The same in plain C: pages of 4096 bytes, each of one size, with a bit for each place, a list of pages with a free place for each size,
+   and an explicit stack. */
+#include <stdint.h>
+#include <stdio.h>
+#include <stdlib.h>
+#include <string.h>
+#include <sys/mman.h>
+enum { PAGE = 4096, PAGES = 16384 };
+typedef struct page { uint64_t bits[8]; uint16_t count, free, hint, shift; uint32_t next; } page;
+typedef struct node { struct node *next, *other; uint64_t key, pad; } node;
+static page *table; static char *base; static uint32_t top, first[32], empty = ~0u;
+static void *take (unsigned shift)
+{
+  uint32_t p = first[shift];
+  if (p == ~0u) {
+    if (empty != ~0u) { p = empty; empty = table[p].next; } else p = top++;
+    if (p >= PAGES) abort ();
+    page *e = &table[p]; memset (e, 0, sizeof *e);
+    e->shift = shift; e->count = e->free = PAGE >> shift; e->next = first[shift]; first[shift] = p;
+  }
+  page *e = &table[p]; unsigned i = e->hint;
+  if (i >= e->count || (e->bits[i >> 6] >> (i & 63) & 1)) { unsigned w = 0; while (~e->bits[w] == 0) w++; i = w * 64 + __builtin_ctzll (~e->bits[w]); }
+  e->bits[i >> 6] |= 1ull << (i & 63); e->hint = i + 1;
+  if (--e->free == 0) first[shift] = e->next;
+  void *r = base + (size_t) p * PAGE + ((size_t) i << shift); memset (r, 0, 1u << shift); return r;
+}
+static int mark (void *block)
+{
+  size_t off = (char *) block - base; page *e = &table[off >> 12]; unsigned i = (off & (PAGE - 1)) >> e->shift;
+  uint64_t bit = 1ull << (i & 63);
+  if (e->bits[i >> 6] & bit) return 0;
+  e->bits[i >> 6] |= bit; e->free--; return 1;
+}
+int main (int argc, char **argv)
+{
+  long n = argc > 2 ? atol (argv[2]) : 0, kept = 0; node *head = 0, **stack = malloc ((2 * n + 16) * sizeof *stack); size_t depth = 0;
+  base = mmap (0, (size_t) PAGES * PAGE, PROT_READ | PROT_WRITE, MAP_PRIVATE | MAP_ANONYMOUS, -1, 0);
+  table = calloc (PAGES, sizeof *table);
+  for (int i = 0; i < 32; i++) first[i] = ~0u;
+  for (long i = 0; i < n; i++) {
+    node *x = take (5); x->key = i; x->next = head; head = x;
+    if (i % 3 == 2) { node *y = take (5); y->other = x; }
+  }
+  if (strcmp (argv[1], "collect")) { printf ("%ld\n", n); return 0; }
+  for (uint32_t p = 0; p < top; p++) { page *e = &table[p]; memset (e->bits, 0, sizeof e->bits); e->free = e->count; }
+  if (head && mark (head)) stack[depth++] = head;
+  while (depth) {
+    node *x = stack[--depth]; kept++;
+    if (x->next && mark (x->next)) stack[depth++] = x->next;
+    if (x->other && mark (x->other)) stack[depth++] = x->other;
+  }
+  for (int i = 0; i < 32; i++) first[i] = ~0u;
+  for (uint32_t p = top; p-- > 0;) {
+    page *e = &table[p]; e->hint = 0;
+    if (e->free == e->count) { e->next = empty; empty = p; }
+    else if (e->free) { e->next = first[e->shift]; first[e->shift] = p; }
+  }
+  printf ("%ld\n", kept); return 0;
+}
+C
+cc -O2 -o "$work/pages" "$work/pages.c"
+build_spent
+: >"$program/stdin"
+build_copied gt_space gt_links gt_bits gt_entries gt_pages
+(cd "$program" && quiet rt run -- make 1)
+ours=$program/out/time_pages
+
+# The seconds of the best of nine runs.
+seconds() { for _ in 1 2 3 4 5 6 7 8 9; do "$work/spent" /dev/null "$@" 2>&1 >"$work/out"; done | sort -n | head -n 1 | awk '{ print $1 }'; }
+for n in 100000 1000000; do
+  for what in make collect; do
+    [ "$("$ours" $what $n)" = "$("$work/pages" $what $n)" ] || { echo "$what $n: other answers" >&2; exit 2; }
+  done
+  awk -v n=$n -v om="$(seconds "$ours" make $n)" -v oc="$(seconds "$ours" collect $n)" -v on="$(seconds "$ours" make 0)" \
+    -v cm="$(seconds "$work/pages" make $n)" -v cc="$(seconds "$work/pages" collect $n)" -v cn="$(seconds "$work/pages" make 0)" 'BEGIN {
+    printf "%7d nodes made: %.2f ms, in C %.2f ms, ratio %.1f; collected: %.2f ms, in C %.2f ms, ratio %.1f\n",
+      n, 1000 * (om - on), 1000 * (cm - cn), (om - on) / (cm - cn), 1000 * (oc - om), 1000 * (cc - cm), (oc - om) / (cc - cm) }'
+done
+# The KiB that a run has at the most.
+most() { "$work/spent" /dev/null "$@" 2>&1 >"$work/out" | awk '{ print $2 }'; }
+none=$(most "$ours" none 0)
+awk -v p="$(most "$ours" pages 16384)" -v b="$(most "$ours" bytes 8388608)" -v z="$none" 'BEGIN {
+  printf "16,384 pages: %.0f bytes a page with one block in each; %.0f bytes a page and %.1f a place with 512 of 8 bytes\n",
+    (p - z) / 16, (b - z) / 16, (b - z) / 16 / 512 }'
