@@ -19,7 +19,7 @@ use Rattle.time_pages.proofs.Found.{rounded_listed}
 use Rattle.time_pages.proofs.make_block.Goals as goal
 
 pub alloc_slot-requires : goal.alloc_slot-requires
-alloc_slot-requires c = record { listed = rounded_listed c.args.bytes c.in-Some.size (sym c.rounded_size.ensures ∙ c.in-Some.is) }
+alloc_slot-requires c = record { listed = rounded_listed c.args.bytes c.in-Some.size (sym c.rounded_size.ensures.least ∙ c.in-Some.is) }
 END
 cat >"$program/proofs/starts/Answers.antt" <<'END'
 use Rattle.std.proofs.Common.{sym, subst, ◌∙◌}

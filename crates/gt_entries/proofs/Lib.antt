@@ -1,3 +1,4 @@
+pub mod Thirds
 pub mod Totals
 pub mod Bits
 pub mod CellLemmas

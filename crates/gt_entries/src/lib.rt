@@ -6,6 +6,7 @@
 
 mod marks;
 mod places;
+mod sets;
 
 pub use marks::Mark;
 pub use places::{MAX_PLACES, Places};

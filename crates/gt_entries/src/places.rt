@@ -4,7 +4,8 @@ ghost use Rattle.gt_bits.specs.Sets as bits;
 ghost use Rattle.gt_entries.specs.Cells.{Free, Used, IsFirstFrom, cell_at, is_free, is_lost, is_marked, is_pending, mark_in, swept, unmarked, walked};
 
 use crate::marks::Mark;
-use gt_bits::{clear, count, has, insert, next, next_gap, remove};
+use crate::sets::Sets;
+use gt_bits::{count, has, next, next_gap};
 use std::alloc::{AllocError, Global};
 use std::marker::Model;
 
@@ -22,9 +23,7 @@ struct Tag {
 #[derive(Drop)]
 pub struct Places {
     count: u32,
-    used: Vec<u64>,
-    marked: Vec<u64>,
-    pending: Vec<u64>,
+    sets: Sets,
     tags: Vec<Tag>,
 }
 
@@ -36,21 +35,19 @@ impl Model for Places {
 
     ghost use Rattle.gt_entries.specs.Places.{cells_of, AreKept};
 
-    ghost view = { λ p. cells_of p.count p.used.items p.marked.items p.pending.items p.tags.items };
+    ghost view = { λ p. cells_of p.count p.sets.used p.sets.marked p.sets.pending p.tags.items };
 
-    ghost invariant = { λ p. AreKept p.count p.used.items p.marked.items p.pending.items p.tags.items };
+    ghost invariant = { λ p. AreKept p.count p.sets.used p.sets.marked p.sets.pending p.tags.items };
 }
 
 impl Places {
     /// No places. It takes no memory.
     pub fn none(alloc: Global) -> Places
-        ensures { result ≡ [] }
+        ensures empty { result ≡ [] }
     {
         Places {
             count: 0,
-            used: Vec::new(alloc),
-            marked: Vec::new(alloc),
-            pending: Vec::new(alloc),
+            sets: Sets::none(alloc),
             tags: Vec::new(alloc),
         }
     }
@@ -59,49 +56,41 @@ impl Places {
     /// want of memory.
     pub fn renew(self, count: u32) -> Result<Places, AllocError>
         requires { count ≤ MAX_PLACES }
-        ensures { IfOk result (λ places. places ≡ replicate count Free) }
+        ensures free { IfOk result (λ places. places ≡ replicate count Free) }
     {
         let words = (count as usize + 63) / 64;
         let tag = Tag { walk: 0, count: 0 };
-        let used = filled(self.used, 0, words)?;
-        let marked = filled(self.marked, 0, words)?;
-        let pending = filled(self.pending, 0, words)?;
-        let tags = filled_tags(self.tags, tag, count as usize)?;
-        Ok(Places {
-            count,
-            used,
-            marked,
-            pending,
-            tags,
-        })
+        let sets = self.sets.renew(words)?;
+        let tags = filled(self.tags, tag, count as usize)?;
+        Ok(Places { count, sets, tags })
     }
 
     /// How many places there are.
     pub fn len(&self) -> u32
-        ensures { result ≡ length self.now }
+        ensures count { result ≡ length self.now }
     {
         self.count
     }
 
     /// How many places are free.
     pub fn free_count(&self) -> u32
-        ensures { result ≡ count_by is_free self.now }
+        ensures count { result ≡ count_by is_free self.now }
     {
-        self.count - count(&self.used)
+        self.count - count(self.sets.used())
     }
 
     /// Whether a place has a block.
     pub fn is_used(&self, k: u32) -> bool
-        ensures { result ≡ not (is_free (cell_at self.now k)) }
+        ensures used { result ≡ not (is_free (cell_at self.now k)) }
     {
-        has(&self.used, k)
+        has(self.sets.used(), k)
     }
 
     /// Whether some place is free.
     pub fn has_free(&self) -> bool
-        ensures { IsTrue result ↔ (0 < count_by is_free self.now) }
+        ensures free { IsTrue result ↔ (0 < count_by is_free self.now) }
     {
-        next_gap(&self.used, 0, self.count).is_some()
+        next_gap(self.sets.used(), 0, self.count).is_some()
     }
 
     /// Puts an unmarked block at a free place, and gives this place; `None` where no place is free.
@@ -111,32 +100,32 @@ impl Places {
         ensures full { IfNone result (count_by is_free self.old ≡ 0) }
         ensures unchanged { IfNone result (self.new ≡ self.old) }
     {
-        let k = next_gap(&self.used, 0, self.count)?;
-        insert(&mut self.used, k);
+        let k = next_gap(self.sets.used(), 0, self.count)?;
+        self.sets.take(k);
         Some(k)
     }
 
     /// Puts an unmarked block at each place.
     pub fn fill(&mut self)
-        ensures { self.new ≡ replicate (length self.old) (Used None) }
+        ensures used { self.new ≡ replicate (length self.old) (Used None) }
     {
-        clear(&mut self.marked);
-        clear(&mut self.pending);
-        insert_all(&mut self.used, self.count);
+        self.sets.clear_marked();
+        self.sets.clear_pending();
+        self.sets.take_all(self.count);
     }
 
     /// The mark of the block at a place; `None` where there is no block or it is not marked.
     pub fn mark_of(&self, k: u32) -> Option<Mark>
-        ensures { result ≡ mark_in (cell_at self.now k) }
+        ensures mark { result ≡ mark_in (cell_at self.now k) }
     {
-        if !has(&self.marked, k) {
+        if !has(self.sets.marked(), k) {
             return None;
         }
         let tag = self.tags[k as usize];
         Some(Mark {
             walk: tag.walk,
             count: tag.count,
-            pending: has(&self.pending, k),
+            pending: has(self.sets.pending(), k),
         })
     }
 
@@ -149,11 +138,11 @@ impl Places {
             ≡ slice_set self.old k (Used (Some (record { walk = walk; count = count; pending = true }))) }
         ensures unchanged { result ≡ false → self.new ≡ self.old }
     {
-        if has(&self.marked, k) {
+        if has(self.sets.marked(), k) {
             return false;
         }
-        insert(&mut self.marked, k);
-        insert(&mut self.pending, k);
+        self.sets.mark(k);
+        self.sets.set_pending(k);
         self.tags[k as usize] = Tag { walk, count };
         true
     }
@@ -161,23 +150,23 @@ impl Places {
     /// The block at a place is no more to be walked.
     pub fn set_walked(&mut self, k: u32)
         requires { k < length self.old }
-        ensures { self.new ≡ slice_set self.old k (walked (cell_at self.old k)) }
+        ensures walked { self.new ≡ slice_set self.old k (walked (cell_at self.old k)) }
     {
-        remove(&mut self.pending, k);
+        self.sets.set_walked(k);
     }
 
     /// The first place from `from` on with a marked block, or `None` where there is none.
     pub fn next_marked(&self, from: u32) -> Option<u32>
-        ensures { IsFirstFrom is_marked self.now from result }
+        ensures first { IsFirstFrom is_marked self.now from result }
     {
-        next(&self.marked, from)
+        next(self.sets.marked(), from)
     }
 
     /// The first place from `from` on with a block that is marked and still to be walked, or `None` where there is none.
     pub fn next_pending(&self, from: u32) -> Option<u32>
-        ensures { IsFirstFrom is_pending self.now from result }
+        ensures first { IsFirstFrom is_pending self.now from result }
     {
-        next(&self.pending, from)
+        next(self.sets.pending(), from)
     }
 
     /// Takes the blocks away that are not marked, and says how many these were.
@@ -185,43 +174,22 @@ impl Places {
         ensures swept { self.new ≡ map swept self.old }
         ensures freed { result ≡ count_by is_lost self.old }
     {
-        let freed = count(&self.used) - count(&self.marked);
-        self.used.copy_from_slice(&self.marked);
+        let freed = count(self.sets.used()) - count(self.sets.marked());
+        self.sets.sweep();
         freed
     }
 
     /// Takes the marks away.
     pub fn clear_marks(&mut self)
-        ensures { self.new ≡ map unmarked self.old }
+        ensures unmarked { self.new ≡ map unmarked self.old }
     {
-        clear(&mut self.marked);
-        clear(&mut self.pending);
+        self.sets.clear_marked();
+        self.sets.clear_pending();
     }
-}
-
-// Puts the numbers below `end` into a set.
-fn insert_all(words: &mut [u64], end: u32)
-    requires { end ≤ 64 * length words.old }
-    ensures len { length words.new ≡ length words.old }
-    ensures held { (i : ℕ) → i < end → bits.has words.new i ≡ true }
-    ensures others { (i : ℕ) → end ≤ i → bits.has words.new i ≡ bits.has words.old i }
-{
-    for i in 0..end {
-        insert(words, i);
-    }
-}
-
-// So many words of this value, in the memory of a vector.
-fn filled(mut words: Vec<u64>, value: u64, len: usize) -> Result<Vec<u64>, AllocError>
-    ensures { IfOk result (λ new. new.items ≡ replicate len value) }
-{
-    words.clear();
-    words.resize(len, value)?;
-    Ok(words)
 }
 
 // So many tags of this value, in the memory of a vector.
-fn filled_tags(mut tags: Vec<Tag>, value: Tag, len: usize) -> Result<Vec<Tag>, AllocError>
+fn filled(mut tags: Vec<Tag>, value: Tag, len: usize) -> Result<Vec<Tag>, AllocError>
     ensures { IfOk result (λ new. new.items ≡ replicate len value) }
 {
     tags.clear();

@@ -30,7 +30,7 @@ impl Links {
     /// So many lists, numbered from 0 and empty, and so many nodes, numbered from 0 and in no list. It takes time
     /// and memory in proportion to both, and fails only for want of memory.
     pub fn new(alloc: Global, lists: u32, nodes: u32) -> Result<Links, AllocError>
-        ensures { IfOk result (λ links. links ≡ empty_lists lists nodes) }
+        ensures empty { IfOk result (λ links. links ≡ empty_lists lists nodes) }
     {
         Ok(Links {
             rings: Rings::new(alloc, lists, nodes)?,
@@ -42,7 +42,7 @@ impl Links {
         requires list { list < length self.old.lists }
         requires node { node < self.old.nodes }
         requires free { IsFree self.old node }
-        ensures { self.new ≡ with_nodes self.old list (node ∷ nodes_of self.old list) }
+        ensures front { self.new ≡ with_nodes self.old list (node ∷ nodes_of self.old list) }
     {
         self.rings.insert_after(Place::Head(list), node, list);
     }
@@ -52,7 +52,7 @@ impl Links {
         requires list { list < length self.old.lists }
         requires node { node < self.old.nodes }
         requires free { IsFree self.old node }
-        ensures { self.new ≡ with_nodes self.old list (nodes_of self.old list ++ node ∷ []) }
+        ensures back { self.new ≡ with_nodes self.old list (nodes_of self.old list ++ node ∷ []) }
     {
         let last = self.rings.entry(Place::Head(list)).previous;
         self.rings.insert_after(last, node, list);
@@ -73,7 +73,7 @@ impl Links {
     pub fn move_back(&mut self, node: u32)
         requires node { node < self.old.nodes }
         requires linked { IsInList self.old node }
-        ensures { (i : ℕ) → Holds self.old i node
+        ensures moved { (i : ℕ) → Holds self.old i node
             → self.new ≡ with_nodes self.old i (without node (nodes_of self.old i) ++ node ∷ []) }
     {
         let list = self.list_of(node).unwrap();

@@ -3,7 +3,7 @@ use Rattle.std.proofs.Common.{◌≡◌, ◌≢◌, ℕ, zero, suc, ◌+◌, ◌
 use Rattle.std.specs.Prelude.{Contains, slice_get}
 use Rattle.std.proofs.lemmas.Bool.{cases_eq, cases_Bool, false≢true, eq-eqb, ne_eqb, not_from_true, not_from_false}
 use Rattle.std.proofs.lemmas.Option.{slice_get-get_or, slice_get_within, get_or_from_slice_get}
-use Rattle.std.proofs.lemmas.List.{get_or-set_same, get_or-set_other, length-set, set-set}
+use Rattle.std.proofs.lemmas.List.{get_or-set_same, get_or-set_other, length-set, set-set, set-get_or}
 use Rattle.std.proofs.lemmas.List.Elements.{Contains-append_cases}
 use Rattle.std.specs.List.{range_with_len}
 use Rattle.gt_bits.specs.Sets.{has}
@@ -14,7 +14,7 @@ use Rattle.gt_pages.specs.declared.store.Entry.{Entry}
 use Rattle.gt_pages.specs.Ledger.{page_address, sizes}
 use Rattle.gt_pages.specs.Slots.{Slot}
 use Rattle.gt_pages.specs.Contents.{Contents, IsSize}
-use Rattle.gt_pages.specs.Changes.{Releases, without_cached}
+use Rattle.gt_pages.specs.Changes.{Releases, without_cached, without_places}
 use Rattle.gt_pages.specs.Parts.{IsInUse, IsKept, Parts, contents_of, entry_at, entry_pages, page_slots, slots_in}
 
 -- ---- lists of nodes
@@ -83,6 +83,9 @@ lists_from s lists = record { lists = lists; nodes = s.nodes }
 
 pub nodes_twice : (s : Lists) (i : ℕ) (xs ys : List ℕ) → with_nodes (with_nodes s i xs) i ys ≡ with_nodes s i ys
 nodes_twice s i xs ys = ap (lists_from s) (set-set s.lists i xs ys)
+
+pub nodes_back : (s : Lists) (i : ℕ) → with_nodes s i (nodes_of s i) ≡ s
+nodes_back s i = ap (lists_from s) (set-get_or s.lists i [])
 
 -- each number below 29 is that of a size
 pub size_number : (i size : ℕ) → IsSize i size → i < CACHED
@@ -177,6 +180,18 @@ module _ (p : Parts) (node : ℕ) (kept : IsKept p) (cached : Holds p.lists CACH
       kept_released p (without_cached p node).entries (without node (nodes_of p.lists CACHED)) (length-set p.entries node _) others_same
       (λ page there. (contains_without node (nodes_of p.lists CACHED) page there).0) kept
 
+  pub kept_taken : IsKept (without_places p node)
+  kept_taken =
+      subst (λ l. IsKept (parts_from (record p { entries = (without_places p node).entries; lists = l }))) (nodes_back p.lists CACHED)
+      (kept_released p (without_places p node).entries (nodes_of p.lists CACHED) (length-set p.entries node _) others_same (λ page there. there) kept)
+
+  pub releases_taken : Releases p (without_places p node)
+  releases_taken = record {
+    entries = length-set p.entries node _;
+    rest = ap (λ l. parts_from (record p { entries = (without_places p node).entries; lists = l })) (sym (nodes_back p.lists CACHED));
+    in_use = others_same;
+  }
+
   pub fewer_cached : length (nodes_of (without_cached p node).lists CACHED) < length (nodes_of p.lists CACHED)
   fewer_cached =
       let n = kept.lists.count in
@@ -208,6 +223,18 @@ module _ (p : Parts) (node : ℕ) (kept : IsKept p) (cached : Holds p.lists CACH
           ∙ ap (λ l. parts_from (record old { entries = entries; lists = l })) (nodes_twice old.lists CACHED (nodes_of p.lists CACHED) xs)
           ∙ ap (λ ns. parts_from (record old { entries = entries; lists = with_nodes old.lists CACHED ns })) (sym at_end)
 
+-- one release after another
+pub releases_then : (old mid new : Parts) → Releases old mid → Releases mid new → Releases old new
+releases_then old mid new first second = record {
+  entries = second.entries ∙ first.entries;
+  rest =
+      second.rest
+      ∙ ap (λ q. parts_from (record q { entries = new.entries; lists = with_nodes q.lists CACHED (nodes_of new.lists CACHED) })) first.rest
+      ∙ ap (λ l. parts_from (record old { entries = new.entries; lists = l }))
+      (nodes_twice old.lists CACHED (nodes_of mid.lists CACHED) (nodes_of new.lists CACHED));
+  in_use = λ page starts. second.in_use page (ap (λ q. has q.starts page) first.rest ∙ starts) ∙ first.in_use page starts;
+}
+
 -- ---- what the pages hold
 
 module _ (f g : ℕ → List Slot) where
@@ -238,3 +265,23 @@ contents_released old new is =
           ap (λ b. cond b (all (entry_at new.entries k) k) []) none
           ∙ sym (ap (λ b. cond b (all (entry_at old.entries k) k) []) none)
     ]
+
+-- nothing that the pages hold has changed where the lists are as they were
+pub contents_taken : (old new : Parts) → Releases old new → new.lists ≡ old.lists → contents_of new ≡ contents_of old
+contents_taken old new is lists =
+    contents_released old new is
+    ∙ ap (λ l. from (record { slots = (contents_of old).slots; image = old.image; pages = old.pages; lists = l }))
+    (ap (λ l. with_nodes old.lists CACHED (nodes_of l CACHED)) lists ∙ nodes_back old.lists CACHED)
+  where
+    from : Contents → Contents
+    from c = c
+
+-- no entry is cached any more
+pub contents_emptied : (old new : Parts) → Releases old new → nodes_of new.lists CACHED ≡ []
+    → contents_of new ≡ record (contents_of old) { lists = with_nodes old.lists CACHED [] }
+contents_emptied old new is none =
+    contents_released old new is
+    ∙ ap (λ ns. from (record { slots = (contents_of old).slots; image = old.image; pages = old.pages; lists = with_nodes old.lists CACHED ns })) none
+  where
+    from : Contents → Contents
+    from c = c

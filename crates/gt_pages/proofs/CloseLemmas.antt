@@ -204,7 +204,7 @@ module _ (p q : Parts) (page : ℕ) (kept : IsKept p) (started : has p.starts pa
       mid_same held.0 held.1
       ∙ nodes_same p.lists held.0 left (let n = kept.lists.count in let low = held.1 in omega (arith, n, low))
 
-  list_cached : nodes_of q.lists CACHED ≡ page ∷ nodes_of p.lists CACHED
+  pub list_cached : nodes_of q.lists CACHED ≡ page ∷ nodes_of p.lists CACHED
   list_cached =
       ap (λ s. nodes_of s CACHED) lists_are
       ∙ nodes_same mid CACHED _ (let n = kept.lists.count in let len = length-set p.lists.lists held.0 left in omega (arith, n, len))

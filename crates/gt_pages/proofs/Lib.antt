@@ -1,3 +1,5 @@
+pub mod EmptiedLemmas
+pub mod LeafLemmas
 pub mod SlotLemmas
 pub mod NewLemmas
 pub mod SameLemmas

@@ -7,12 +7,13 @@ use Rattle.std.proofs.lemmas.List.Elements.{All-head, All-tail}
 use Rattle.std.specs.List.{range_with_len}
 use Rattle.gt_space.specs.declared.TheConstants.{MIN_PAGES, MAX_PAGES}
 use Rattle.gt_bits.specs.Sets.{has}
-use Rattle.gt_links.specs.Lists.{Holds}
+use Rattle.gt_links.specs.Lists.{Holds, empty_lists}
 use Rattle.gt_entries.specs.Cells.{Used}
 use Rattle.gt_pages.specs.declared.pages.TheConstants.{LISTS}
 use Rattle.gt_pages.specs.declared.pages.Run.{Run}
 use Rattle.gt_pages.specs.Ledger.{PageRange, page_address, sizes}
 use Rattle.gt_pages.specs.Slots.{Slot, slot_at}
+use Rattle.gt_pages.specs.Contents.{list_count}
 use Rattle.gt_pages.specs.Images.{AreRuns, IsImage, image_pages, image_slots, run_pages, slots_from}
 use Rattle.gt_pages.specs.Changes.{IsNew}
 use Rattle.gt_pages.specs.Runs.{AddsRun, image_end}
@@ -57,6 +58,7 @@ pub record RunsLeft (start : Parts) (page : ℕ) (runs left : List Run) (now : P
   pub slots : (contents_of now).slots ++ image_slots (image_end now) left ≡ image_slots page runs
   pub free : (j : ℕ) → image_end now ≤ j → j < now.pages → has now.free j ≡ true
   pub bare : (i x : ℕ) → ¬ (Holds now.lists i x)
+  pub lists : now.lists ≡ empty_lists list_count start.pages
 
 -- none is in
 module _ (p : Parts) (new : IsNew p) (least : MIN_PAGES ≤ p.pages) (most : p.pages ≤ MAX_PAGES) (page : ℕ) (runs : List Run)
@@ -116,6 +118,7 @@ module _ (p : Parts) (new : IsNew p) (least : MIN_PAGES ≤ p.pages) (most : p.p
         ∙ ap (λ n. image_slots n runs) (let none = no_count in omega (arith, none));
     free = λ j _ low. (new.free j).1 low;
     bare = no_hold;
+    lists = new.lists;
   }
 
 -- one comes in
@@ -185,6 +188,7 @@ module _ (start : Parts) (page : ℕ) (runs : List Run) (run : Run) (left : List
           adds.opens.free j (inr (let pages = entry_run run in omega (arith, past, pages)))
           ∙ is.free j (omega (arith, past)) (let same = pages_same in omega (arith, low, same));
       bare = λ i x held. is.bare i x (subst (λ l. Holds l i x) (ap (λ s. s.lists) adds.opens.rest) held);
+      lists = ap (λ s. s.lists) adds.opens.rest ∙ is.lists;
     }
 
 pub runs_next : (start : Parts) (page : ℕ) (runs : List Run) (k : ℕ) (other : Run) (p q : Parts) → k < length runs
@@ -200,6 +204,7 @@ runs_end start page runs p is = record {
   slots = sym (append-nil (contents_of p).slots) ∙ is.slots;
   image = range_is p.image page (image_pages runs) is.first (let count = is.count in omega (arith, count));
   pages = is.pages;
+  lists = is.lists;
 }
   where
     range_is : (r : PageRange) (a b : ℕ) → r.first ≡ a → r.count ≡ b → r ≡ record { first = a; count = b }

@@ -1,6 +1,6 @@
 -- An entry that is swept.
 use Rattle.std.proofs.Common.{◌≡◌, ◌≢◌, ℕ, zero, suc, ◌+◌, ◌*◌, ◌<◌, ◌≤◌, ◌⊎◌, Bool, true, false, cond, List, [], ◌∷◌, length, get_or, map, filter, count_by, flat_map, Option, Some, None, is_none, is_some, refl, sym, ap, subst, ◌∙◌, inl, inr, arith}
-use Rattle.std.specs.Prelude.{Contains, slice_get}
+use Rattle.std.specs.Prelude.{Contains, slice_get, ◌↔◌}
 use Rattle.std.proofs.Math.Nat.{mul-le-mul_right}
 use Rattle.std.proofs.lemmas.Bool.{cases_eq, cases_lt, false≢true}
 use Rattle.std.proofs.lemmas.Option.{slice_get_within, get_or_from_slice_get}
@@ -14,14 +14,14 @@ use Rattle.gt_entries.specs.Cells as cells
 use Rattle.gt_entries.specs.Cells.{Cell, Free, Used, cell_at, is_free, is_lost, swept}
 use Rattle.gt_pages.specs.declared.pages.TheConstants.{CACHED}
 use Rattle.gt_pages.specs.declared.store.Entry.{Entry}
-use Rattle.gt_pages.specs.Ledger.{page_address, pages_of, sizes}
+use Rattle.gt_pages.specs.Ledger.{PageRange, page_address, pages_of, sizes}
 use Rattle.gt_pages.specs.Slots.{Slot, is_marked, is_unmarked}
 use Rattle.gt_pages.specs.Changes.{Closes, Sweeps, swept_entry, with_entry, with_first}
 use Rattle.gt_pages.specs.Parts.{AreListed, IsInUse, IsKept, IsListed, IsOfImage, Parts, contents_of, entry_at, entry_pages, free_places, page_slots, slots_in}
 use Rattle.gt_pages.proofs.SlotLemmas.{flat_filter_slots, slots_swept}
 use Rattle.gt_pages.proofs.WhereLemmas.{entry_some}
 use Rattle.gt_pages.proofs.CachedLemmas.{contains_cases, contains_later, contains_without, nodes_other, nodes_same, number_size}
-use Rattle.gt_pages.proofs.CloseLemmas.{contains_from_without, held_in, kept_closed, same_order}
+use Rattle.gt_pages.proofs.CloseLemmas.{contains_from_without, held_in, kept_closed, list_cached, same_order}
 use Rattle.gt_pages.proofs.NextLemmas.{entry_ends}
 
 -- ---- the places of one entry
@@ -124,11 +124,37 @@ module _ (p : Parts) (page : ℕ) where
         ∙ slots_swept (page_address page) old_entry.size old_entry.places
         ∙ sym (ap (λ b. filter is_marked (cond b (slots_in (page_address page) old_entry.size old_entry.places) [])) starts);
     others = λ j apart. ap (λ e. cond (has p.starts j) (slots_in (page_address j) e.size e.places) []) (entry_other j apart);
+    cached = λ j. (
+      λ held. inl held,
+      λ is. elim is [
+        | inl held ↦ held
+        | inr closed ↦ absurd (false≢true (sym closed.gone ∙ starts))
+      ],
+    );
     starts = λ j apart. refl;
   }
 
-  pub sweeps_front : (i : ℕ) → Sweeps p page after → Sweeps p page (with_first after i page)
-  sweeps_front i is = record { pages = is.pages; image = is.image; swept = is.swept; others = is.others; starts = is.starts }
+  pub sweeps_front : (i : ℕ) → i < CACHED → Sweeps p page after → Sweeps p page (with_first after i page)
+  sweeps_front i low is = record {
+    pages = is.pages;
+    image = is.image;
+    swept = is.swept;
+    others = is.others;
+    cached = λ j. (
+      λ held. elim ((is.cached j).0 (subst (λ ns. Contains ns j) same held)) [
+        | inl old ↦ inl old
+        | inr closed ↦ inr (record { same = closed.same; outside = closed.outside; gone = closed.gone })
+      ],
+      λ was. subst (λ ns. Contains ns j) (sym same) ((is.cached j).1 (elim was [
+        | inl old ↦ inl old
+        | inr closed ↦ inr (record { same = closed.same; outside = closed.outside; gone = closed.gone })
+      ])),
+    );
+    starts = is.starts;
+  }
+    where
+      same : nodes_of (with_first after i page).lists CACHED ≡ nodes_of after.lists CACHED
+      same = nodes_other after.lists i CACHED (page ∷ without page (nodes_of after.lists i)) (λ is. omega (arith, is, low))
 
   -- ---- how the parts fit one another after
 
@@ -358,10 +384,10 @@ module _ (p : Parts) (page : ℕ) where
       })
 
 -- an entry without marked blocks, that was closed
-pub sweeps_closed : (p q : Parts) (page : ℕ) → page < length p.entries → has p.starts page ≡ true → Closes p page q
+pub sweeps_closed : (p q : Parts) (page : ℕ) → IsKept p → page < length p.entries → has p.starts page ≡ true → ¬ (IsOfImage p page) → Closes p page q
     → ((k : ℕ) → cells.is_marked (cell_at (entry_at p.entries page).places k) ≡ false)
     → Sweeps p page (with_entry q page (swept_entry (entry_at q.entries page)))
-sweeps_closed p q page low starts closes none = record {
+sweeps_closed p q page kept low starts outside closes none = record {
   pages = ap (λ x. x.pages) closes.rest;
   image = ap (λ x. x.image) closes.rest;
   swept =
@@ -372,9 +398,22 @@ sweeps_closed p q page low starts closes none = record {
       ap (λ b. cond b (all (entry_at new.entries j) j) []) (closes.starts j apart)
       ∙ ap (λ e. cond (has p.starts j) (all e j) [])
       (get_or-set_other q.entries page j _ _ apart ∙ ap (λ x. entry_at x.entries j) closes.rest);
+  cached = λ j. (
+    λ held. elim (contains_cases page (nodes_of p.lists CACHED) j (subst (λ ns. Contains ns j) listed held)) [
+      | inl same ↦ inr (record { same = sym same; outside = outside; gone = closes.gone })
+      | inr old ↦ inl old
+    ],
+    λ was. subst (λ ns. Contains ns j) (sym listed) (elim was [
+      | inl old ↦ contains_later page (nodes_of p.lists CACHED) j old
+      | inr closed ↦ (0, omega arith, sym closed.same)
+    ]),
+  );
   starts = λ j apart. closes.starts j apart;
 }
   where
+    listed : nodes_of q.lists CACHED ≡ page ∷ nodes_of p.lists CACHED
+    listed = list_cached p q page kept starts outside closes
+
     new : Parts
     new = with_entry q page (swept_entry (entry_at q.entries page))
 
@@ -398,7 +437,7 @@ front_after p mid new page kept starts outside marked lost swept-is moved alone 
       subst (λ q. IsKept q) (sym is)
           (kept_front p page kept low (λ _ _. some_used (entry_at p.entries page).places marked) held.0 held.1 held.2 (omega (arith, more, lost))
           (λ j. subst (λ s. ¬ (Holds (with_nodes s held.0 (without page (nodes_of s held.0))) j page)) lists-same (alone held.0 j held-mid))),
-      subst (λ q. Sweeps p page q) (sym is) (sweeps_front p page held.0 (sweeps_entry p page low starts)),
+      subst (λ q. Sweeps p page q) (sym is) (sweeps_front p page held.0 held.1 (sweeps_entry p page low starts)),
     )
   where
     page_low : (page : ℕ) → page < p.pages → length p.entries ≡ p.pages → page < length p.entries
@@ -415,7 +454,7 @@ closed_after p q new page kept starts outside none closes is =
       subst (λ x. IsKept x) (sym is)
           (kept_stays q page kept-q (omega (arith, low, same)) (λ started _. absurd (false≢true (sym closes.gone ∙ started)))
           (λ started _ _. absurd (false≢true (sym closes.gone ∙ started)))),
-      subst (λ x. Sweeps p page x) (sym is) (sweeps_closed p q page low starts closes none),
+      subst (λ x. Sweeps p page x) (sym is) (sweeps_closed p q page kept low starts outside closes none),
     )
 
 -- ---- all entries
@@ -430,6 +469,12 @@ lost_few p page kept starts =
     let more = mul-le-mul_right {m = 1} {n = entry.size} (length entry.places) some in
     omega (arith, fewer, more)
 
+-- an entry outside the image is in use no more
+pub record WasClosed (old now : Parts) (j : ℕ) : Type 0 where
+  pub started : has old.starts j ≡ true
+  pub outside : ¬ (IsOfImage old j)
+  pub gone : has now.starts j ≡ false
+
 -- the entries that start below a page are swept, and so many blocks are gone
 pub record SweptTo (old : Parts) (from freed : ℕ) (now : Parts) : Type 0 where
   pub kept : IsKept now
@@ -439,6 +484,8 @@ pub record SweptTo (old : Parts) (from freed : ℕ) (now : Parts) : Type 0 where
   pub after : (j : ℕ) → from ≤ j → page_slots now j ≡ page_slots old j
   pub total : freed + count_by is_unmarked (contents_of now).slots ≡ count_by is_unmarked (contents_of old).slots
   pub few : (j : ℕ) → from ≤ j → (has now.starts j ≡ true) ⊎ (j ≡ now.pages) → freed ≤ 4096 * j
+  pub starts : (j : ℕ) → has now.starts j ≡ true → has old.starts j ≡ true
+  pub cached : (j : ℕ) → Holds now.lists CACHED j ↔ (Holds old.lists CACHED j ⊎ WasClosed old now j)
 
 pub swept_none : (p : Parts) → IsKept p → SweptTo p 0 0 p
 swept_none p kept = record {
@@ -449,6 +496,14 @@ swept_none p kept = record {
   after = λ j _. refl;
   total = omega arith;
   few = λ j _ _. omega arith;
+  starts = λ j starts. starts;
+  cached = λ j. (
+    λ held. inl held,
+    λ is. elim is [
+      | inl held ↦ held
+      | inr closed ↦ absurd (false≢true (sym closed.gone ∙ closed.started))
+    ],
+  );
 }
 
 count_mark : (t : Slot) (xs : List Slot) (m : Option Mark) → t.mark ≡ m → count_by is_unmarked (filter is_marked xs) ≡ 0
@@ -523,8 +578,48 @@ swept_step old now new from freed page more so-far sweeps kept high starts none 
         | inr end ↦ let inside = (so-far.kept.in_use page starts).in_space in let same = sweeps.pages in omega (arith, inside, same, end)
       ] in
       omega (arith, ends, lost, room, is);
+  starts = λ j started. elim (cases_eq j page) [
+    | inl same ↦ so-far.starts j (subst (λ i. has now.starts i ≡ true) (sym same) starts)
+    | inr apart ↦ so-far.starts j (sym (sweeps.starts j apart) ∙ started)
+  ];
+  cached = λ j. (cached_from j, cached_to j);
 }
   where
+    cached_from : (j : ℕ) → Holds new.lists CACHED j → Holds old.lists CACHED j ⊎ WasClosed old new j
+    cached_from j held = elim ((sweeps.cached j).0 held) [
+      | inl before ↦ elim ((so-far.cached j).0 before) [
+        | inl was ↦ inl was
+        | inr closed ↦
+            let apart : j ≢ page = λ same. false≢true (sym closed.gone ∙ subst (λ i. has now.starts i ≡ true) (sym same) starts) in
+            inr (record { started = closed.started; outside = closed.outside; gone = sweeps.starts j apart ∙ closed.gone })
+      ]
+      | inr closed ↦ inr (record {
+        started = so-far.starts j (subst (λ i. has now.starts i ≡ true) (sym closed.same) starts);
+        outside =
+            subst (λ i. ¬ (IsOfImage old i)) (sym closed.same)
+            (subst (λ (r : PageRange). ¬ ((r.first ≤ page) × (page < r.first + r.count))) so-far.image closed.outside);
+        gone = subst (λ i. has new.starts i ≡ false) (sym closed.same) closed.gone;
+      })
+    ]
+
+    cached_to : (j : ℕ) → Holds old.lists CACHED j ⊎ WasClosed old new j → Holds new.lists CACHED j
+    cached_to j is = elim is [
+      | inl was ↦ (sweeps.cached j).1 (inl ((so-far.cached j).1 (inl was)))
+      | inr closed ↦ elim (cases_eq j page) [
+        | inl same ↦ (sweeps.cached j).1 (inr (record {
+          same = same;
+          outside =
+              subst (λ (r : PageRange). ¬ ((r.first ≤ page) × (page < r.first + r.count))) (sym so-far.image)
+              (subst (λ i. ¬ (IsOfImage old i)) same closed.outside);
+          gone = subst (λ i. has new.starts i ≡ false) same closed.gone;
+        }))
+        | inr apart ↦
+            (sweeps.cached j).1
+            (inl ((so-far.cached j).1
+            (inr (record { started = closed.started; outside = closed.outside; gone = sym (sweeps.starts j apart) ∙ closed.gone }))))
+      ]
+    ]
+
     total_after : freed + more + count_by is_unmarked (contents_of new).slots ≡ count_by is_unmarked (contents_of old).slots
     total_after =
         let entry : Entry = entry_at now.entries page in

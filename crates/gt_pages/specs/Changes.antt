@@ -7,7 +7,7 @@ use Rattle.gt_pages.specs.Slots.{is_marked}
 use Rattle.gt_pages.specs.Tables.{Leads}
 use Rattle.gt_pages.specs.declared.pages.TheConstants.{LISTS, CACHED}
 use Rattle.gt_pages.specs.declared.store.Entry.{Entry}
-use Rattle.gt_pages.specs.Parts.{Parts, empty_entry, entry_at, entry_pages, page_slots}
+use Rattle.gt_pages.specs.Parts.{IsOfImage, Parts, empty_entry, entry_at, entry_pages, page_slots}
 
 -- what new pages are made of
 pub record IsNew (p : Parts) : Type 0 where
@@ -49,6 +49,10 @@ without_cached p node = record p {
   entries = slice_set p.entries node (record { size = (entry_at p.entries node).size; places = [] });
   lists = with_nodes p.lists CACHED (without node (nodes_of p.lists CACHED));
 }
+
+-- the parts with the memory of an entry taken: it has no places
+abbrev pub without_places : Parts → ℕ → Parts
+without_places p node = with_entry p node (record { size = (entry_at p.entries node).size; places = [] })
 
 -- cached entries were released: each entry in use is as it was, and so are the other lists and all else
 pub record Releases (old new : Parts) : Type 0 where
@@ -97,10 +101,18 @@ pub record Opens (old : Parts) (page : ℕ) (entry : Entry) (new : Parts) : Type
   pub taken : (j : ℕ) → page ≤ j → j < page + entry_pages entry → has new.free j ≡ false
   pub free : (j : ℕ) → (j < page) ⊎ (page + entry_pages entry ≤ j) → has new.free j ≡ has old.free j
 
--- the blocks of an entry that are not marked are gone, and the blocks of the other entries are as they were
+-- the entry of page j, outside the image, is this one, and is in use no more
+pub record IsClosed (old : Parts) (page : ℕ) (new : Parts) (j : ℕ) : Type 0 where
+  pub same : j ≡ page
+  pub outside : ¬ (IsOfImage old page)
+  pub gone : has new.starts page ≡ false
+
+-- the blocks of an entry that are not marked are gone, and the blocks of the other entries are as they were; the entry is in use
+-- no more where it is cached now
 pub record Sweeps (old : Parts) (page : ℕ) (new : Parts) : Type 0 where
   pub pages : new.pages ≡ old.pages
   pub image : new.image ≡ old.image
   pub swept : page_slots new page ≡ filter is_marked (page_slots old page)
   pub others : (j : ℕ) → j ≢ page → page_slots new j ≡ page_slots old j
+  pub cached : (j : ℕ) → Holds new.lists CACHED j ↔ (Holds old.lists CACHED j ⊎ IsClosed old page new j)
   pub starts : (j : ℕ) → j ≢ page → has new.starts j ≡ has old.starts j

@@ -1,9 +1,8 @@
 -- What the pages of a space hold, what each call finds there, and the lists of pages.
-use Rattle.std.specs.Prelude.{◌≡◌, ℕ, ◌+◌, ◌-◌, ◌/◌, ◌<◌, ◌≤◌, ◌↔◌, ◌==◌, if◌then◌else◌, List, [], map, length, count_by, slice_get, nat_eq, nat_le, Some, Contains}
+use Rattle.std.specs.Prelude.{◌≡◌, ℕ, ◌+◌, ◌-◌, ◌/◌, ◌<◌, ◌≤◌, ◌↔◌, ◌⊎◌, ◌==◌, if◌then◌else◌, List, [], map, length, count_by, slice_get, nat_eq, nat_le, Some, Contains}
 use Rattle.std.specs.List.{IsDistinct}
 use Rattle.gt_space.specs.declared.TheConstants.{MIN_PAGES, MAX_PAGES, PAGE_BYTES}
 use Rattle.gt_links.specs.Lists.{Lists, empty_lists, nodes_of, Holds, StandsAt}
-use Rattle.gt_pages.specs.declared.pages.TheConstants.{LISTS, CACHED}
 use Rattle.gt_pages.specs.declared.pages.PageEntry.{PageEntry}
 use Rattle.gt_pages.specs.Ledger.{Ledger, PageRange, HasFreePlace, HasSharedPage, IsImagePage, Sound, page_of, sizes}
 use Rattle.gt_pages.specs.Slots.{Slot, block_of}
@@ -16,10 +15,17 @@ pub record Contents : Type 0 where
   pub pages : ℕ
   pub lists : Lists
 
+-- there are 30 lists of entries: one for each of the 29 sizes, in their order, and then that of the cached entries
+abbrev pub list_count : ℕ
+list_count = 30
+
+abbrev pub cached_list : ℕ
+cached_list = 29
+
 -- so many pages without blocks
 abbrev pub empty_contents : ℕ → Contents
 empty_contents pages =
-    record { slots = []; image = record { first = 0; count = 0 }; pages = pages; lists = empty_lists LISTS pages }
+    record { slots = []; image = record { first = 0; count = 0 }; pages = pages; lists = empty_lists list_count pages }
 
 -- other blocks, and all else as it was
 abbrev pub with_slots : Contents → List Slot → Contents
@@ -58,13 +64,22 @@ pub record StartsIn (c : Contents) (size page : ℕ) : Type 0 where
 -- the lists of entries: list i has the first page of each page, or larger block, of size i outside the image, once, and those
 -- with a free place stand before the full ones; a cached entry has no blocks
 pub record HasLists (c : Contents) : Type 0 where
-  pub count : length c.lists.lists ≡ LISTS
+  pub count : length c.lists.lists ≡ list_count
   pub nodes : c.lists.nodes ≡ c.pages
   pub each : (i size page : ℕ) → IsSize i size → Holds c.lists i page ↔ StartsIn c size page
   pub once : (i : ℕ) → IsDistinct nat_eq (nodes_of c.lists i)
   pub order : (i size j k x y : ℕ) → IsSize i size → j < k → StandsAt c.lists i j x → StandsAt c.lists i k y
       → HasFreePlace (ledger_of c) size y → HasFreePlace (ledger_of c) size x
-  pub cached : (page : ℕ) → Holds c.lists CACHED page → (size : ℕ) → ¬ (StartsIn c size page)
+  pub cached : (page : ℕ) → Holds c.lists cached_list page → (size : ℕ) → ¬ (StartsIn c size page)
+
+-- blocks outside the image start in the page
+abbrev pub HasBlocks : Contents → ℕ → Type 0
+HasBlocks c page = (size : ℕ) × StartsIn c size page
+
+-- the cached entries are those that were cached, and those outside the image that have lost their last block
+abbrev pub CachesEmptied : (old new : Contents) → Type 0
+CachesEmptied old new = (page : ℕ)
+    → Holds new.lists cached_list page ↔ (Holds old.lists cached_list page ⊎ (HasBlocks old page × ¬ (HasBlocks new page)))
 
 -- how many blocks of this size a page has places for, or one that is larger than a page
 abbrev pub places_of : ℕ → ℕ

@@ -3,7 +3,8 @@ use Rattle.std.specs.Prelude.{◌≡◌, ℕ, zero, suc, ◌+◌, ◌*◌, ◌<�
 use Rattle.gt_pages.specs.declared.pages.Run.{Run}
 use Rattle.gt_pages.specs.Ledger.{page_address, pages_of, sizes}
 use Rattle.gt_pages.specs.Slots.{Slot, slot_at}
-use Rattle.gt_pages.specs.Contents.{Contents}
+use Rattle.gt_links.specs.Lists.{empty_lists}
+use Rattle.gt_pages.specs.Contents.{Contents, list_count}
 
 -- how many pages a run takes up
 abbrev pub run_pages : Run → ℕ
@@ -35,8 +36,9 @@ pub record AreRuns (runs : List Run) : Type 0 where
   pub rising : RiseFrom 0 runs
   pub some : All (λ run. 1 ≤ run.count) runs
 
--- the pages hold the blocks of these runs from a page on, and nothing else
+-- the pages hold the blocks of these runs from a page on, and nothing else; so no list has an entry, and none is cached
 pub record IsImage (old : Contents) (page : ℕ) (runs : List Run) (new : Contents) : Type 0 where
   pub slots : new.slots ≡ image_slots page runs
   pub image : new.image ≡ record { first = page; count = image_pages runs }
   pub pages : new.pages ≡ old.pages
+  pub lists : new.lists ≡ empty_lists list_count old.pages

@@ -3,6 +3,7 @@ pub mod Slots
 pub mod Contents
 pub mod Images
 pub mod Tables
+pub mod Leaves
 pub mod Parts
 pub mod Changes
 pub mod Spots

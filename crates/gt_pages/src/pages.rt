@@ -4,7 +4,7 @@ ghost use Rattle.gt_space.specs.declared.TheConstants.{MIN_PAGES, MAX_PAGES};
 ghost use Rattle.gt_links.specs.Lists.{Holds, nodes_of, with_nodes};
 ghost use Rattle.gt_pages.specs.Ledger.{AreFree, Base, IsTooLong, Place, Room, sizes};
 ghost use Rattle.gt_pages.specs.Slots.{StartsSome, block_of, is_marked, is_pending, is_unmarked, mark_at, new_mark, next_slot, owner_of, slot_at, told_of, unmarked, walked, with_mark_at, with_slot};
-ghost use Rattle.gt_pages.specs.Contents.{AreLaidOut, HasLists, IsEntry, IsInFirst, KeepsPages, empty_contents, ledger_of, with_slots};
+ghost use Rattle.gt_pages.specs.Contents.{AreLaidOut, CachesEmptied, HasLists, IsEntry, IsInFirst, KeepsPages, empty_contents, ledger_of, with_slots};
 ghost use Rattle.gt_pages.specs.Images.{AreRuns, IsImage, image_pages};
 
 use crate::store::Store;
@@ -73,7 +73,8 @@ impl Pages {
     }
 
     /// Makes an unmarked block of a listed size, in bytes, and gives its address. `Full` says that there is no room for this
-    /// size. At an error there are the same blocks; cached entries may have been released.
+    /// size, and the cached entries are released before it is answered. `Memory` says that memory is wanting, and nothing
+    /// changes.
     pub fn alloc_slot(&mut self, size: u32) -> Result<u64, SlotFail>
         requires listed { Contains sizes size }
         ensures placed { IfOk result (λ addr. Place (ledger_of self.old) (block_of (slot_at addr size))) }
@@ -83,10 +84,9 @@ impl Pages {
         ensures room { OnOk result (Room (ledger_of self.old) size) }
         ensures full { IfErr result (λ e. e ≡ SlotFail.Full → ¬ (Room (ledger_of self.old) size)) }
         ensures memory { IfErr result (λ e. e ≡ SlotFail.Memory → Room (ledger_of self.old) size) }
-        ensures unchanged { OnErr result (self.new.slots ≡ self.old.slots) }
-
-        // Cached entries are released before `Full` is answered.
-        ensures released { IfErr result (λ e. e ≡ SlotFail.Full → nodes_of self.new.lists CACHED ≡ []) }
+        ensures unchanged { IfErr result (λ e. e ≡ SlotFail.Memory → self.new ≡ self.old) }
+        ensures released { IfErr result (λ e. e ≡ SlotFail.Full
+            → self.new ≡ record self.old { lists = with_nodes self.old.lists CACHED [] }) }
     {
         self.store.alloc_slot(size)
     }
@@ -167,10 +167,12 @@ impl Pages {
     }
 
     /// Frees the blocks that are not marked, and says how many these were. The others stay as they are, with their marks.
+    /// An entry that has lost its last block is cached.
     pub fn sweep(&mut self) -> u32
         ensures kept { self.new.slots ≡ filter is_marked self.old.slots }
         ensures pages { KeepsPages self.old self.new }
         ensures freed { result ≡ count_by is_unmarked self.old.slots }
+        ensures cached { CachesEmptied self.old self.new }
     {
         self.store.sweep()
     }

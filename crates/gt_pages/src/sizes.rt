@@ -10,14 +10,14 @@ pub const SIZES: [u32; 29] = [
 
 /// The same, with what contracts know of them.
 pub fn all_sizes() -> &'static [u32]
-    ensures { result.now ≡ sizes }
+    ensures all { result.now ≡ sizes }
 {
     &SIZES
 }
 
 /// The least size of a block with room for so many bytes, or None where there is none.
 pub fn rounded_size(need: u32) -> Option<u32>
-    ensures { result ≡ rounded need }
+    ensures least { result ≡ rounded need }
 {
     SIZES.iter().copied().find(|size| need <= *size)
 }

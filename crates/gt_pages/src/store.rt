@@ -8,12 +8,12 @@ ghost use Rattle.gt_pages.specs.Spots.{HasNoneAbove, IsAbove, IsFirstIn, IsNextS
 ghost use Rattle.gt_pages.specs.Slots as slots;
 ghost use Rattle.gt_entries.specs.Cells as cells;
 ghost use Rattle.gt_pages.specs.Slots.{StartsSome, block_of, is_unmarked, mark_at, new_mark, next_slot, owner_of, slot_at, told_of, unmarked, walked, with_mark_at, with_slot};
-ghost use Rattle.gt_pages.specs.Contents.{IsInFirst, KeepsPages, ledger_of, with_slots};
+ghost use Rattle.gt_pages.specs.Contents.{CachesEmptied, IsInFirst, KeepsPages, ledger_of, with_slots};
 ghost use Rattle.gt_pages.specs.Places.{IsWithin, Shares};
 ghost use Rattle.gt_entries.specs.Cells.{Free, Used, cell_at, is_free, is_lost, is_marked, mark_in};
 ghost use Rattle.gt_pages.specs.Images.{AreRuns, IsImage, image_pages, run_pages};
 ghost use Rattle.gt_pages.specs.Runs.{AddsRun, image_end};
-ghost use Rattle.gt_pages.specs.Changes.{ClearsMarks, Closes, IsNew, Opens, Releases, Sweeps, cleared_entry, swept_entry, with_entry, with_first, with_list, with_place, without_cached};
+ghost use Rattle.gt_pages.specs.Changes.{ClearsMarks, Closes, IsNew, Opens, Releases, Sweeps, cleared_entry, swept_entry, with_entry, with_first, with_list, with_place, without_cached, without_places};
 ghost use Rattle.gt_links.specs.Lists.{Holds, IsFree, IsInList, nodes_of, with_nodes, without};
 
 use crate::pages::{CACHED, LISTS, Run, SlotFail};
@@ -125,8 +125,9 @@ impl Store {
         ensures room { OnOk result (Room (ledger_of (contents_of (parts_of self.old))) size) }
         ensures full { IfErr result (λ e. e ≡ SlotFail.Full → ¬ (Room (ledger_of (contents_of (parts_of self.old))) size)) }
         ensures memory { IfErr result (λ e. e ≡ SlotFail.Memory → Room (ledger_of (contents_of (parts_of self.old))) size) }
-        ensures unchanged { OnErr result ((contents_of (parts_of self.new)).slots ≡ (contents_of (parts_of self.old)).slots) }
-        ensures released { IfErr result (λ e. e ≡ SlotFail.Full → nodes_of (parts_of self.new).lists CACHED ≡ []) }
+        ensures unchanged { IfErr result (λ e. e ≡ SlotFail.Memory → contents_of (parts_of self.new) ≡ contents_of (parts_of self.old)) }
+        ensures released { IfErr result (λ e. e ≡ SlotFail.Full → contents_of (parts_of self.new)
+            ≡ record (contents_of (parts_of self.old)) { lists = with_nodes (parts_of self.old).lists CACHED [] }) }
     {
         if let Some(addr) = self.share(size) {
             return Ok(addr);
@@ -361,6 +362,7 @@ impl Store {
         ensures pages { KeepsPages (contents_of (parts_of self.old)) (contents_of (parts_of self.new)) }
         ensures slots { (contents_of (parts_of self.new)).slots ≡ filter slots.is_marked (contents_of (parts_of self.old)).slots }
         ensures freed { result ≡ count_by is_unmarked (contents_of (parts_of self.old)).slots }
+        ensures cached { CachesEmptied (contents_of (parts_of self.old)) (contents_of (parts_of self.new)) }
     {
         let mut freed = 0;
         let mut from = 0;
@@ -534,7 +536,8 @@ impl Store {
         entry.places.take_free()
     }
 
-    /// Makes an entry for blocks of a size in free pages from one on, with a block at one of its places.
+    /// Makes an entry for blocks of a size in free pages from one on, with a block at one of its places. At an error contracts
+    /// see no change: a cached entry that gave its memory for the places is still cached.
     fn open(&mut self, page: u32, size: u32) -> Result<u64, AllocError>
         requires kept { IsKept (parts_of self.old) }
         requires listed { Contains sizes size }
@@ -544,10 +547,11 @@ impl Store {
         ensures within { IfOk result (IsWithin page size) }
         ensures added { IfOk result (λ addr. (contents_of (parts_of self.new)).slots
             ≡ with_slot (contents_of (parts_of self.old)).slots (slot_at addr size)) }
-        ensures unchanged { OnErr result ((contents_of (parts_of self.new)).slots ≡ (contents_of (parts_of self.old)).slots) }
+        ensures unchanged { OnErr result (contents_of (parts_of self.new) ≡ contents_of (parts_of self.old)) }
     {
-        let cached = self.take_cached(page);
-        let (places, place) = new_places(cached, places_of(size))?;
+        let memory = self.take_memory(page);
+        let (places, place) = new_places(memory, places_of(size))?;
+        self.release_for(page);
         self.put_entry(page, Entry { size, places });
         self.push_entry(list_of(size), page);
         Ok(place_address(page, size, place))
@@ -601,14 +605,13 @@ impl Store {
         self.entries[page as usize] = entry;
     }
 
-    /// The places of a cached entry, which is cached no more: the one of this page where there is one, else the first. No
-    /// places where no entry is cached.
-    fn take_cached(&mut self, page: u32) -> Places
+    /// The memory of the cached entry for a page, which stays cached. No places where no entry is cached.
+    fn take_memory(&mut self, page: u32) -> Places
         requires kept { IsKept (parts_of self.old) }
         requires page { page < (parts_of self.old).pages }
         ensures kept { IsKept (parts_of self.new) }
         ensures released { Releases (parts_of self.old) (parts_of self.new) }
-        ensures own { ¬ (Holds (parts_of self.new).lists CACHED page) }
+        ensures lists { (parts_of self.new).lists ≡ (parts_of self.old).lists }
     {
         match self.cached_for(page) {
             None => Places::none(self.alloc),
@@ -616,7 +619,21 @@ impl Store {
         }
     }
 
-    // The cached entry of a page where there is one, else the first one.
+    /// The cached entry for a page is cached no more.
+    fn release_for(&mut self, page: u32)
+        requires kept { IsKept (parts_of self.old) }
+        requires page { page < (parts_of self.old).pages }
+        ensures kept { IsKept (parts_of self.new) }
+        ensures released { Releases (parts_of self.old) (parts_of self.new) }
+        ensures own { ¬ (Holds (parts_of self.new).lists CACHED page) }
+    {
+        match self.cached_for(page) {
+            None => {}
+            Some(node) => self.release(node),
+        }
+    }
+
+    // The cached entry for a page: its own where there is one, else the first one.
     fn cached_for(&self, page: u32) -> Option<u32>
         requires kept { IsKept (parts_of self.now) }
         requires page { page < (parts_of self.now).pages }
@@ -630,14 +647,11 @@ impl Store {
         self.lists.first(CACHED)
     }
 
-    /// The places of a cached entry, which has none after and is cached no more.
+    // The places of an entry, which has none after.
     fn take_places(&mut self, node: u32) -> Places
-        requires entry { node < length (parts_of self.old).entries }
-        requires node { node < (parts_of self.old).lists.nodes }
-        requires cached { Holds (parts_of self.old).lists CACHED node }
-        ensures { parts_of self.new ≡ without_cached (parts_of self.old) node }
+        requires { node < length (parts_of self.old).entries }
+        ensures { parts_of self.new ≡ without_places (parts_of self.old) node }
     {
-        self.lists.unlink(node);
         let entry = &mut self.entries[node as usize];
         std::mem::replace(&mut entry.places, Places::none(self.alloc))
     }

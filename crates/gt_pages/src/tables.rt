@@ -1,14 +1,33 @@
-//! The table of pages: to which entry each page leads.
-ghost use Rattle.std.specs.Prelude.{◌≡◌, ◌+◌, ◌<◌, ◌≤◌, length, replicate, IfOk, None, Some};
+//! The table of pages, in two levels: to which entry each page leads.
+ghost use Rattle.std.specs.Prelude.{◌≡◌, ℕ, ◌+◌, ◌*◌, ◌/◌, ◌%◌, ◌<◌, ◌≤◌, length, replicate, slice_set, IfOk, None, Some};
 ghost use Rattle.gt_pages.specs.Tables.{page_at, Leads};
+ghost use Rattle.gt_pages.specs.Leaves.{HasLeaves};
 
 use std::alloc::{AllocError, Global};
 use std::marker::Model;
 
-/// For each page the first page of the entry that it leads to, or `None`.
+/// How many pages one leaf of the table has. The last leaf has those that are left.
+const LEAF_PAGES: usize = 512;
+
+/// Where consecutive pages lead.
+#[derive(Drop)]
+struct Leaf {
+    firsts: Vec<Option<u32>>,
+}
+
+/// For each page the first page of the entry that it leads to, or `None`: a directory of leaves, each for consecutive pages.
 #[derive(Drop)]
 pub(crate) struct PageTable {
-    firsts: Vec<Option<u32>>,
+    pages: u32,
+    leaves: Vec<Leaf>,
+}
+
+impl Model for Leaf {
+    ghost use Rattle.std.specs.Prelude.{List, Option, ℕ};
+
+    ghost Value = { List (Option ℕ) };
+
+    ghost view = { λ leaf. leaf.firsts.items };
 }
 
 impl Model for PageTable {
@@ -16,7 +35,38 @@ impl Model for PageTable {
 
     ghost Value = { List (Option ℕ) };
 
-    ghost view = { λ t. t.firsts.items };
+    ghost use Rattle.gt_pages.specs.Leaves.{table_of, HasLeaves};
+
+    ghost view = { λ t. table_of t.pages t.leaves.items };
+
+    ghost invariant = { λ t. HasLeaves t.pages t.leaves.items };
+}
+
+impl Leaf {
+    // A leaf for so many pages, of which none leads anywhere.
+    fn new(alloc: Global, pages: usize) -> Result<Leaf, AllocError>
+        ensures { IfOk result (λ leaf. leaf ≡ replicate pages None) }
+    {
+        Ok(Leaf {
+            firsts: vec![in alloc; None; pages]?,
+        })
+    }
+
+    // Where one of its pages leads.
+    fn get(&self, i: usize) -> Option<u32>
+        requires { i < length self.now }
+        ensures { result ≡ page_at self.now i }
+    {
+        self.firsts[i]
+    }
+
+    // From now on one of its pages leads to an entry, or nowhere.
+    fn set(&mut self, i: usize, entry: Option<u32>)
+        requires { i < length self.old }
+        ensures { self.new ≡ slice_set self.old i entry }
+    {
+        self.firsts[i] = entry;
+    }
 }
 
 impl PageTable {
@@ -24,9 +74,12 @@ impl PageTable {
     pub(crate) fn new(alloc: Global, pages: u32) -> Result<PageTable, AllocError>
         ensures { IfOk result (λ t. t ≡ replicate pages None) }
     {
-        Ok(PageTable {
-            firsts: vec![in alloc; None; pages as usize]?,
-        })
+        let mut leaves = Vec::new(alloc);
+        for i in 0..(pages as usize).div_ceil(LEAF_PAGES) {
+            let left = pages as usize - LEAF_PAGES * i;
+            leaves.push(Leaf::new(alloc, left.min(LEAF_PAGES))?)?;
+        }
+        Ok(PageTable { pages, leaves })
     }
 
     /// Where a page leads.
@@ -34,7 +87,8 @@ impl PageTable {
         requires { page < length self.now }
         ensures { result ≡ page_at self.now page }
     {
-        self.firsts[page as usize]
+        let page = page as usize;
+        self.leaves[page / LEAF_PAGES].get(page % LEAF_PAGES)
     }
 
     /// From now on so many pages lead to an entry.
@@ -42,7 +96,7 @@ impl PageTable {
         requires { first + count ≤ length self.old }
         ensures { Leads self.old first count (Some entry) self.new }
     {
-        write_all(&mut self.firsts, first, count, Some(entry));
+        self.write_all(first, count, Some(entry));
     }
 
     /// From now on so many pages lead nowhere.
@@ -50,16 +104,24 @@ impl PageTable {
         requires { first + count ≤ length self.old }
         ensures { Leads self.old first count None self.new }
     {
-        write_all(&mut self.firsts, first, count, None);
+        self.write_all(first, count, None);
     }
-}
 
-// Writes where so many pages lead.
-fn write_all(firsts: &mut [Option<u32>], first: u32, count: u32, entry: Option<u32>)
-    requires { first + count ≤ length firsts.old }
-    ensures { Leads firsts.old first count entry firsts.new }
-{
-    for i in 0..count {
-        firsts[first as usize + i as usize] = entry;
+    // From now on so many pages lead to an entry, or nowhere.
+    fn write_all(&mut self, first: u32, count: u32, entry: Option<u32>)
+        requires { first + count ≤ length self.old }
+        ensures { Leads self.old first count entry self.new }
+    {
+        for i in 0..count {
+            self.write(first as usize + i as usize, entry);
+        }
+    }
+
+    // From now on a page leads to an entry, or nowhere.
+    fn write(&mut self, page: usize, entry: Option<u32>)
+        requires { page < length self.old }
+        ensures { self.new ≡ slice_set self.old page entry }
+    {
+        self.leaves[page / LEAF_PAGES].set(page % LEAF_PAGES, entry);
     }
 }

@@ -2,4 +2,4 @@ use Rattle.pages_table.proofs.Found.{rounded_in_list}
 use Rattle.pages_table.proofs.sizes.size_for.Goals as goal
 
 pub returns : goal.returns
-returns c = rounded_in_list c.args.bytes c.rounded_size.result c.rounded_size.ensures
+returns c = rounded_in_list c.args.bytes c.rounded_size.result c.rounded_size.ensures.least

@@ -7,13 +7,15 @@ use Rattle.gt_entries.proofs.places.Places.free_count.Goals as goal
 
 pub overflow_sub-result : goal.overflow_sub-result
 overflow_sub-result c =
-    let split = count_used c.self.inside.count c.self.inside.used.items c.self.inside.marked.items c.self.inside.pending.items c.self.inside.tags.items c.self.invariant in
-    let counted : c.count.result ≡ length (members c.self.inside.used.items) = c.count.ensures ∙ ap (λ words. length (members words)) c.deref.ensures.value in
+    let split = count_used c.self.inside.count c.self.inside.sets.used c.self.inside.sets.marked c.self.inside.sets.pending c.self.inside.tags.items c.self.invariant in
+    let counted : c.count.result ≡ length (members c.self.inside.sets.used) = c.count.ensures ∙ ap (λ words. length (members words)) c.used.ensures in
     omega (arith, split, counted)
 
 pub returns : goal.returns
-returns c =
-    let split = count_used c.self.inside.count c.self.inside.used.items c.self.inside.marked.items c.self.inside.pending.items c.self.inside.tags.items c.self.invariant in
-    let counted : c.count.result ≡ length (members c.self.inside.used.items) = c.count.ensures ∙ ap (λ words. length (members words)) c.deref.ensures.value in
-    let seen : count_by is_free (cells_of c.self.inside.count c.self.inside.used.items c.self.inside.marked.items c.self.inside.pending.items c.self.inside.tags.items) ≡ count_by is_free c.args.self.now = ap (λ cells. count_by is_free cells) c.self.view_is in
-    omega (arith, split, counted, seen)
+returns c = record {
+  count =
+      let split = count_used c.self.inside.count c.self.inside.sets.used c.self.inside.sets.marked c.self.inside.sets.pending c.self.inside.tags.items c.self.invariant in
+      let counted : c.count.result ≡ length (members c.self.inside.sets.used) = c.count.ensures ∙ ap (λ words. length (members words)) c.used.ensures in
+      let seen : count_by is_free (cells_of c.self.inside.count c.self.inside.sets.used c.self.inside.sets.marked c.self.inside.sets.pending c.self.inside.tags.items) ≡ count_by is_free c.args.self.now = ap (λ cells. count_by is_free cells) c.self.view_is in
+      omega (arith, split, counted, seen);
+}

@@ -3,4 +3,7 @@ use Rattle.gt_entries.proofs.CellLemmas.{len_cells}
 use Rattle.gt_entries.proofs.places.Places.len.Goals as goal
 
 pub returns : goal.returns
-returns c = sym (len_cells c.self.inside.count c.self.inside.used.items c.self.inside.marked.items c.self.inside.pending.items c.self.inside.tags.items) ∙ ap (λ cells. length cells) c.self.view_is
+returns c = record {
+  count =
+      sym (len_cells c.self.inside.count c.self.inside.sets.used c.self.inside.sets.marked c.self.inside.sets.pending c.self.inside.tags.items) ∙ ap (λ cells. length cells) c.self.view_is;
+}

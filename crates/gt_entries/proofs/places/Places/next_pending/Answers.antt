@@ -7,9 +7,11 @@ use Rattle.gt_entries.proofs.CellLemmas.{first_from}
 use Rattle.gt_entries.proofs.places.Places.next_pending.Goals as goal
 
 pub returns : goal.returns
-returns c =
-    subst (λ cells. IsFirstFrom is_pending cells c.args.from c.next.result) c.self.view_is
-    (first_from c.self.inside.count c.self.inside.used.items c.self.inside.marked.items c.self.inside.pending.items c.self.inside.tags.items c.self.invariant c.self.inside.pending.items is_pending c.args.from c.next.result
-    (λ k. pending_bit (has c.self.inside.used.items k) (has c.self.inside.marked.items k) (has c.self.inside.pending.items k) (tag_at c.self.inside.tags.items k) (c.self.invariant.marks_used k) (c.self.invariant.pending_marked k))
-    (λ k pending. c.self.invariant.within k (c.self.invariant.marks_used k (c.self.invariant.pending_marked k pending)))
-    (subst (λ words. IsNext words c.args.from c.next.result) c.deref.ensures.value c.next.ensures))
+returns c = record {
+  first =
+      subst (λ cells. IsFirstFrom is_pending cells c.args.from c.next.result) c.self.view_is
+      (first_from c.self.inside.count c.self.inside.sets.used c.self.inside.sets.marked c.self.inside.sets.pending c.self.inside.tags.items c.self.invariant c.self.inside.sets.pending is_pending c.args.from c.next.result
+      (λ k. pending_bit (has c.self.inside.sets.used k) (has c.self.inside.sets.marked k) (has c.self.inside.sets.pending k) (tag_at c.self.inside.tags.items k) (c.self.invariant.marks_used k) (c.self.invariant.pending_marked k))
+      (λ k pending. c.self.invariant.within k (c.self.invariant.marks_used k (c.self.invariant.pending_marked k pending)))
+      (subst (λ words. IsNext words c.args.from c.next.result) c.pending.ensures c.next.ensures));
+}

@@ -8,20 +8,19 @@ use Rattle.gt_entries.proofs.places.Places.sweep.Goals as goal
 
 pub overflow_sub-freed : goal.overflow_sub-freed
 overflow_sub-freed c =
-    let split = count_lost c.self.inside.count c.self.inside.used.items c.self.inside.marked.items c.self.inside.pending.items c.self.inside.tags.items c.self.invariant in
-    let used : c.count.result ≡ length (members c.self.inside.used.items) = c.count.ensures ∙ ap (λ words. length (members words)) c.deref.ensures.value in
-    let marked : c.count-2.result ≡ length (members c.self.inside.marked.items) = c.count-2.ensures ∙ ap (λ words. length (members words)) c.deref-2.ensures.value in
+    let split = count_lost c.self.inside.count c.self.inside.sets.used c.self.inside.sets.marked c.self.inside.sets.pending c.self.inside.tags.items c.self.invariant in
+    let used : c.count.result ≡ length (members c.self.inside.sets.used) = c.count.ensures ∙ ap (λ words. length (members words)) c.used.ensures in
+    let marked : c.count-2.result ≡ length (members c.self.inside.sets.marked) = c.count-2.ensures ∙ ap (λ words. length (members words)) c.marked.ensures in
     omega (arith, split, used, marked)
 
 pub returns-clause-swept : goal.returns-clause-swept
 returns-clause-swept c =
-    let words : c.copy_from_slice.new.self.items ≡ c.self.inside.marked.items = c.copy_from_slice.ensures.items ∙ c.deref-3.ensures.value in
-    rw words (cells_sweep c.self.inside.count c.self.inside.used.items c.self.inside.marked.items c.self.inside.pending.items c.self.inside.tags.items c.self.invariant ∙ ap (λ cells. map swept cells) c.self.view_is)
+    rw c.sweep.ensures (cells_sweep c.self.inside.count c.self.inside.sets.used c.self.inside.sets.marked c.self.inside.sets.pending c.self.inside.tags.items c.self.invariant ∙ ap (λ cells. map swept cells) c.self.view_is)
 
 pub returns-clause-freed : goal.returns-clause-freed
 returns-clause-freed c =
-    let split = count_lost c.self.inside.count c.self.inside.used.items c.self.inside.marked.items c.self.inside.pending.items c.self.inside.tags.items c.self.invariant in
-    let used : c.count.result ≡ length (members c.self.inside.used.items) = c.count.ensures ∙ ap (λ words. length (members words)) c.deref.ensures.value in
-    let marked : c.count-2.result ≡ length (members c.self.inside.marked.items) = c.count-2.ensures ∙ ap (λ words. length (members words)) c.deref-2.ensures.value in
-    let seen : count_by is_lost (cells_of c.self.inside.count c.self.inside.used.items c.self.inside.marked.items c.self.inside.pending.items c.self.inside.tags.items) ≡ count_by is_lost c.args.self.now = ap (λ cells. count_by is_lost cells) c.self.view_is in
+    let split = count_lost c.self.inside.count c.self.inside.sets.used c.self.inside.sets.marked c.self.inside.sets.pending c.self.inside.tags.items c.self.invariant in
+    let used : c.count.result ≡ length (members c.self.inside.sets.used) = c.count.ensures ∙ ap (λ words. length (members words)) c.used.ensures in
+    let marked : c.count-2.result ≡ length (members c.self.inside.sets.marked) = c.count-2.ensures ∙ ap (λ words. length (members words)) c.marked.ensures in
+    let seen : count_by is_lost (cells_of c.self.inside.count c.self.inside.sets.used c.self.inside.sets.marked c.self.inside.sets.pending c.self.inside.tags.items) ≡ count_by is_lost c.args.self.now = ap (λ cells. count_by is_lost cells) c.self.view_is in
     omega (arith, split, used, marked, seen)

@@ -1,6 +1,5 @@
-use Rattle.std.proofs.Common.{◌≡◌, ℕ, length, set, count_by, Option, Some, None, IfNone, sym, ap, subst, ◌∙◌, arith, rules}
-use Rattle.std.proofs.lemmas.List.{with_items_is}
-use Rattle.gt_bits.specs.Sets.{has, IsNextGap}
+use Rattle.std.proofs.Common.{◌≡◌, ℕ, length, set, count_by, Option, Some, None, IfNone, sym, ap, subst, ◌∙◌, arith}
+use Rattle.gt_bits.specs.Sets.{IsNextGap}
 use Rattle.gt_entries.specs.Cells.{Used, cell_at, is_free}
 use Rattle.gt_entries.specs.Places.{cells_of}
 use Rattle.gt_entries.proofs.CellLemmas.{len_cells, none_free}
@@ -13,32 +12,32 @@ if_none (Some x) P p = tt
 
 pub returns-in_err-k-clause-full : goal.returns-in_err-k-clause-full
 returns-in_err-k-clause-full c =
-    let gap = subst (λ r. IsNextGap c.self.inside.used.items 0 c.self.inside.count r) c.in_err-k.was (subst (λ words. IsNextGap words 0 c.self.inside.count c.next_gap.result) c.deref.ensures.value c.next_gap.ensures) in
+    let gap = subst (λ r. IsNextGap c.self.inside.sets.used 0 c.self.inside.count r) c.in_err-k.was (subst (λ words. IsNextGap words 0 c.self.inside.count c.next_gap.result) c.used.ensures c.next_gap.ensures) in
     if_none c.from_residual.result (count_by is_free c.args.self.now ≡ 0)
     (ap (λ cells. count_by is_free cells) (sym c.self.view_is)
-    ∙ none_free c.self.inside.count c.self.inside.used.items c.self.inside.marked.items c.self.inside.pending.items c.self.inside.tags.items (λ k low. gap.none k (omega arith) low))
+    ∙ none_free c.self.inside.count c.self.inside.sets.used c.self.inside.sets.marked c.self.inside.sets.pending c.self.inside.tags.items (λ k low. gap.none k (omega arith) low))
 
 pub invariant_of-self : goal.invariant_of-self
 invariant_of-self c =
-    let gap = subst (λ r. IsNextGap c.self.inside.used.items 0 c.self.inside.count r) c.in_ok-k.was (subst (λ words. IsNextGap words 0 c.self.inside.count c.next_gap.result) c.deref.ensures.value c.next_gap.ensures) in
-    rw (with_items_is c.self.inside.used c.insert.new.words (search rules))
-    (kept_take c.self.inside.count c.self.inside.used.items c.self.inside.marked.items c.self.inside.pending.items c.self.inside.tags.items c.insert.new.words c.in_ok-k.k gap.below gap.missing
-    (c.insert.ensures.len ∙ ap (λ words. length words) c.deref_mut.ensures.value) c.insert.ensures.held
-    (λ j apart. c.insert.ensures.others j apart ∙ ap (λ words. has words j) c.deref_mut.ensures.value) c.self.invariant)
+    let gap = subst (λ r. IsNextGap c.self.inside.sets.used 0 c.self.inside.count r) c.in_ok-k.was (subst (λ words. IsNextGap words 0 c.self.inside.count c.next_gap.result) c.used.ensures c.next_gap.ensures) in
+    rw (ap (λ s. s.marked) c.take.ensures.rest, ap (λ s. s.pending) c.take.ensures.rest)
+    (kept_take c.self.inside.count c.self.inside.sets.used c.self.inside.sets.marked c.self.inside.sets.pending c.self.inside.tags.items c.take.new.self.used c.in_ok-k.k gap.below gap.missing
+    c.take.ensures.len c.take.ensures.held
+    c.take.ensures.others c.self.invariant)
 
 pub returns-clause-free : goal.returns-clause-free
 returns-clause-free c =
-    let gap = subst (λ r. IsNextGap c.self.inside.used.items 0 c.self.inside.count r) c.in_ok-k.was (subst (λ words. IsNextGap words 0 c.self.inside.count c.next_gap.result) c.deref.ensures.value c.next_gap.ensures) in
-    let len : length (cells_of c.self.inside.count c.self.inside.used.items c.self.inside.marked.items c.self.inside.pending.items c.self.inside.tags.items) ≡ length c.args.self.now = ap (λ cells. length cells) c.self.view_is in (
-      omega (arith, len, len_cells c.self.inside.count c.self.inside.used.items c.self.inside.marked.items c.self.inside.pending.items c.self.inside.tags.items, gap.below),
-      ap (λ cells. cell_at cells c.in_ok-k.k) (sym c.self.view_is) ∙ free_at c.self.inside.count c.self.inside.used.items c.self.inside.marked.items c.self.inside.pending.items c.self.inside.tags.items c.self.invariant c.in_ok-k.k gap.missing,
+    let gap = subst (λ r. IsNextGap c.self.inside.sets.used 0 c.self.inside.count r) c.in_ok-k.was (subst (λ words. IsNextGap words 0 c.self.inside.count c.next_gap.result) c.used.ensures c.next_gap.ensures) in
+    let len : length (cells_of c.self.inside.count c.self.inside.sets.used c.self.inside.sets.marked c.self.inside.sets.pending c.self.inside.tags.items) ≡ length c.args.self.now = ap (λ cells. length cells) c.self.view_is in (
+      omega (arith, len, len_cells c.self.inside.count c.self.inside.sets.used c.self.inside.sets.marked c.self.inside.sets.pending c.self.inside.tags.items, gap.below),
+      ap (λ cells. cell_at cells c.in_ok-k.k) (sym c.self.view_is) ∙ free_at c.self.inside.count c.self.inside.sets.used c.self.inside.sets.marked c.self.inside.sets.pending c.self.inside.tags.items c.self.invariant c.in_ok-k.k gap.missing,
     )
 
 pub returns-clause-taken : goal.returns-clause-taken
 returns-clause-taken c =
-    let gap = subst (λ r. IsNextGap c.self.inside.used.items 0 c.self.inside.count r) c.in_ok-k.was (subst (λ words. IsNextGap words 0 c.self.inside.count c.next_gap.result) c.deref.ensures.value c.next_gap.ensures) in
-    rw (with_items_is c.self.inside.used c.insert.new.words (search rules))
-    (cells_take c.self.inside.count c.self.inside.used.items c.self.inside.marked.items c.self.inside.pending.items c.self.inside.tags.items c.insert.new.words c.in_ok-k.k gap.below gap.missing
-    (c.insert.ensures.len ∙ ap (λ words. length words) c.deref_mut.ensures.value) c.insert.ensures.held
-    (λ j apart. c.insert.ensures.others j apart ∙ ap (λ words. has words j) c.deref_mut.ensures.value) c.self.invariant
+    let gap = subst (λ r. IsNextGap c.self.inside.sets.used 0 c.self.inside.count r) c.in_ok-k.was (subst (λ words. IsNextGap words 0 c.self.inside.count c.next_gap.result) c.used.ensures c.next_gap.ensures) in
+    rw (ap (λ s. s.marked) c.take.ensures.rest, ap (λ s. s.pending) c.take.ensures.rest)
+    (cells_take c.self.inside.count c.self.inside.sets.used c.self.inside.sets.marked c.self.inside.sets.pending c.self.inside.tags.items c.take.new.self.used c.in_ok-k.k gap.below gap.missing
+    c.take.ensures.len c.take.ensures.held
+    c.take.ensures.others c.self.invariant
     ∙ ap (λ cells. set cells c.in_ok-k.k (Used None)) c.self.view_is)

@@ -20,7 +20,9 @@ push_back-requires-clause-list c =
     omega (arith, within_from_holds s i c.args.node holds)
 
 pub returns : goal.returns
-returns c i holds =
-    let s = c.args.self.now in
-    let same : c.unwrap-list.result ≡ i = same_Some _ _ (sym c.unwrap-list.ensures ∙ c.list_of.ensures.one i holds) in
-    with_nodes-then_push s c.unlink.new.self c.push_back.new.self i c.unwrap-list.result c.args.node _ (within_from_holds s i c.args.node holds) same (c.unlink.ensures.taken i holds) c.push_back.ensures
+returns c = record {
+  moved = λ i holds.
+      let s = c.args.self.now in
+      let same : c.unwrap-list.result ≡ i = same_Some _ _ (sym c.unwrap-list.ensures ∙ c.list_of.ensures.one i holds) in
+      with_nodes-then_push s c.unlink.new.self c.push_back.new.self i c.unwrap-list.result c.args.node _ (within_from_holds s i c.args.node holds) same (c.unlink.ensures.taken i holds) c.push_back.ensures.back;
+}

@@ -11,4 +11,4 @@ invariant_of-result c =
 pub returns : goal.returns
 returns c =
     let made = c.in_ok-new.ensures in
-    (Shows-from_made _ _ (IsMadeOf-empty c.in_ok-new.field-0 c.args.lists c.args.nodes made.lists made.alone (Fits-lt-pow c.ranges.lists) (Fits-lt-pow c.ranges.nodes))).1
+    record { empty = (Shows-from_made _ _ (IsMadeOf-empty c.in_ok-new.field-0 c.args.lists c.args.nodes made.lists made.alone (Fits-lt-pow c.ranges.lists) (Fits-lt-pow c.ranges.nodes))).1 }

@@ -17,5 +17,6 @@ invariant_of-self c =
     (pushed_back c.self.inside.rings c.args.self.now c.self.view_is c.self.invariant _ c.args.node c.requires.node c.args.list c.requires.list c.requires.free (rw c.entry-last.ensures at c.insert_after.ensures)).0
 
 pub returns : goal.returns
-returns c =
-    (pushed_back c.self.inside.rings c.args.self.now c.self.view_is c.self.invariant _ c.args.node c.requires.node c.args.list c.requires.list c.requires.free (rw c.entry-last.ensures at c.insert_after.ensures)).1
+returns c = record {
+  back = (pushed_back c.self.inside.rings c.args.self.now c.self.view_is c.self.invariant _ c.args.node c.requires.node c.args.list c.requires.list c.requires.free (rw c.entry-last.ensures at c.insert_after.ensures)).1;
+}

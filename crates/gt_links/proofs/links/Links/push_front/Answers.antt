@@ -10,5 +10,6 @@ invariant_of-self c =
     (pushed_front c.self.inside.rings c.args.self.now c.self.view_is c.self.invariant _ c.args.node c.requires.node c.args.list c.requires.list c.requires.free c.insert_after.ensures).0
 
 pub returns : goal.returns
-returns c =
-    (pushed_front c.self.inside.rings c.args.self.now c.self.view_is c.self.invariant _ c.args.node c.requires.node c.args.list c.requires.list c.requires.free c.insert_after.ensures).1
+returns c = record {
+  front = (pushed_front c.self.inside.rings c.args.self.now c.self.view_is c.self.invariant _ c.args.node c.requires.node c.args.list c.requires.list c.requires.free c.insert_after.ensures).1;
+}

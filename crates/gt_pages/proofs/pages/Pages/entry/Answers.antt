@@ -29,5 +29,5 @@ returns c =
       entry =
           subst (λ v. IsEntry v c.args.node (record { page = c.args.node; size = c.index-entry.result.now.size; free = c.free_count.result })) c.self.view_is
           (is_entry p c.self.invariant is.0 c.args.node is.1 (record { page = c.args.node; size = c.index-entry.result.now.size; free = c.free_count.result }) refl
-          (ap (λ e. e.size) read ∙ is.1.sized) (c.free_count.ensures ∙ ap (λ e. count_by is_free e.places) read));
+          (ap (λ e. e.size) read ∙ is.1.sized) (c.free_count.ensures.count ∙ ap (λ e. count_by is_free e.places) read));
     }

@@ -1,8 +1,10 @@
-use Rattle.std.proofs.Common.{◌≡◌, ap, subst, inr, ◌∙◌, arith}
+use Rattle.std.proofs.Common.{◌≡◌, [], ap, subst, inr, ◌∙◌, arith}
+use Rattle.gt_links.specs.Lists.{with_nodes}
+use Rattle.gt_pages.specs.declared.pages.TheConstants.{CACHED}
 use Rattle.gt_pages.specs.Slots.{slot_at, with_slot}
 use Rattle.gt_pages.specs.Contents.{KeepsPages}
 use Rattle.gt_pages.specs.Parts.{contents_of, parts_of}
-use Rattle.gt_pages.proofs.CachedLemmas.{contents_released}
+use Rattle.gt_pages.proofs.CachedLemmas.{contents_emptied}
 use Rattle.gt_pages.proofs.FreeLemmas.{run_free}
 use Rattle.gt_pages.proofs.PlacedLemmas.{no_room, placed_open, placed_shared, run_of}
 use Rattle.gt_pages.proofs.SizeLemmas.{size_bounds}
@@ -26,10 +28,10 @@ returns-in_default-first_run-clause-full c = λ _.
     (run_of (parts_of c.args.self.now) (parts_of c.share.new.self) c.args.size c.pages_of.result c.deref.result.now c.first_run.result _
     c.in_default.ensures.unchanged c.deref.ensures.value c.pages_of.ensures c.in_default-first_run.is c.first_run.ensures)
 
-pub returns-in_default-first_run-clause-unchanged : goal.returns-in_default-first_run-clause-unchanged
-returns-in_default-first_run-clause-unchanged c =
-    ap (λ x. x.slots) (contents_released (parts_of c.share.new.self) (parts_of c.release_cached.new.self) c.release_cached.ensures.released)
-    ∙ ap (λ x. (contents_of x).slots) c.in_default.ensures.unchanged
+pub returns-in_default-first_run-clause-released : goal.returns-in_default-first_run-clause-released
+returns-in_default-first_run-clause-released c = λ _.
+    contents_emptied (parts_of c.share.new.self) (parts_of c.release_cached.new.self) c.release_cached.ensures.released c.release_cached.ensures.none
+    ∙ ap (λ x. record (contents_of x) { lists = with_nodes x.lists CACHED [] }) c.in_default.ensures.unchanged
 
 pub returns-in-Ok-clause-placed : goal.returns-in-Ok-clause-placed
 returns-in-Ok-clause-placed c =

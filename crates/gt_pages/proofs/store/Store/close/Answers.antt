@@ -48,7 +48,7 @@ returns c =
           ∙ c.insert_range.ensures.others j (elim out [ inl low ↦ inl low | inr high ↦ inr (omega (arith, high, count)) ])
           ∙ ap (λ w. has w j) c.deref_mut-2.ensures.value;
       lists = λ i held.
-          c.push_front.ensures
+          c.push_front.ensures.front
           ∙ ap (λ s. with_nodes s CACHED (c.args.page ∷ nodes_of s CACHED)) (c.unlink.ensures.taken i held);
       unlisted = λ i j held there. c.unlink.ensures.free j (subst (λ s. Holds s j c.args.page) (sym (c.unlink.ensures.taken i held)) there);
     }

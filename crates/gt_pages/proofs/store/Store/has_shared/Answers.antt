@@ -24,10 +24,10 @@ returns-in-Some c =
       λ e. (
         c.in-Some.page,
         some_shared p c.requires.kept c.list_of.result c.args.size c.list_of.ensures.number c.in-Some.page at
-            (subst (λ x. 0 < count_by is_free x.places) read (c.has_free.ensures.0 e)),
+            (subst (λ x. 0 < count_by is_free x.places) read (c.has_free.ensures.free.0 e)),
       ),
       λ shared.
-          c.has_free.ensures.1
+          c.has_free.ensures.free.1
           (subst (λ x. 0 < count_by is_free x.places) (sym read)
           (first_some p c.requires.kept c.list_of.result c.args.size c.list_of.ensures.number c.in-Some.page at shared)),
     )

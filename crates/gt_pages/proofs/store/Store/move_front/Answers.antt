@@ -15,7 +15,7 @@ returns-in-Some c = record {
   moved = λ i held.
       let same = some_list c.in-Some.list i (sym c.in-Some.is ∙ c.list_of.ensures.one i held) in
       ap (λ s. from (parts_of c.args.self.now) s)
-      (moved_front (parts_of c.args.self.now).lists c.unlink.new.self c.push_front.new.self c.in-Some.list i c.args.page same held (c.unlink.ensures.taken i held) c.push_front.ensures);
+      (moved_front (parts_of c.args.self.now).lists c.unlink.new.self c.push_front.new.self c.in-Some.list i c.args.page same held (c.unlink.ensures.taken i held) c.push_front.ensures.front);
   alone = λ i j held there. c.unlink.ensures.free j (subst (λ s. Holds s j c.args.page) (sym (c.unlink.ensures.taken i held)) there);
 }
   where

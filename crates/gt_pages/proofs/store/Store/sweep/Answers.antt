@@ -1,6 +1,7 @@
 use Rattle.std.proofs.Common.{Some, None, subst, inl, arith}
 use Rattle.gt_bits.specs.Sets.{IsNext}
 use Rattle.gt_pages.specs.Parts.{parts_of}
+use Rattle.gt_pages.proofs.EmptiedLemmas.{swept_caches}
 use Rattle.gt_pages.proofs.SweepLemmas.{lost_few, swept_freed, swept_slots, swept_step}
 use Rattle.gt_pages.proofs.store.Store.sweep.Goals as goal
 
@@ -13,6 +14,10 @@ pub returns-in-None-clause-freed : goal.returns-in-None-clause-freed
 returns-in-None-clause-freed c =
     let last = subst (λ w. IsNext w c.entries.from None) c.deref.ensures.value c.in-None.ensures in
     swept_freed (parts_of c.args.self.now) (parts_of c.entries.self) c.entries.from c.entries.freed c.entries.invariant last.none
+
+pub returns-in-None-clause-cached : goal.returns-in-None-clause-cached
+returns-in-None-clause-cached c =
+    swept_caches (parts_of c.args.self.now) (parts_of c.entries.self) c.entries.from c.entries.freed c.requires c.entries.invariant
 
 pub overflow_add-freed : goal.overflow_add-freed
 overflow_add-freed c =

@@ -1,7 +1,7 @@
 use Rattle.std.proofs.Common.{ap, ◌∙◌, inl, inr, arith}
 use Rattle.std.proofs.lemmas.Bool.{cases_eq}
 use Rattle.gt_bits.specs.Sets.{has}
-use Rattle.gt_entries.proofs.places.insert_all.Goals as goal
+use Rattle.gt_entries.proofs.sets.insert_all.Goals as goal
 
 pub loop-i-preserved : goal.loop-i-preserved
 loop-i-preserved c = record {

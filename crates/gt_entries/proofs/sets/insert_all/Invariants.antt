@@ -1,6 +1,6 @@
 use Rattle.std.proofs.Common.{◌≡◌, ℕ, ◌<◌, ◌≤◌, true}
 use Rattle.gt_bits.specs.Sets.{has}
-use Rattle.gt_entries.proofs.places.insert_all.Given as goal
+use Rattle.gt_entries.proofs.sets.insert_all.Given as goal
 
 abbrev pub invariant-loop-i : goal.invariant-loop-i
 invariant-loop-i l = record {

@@ -5,14 +5,14 @@ use Rattle.gt_pages.specs.Parts.{IsKept, parts_of}
 use Rattle.gt_pages.proofs.CachedLemmas.{kept_without}
 use Rattle.gt_pages.proofs.CloseLemmas.{some_list}
 use Rattle.gt_pages.proofs.OpenLemmas.{not_cached}
-use Rattle.gt_pages.proofs.store.Store.take_cached.Goals as goal
+use Rattle.gt_pages.proofs.store.Store.release_for.Goals as goal
 
 pub returns-in-Some-clause-kept : goal.returns-in-Some-clause-kept
 returns-in-Some-clause-kept c =
-    subst (λ q. IsKept q) (sym c.take_places.ensures) (kept_without (parts_of c.args.self.now) c.in-Some.node c.requires.kept c.in-Some.ensures.cached)
+    subst (λ q. IsKept q) (sym c.release.ensures) (kept_without (parts_of c.args.self.now) c.in-Some.node c.requires.kept c.in-Some.ensures.cached)
 
 pub returns-in-Some-clause-own : goal.returns-in-Some-clause-own
 returns-in-Some-clause-own c =
-    subst (λ q. Holds q.lists CACHED c.args.page → ⊥) (sym c.take_places.ensures)
+    subst (λ q. Holds q.lists CACHED c.args.page → ⊥) (sym c.release.ensures)
     (not_cached (parts_of c.args.self.now) c.in-Some.node c.args.page c.requires.kept
     (λ held. some_list c.in-Some.node c.args.page (c.in-Some.ensures.own held)))
