@@ -12,17 +12,19 @@ use Rattle.gt_entries.specs.declared.marks.Mark.{Mark}
 use Rattle.gt_pages.specs.Slots.{StartsSome, mark_at}
 use Rattle.gt_walk.specs.declared.tables.Tables.{Tables}
 use Rattle.gt_walk.specs.Rows.{Edge, edges_of, rows_of, word_at}
+use Rattle.gt_mark.specs.declared.spans.Pass.{Pass}
+use Rattle.gt_mark.specs.declared.spans.Span.{Span}
 use Rattle.gt_mark.specs.declared.stack.Block.{Block}
 use Rattle.gt_mark.specs.declared.stack.TheConstants.{MOST_BLOCKS}
-use Rattle.gt_mark.specs.Reached.{IsMarkedAt, block_edges}
+use Rattle.gt_mark.specs.Reached.{block_edges}
 use Rattle.gt_mark.specs.Rounds.{chain_in_note}
 use Rattle.gt_mark.specs.Chains.{chain_place}
 use Rattle.gt_mark.specs.Steps.{State, Task, Fits, Good, TakesEdge, known, next, pushed, lost, block_in, marked_pages}
 use Rattle.gt_mark.specs.Wide.{IsAside, IsBeside, IsGained, KeepsAside}
-use Rattle.gt_mark.proofs.Remarked.{contains_cases, contains_head, contains_map_from, contains_tail, mark_of_slot}
-use Rattle.gt_mark.proofs.Going.{is_at}
+use Rattle.gt_mark.proofs.Remarked.{contains_cases, contains_head, contains_map_from, contains_tail}
+use Rattle.gt_mark.proofs.Going.{closed_before, is_at, marked_before, none_before, same_edges}
+use Rattle.gt_mark.proofs.Losing.{loses}
 use Rattle.gt_mark.proofs.EdgeWords.{edges-read}
-use Rattle.gt_mark.proofs.Final.{marked_slot}
 
 abbrev pub number_in : Option ℕ → ℕ
 number_in (Some a) = a
@@ -90,17 +92,10 @@ none_of None h = refl
 none_of (Some m) h = absurd (h refl)
 
 module _ {tables : Tables} {space : Range} (t : Task tables space) where
-  pub marked_before : (a : ℕ) → IsMarkedAt t.before.slots a → is_some (mark_at t.before.slots a) ≡ true
-  marked_before a at = ap (λ x. is_some (mark_at t.before.slots x)) (sym at.2) ∙ ap is_some (mark_of_slot t.before.slots t.rises at.0 at.1) ∙ at.3
-
   -- a block that is not marked was not
-  pub before_none : (begun : List ℕ) (opened held pass : Option ℕ) (st : State) → Good t begun opened held pass st → (a : ℕ) → StartsSome t.before.slots a → mark_at st.pages.slots a ≡ None → mark_at t.before.slots a ≡ None
-  before_none begun opened held pass st g a start none =
-      let is : g.marks a ≡ None = sym (is_at t begun opened held pass st g a start) ∙ none in
-      elim (g.status a) [
-        | inl same ↦ sym same ∙ is
-        | inr new ↦ new.unmarked
-      ]
+  pub before_none : (begun : List ℕ) (opened held : Option ℕ) (st : State) → Good t begun opened held st → (a : ℕ) → StartsSome t.before.slots a → mark_at st.pages.slots a ≡ None → mark_at t.before.slots a ≡ None
+  before_none begun opened held st g a start none =
+      none_before t a (g.marks a) (g.status a) (sym (is_at t begun opened held st g a start) ∙ none)
 
   -- what is known of an edge, by the place of the chain pointer
   pub record Sides (chain : Option ℕ) (e : Edge) : Type 0 where
@@ -115,24 +110,23 @@ module _ {tables : Tables} {space : Range} (t : Task tables space) where
 
   pub sides_block : (b : Block) → Fits t b → (e : Edge) → Contains (edges_of tables b.walk b.count space b.addr) e → Sides (chain_place tables b) e
   sides_block b f e there =
-      let same : edges_of tables b.walk b.count space b.addr ≡ block_edges tables space t.walks b.addr =
-      ap (λ x. edges_of tables x b.count space b.addr) f.walk ∙ ap (λ x. edges_of tables (t.walks b.addr).walk x space b.addr) f.count in
-      let on : Contains (block_edges tables space t.walks b.addr) e = subst (λ l. Contains l e) same there in
+      let on : Contains (block_edges tables space t.walks b.addr) e = subst (λ l. Contains l e) (same_edges t b f) there in
       record {
         read = λ _. edges-read tables b.walk b.count space b.addr e there;
-        beside = λ small off unmarked. inr (
-          b.addr,
-          e,
-          record {
-            starts = f.starts;
-            reached = f.reached;
-            unmarked = none_of (mark_at t.before.slots b.addr) (λ some.
-                some_not_none (mark_at t.before.slots e.target) unmarked (marked_before e.target (t.can.closed b.addr e.target (marked_slot t.before.slots b.addr some) (e, on, refl))));
-          },
-          on,
-          (λ k. off (chain_placed b.count b.addr (chain_in_note (rows_of tables b.walk)) k.0 e.place (f.count ∙ k.1) (ap (λ w. chain_in_note (rows_of tables w)) f.walk ∙ k.2) k.3 small)),
-          refl,
-        );
+        beside = λ small off unmarked.
+            let fresh : is_some (mark_at t.before.slots b.addr) ≡ true → ⊥ = λ some. some_not_none (mark_at t.before.slots e.target) unmarked (marked_before t e.target (closed_before t b.addr e some on)) in
+            inr (
+              b.addr,
+              e,
+              record {
+                starts = f.starts;
+                reached = elim f.met [ inl some ↦ absurd (fresh some) | inr reached ↦ reached ];
+                unmarked = none_of (mark_at t.before.slots b.addr) fresh;
+              },
+              on,
+              (λ k. off (chain_placed b.count b.addr (chain_in_note (rows_of tables b.walk)) k.0 e.place (f.count ∙ k.1) (ap (λ w. chain_in_note (rows_of tables w)) f.walk ∙ k.2) k.3 small)),
+              refl,
+            );
       }
 
   -- ---- one edge
@@ -141,7 +135,7 @@ module _ {tables : Tables} {space : Range} (t : Task tables space) where
   chain_same old new e (known some same) = ap (λ s. s.chain) same
   chain_same old new e (next none is) = ap (λ s. s.chain) is.result
   chain_same old new e (pushed none is) = ap (λ s. s.chain) is.result
-  chain_same old new e (lost none is) = ap (λ s. s.chain) is.result
+  chain_same old new e (lost none is) = ap (λ s. s.chain) (is.result ∙ (loses (record old { pages = marked_pages old.pages e }) e.target).rest)
 
   abbrev IsNamed : State → Block → Type 0
   IsNamed st b = (place : ℕ) × (st.chain ≡ Some place) × (word_at space place ≡ Some b.addr)
@@ -179,8 +173,8 @@ module _ {tables : Tables} {space : Range} (t : Task tables space) where
         chained = s.chained;
       }
 
-      pub stacked_lost : length old.stack ≡ MOST_BLOCKS → IsAside t e.target → KeepsAside t (record old { pages = marked_pages old.pages e; overflowed = true })
-      stacked_lost full aside =
+      pub stacked_lost : (span : Option Span) (pass : Option Pass) → length old.stack ≡ MOST_BLOCKS → IsAside t e.target → KeepsAside t (record old { pages = marked_pages old.pages e; lost = span; pass = pass })
+      stacked_lost span pass full aside =
           let long = length-map old.stack (λ b. b.addr) in
           record {
             distinct = s.distinct;

@@ -1,38 +1,40 @@
 -- More blocks than the stack takes, and no more than it takes, from the beginning to the end.
-use Rattle.std.proofs.Common.{◌≡◌, ℕ, ◌≤◌, ◌⊎◌, true, false, List, [], ◌∷◌, length, get_or, Option, Some, None, is_some, refl, sym, ap, subst, ◌∙◌, inl, inr, arith}
+use Rattle.std.proofs.Common.{◌≡◌, ℕ, ◌≤◌, ◌⊎◌, Bool, true, false, List, [], ◌∷◌, length, get_or, Option, Some, None, is_some, refl, sym, ap, subst, ◌∙◌, inl, inr, arith}
 use Rattle.std.specs.Prelude.{All, Contains}
-use Rattle.std.proofs.lemmas.Bool.{cases_Bool, eq-eqb, eqb-true, false≢true}
+use Rattle.std.proofs.lemmas.Bool.{cases_Bool, eq-eqb, eqb-true, false≢true, true≢false}
 use Rattle.std.proofs.lemmas.List.Elements.{All-cons, All-nil, All-contains, Contains-get_or}
 use Rattle.std.proofs.lemmas.Cmp.{nat_eq_equiv}
 use Rattle.std.proofs.lemmas.Map.Made.{is_member-Decides, length-le_from_is_member}
 use Rattle.gt_space.specs.Range.{Range}
-use Rattle.gt_entries.specs.declared.marks.Mark.{Mark}
 use Rattle.gt_pages.specs.Slots.{Slot, mark_at}
 use Rattle.gt_walk.specs.declared.tables.Tables.{Tables}
 use Rattle.gt_walk.specs.Rows.{Edge}
 use Rattle.gt_walk.specs.Sinks.{Took}
 use Rattle.gt_mark.specs.declared.marker.Marker.{Marker}
+use Rattle.gt_mark.specs.declared.spans.Span.{Span}
 use Rattle.gt_mark.specs.Reached.{IsMarkedAt}
 use Rattle.gt_mark.specs.Rounds.{IsNamedAside, IsNewlyMarked, IsOnlyFrom}
-use Rattle.gt_mark.specs.Steps.{State, Task, Holds, Fits, Leaves, block_in, start_state, state_of}
+use Rattle.gt_mark.specs.Steps.{State, Task, Holds, Leaves, Suits, place_of, start_state, state_of}
 use Rattle.gt_mark.specs.Wide.{HasTooMany, IsAside, IsGained, Wide}
-use Rattle.gt_mark.proofs.Remarked.{contains_cases, contains_map_from, contains_none, mark_of_slot}
-use Rattle.gt_mark.proofs.Going.{is_at}
-use Rattle.gt_mark.proofs.Apart.{distinct_none, marked_before, sides_start}
+use Rattle.gt_mark.proofs.Remarked.{contains_cases, contains_map_from, contains_none, marked_slot}
+use Rattle.gt_mark.proofs.Going.{is_at, marked_before, none_from}
+use Rattle.gt_mark.proofs.Apart.{distinct_none, sides_start}
 use Rattle.gt_mark.proofs.Widening.{widen_all}
-use Rattle.gt_mark.proofs.Final.{HasMoreRounds, HasOneRound, marked_slot, own_now, reached_now, start_holds}
+use Rattle.gt_mark.proofs.Final.{HasMoreRounds, HasOneRound, own_now, reached_now, start_holds}
+
+not_some : (b : Bool) → (b ≡ true → ⊥) → b ≡ false
+not_some true h = absurd (h refl)
+not_some false h = refl
+
+no_span : (o : Option Span) → is_some o ≡ false → o ≡ None
+no_span None h = refl
+no_span (Some s) h = absurd (true≢false h)
 
 module _ {tables : Tables} {space : Range} (t : Task tables space) where
-  none_from : (a : ℕ) → (IsMarkedAt t.before.slots a → ⊥) → mark_at t.before.slots a ≡ None
-  none_from a not = by (mark_at t.before.slots a) (λ some. not (marked_slot t.before.slots a some))
-    where
-      by : (o : Option Mark) → (is_some o ≡ true → ⊥) → o ≡ None
-      by None h = refl
-      by (Some m) h = absurd (h refl)
-
   pub start_wide : Wide t (start_state t.before) None
   start_wide = record {
     opened = record {
+      no_pass = refl;
       keeps = record { distinct = distinct_none; aside = λ b there. contains_none b there; over = λ h. absurd (false≢true h); chained = tt };
       short = omega arith;
       stacked = λ b there. contains_none b there;
@@ -43,22 +45,22 @@ module _ {tables : Tables} {space : Range} (t : Task tables space) where
           let a : ℕ = get_or blocks 0 0 in
           let only = crowd.only a (Contains-get_or blocks 0 0 (omega (arith, many))) in
           let to = t.can.closed from a (marked_slot t.before.slots from (ap is_some own)) only.leads in
-          absurd (false≢true (sym (ap is_some (ap (mark_at t.before.slots) to.2 ∙ only.unmarked)) ∙ ap is_some (mark_of_slot t.before.slots t.rises to.0 to.1) ∙ to.3));
+          absurd (false≢true (sym (ap is_some only.unmarked) ∙ marked_before t a to));
     };
     handed = tt;
   }
 
-  pub root_wide : (begun : List ℕ) (es : List Edge) (m n : Marker) → Holds t begun None None (state_of m) → All (λ e. Fits t (block_in e)) es → ((e : Edge) → Contains es e → Contains t.starts e.target) → Wide t (state_of m) None → Took Leaves m es n → Wide t (state_of n) None
-  root_wide begun es m n h fits starts w took = record { opened = (widen_all t None None None es begun m n fits h.good w.opened (λ e there. inl (starts e there)) (λ e there. sides_start t (state_of m).chain e h.unchained (starts e there)) took).now; handed = tt }
+  pub root_wide : (begun : List ℕ) (es : List Edge) (m n : Marker) → Holds t begun None (state_of m) → All (Suits t) es → ((e : Edge) → Contains es e → Contains t.starts e.target) → Wide t (state_of m) None → Took Leaves m es n → Wide t (state_of n) None
+  root_wide begun es m n h fits starts w took = record { opened = (widen_all t None None es begun m n fits h.good w.opened (λ e there. inl (starts e there)) (λ e there. sides_start t (state_of m).chain e h.unchained (starts e there)) took).now; handed = tt }
 
-  pub first_wide : (m n : Marker) (e : Edge) → state_of m ≡ start_state t.before → Fits t (block_in e) → Contains t.starts e.target → Leaves m e n → Wide t (state_of n) None
+  pub first_wide : (m n : Marker) (e : Edge) → state_of m ≡ start_state t.before → Suits t e → Contains t.starts e.target → Leaves m e n → Wide t (state_of n) None
   first_wide m n e is fits start leaves =
-      root_wide [] (e ∷ []) m n (subst (Holds t [] None None) (sym is) (start_holds t)) (All-cons (λ x. Fits t (block_in x)) e [] fits (All-nil (λ x. Fits t (block_in x))))
+      root_wide [] (e ∷ []) m n (subst (Holds t [] None) (sym is) (start_holds t)) (All-cons (Suits t) e [] fits (All-nil (Suits t)))
       (λ x there. elim (contains_cases e x [] there) [ inl same ↦ subst (λ y. Contains t.starts y.target) same start | inr no-one ↦ contains_none x no-one ])
       (subst (λ s. Wide t s None) (sym is) start_wide) (n, leaves, refl)
 
-  pub more_final : (begun : List ℕ) (mid st : State) (rounds : ℕ) (slots : List Slot) → Holds t begun None None st → st.stack ≡ [] → st.overflowed ≡ false → ((a : ℕ) → Contains t.starts a → Contains begun a) → Wide t mid None → (st ≡ mid) ⊎ (2 ≤ rounds) → st.pages.slots ≡ slots → HasMoreRounds t slots rounds
-  more_final begun mid st rounds slots h empty room all w again same = λ from blocks newly distinct many only. elim again [
+  pub more_final : (begun : List ℕ) (mid st : State) (rounds : ℕ) (slots : List Slot) → Holds t begun None st → st.stack ≡ [] → st.lost ≡ None → place_of st ≡ None → ((a : ℕ) → Contains t.starts a → Contains begun a) → Wide t mid None → (st ≡ mid) ⊎ (2 ≤ rounds) → st.pages.slots ≡ slots → HasMoreRounds t slots rounds
+  more_final begun mid st rounds slots h empty room idle all w again same = λ from blocks newly distinct many only. elim again [
     | inr twice ↦ twice
     | inl is ↦
         let wide = subst (λ s. Wide t s None) (sym is) w in
@@ -66,13 +68,13 @@ module _ {tables : Tables} {space : Range} (t : Task tables space) where
         let s0 = contains_map_from _ t.before.slots at.0 (subst (λ p. Contains p.slots at.0) h.good.pages at.1) in
         let start : (s : Slot) × Contains t.before.slots s × (s.address ≡ from) = (s0.0, s0.1, ap (λ s. s.address) s0.2 ∙ at.2) in
         let some : is_some (h.good.marks from) ≡ true = ap (λ a. is_some (h.good.marks a)) (sym start.2) ∙ ap (λ s. is_some s.mark) s0.2 ∙ at.3 in
-        let own = is_at t begun None None None st h.good from start ∙ own_now t begun st h empty room all from start some in
-        absurd (false≢true (sym room ∙ wide.opened.wide from blocks (λ no-one. false≢true (ap is_some no-one)) (record {
+        let own = is_at t begun None None st h.good from start ∙ own_now t begun st h empty room idle all from start (none_from (mark_at t.before.slots from) (not_some (is_some (mark_at t.before.slots from)) (λ was. newly.not_before (marked_slot t.before.slots from was)))) some in
+        absurd (false≢true (sym (ap is_some room) ∙ wide.opened.wide from blocks (λ no-one. false≢true (ap is_some no-one)) (record {
           distinct = distinct;
           many = many;
           only = λ a there. let o = All-contains (IsOnlyFrom tables space t.walks t.starts t.before.slots slots from) blocks a only there in record {
             leads = o.leads;
-            unmarked = none_from a o.unmarked;
+            unmarked = none_from (mark_at t.before.slots a) (not_some (is_some (mark_at t.before.slots a)) (λ was. o.unmarked (marked_slot t.before.slots a was)));
             no_start = o.no_start;
             no_other = λ other apart marked. o.no_other other apart (subst (λ l. IsMarkedAt l other) same (marked_slot st.pages.slots other marked));
           };
@@ -81,10 +83,10 @@ module _ {tables : Tables} {space : Range} (t : Task tables space) where
 
   -- ---- one round alone
 
-  module _ (begun : List ℕ) (st : State) (h : Holds t begun None None st) (empty : st.stack ≡ []) (room : st.overflowed ≡ false) (all : (a : ℕ) → Contains t.starts a → Contains begun a) (slots : List Slot) (same : st.pages.slots ≡ slots) where
+  module _ (begun : List ℕ) (st : State) (h : Holds t begun None st) (empty : st.stack ≡ []) (room : st.lost ≡ None) (idle : place_of st ≡ None) (all : (a : ℕ) → Contains t.starts a → Contains begun a) (slots : List Slot) (same : st.pages.slots ≡ slots) where
     newly_now : (a : ℕ) → IsGained t a → IsNewlyMarked t.before.slots slots a
     newly_now a gained = record {
-      now = subst (λ l. IsMarkedAt l a) same (marked_slot st.pages.slots a (ap is_some (is_at t begun None None None st h.good a gained.starts ∙ reached_now t begun st h empty room all a gained.reached)));
+      now = subst (λ l. IsMarkedAt l a) same (marked_slot st.pages.slots a (ap is_some (is_at t begun None None st h.good a gained.starts) ∙ reached_now t begun st h empty room idle all a gained.reached));
       not_before = λ at. false≢true (sym (ap is_some gained.unmarked) ∙ marked_before t a at);
     }
 
@@ -103,8 +105,8 @@ module _ {tables : Tables} {space : Range} (t : Task tables space) where
         let no : 1 ≤ 0 = omega (arith, few, fits, many) in
         omega (arith, no)
 
-    pub one_final : (mid : State) (rounds : ℕ) → Wide t mid None → (mid.overflowed ≡ false → rounds ≡ 1) → HasOneRound t slots rounds
-    one_final mid rounds w one = λ blocks few each. elim (cases_Bool mid.overflowed) [
+    pub one_final : (mid : State) (rounds : ℕ) → Wide t mid None → (mid.lost ≡ None → rounds ≡ 1) → HasOneRound t slots rounds
+    one_final mid rounds w one = λ blocks few each. elim (cases_Bool (is_some mid.lost)) [
       | inl over ↦ absurd (few_fit blocks few each (w.opened.keeps.over over))
-      | inr fits ↦ one fits
+      | inr fits ↦ one (no_span mid.lost fits)
     ]

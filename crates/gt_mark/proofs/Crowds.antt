@@ -10,7 +10,7 @@ use Rattle.gt_entries.specs.Cells.{has_pending}
 use Rattle.gt_pages.specs.Slots.{Slot, StartsSome, mark_at, new_mark, with_mark, with_mark_at}
 use Rattle.gt_walk.specs.declared.tables.Tables.{Tables}
 use Rattle.gt_walk.specs.Rows.{Edge}
-use Rattle.gt_mark.specs.Reached.{own_mark}
+use Rattle.gt_mark.specs.Marks.{own_mark}
 use Rattle.gt_mark.specs.Steps.{State, Task}
 use Rattle.gt_mark.specs.Wide.{IsCrowd}
 use Rattle.gt_mark.proofs.Remarked.{contains_cases, contains_head, contains_none, contains_tail, count_cons, starts_cases}

@@ -1,28 +1,31 @@
 -- How marking begins, and what it leaves at the end.
-use Rattle.std.proofs.Common.{◌≡◌, ℕ, suc, ◌+◌, ◌<◌, ◌≤◌, ◌==◌, Bool, true, false, cond, List, [], ◌∷◌, length, map, count_by, Option, Some, None, is_some, is_none, refl, sym, ap, subst, ◌∙◌, inl, inr, arith}
-use Rattle.std.specs.Prelude.{All, Contains, option_and_then, option_map, find, nat_eq}
+use Rattle.std.proofs.Common.{◌≡◌, ℕ, suc, ◌+◌, ◌<◌, ◌≤◌, Bool, true, false, cond, List, [], ◌∷◌, length, map, count_by, Option, Some, None, is_some, is_none, refl, sym, ap, subst, ◌∙◌, inl, inr, arith}
+use Rattle.std.specs.Prelude.{All, Contains, option_map, nat_eq}
 use Rattle.std.specs.List.{IsDistinct}
-use Rattle.std.proofs.lemmas.Bool.{cases_Bool, eqb-true, false≢true, true≢false}
+use Rattle.std.proofs.lemmas.Bool.{cases_Bool, false≢true}
 use Rattle.std.proofs.lemmas.List.Elements.{All-nil, All-cons, All-head, All-contains}
 use Rattle.gt_space.specs.Range.{Range}
 use Rattle.gt_space.specs.declared.TheConstants.{HEAP_START}
 use Rattle.gt_entries.specs.declared.marks.Mark.{Mark}
 use Rattle.gt_entries.specs.Cells.{has_pending}
 use Rattle.gt_pages.specs.Ledger.{page_address}
-use Rattle.gt_pages.specs.Slots.{Slot, StartsSome, block_of, is_marked, is_unmarked, mark_at, with_mark}
+use Rattle.gt_pages.specs.Slots.{Slot, StartsSome, block_of, is_marked, is_pending, is_unmarked, mark_at, walked, with_mark}
 use Rattle.gt_pages.specs.Contents.{Contents, AreLaidOut, ledger_of, with_slots}
 use Rattle.gt_walk.specs.declared.tables.Tables.{Tables}
 use Rattle.gt_walk.specs.Rows.{Edge}
 use Rattle.gt_walk.specs.Sinks.{Took}
 use Rattle.gt_mark.specs.declared.marker.Marker.{Marker}
+use Rattle.gt_mark.specs.declared.spans.Span.{Span}
 use Rattle.gt_mark.specs.declared.stack.Block.{Block}
-use Rattle.gt_mark.specs.Reached.{Walks, CanMark, IsMarkedAt, IsReached, NamesBlock, Reaches, itself, onward, block_edges, own_mark}
-use Rattle.gt_mark.specs.Marks.{Marks, marked_where}
+use Rattle.gt_mark.specs.Reached.{Walks, CanMark, IsReached, Reaches, itself, onward, block_edges}
+use Rattle.gt_mark.specs.Marks.{Marks, mark_after, own_mark}
 use Rattle.gt_mark.specs.Rounds.{AreRounds, IsNamedAside, IsNewlyMarked, IsOnlyFrom}
-use Rattle.gt_mark.specs.Steps.{State, Task, Ends, Fits, Goes, Holds, Leaves, Lessens, TakesEdge, known, next, pushed, lost, block_in, one_if, remarked, start_state, state_of, with_targets}
+use Rattle.gt_mark.specs.Steps.{State, Task, Ends, Fits, Goes, Holds, IsLeft, Leaves, Lessens, Suits, TakesEdge, known, next, pushed, lost, marked_pages, one_if, place_of, remarked, start_state, state_of, with_targets}
 use Rattle.gt_mark.proofs.Remarked.{contains_head, contains_map, contains_none, contains_tail, count_cons, mark_of_slot, remarked_same}
-use Rattle.gt_mark.proofs.Going.{own_before, reaches_on}
+use Rattle.gt_mark.proofs.Losing.{loses}
+use Rattle.gt_mark.proofs.Going.{closed_before, marked_before, none_from, own_as, own_of, reaches_on, some_still, suits_named, suits_on, walked_done}
 use Rattle.gt_mark.proofs.Blocks.{took_all}
+use Rattle.gt_mark.proofs.Steps.{no_place}
 use Rattle.gt_mark.proofs.Decide.{settle_from}
 
 abbrev addr_of : Option Block → Option ℕ
@@ -44,15 +47,6 @@ task_of tables space walks starts before can laid = record {
   rises = laid.rising;
   positive = above_zero before laid;
 }
-
-pub marked_slot : (xs : List Slot) (a : ℕ) → is_some (mark_at xs a) ≡ true → IsMarkedAt xs a
-marked_slot [] a h = absurd (false≢true h)
-marked_slot (x ∷ xs) a h = elim (cases_Bool (x.address == a)) [
-  | inl equal ↦ (x, contains_head x xs, eqb-true x.address a equal, sym (ap (λ b. is_some (option_and_then (λ s. s.mark) (cond b (Some x) (find (λ s. s.address == a) xs)))) equal) ∙ h)
-  | inr other ↦
-      let found = marked_slot xs a (sym (ap (λ b. is_some (option_and_then (λ s. s.mark) (cond b (Some x) (find (λ s. s.address == a) xs)))) other) ∙ h) in
-      (found.0, contains_tail x found.0 xs found.1, found.2, found.3)
-]
 
 -- ---- how many rounds there are
 
@@ -90,20 +84,14 @@ length_remarked marks (x ∷ xs) = ap suc (length_remarked marks xs)
 module _ {tables : Tables} {space : Range} (t : Task tables space) where
   -- ---- the beginning
 
-  pub start_holds : Holds t [] None None (start_state t.before)
+  pub start_holds : Holds t [] None (start_state t.before)
   start_holds = record {
     good = record {
       marks = mark_at t.before.slots;
       pages = ap (with_slots t.before) (remarked_same (mark_at t.before.slots) t.before.slots (mark_of_slot t.before.slots t.rises));
-      status = λ a. inl refl;
-      closed = λ a e apart own there.
-          let at = marked_slot t.before.slots a (ap is_some own) in
-          let to = t.can.closed a e.target at (e, there, refl) in
-          ap (λ b. is_some (mark_at t.before.slots b)) (sym to.2) ∙ ap is_some (mark_of_slot t.before.slots t.rises to.0 to.1) ∙ to.3;
-      waits = λ a start pending. elim (own_before t a start) [
-        | inl none ↦ absurd (false≢true (sym (ap has_pending none) ∙ pending))
-        | inr own ↦ absurd (false≢true (sym (ap has_pending own) ∙ pending))
-      ];
+      status = λ a. inl (inl refl);
+      closed = λ a e apart own there. marked_before t e.target (closed_before t a e (ap is_some own) there);
+      waits = λ a start free pending. absurd (false≢true (sym (ap has_pending free) ∙ pending));
       fit = All-nil (Fits t);
       next = tt;
       began = λ a there. contains_none a there;
@@ -119,7 +107,10 @@ module _ {tables : Tables} {space : Range} (t : Task tables space) where
   idle_step old new e (known some same) idle unchained = (ap (λ s. s.next) same ∙ idle, ap (λ s. s.chain) same ∙ unchained)
   idle_step old new e (next none is) idle unchained = absurd (false≢true (ap is_some (sym unchained ∙ is.place)))
   idle_step old new e (pushed none is) idle unchained = (ap (λ s. s.next) is.result ∙ idle, ap (λ s. s.chain) is.result ∙ unchained)
-  idle_step old new e (lost none is) idle unchained = (ap (λ s. s.next) is.result ∙ idle, ap (λ s. s.chain) is.result ∙ unchained)
+  idle_step old new e (lost none is) idle unchained =
+      let l = loses (record old { pages = marked_pages old.pages e }) e.target in
+      let same = is.result ∙ l.rest in
+      (ap (λ s. s.next) same ∙ idle, ap (λ s. s.chain) same ∙ unchained)
 
   idle_all : (es : List Edge) (m n : Marker) → Took Leaves m es n → m.next ≡ None → m.chain ≡ None → (n.next ≡ None) × (n.chain ≡ None)
   idle_all [] m n took idle unchained = (ap (λ s. s.next) took ∙ idle, ap (λ s. s.chain) took ∙ unchained)
@@ -127,10 +118,10 @@ module _ {tables : Tables} {space : Range} (t : Task tables space) where
       let one = idle_step (state_of m) (state_of took.0) e took.1.step idle unchained in
       idle_all es took.0 n took.2 one.0 one.1
 
-  pub root_took : (begun : List ℕ) (es : List Edge) (m n : Marker) → Holds t begun None None (state_of m) → All (λ e. Fits t (block_in e)) es → Took Leaves m es n
-      → Goes t (with_targets es begun) None None (state_of m) (state_of n)
+  pub root_took : (begun : List ℕ) (es : List Edge) (m n : Marker) → Holds t begun None (state_of m) → All (Suits t) es → Took Leaves m es n
+      → Goes t (with_targets es begun) None (state_of m) (state_of n)
   root_took begun es m n h fits took =
-      let all = took_all t None None None es begun m n fits h.good took in
+      let all = took_all t None None es begun m n fits h.good took in
       let idle = idle_all es m n took h.idle h.unchained in
       let none : one_if (is_some m.next) ≡ 0 = ap (λ x. one_if (is_some x)) h.idle in
       let load = all.eases.load in
@@ -138,25 +129,30 @@ module _ {tables : Tables} {space : Range} (t : Task tables space) where
       record {
         holds = record { good = all.good; idle = idle.0; unchained = idle.1; fits = tt };
         lessens = record { left = omega (arith, load, none); lost = omega (arith, lost) };
+        stands = all.eases.stands;
       }
 
-  pub root_same : (begun : List ℕ) (es : List Edge) (m n : Marker) → Holds t begun None None (state_of m) → All (λ e. Fits t (block_in e)) es → Took Leaves m es n → n.pages.ghost_name ≡ m.pages.ghost_name
-  root_same begun es m n h fits took = (took_all t None None None es begun m n fits h.good took).same
+  pub root_same : (begun : List ℕ) (es : List Edge) (m n : Marker) → Holds t begun None (state_of m) → All (Suits t) es → Took Leaves m es n → n.pages.ghost_name ≡ m.pages.ghost_name
+  root_same begun es m n h fits took = (took_all t None None es begun m n fits h.good took).same
 
   -- ---- the end
 
-  module _ (begun : List ℕ) (st : State) (h : Holds t begun None None st) (empty : st.stack ≡ []) (room : st.overflowed ≡ false) (all : (a : ℕ) → Contains t.starts a → Contains begun a) where
-    none_waits : (a : ℕ) → StartsSome t.before.slots a → has_pending (h.good.marks a) ≡ false
-    none_waits a start = elim (cases_Bool (has_pending (h.good.marks a))) [
-      | inl pending ↦ elim (h.good.waits a start pending) [
+  module _ (begun : List ℕ) (st : State) (h : Holds t begun None st) (empty : st.stack ≡ []) (room : st.lost ≡ None) (idle : place_of st ≡ None) (all : (a : ℕ) → Contains t.starts a → Contains begun a) where
+    no_left : (o : Option Span) (a : ℕ) → o ≡ None → IsLeft o a → ⊥
+    no_left None a none left = left
+    no_left (Some x) a none left = false≢true (sym (ap is_some none))
+
+    none_waits : (a : ℕ) → StartsSome t.before.slots a → mark_at t.before.slots a ≡ None → has_pending (h.good.marks a) ≡ false
+    none_waits a start free = elim (cases_Bool (has_pending (h.good.marks a))) [
+      | inl pending ↦ elim (h.good.waits a start free pending) [
         | inl no-one ↦ absurd (false≢true (ap is_some no-one))
         | inr w ↦ elim w [
           | inl on ↦ contains_none on.0 (subst (λ l. Contains l on.0) empty on.1)
           | inr rest ↦ elim rest [
             | inl there ↦ absurd (false≢true (sym (ap (λ o. is_some (addr_of o)) h.idle) ∙ ap is_some there))
             | inr late ↦ elim late [
-              | inl over ↦ absurd (true≢false (sym over ∙ room))
-              | inr above ↦ absurd above
+              | inl left ↦ absurd (no_left st.lost a room left)
+              | inr above ↦ absurd (no_place t begun st.pass a idle above)
             ]
           ]
         ]
@@ -164,65 +160,83 @@ module _ {tables : Tables} {space : Range} (t : Task tables space) where
       | inr not ↦ not
     ]
 
-    -- a marked block has its own mark
-    pub own_now : (a : ℕ) → StartsSome t.before.slots a → is_some (h.good.marks a) ≡ true → h.good.marks a ≡ Some (own_mark t.walks a)
-    own_now a start some = elim (h.good.status a) [
-      | inl same ↦ elim (own_before t a start) [
-        | inl none ↦ absurd (false≢true (sym (ap is_some (same ∙ none)) ∙ some))
-        | inr own ↦ same ∙ own
-      ]
-      | inr new ↦
-          let done : new.pending ≡ false = sym (ap has_pending new.is) ∙ none_waits a start in
-          new.is ∙ ap (λ b. Some (record { walk = (t.walks a).walk; count = (t.walks a).count; pending = b })) done
+    -- a newly marked block has its own mark
+    pub own_now : (a : ℕ) → StartsSome t.before.slots a → mark_at t.before.slots a ≡ None → is_some (h.good.marks a) ≡ true → h.good.marks a ≡ Some (own_mark t.walks a)
+    own_now a start free some =
+        let own = own_of t a start (h.good.marks a) (h.good.status a) some in
+        own.1 ∙ ap (λ p. Some (own_as t.walks a p)) (sym (ap has_pending own.1) ∙ none_waits a start free)
+
+    -- what a marked block that is reached leads to is marked
+    next_now : (a : ℕ) (e : Edge) → StartsSome t.before.slots a → is_some (h.good.marks a) ≡ true → Contains (block_edges tables space t.walks a) e → is_some (h.good.marks e.target) ≡ true
+    next_now a e start some there = elim (cases_Bool (is_some (mark_at t.before.slots a))) [
+      | inl before ↦ some_still t e.target (h.good.marks e.target) (h.good.status e.target) (marked_before t e.target (closed_before t a e before there))
+      | inr free ↦ h.good.closed a e (λ no-one. false≢true (ap is_some no-one)) (own_now a start (none_from (mark_at t.before.slots a) free) some) there
     ]
 
-    onward_now : (from to : ℕ) → IsReached tables space t.walks t.starts from → StartsSome t.before.slots from → h.good.marks from ≡ Some (own_mark t.walks from) → Reaches tables space t.walks from to
-        → h.good.marks to ≡ Some (own_mark t.walks to)
-    onward_now from to reached start own itself = own
-    onward_now from to reached start own (onward {through = through} leads rest) =
-        let e : Edge = leads.0 in
-        let names = All-contains (NamesBlock t.before.slots t.walks) (block_edges tables space t.walks from) e (t.can.edges from reached) leads.1 in
-        let starts : StartsSome t.before.slots through = subst (StartsSome t.before.slots) leads.2 names.starts in
-        let some : is_some (h.good.marks through) ≡ true = ap (λ b. is_some (h.good.marks b)) (sym leads.2) ∙ h.good.closed from e (λ no-one. false≢true (ap is_some no-one)) own leads.1 in
-        onward_now through to (reached.0, reached.1, reaches_on t reached.0 from through reached.2 leads) starts (own_now through starts some) rest
+    -- what is closed under edges, and holds of the starts, holds of all that is reached
+    module _ (P : ℕ → Type 0) (next : (a : ℕ) (e : Edge) → StartsSome t.before.slots a → P a → Contains (block_edges tables space t.walks a) e → StartsSome t.before.slots e.target → P e.target) where
+      reached_on : (from to : ℕ) → IsReached tables space t.walks t.starts from → StartsSome t.before.slots from → P from → Reaches tables space t.walks from to → P to
+      reached_on from to reached start holds itself = holds
+      reached_on from to reached start holds (onward {through = through} leads rest) =
+          let e : Edge = leads.0 in
+          let suits = suits_on t from e (inr reached) leads.1 in
+          reached_on through to (reached.0, reached.1, reaches_on t reached.0 from through reached.2 leads) (subst (StartsSome t.before.slots) leads.2 suits.starts)
+          (subst P leads.2 (next from e start holds leads.1 suits.starts)) rest
 
-    pub reached_now : (a : ℕ) → IsReached tables space t.walks t.starts a → h.good.marks a ≡ Some (own_mark t.walks a)
-    reached_now a reached =
-        let starts = All-contains (StartsSome t.before.slots) t.starts reached.0 t.can.starts_block reached.1 in
-        onward_now reached.0 a (reached.0, reached.1, itself) starts (own_now reached.0 starts (h.good.began reached.0 (all reached.0 reached.1))) reached.2
+      reached_all : ((a : ℕ) → Contains t.starts a → P a) → (a : ℕ) → IsReached tables space t.walks t.starts a → P a
+      reached_all first a reached =
+          let starts = All-contains (StartsSome t.before.slots) t.starts reached.0 t.can.starts_block reached.1 in
+          reached_on reached.0 a (reached.0, reached.1, itself) starts (first reached.0 reached.1) reached.2
 
-    -- what is computed to be reached is
-    slot_now : (reached : ℕ → Bool) (s : Slot) → Contains t.before.slots s → (reached s.address ≡ true → IsReached tables space t.walks t.starts s.address) → (IsReached tables space t.walks t.starts s.address → reached s.address ≡ true)
-        → remarked h.good.marks s ≡ marked_where reached t.walks s
-    slot_now reached s there sound complete = elim (cases_Bool (reached s.address)) [
-      | inl is ↦
-          ap (λ mark. with_mark mark s) (reached_now s.address (sound is))
-          ∙ sym (ap (λ b. cond b (with_mark (Some (own_mark t.walks s.address)) s) s) is)
-      | inr not ↦
-          elim (h.good.status s.address) [
-            | inl same ↦ ap (λ mark. with_mark mark s) (same ∙ mark_of_slot t.before.slots t.rises s there)
-            | inr new ↦ absurd (false≢true (sym not ∙ complete new.reached))
-          ]
-          ∙ sym (ap (λ b. cond b (with_mark (Some (own_mark t.walks s.address)) s) s) not)
-    ]
-
-    complete_on : (test : ℕ → Bool) → ((s : Slot) (e : Edge) → Contains t.before.slots s → test s.address ≡ true → Contains (block_edges tables space t.walks s.address) e → StartsSome t.before.slots e.target → test e.target ≡ true)
-        → (from to : ℕ) → IsReached tables space t.walks t.starts from → StartsSome t.before.slots from → test from ≡ true → Reaches tables space t.walks from to → test to ≡ true
-    complete_on test closed from to reached start passes itself = passes
-    complete_on test closed from to reached start passes (onward {through = through} leads rest) =
-        let e : Edge = leads.0 in
-        let names = All-contains (NamesBlock t.before.slots t.walks) (block_edges tables space t.walks from) e (t.can.edges from reached) leads.1 in
-        let starts : StartsSome t.before.slots through = subst (StartsSome t.before.slots) leads.2 names.starts in
-        let here : Contains (block_edges tables space t.walks start.0.address) e = subst (λ a. Contains (block_edges tables space t.walks a) e) (sym start.2) leads.1 in
-        let passed : test through ≡ true = ap test (sym leads.2) ∙ closed start.0 e start.1 (ap test start.2 ∙ passes) here names.starts in
-        complete_on test closed through to (reached.0, reached.1, reaches_on t reached.0 from through reached.2 leads) starts passed rest
+    pub reached_now : (a : ℕ) → IsReached tables space t.walks t.starts a → is_some (h.good.marks a) ≡ true
+    reached_now = reached_all (λ a. is_some (h.good.marks a) ≡ true) (λ a e start some there _. next_now a e start some there) (λ a there. h.good.began a (all a there))
 
     complete : (test : ℕ → Bool) → ((x : ℕ) → Contains t.starts x → test x ≡ true)
         → ((s : Slot) (e : Edge) → Contains t.before.slots s → test s.address ≡ true → Contains (block_edges tables space t.walks s.address) e → StartsSome t.before.slots e.target → test e.target ≡ true)
         → (a : ℕ) → IsReached tables space t.walks t.starts a → test a ≡ true
-    complete test begins closed a reached =
-        let starts = All-contains (StartsSome t.before.slots) t.starts reached.0 t.can.starts_block reached.1 in
-        complete_on test closed reached.0 a (reached.0, reached.1, itself) starts (begins reached.0 reached.1) reached.2
+    complete test begins closed = reached_all (λ a. test a ≡ true)
+        (λ a e start passes there starts. closed start.0 e start.1 (ap test start.2 ∙ passes) (subst (λ x. Contains (block_edges tables space t.walks x) e) (sym start.2) there) starts) begins
+
+    -- the mark of each block, by whether it is reached
+    mark_now : (reached : Bool) (s : Slot) (mark : Option Mark) → mark_at t.before.slots s.address ≡ mark → Contains t.before.slots s → (reached ≡ true → IsReached tables space t.walks t.starts s.address) → (IsReached tables space t.walks t.starts s.address → reached ≡ true)
+        → h.good.marks s.address ≡ mark_after reached (has_pending (h.good.marks s.address)) (own_mark t.walks s.address) mark
+    mark_now reached s (Some m) is there sound all-reached = elim (h.good.status s.address) [
+      | inl old ↦ elim old [
+        | inl same ↦ same ∙ is ∙ ap (λ p. Some (record { walk = m.walk; count = m.count; pending = p })) (sym (ap has_pending (same ∙ is)))
+        | inr done ↦
+            let now = done ∙ ap walked is in
+            now ∙ ap (λ p. Some (record { walk = m.walk; count = m.count; pending = p })) (sym (ap has_pending now))
+      ]
+      | inr new ↦ absurd (false≢true (ap is_some (sym new.unmarked ∙ is)))
+    ]
+    mark_now true s None is there sound all-reached = own_now s.address (s, there, refl) is (reached_now s.address (sound refl))
+    mark_now false s None is there sound all-reached = elim (h.good.status s.address) [
+      | inl old ↦ elim old [
+        | inl same ↦ same ∙ is
+        | inr done ↦ done ∙ ap walked is
+      ]
+      | inr new ↦ absurd (false≢true (all-reached new.reached))
+    ]
+
+    slot_now : (reached : ℕ → Bool) (s : Slot) → Contains t.before.slots s → (reached s.address ≡ true → IsReached tables space t.walks t.starts s.address) → (IsReached tables space t.walks t.starts s.address → reached s.address ≡ true)
+        → remarked h.good.marks s ≡ with_mark (mark_after (reached s.address) (has_pending (h.good.marks s.address)) (own_mark t.walks s.address) s.mark) s
+    slot_now reached s there sound complete =
+        ap (λ mark. with_mark mark s) (mark_now (reached s.address) s s.mark (mark_of_slot t.before.slots t.rises s there) there sound complete)
+
+    -- what is still to be walked was before
+    left_now : (s : Slot) → Contains t.before.slots s → has_pending (h.good.marks s.address) ≡ true → is_pending s ≡ true
+    left_now s there pending =
+        let is = mark_of_slot t.before.slots t.rises s there in
+        elim (cases_Bool (is_some s.mark)) [
+          | inl some ↦ elim (h.good.status s.address) [
+            | inl old ↦ elim old [
+              | inl same ↦ sym (ap has_pending (same ∙ is)) ∙ pending
+              | inr done ↦ absurd (false≢true (sym (ap has_pending done ∙ walked_done (mark_at t.before.slots s.address)) ∙ pending))
+            ]
+            | inr new ↦ absurd (false≢true (sym (ap is_some (sym is ∙ new.unmarked)) ∙ some))
+          ]
+          | inr free ↦ absurd (false≢true (sym (none_waits s.address (s, there, refl) (is ∙ none_from s.mark free)) ∙ pending))
+        ]
 
     map_now : (f g : Slot → Slot) (xs : List Slot) → ((s : Slot) → Contains xs s → f s ≡ g s) → map f xs ≡ map g xs
     map_now f g [] same = refl
@@ -236,30 +250,32 @@ module _ {tables : Tables} {space : Range} (t : Task tables space) where
         record {
           reached = q.0.test;
           exact = λ s there. (q.0.sound s.address, complete q.0.test q.1 q.0.closed s.address);
-          marked = h.good.pages ∙ ap (with_slots t.before) (map_now (remarked h.good.marks) (marked_where q.0.test t.walks) t.before.slots
+          pending = λ a. has_pending (h.good.marks a);
+          left = left_now;
+          marked = h.good.pages ∙ ap (with_slots t.before) (map_now (remarked h.good.marks) _ t.before.slots
               (λ s there. slot_now q.0.test s there (q.0.sound s.address) (complete q.0.test q.1 q.0.closed s.address)));
         }
 
-  pub marks_as : (begun : List ℕ) (st : State) (new : Contents) → Holds t begun None None st → st.stack ≡ [] → st.overflowed ≡ false → ((a : ℕ) → Contains t.starts a → Contains begun a) → st.pages ≡ new → Marks tables space t.walks t.starts t.before new
-  marks_as begun st new h empty room all same = subst (Marks tables space t.walks t.starts t.before) same (marks_all begun st h empty room all)
+  pub marks_as : (begun : List ℕ) (st : State) (new : Contents) → Holds t begun None st → st.stack ≡ [] → st.lost ≡ None → place_of st ≡ None → ((a : ℕ) → Contains t.starts a → Contains begun a) → st.pages ≡ new → Marks tables space t.walks t.starts t.before new
+  marks_as begun st new h empty room idle all same = subst (Marks tables space t.walks t.starts t.before) same (marks_all begun st h empty room idle all)
 
-  pub at_most_now : (begun more : List ℕ) (rounds : ℕ) (mid new : State) → new.overflowed ≡ false → Lessens (start_state t.before) mid 0 → Ends t more rounds mid new
+  pub at_most_now : (begun more : List ℕ) (rounds : ℕ) (mid new : State) → new.lost ≡ None → Lessens (start_state t.before) mid 0 → Ends t more rounds mid new
       → rounds + count_by is_marked t.before.slots ≤ 1 + count_by is_marked new.pages.slots
   at_most_now begun more rounds mid new room less ends =
       let was = both_counts t.before.slots in
       let now = both_counts new.pages.slots in
       let long : length new.pages.slots ≡ length t.before.slots = ap (λ p. length p.slots) ends.holds.good.pages ∙ length_remarked ends.holds.good.marks t.before.slots in
-      let none : one_if new.overflowed ≡ 0 = ap one_if room in
+      let none : one_if (is_some new.lost) ≡ 0 = ap (λ o. one_if (is_some o)) room in
       let lost = less.lost in
       let bound = ends.rounds_are in
       omega (arith, was, now, long, none, lost, bound)
 
-  pub at_most_as : (begun more : List ℕ) (rounds : ℕ) (mid st : State) (slots : List Slot) → st.overflowed ≡ false → Lessens (start_state t.before) mid 0 → Ends t more rounds mid st → st.pages.slots ≡ slots
+  pub at_most_as : (begun more : List ℕ) (rounds : ℕ) (mid st : State) (slots : List Slot) → st.lost ≡ None → Lessens (start_state t.before) mid 0 → Ends t more rounds mid st → st.pages.slots ≡ slots
       → rounds + count_by is_marked t.before.slots ≤ 1 + count_by is_marked slots
   at_most_as begun more rounds mid st slots room less ends same =
       subst (λ l. rounds + count_by is_marked t.before.slots ≤ 1 + count_by is_marked l) same (at_most_now begun more rounds mid st room less ends)
 
-  pub rounds_as : (begun more : List ℕ) (rounds : ℕ) (mid st : State) (slots : List Slot) → st.overflowed ≡ false → Lessens (start_state t.before) mid 0 → Ends t more rounds mid st → 1 ≤ rounds
+  pub rounds_as : (begun more : List ℕ) (rounds : ℕ) (mid st : State) (slots : List Slot) → st.lost ≡ None → Lessens (start_state t.before) mid 0 → Ends t more rounds mid st → 1 ≤ rounds
       → HasOneRound t slots rounds → HasMoreRounds t slots rounds → st.pages.slots ≡ slots → AreRounds tables space t.walks t.starts t.before.slots slots rounds
   rounds_as begun more rounds mid st slots room less ends least single many same = record {
     at_least = least;
@@ -270,15 +286,14 @@ module _ {tables : Tables} {space : Range} (t : Task tables space) where
 
   -- ---- the first edge
 
-  pub edge_fits : (e : Edge) (starts : List ℕ) → t.starts ≡ e.target ∷ [] → t.walks e.target ≡ record { walk = e.walk; count = e.count } → Fits t (block_in e)
-  edge_fits e starts is own = record {
+  pub edge_fits : (e : Edge) (starts : List ℕ) → t.starts ≡ e.target ∷ [] → t.walks e.target ≡ record { walk = e.walk; count = e.count } → Suits t e
+  edge_fits e starts is own = suits_named t e (e.target, subst (λ l. Contains l e.target) (sym is) (contains_head e.target []), itself) (record {
     starts = All-head (StartsSome t.before.slots) e.target [] (subst (All (StartsSome t.before.slots)) is t.can.starts_block);
-    reached = (e.target, subst (λ l. Contains l e.target) (sym is) (contains_head e.target []), itself);
     walk = sym (ap (λ w. w.walk) own);
     count = sym (ap (λ w. w.count) own);
-  }
+  })
 
-  pub first_took : (m n : Marker) (e : Edge) → state_of m ≡ start_state t.before → Fits t (block_in e) → Leaves m e n → Goes t (e.target ∷ []) None None (start_state t.before) (state_of n)
+  pub first_took : (m n : Marker) (e : Edge) → state_of m ≡ start_state t.before → Suits t e → Leaves m e n → Goes t (e.target ∷ []) None (start_state t.before) (state_of n)
   first_took m n e is fits leaves =
-      subst (λ s. Goes t (e.target ∷ []) None None s (state_of n)) is
-      (root_took [] (e ∷ []) m n (subst (Holds t [] None None) (sym is) start_holds) (All-cons (λ x. Fits t (block_in x)) e [] fits (All-nil (λ x. Fits t (block_in x)))) (n, leaves, refl))
+      subst (λ s. Goes t (e.target ∷ []) None s (state_of n)) is
+      (root_took [] (e ∷ []) m n (subst (Holds t [] None) (sym is) start_holds) (All-cons (Suits t) e [] fits (All-nil (Suits t))) (n, leaves, refl))

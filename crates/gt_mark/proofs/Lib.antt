@@ -1,7 +1,9 @@
 mod Rows
 pub mod EdgeWords
 pub mod Remarked
+pub mod Losing
 pub mod Going
+pub mod Further
 pub mod Blocks
 pub mod Steps
 pub mod Decide

@@ -1,5 +1,5 @@
 -- Slots of which each has the mark of its address.
-use Rattle.std.proofs.Common.{◌≡◌, ◌≢◌, ℕ, zero, suc, ◌+◌, ◌<◌, ◌≤◌, ◌⊎◌, ◌==◌, Bool, true, false, cond, List, [], ◌∷◌, length, get_or, map, count_by, Option, Some, None, is_none, refl, sym, ap, subst, ◌∙◌, inl, inr, arith}
+use Rattle.std.proofs.Common.{◌≡◌, ◌≢◌, ℕ, zero, suc, ◌+◌, ◌<◌, ◌≤◌, ◌⊎◌, ◌==◌, Bool, true, false, cond, List, [], ◌∷◌, length, get_or, map, count_by, Option, Some, None, is_none, is_some, refl, sym, ap, subst, ◌∙◌, inl, inr, arith}
 use Rattle.std.specs.Prelude.{Contains, find, nat_lt, option_and_then, option_map, slice_get}
 use Rattle.std.proofs.lemmas.Bool.{cases_Bool, cases_lt, eq-eqb, ne_eqb, eqb-true, ltb-true, lt-ltb, le-ltb, false≢true, and_left, and_right, and_from}
 use Rattle.std.proofs.lemmas.List.Sums.{sum_by-cons}
@@ -7,6 +7,7 @@ use Rattle.gt_entries.specs.declared.marks.Mark.{Mark}
 use Rattle.gt_entries.specs.Cells.{has_pending}
 use Rattle.gt_pages.specs.Slots.{Slot, StartsSome, is_pending, is_unmarked, mark_at, next_slot, told_of, with_mark, with_mark_at}
 use Rattle.gt_pages.specs.Contents.{Rises}
+use Rattle.gt_mark.specs.Reached.{IsMarkedAt}
 use Rattle.gt_mark.specs.Steps.{remarked}
 
 -- ---- what a list contains
@@ -107,7 +108,7 @@ with_mark_remarked marks (x ∷ xs) a mark =
 
 -- ---- rising slots
 
-rises_tail : (x : Slot) (xs : List Slot) → Rises (x ∷ xs) → Rises xs
+pub rises_tail : (x : Slot) (xs : List Slot) → Rises (x ∷ xs) → Rises xs
 rises_tail x xs rises i s t here next =
     let e : suc i ≡ i + 1 = omega arith in
     let f : suc (i + 1) ≡ i + 1 + 1 = omega arith in
@@ -138,6 +139,18 @@ mark_of_slot (x ∷ xs) rises s there = elim (contains_cases x s xs there) [
       ap (λ b. option_and_then (λ t. t.mark) (cond b (Some x) (find (λ t. t.address == s.address) xs))) (ne_eqb x.address s.address (λ same. omega (arith, same, above)))
       ∙ mark_of_slot xs (rises_tail x xs rises) s later
 ]
+
+pub marked_slot : (xs : List Slot) (a : ℕ) → is_some (mark_at xs a) ≡ true → IsMarkedAt xs a
+marked_slot [] a h = absurd (false≢true h)
+marked_slot (x ∷ xs) a h = elim (cases_Bool (x.address == a)) [
+  | inl equal ↦ (x, contains_head x xs, eqb-true x.address a equal, sym (ap (λ b. is_some (option_and_then (λ s. s.mark) (cond b (Some x) (find (λ s. s.address == a) xs)))) equal) ∙ h)
+  | inr other ↦
+      let found = marked_slot xs a (sym (ap (λ b. is_some (option_and_then (λ s. s.mark) (cond b (Some x) (find (λ s. s.address == a) xs)))) other) ∙ h) in
+      (found.0, contains_tail x found.0 xs found.1, found.2, found.3)
+]
+
+pub slot_marked : (xs : List Slot) → Rises xs → (a : ℕ) → IsMarkedAt xs a → is_some (mark_at xs a) ≡ true
+slot_marked xs rises a at = ap (λ x. is_some (mark_at xs x)) (sym at.2) ∙ ap is_some (mark_of_slot xs rises at.0 at.1) ∙ at.3
 
 pub remarked_same : (marks : ℕ → Option Mark) (xs : List Slot) → ((s : Slot) → Contains xs s → marks s.address ≡ s.mark) → xs ≡ map (remarked marks) xs
 remarked_same marks [] same = refl

@@ -14,12 +14,13 @@ use Rattle.gt_walk.specs.Rows.{Edge, edges_of, word_at}
 use Rattle.gt_walk.specs.Sinks.{Took}
 use Rattle.gt_mark.specs.declared.stack.Block.{Block}
 use Rattle.gt_mark.specs.declared.marker.Marker.{Marker}
-use Rattle.gt_mark.specs.Reached.{block_edges, own_mark}
+use Rattle.gt_mark.specs.Marks.{own_mark}
 use Rattle.gt_mark.specs.Chains.{chain_place}
-use Rattle.gt_mark.specs.Steps.{State, Task, Good, Holds, Fits, IsNew, Leaves, TakesEdge, known, next, pushed, lost, block_in, marked_pages, one_if, state_of, with_targets}
+use Rattle.gt_mark.specs.Steps.{State, Task, Good, Holds, IsNew, IsOld, Leaves, Suits, TakesEdge, known, next, pushed, lost, block_in, marked_pages, one_if, state_of, with_targets}
 use Rattle.gt_mark.specs.Wide.{IsCrowd, IsGained, IsOnly, Opened, Origin, KeepsAside, Wide}
 use Rattle.gt_mark.proofs.Remarked.{contains_tail, contains_head, count_cons}
-use Rattle.gt_mark.proofs.Going.{block_fits, is_at, own_before, starts_now, stepped}
+use Rattle.gt_mark.proofs.Going.{block_fits, is_at, own_as, own_of, same_edges, starts_now, stepped}
+use Rattle.gt_mark.proofs.Losing.{Loses, loses}
 use Rattle.gt_mark.proofs.Blocks.{good_walked, targets_have, took_all, walked_pages}
 use Rattle.gt_mark.proofs.Crowds.{Grows, count_one, fewer_only, grows_marked, mark_at_other, mark_at_same}
 use Rattle.gt_mark.proofs.Apart.{Sides, aside_now, before_none, chain_same, distinct_popped, number_in, sides_block, stacked_lost, stacked_next, stacked_pushed}
@@ -30,9 +31,9 @@ module _ {tables : Tables} {space : Range} (t : Task tables space) where
     pub now : Opened t new opened
     pub grow : (a : ℕ) → is_some (mark_at old.pages.slots a) ≡ true → is_some (mark_at new.pages.slots a) ≡ true
     pub walked_on : (a : ℕ) → mark_at old.pages.slots a ≡ Some (own_mark t.walks a) → mark_at new.pages.slots a ≡ Some (own_mark t.walks a)
-    pub over : old.overflowed ≡ true → new.overflowed ≡ true
+    pub over : is_some old.lost ≡ true → is_some new.lost ≡ true
     pub counts : (blocks : List ℕ) → IsDistinct nat_eq blocks
-        → (count_by (λ a. is_some (mark_at new.pages.slots a)) blocks + (length old.stack + one_if (is_some old.next)) ≤ count_by (λ a. is_some (mark_at old.pages.slots a)) blocks + (length new.stack + one_if (is_some new.next))) ⊎ (new.overflowed ≡ true)
+        → (count_by (λ a. is_some (mark_at new.pages.slots a)) blocks + (length old.stack + one_if (is_some old.next)) ≤ count_by (λ a. is_some (mark_at old.pages.slots a)) blocks + (length new.stack + one_if (is_some new.next))) ⊎ (is_some new.lost ≡ true)
 
   if_some_on : (o : Option Block) (P Q : Block → Type 0) → ((b : Block) → P b → Q b) → IfSome o P → IfSome o Q
   if_some_on None P Q f h = tt
@@ -48,13 +49,13 @@ module _ {tables : Tables} {space : Range} (t : Task tables space) where
       ]
     ]
 
-    wide_now : (old.overflowed ≡ true → new.overflowed ≡ true) → (from : ℕ) (blocks : List ℕ) → opened ≢ Some from → IsCrowd t new from blocks → mark_at new.pages.slots from ≡ Some (own_mark t.walks from) → new.overflowed ≡ true
+    wide_now : (is_some old.lost ≡ true → is_some new.lost ≡ true) → (from : ℕ) (blocks : List ℕ) → opened ≢ Some from → IsCrowd t new from blocks → mark_at new.pages.slots from ≡ Some (own_mark t.walks from) → is_some new.lost ≡ true
     wide_now over from blocks off crowd own = over (o.wide from blocks off (fewer_only t old new from blocks g.grow crowd) (g.walked_before from own))
 
-    pub widens : KeepsAside t new → length new.stack ≤ 64 → ((b : Block) → Contains new.stack b → is_some (mark_at new.pages.slots b.addr) ≡ true) → IfSome new.next (λ b. is_some (mark_at new.pages.slots b.addr) ≡ true)
-        → (old.overflowed ≡ true → new.overflowed ≡ true) → (length old.stack + one_if (is_some old.next) + 1 ≤ length new.stack + one_if (is_some new.next)) ⊎ (new.overflowed ≡ true) → Widens opened old new
-    widens keeps short stacked followed over filled = record {
-      now = record { keeps = keeps; short = short; stacked = stacked; followed = followed; origin = origin_now; wide = wide_now over };
+    pub widens : new.pass ≡ None → KeepsAside t new → length new.stack ≤ 64 → ((b : Block) → Contains new.stack b → is_some (mark_at new.pages.slots b.addr) ≡ true) → IfSome new.next (λ b. is_some (mark_at new.pages.slots b.addr) ≡ true)
+        → (is_some old.lost ≡ true → is_some new.lost ≡ true) → (length old.stack + one_if (is_some old.next) + 1 ≤ length new.stack + one_if (is_some new.next)) ⊎ (is_some new.lost ≡ true) → Widens opened old new
+    widens no_pass keeps short stacked followed over filled = record {
+      now = record { no_pass = no_pass; keeps = keeps; short = short; stacked = stacked; followed = followed; origin = origin_now; wide = wide_now over };
       grow = g.grow;
       walked_on = g.walked_on;
       over = over;
@@ -88,13 +89,13 @@ module _ {tables : Tables} {space : Range} (t : Task tables space) where
       let grows = grows_marked t old.pages.slots e start none in
       let idle : one_if (is_some old.next) ≡ 0 = ap (λ n. one_if (is_some n)) is.free in
       subst (Widens opened old) (sym is.result)
-      (widens opened old _ o e source grows (stacked_next t old o.keeps e none is.place (sides.read is.place)) o.short (λ b there. grows.grow b.addr (o.stacked b there)) grows.there (λ h. h) (inl (omega (arith, idle))))
+      (widens opened old _ o e source grows o.no_pass (stacked_next t old o.keeps e none is.place (sides.read is.place)) o.short (λ b there. grows.grow b.addr (o.stacked b there)) grows.there (λ h. h) (inl (omega (arith, idle))))
   widen_step opened old new e o start source sides small gained (pushed none is) =
       let grows = grows_marked t old.pages.slots e start none in
       let long = length_push old.stack (block_in e) in
       let room = is.room in
       subst (Widens opened old) (sym is.result)
-      (widens opened old _ o e source grows (stacked_pushed t old o.keeps e none o.stacked (aside_now t old o.keeps e none o.followed sides small is.aside (gained none))) (omega (arith, long, room))
+      (widens opened old _ o e source grows o.no_pass (stacked_pushed t old o.keeps e none o.stacked (aside_now t old o.keeps e none o.followed sides small is.aside (gained none))) (omega (arith, long, room))
       (λ b there. elim (Contains-push_cases old.stack (block_in e) b there) [
         | inl before ↦ grows.grow b.addr (o.stacked b before)
         | inr top ↦ ap (λ x. is_some (mark_at (marked_pages old.pages e).slots x.addr)) (sym top) ∙ grows.there
@@ -102,46 +103,43 @@ module _ {tables : Tables} {space : Range} (t : Task tables space) where
       (if_some_on old.next _ _ (λ b h. grows.grow b.addr h) o.followed) (λ h. h) (inl (omega (arith, long))))
   widen_step opened old new e o start source sides small gained (lost none is) =
       let grows = grows_marked t old.pages.slots e start none in
-      subst (Widens opened old) (sym is.result)
-      (widens opened old _ o e source grows (stacked_lost t old o.keeps e none o.stacked is.full (aside_now t old o.keeps e none o.followed sides small is.aside (gained none))) o.short (λ b there. grows.grow b.addr (o.stacked b there)) (if_some_on old.next _ _ (λ b h. grows.grow b.addr h) o.followed) (λ h. refl) (inr refl))
+      let l : Loses (record old { pages = marked_pages old.pages e }) e.target new = subst (Loses (record old { pages = marked_pages old.pages e }) e.target) (sym is.result) (loses (record old { pages = marked_pages old.pages e }) e.target) in
+      let first = l.first o.no_pass in
+      subst (Widens opened old) (sym l.rest)
+      (widens opened old _ o e source grows first.0 (stacked_lost t old o.keeps e none o.stacked new.lost new.pass is.full (aside_now t old o.keeps e none o.followed sides small is.aside (gained none))) o.short (λ b there. grows.grow b.addr (o.stacked b there)) (if_some_on old.next _ _ (λ b h. grows.grow b.addr h) o.followed) (λ _. first.1) (inr first.1))
 
-  pub widen_all : (opened held pass : Option ℕ) (es : List Edge) (begun : List ℕ) (m n : Marker) → All (λ e. Fits t (block_in e)) es → Good t begun opened held pass (state_of m) → Opened t (state_of m) opened
+  pub widen_all : (opened held : Option ℕ) (es : List Edge) (begun : List ℕ) (m n : Marker) → All (Suits t) es → Good t begun opened held (state_of m) → Opened t (state_of m) opened
       → ((e : Edge) → Contains es e → Origin t (state_of m) e.target) → ((e : Edge) → Contains es e → Sides t (state_of m).chain e) → Took Leaves m es n → Widens opened (state_of m) (state_of n)
-  widen_all opened held pass [] begun m n fits g o source sides took = subst (λ x. Widens opened (state_of m) (state_of x)) (sym took) (widens_same opened (state_of m) o)
-  widen_all opened held pass (e ∷ es) begun m n fits g o source sides took =
-      let first = All-head (λ x. Fits t (block_in x)) e es fits in
+  widen_all opened held [] begun m n fits g o source sides took = subst (λ x. Widens opened (state_of m) (state_of x)) (sym took) (widens_same opened (state_of m) o)
+  widen_all opened held (e ∷ es) begun m n fits g o source sides took =
+      let first = All-head (Suits t) e es fits in
       let step = took.1.step in
-      let good = stepped t begun opened held pass (state_of m) g e (state_of took.0) first step in
-      let one = widen_step opened (state_of m) (state_of took.0) e o (starts_now t begun opened held pass (state_of m) g e.target first.starts) (source e (contains_head e es)) (sides e (contains_head e es)) took.1.small
-      (λ none. record { starts = first.starts; reached = first.reached; unmarked = before_none t begun opened held pass (state_of m) g e.target first.starts none }) step in
-      let rest = widen_all opened held pass es (e.target ∷ begun) took.0 n (All-tail (λ x. Fits t (block_in x)) e es fits) good.good one.now
+      let good = stepped t begun opened held (state_of m) g e (state_of took.0) first step in
+      let one = widen_step opened (state_of m) (state_of took.0) e o (starts_now t begun opened held (state_of m) g e.target first.starts) (source e (contains_head e es)) (sides e (contains_head e es)) took.1.small
+      (λ none. let free = before_none t begun opened held (state_of m) g e.target first.starts none in
+      record {
+        starts = first.starts;
+        reached = elim (first.fits free).met [ inl some ↦ absurd (false≢true (sym (ap is_some free) ∙ some)) | inr reached ↦ reached ];
+        unmarked = free;
+      }) step in
+      let rest = widen_all opened held es (e.target ∷ begun) took.0 n (All-tail (Suits t) e es fits) good.good one.now
       (λ x there. elim (source x (contains_tail e x es there)) [ inl start ↦ inl start | inr led ↦ inr (led.0, one.walked_on led.0 led.1, led.2) ])
       (λ x there. subst (λ c. Sides t c x) (sym (chain_same t (state_of m) (state_of took.0) e step)) (sides x (contains_tail e x es there))) took.2 in
       widens_on opened (state_of m) (state_of took.0) (state_of n) one rest
 
   -- ---- a block that is walked
 
-  own_walked : (mark : Option Mark) (a : ℕ) → (mark ≡ mark_at t.before.slots a) ⊎ IsNew t a mark → StartsSome t.before.slots a → is_some mark ≡ true → walked mark ≡ Some (own_mark t.walks a)
-  own_walked mark a status start some = elim status [
-    | inl same ↦ elim (own_before t a start) [
-      | inl none ↦ absurd (false≢true (sym (ap is_some (same ∙ none)) ∙ some))
-      | inr own ↦ ap walked (same ∙ own)
-    ]
-    | inr new ↦ ap walked new.is
-  ]
+  own_walked : (mark : Option Mark) (a : ℕ) → IsOld t a mark ⊎ IsNew t a mark → StartsSome t.before.slots a → is_some mark ≡ true → walked mark ≡ Some (own_mark t.walks a)
+  own_walked mark a status start some = ap walked (own_of t a start mark status some).1
 
-  own_done : (mark : Option Mark) (a : ℕ) → (mark ≡ mark_at t.before.slots a) ⊎ IsNew t a mark → StartsSome t.before.slots a → is_some mark ≡ true → has_pending mark ≡ false → mark ≡ Some (own_mark t.walks a)
-  own_done mark a status start some done = elim status [
-    | inl same ↦ elim (own_before t a start) [
-      | inl none ↦ absurd (false≢true (sym (ap is_some (same ∙ none)) ∙ some))
-      | inr own ↦ same ∙ own
-    ]
-    | inr new ↦ new.is ∙ ap (λ b. Some (record { walk = (t.walks a).walk; count = (t.walks a).count; pending = b })) (sym (ap has_pending new.is) ∙ done)
-  ]
+  own_done : (mark : Option Mark) (a : ℕ) → IsOld t a mark ⊎ IsNew t a mark → StartsSome t.before.slots a → is_some mark ≡ true → has_pending mark ≡ false → mark ≡ Some (own_mark t.walks a)
+  own_done mark a status start some done =
+      let own = own_of t a start mark status some in
+      own.1 ∙ ap (λ p. Some (own_as t.walks a p)) (sym (ap has_pending own.1) ∙ done)
 
-  module _ (begun : List ℕ) (pass : Option ℕ) (b : Block) (m : State) (h : Holds t begun (Some b) pass m) (w : Wide t m (Some b)) where
+  module _ (begun : List ℕ) (b : Block) (m : State) (h : Holds t begun (Some b) m) (w : Wide t m (Some b)) where
     at_m : mark_at m.pages.slots b.addr ≡ h.good.marks b.addr
-    at_m = is_at t begun None (Some b.addr) pass m h.good b.addr h.fits.starts
+    at_m = is_at t begun None (Some b.addr) m h.good b.addr h.fits.starts
 
     some_m : is_some (h.good.marks b.addr) ≡ true
     some_m = sym (ap is_some at_m) ∙ w.handed
@@ -151,7 +149,7 @@ module _ {tables : Tables} {space : Range} (t : Task tables space) where
 
     here_n : mark_at slots_n b.addr ≡ Some (own_mark t.walks b.addr)
     here_n =
-        mark_at_same m.pages.slots b.addr (walked (mark_at m.pages.slots b.addr)) (starts_now t begun None (Some b.addr) pass m h.good b.addr h.fits.starts)
+        mark_at_same m.pages.slots b.addr (walked (mark_at m.pages.slots b.addr)) (starts_now t begun None (Some b.addr) m h.good b.addr h.fits.starts)
         ∙ ap walked at_m ∙ own_walked (h.good.marks b.addr) b.addr (h.good.status b.addr) h.fits.starts some_m
 
     grow_n : (a : ℕ) → is_some (mark_at m.pages.slots a) ≡ true → is_some (mark_at slots_n a) ≡ true
@@ -174,6 +172,7 @@ module _ {tables : Tables} {space : Range} (t : Task tables space) where
 
     pub opened_n : (chain : Option ℕ) → Opened t (record m { pages = walked_pages m.pages b.addr; chain = chain }) (Some b.addr)
     opened_n chain = record {
+      no_pass = w.opened.no_pass;
       keeps = record {
         distinct = w.opened.keeps.distinct;
         aside = w.opened.keeps.aside;
@@ -195,9 +194,7 @@ module _ {tables : Tables} {space : Range} (t : Task tables space) where
 
     pub source_n : (chain : Option ℕ) (e : Edge) → Contains (edges_of tables b.walk b.count space b.addr) e → Origin t (record m { pages = walked_pages m.pages b.addr; chain = chain }) e.target
     source_n chain e there =
-        let same : edges_of tables b.walk b.count space b.addr ≡ block_edges tables space t.walks b.addr =
-        ap (λ x. edges_of tables x b.count space b.addr) h.fits.walk ∙ ap (λ x. edges_of tables (t.walks b.addr).walk x space b.addr) h.fits.count in
-        inr (b.addr, here_n, (e, subst (λ l. Contains l e) same there, refl))
+        inr (b.addr, here_n, (e, subst (λ l. Contains l e) (same_edges t b h.fits) there, refl))
 
     -- after its edges
     none_marked : (p : ℕ → Bool) (xs : List ℕ) → ((a : ℕ) → Contains xs a → p a ≡ false) → count_by p xs ≡ 0
@@ -222,9 +219,6 @@ module _ {tables : Tables} {space : Range} (t : Task tables space) where
 
     module _ (chain : Option ℕ) (o : State) (v : Widens (Some b.addr) (record m { pages = walked_pages m.pages b.addr; chain = chain }) o)
         (all : (e : Edge) → Contains (edges_of tables b.walk b.count space b.addr) e → is_some (mark_at o.pages.slots e.target) ≡ true) where
-      same_edges : edges_of tables b.walk b.count space b.addr ≡ block_edges tables space t.walks b.addr
-      same_edges = ap (λ x. edges_of tables x b.count space b.addr) h.fits.walk ∙ ap (λ x. edges_of tables (t.walks b.addr).walk x space b.addr) h.fits.count
-
       grow_o : (a : ℕ) → is_some (mark_at m.pages.slots a) ≡ true → is_some (mark_at o.pages.slots a) ≡ true
       grow_o a some = v.grow a (grow_n a some)
 
@@ -243,13 +237,13 @@ module _ {tables : Tables} {space : Range} (t : Task tables space) where
         | inr none ↦ none
       ]
 
-      crowded : (blocks : List ℕ) → IsCrowd t o b.addr blocks → o.overflowed ≡ true
+      crowded : (blocks : List ℕ) → IsCrowd t o b.addr blocks → is_some o.lost ≡ true
       crowded blocks crowd = elim (cases_Bool (has_pending (mark_at m.pages.slots b.addr))) [
         | inl pending ↦
             let none = none_marked (λ a. is_some (mark_at slots_n a)) blocks (λ a there. not_yet pending a (crowd.only a there)) in
             let every = all_marked (λ a. is_some (mark_at o.pages.slots a)) blocks (λ a there.
             let leads = (crowd.only a there).leads in
-            ap (λ x. is_some (mark_at o.pages.slots x)) (sym leads.2) ∙ all leads.0 (subst (λ l. Contains l leads.0) (sym same_edges) leads.1)) in
+            ap (λ x. is_some (mark_at o.pages.slots x)) (sym leads.2) ∙ all leads.0 (subst (λ l. Contains l leads.0) (sym (same_edges t b h.fits)) leads.1)) in
             let short = v.now.short in
             let one = one_most (is_some o.next) in
             let many = crowd.many in
@@ -266,6 +260,7 @@ module _ {tables : Tables} {space : Range} (t : Task tables space) where
       pub wide_done : Wide t (record o { chain = None; next = None }) o.next
       wide_done = record {
         opened = record {
+          no_pass = v.now.no_pass;
           keeps = record { distinct = v.now.keeps.distinct; aside = v.now.keeps.aside; over = v.now.keeps.over; chained = tt };
           short = v.now.short;
           stacked = v.now.stacked;
@@ -281,20 +276,20 @@ module _ {tables : Tables} {space : Range} (t : Task tables space) where
 
 -- ---- walking a block
 
-pub wide_block : {tables : Tables} {space : Range} (t : Task tables space) (begun : List ℕ) (pass : Option ℕ) (b : Block) (m : Marker) → Holds t begun (Some b) pass (state_of m) → Wide t (state_of m) (Some b)
+pub wide_block : {tables : Tables} {space : Range} (t : Task tables space) (begun : List ℕ) (b : Block) (m : Marker) → Holds t begun (Some b) (state_of m) → Wide t (state_of m) (Some b)
     → (n o : Marker) (chain : Option ℕ) → chain ≡ chain_place tables b → state_of n ≡ record (state_of m) { pages = walked_pages m.pages.now b.addr; chain = chain } → Took Leaves n (edges_of tables b.walk b.count space b.addr) o
     → Wide t (record (state_of o) { chain = None; next = None }) (state_of o).next
-wide_block {tables} {space} t begun pass b m h w n o chain placed is took =
+wide_block {tables} {space} t begun b m h w n o chain placed is took =
     let es = edges_of tables b.walk b.count space b.addr in
     let fits = block_fits t b h.fits in
-    let good : Good t begun (Some b.addr) None pass (state_of n) = subst (Good t begun (Some b.addr) None pass) (sym is) (good_walked t begun pass b h.fits (state_of m) h.good chain) in
-    let v = widen_all t (Some b.addr) None pass es begun n o fits good
-    (subst (λ s. Opened t s (Some b.addr)) (sym is) (opened_n t begun pass b (state_of m) h w chain))
-    (λ e there. subst (λ s. Origin t s e.target) (sym is) (source_n t begun pass b (state_of m) h w chain e there))
+    let good : Good t begun (Some b.addr) None (state_of n) = subst (Good t begun (Some b.addr) None) (sym is) (good_walked t begun b h.fits (state_of m) h.good chain) in
+    let v = widen_all t (Some b.addr) None es begun n o fits good
+    (subst (λ s. Opened t s (Some b.addr)) (sym is) (opened_n t begun b (state_of m) h w chain))
+    (λ e there. subst (λ s. Origin t s e.target) (sym is) (source_n t begun b (state_of m) h w chain e there))
     (λ e there. subst (λ c. Sides t c e) (sym (ap (λ s. s.chain) is ∙ placed)) (sides_block t b h.fits e there)) took in
-    let all = took_all t (Some b.addr) None pass es begun n o fits good took in
-    wide_done t begun pass b (state_of m) h w chain (state_of o) (subst (λ s. Widens t (Some b.addr) s (state_of o)) is v)
-    (λ e there. ap is_some (is_at t (with_targets es begun) (Some b.addr) None pass (state_of o) all.good e.target (All-contains (λ x. Fits t (block_in x)) es e fits there).starts) ∙ all.good.began e.target (targets_have es begun e there))
+    let all = took_all t (Some b.addr) None es begun n o fits good took in
+    wide_done t begun b (state_of m) h w chain (state_of o) (subst (λ s. Widens t (Some b.addr) s (state_of o)) is v)
+    (λ e there. ap is_some (is_at t (with_targets es begun) (Some b.addr) None (state_of o) all.good e.target (All-contains (Suits t) es e fits there).starts) ∙ all.good.began e.target (targets_have es begun e there))
 
 pub wide_popped : {tables : Tables} {space : Range} (t : Task tables space) (rest : List Block) (b : Block) (st : State) → st.stack ≡ rest ++ b ∷ [] → Wide t st None → Wide t (record st { stack = rest }) (Some b)
 wide_popped t rest b st is w =
@@ -302,6 +297,7 @@ wide_popped t rest b st is w =
     let short = w.opened.short in
     record {
       opened = record {
+        no_pass = w.opened.no_pass;
         keeps = record {
           distinct = distinct_popped rest b (subst (λ l. IsDistinct nat_eq (map (λ x. x.addr) l)) is w.opened.keeps.distinct);
           aside = λ c there. w.opened.keeps.aside c (subst (λ l. Contains l c) (sym is) (Contains-append_left rest (b ∷ []) c there));

@@ -1,18 +1,28 @@
 -- What marking leaves.
-use Rattle.std.specs.Prelude.{◌≡◌, ◌↔◌, ℕ, Bool, if◌then◌else◌, List, map, Some, IsTrue, Contains}
+use Rattle.std.specs.Prelude.{◌≡◌, ◌↔◌, ℕ, Bool, true, false, List, map, Option, Some, None, IsTrue, Contains}
 use Rattle.gt_space.specs.Range.{Range}
-use Rattle.gt_pages.specs.Slots.{Slot, with_mark}
+use Rattle.gt_entries.specs.declared.marks.Mark.{Mark}
+use Rattle.gt_pages.specs.Slots.{Slot, is_pending, with_mark}
 use Rattle.gt_pages.specs.Contents.{Contents, with_slots}
 use Rattle.gt_walk.specs.declared.tables.Tables.{Tables}
-use Rattle.gt_mark.specs.Reached.{Walks, IsReached, own_mark}
+use Rattle.gt_mark.specs.Reached.{Walks, IsReached}
 
--- the block with its own mark where it is reached, and else as it was
-abbrev pub marked_where : (ℕ → Bool) → Walks → Slot → Slot
-marked_where reached walks s = if reached s.address then with_mark (Some (own_mark walks s.address)) s else s
+-- the mark that a block has once it is walked
+abbrev pub own_mark : Walks → ℕ → Mark
+own_mark walks address = record { walk = (walks address).walk; count = (walks address).count; pending = false }
 
--- Exactly the blocks that are reached are marked besides those that were, each with its own walk and count, and none is still to be
--- walked. Blocks, image, pages and lists are as they were.
+-- The mark of a block afterwards, by whether it is reached, whether it is still to be walked, and the mark that it had: a mark keeps its
+-- walk and count; a block without one gets its own where it is reached, and else none.
+abbrev pub mark_after : (reached pending : Bool) → (own : Mark) → Option Mark → Option Mark
+mark_after reached pending own (Some m) = Some (record { walk = m.walk; count = m.count; pending = pending })
+mark_after true pending own None = Some own
+mark_after false pending own None = None
+
+-- Exactly the blocks that are reached are marked besides those that were, each with its own walk and count. No block is still to be
+-- walked but some of those that were before. Blocks, image, pages and lists are as they were.
 pub record Marks (tables : Tables) (space : Range) (walks : Walks) (starts : List ℕ) (old new : Contents) : Type 0 where
   pub reached : ℕ → Bool
   pub exact : (s : Slot) → Contains old.slots s → IsTrue (reached s.address) ↔ IsReached tables space walks starts s.address
-  pub marked : new ≡ with_slots old (map (marked_where reached walks) old.slots)
+  pub pending : ℕ → Bool
+  pub left : (s : Slot) → Contains old.slots s → IsTrue (pending s.address) → IsTrue (is_pending s)
+  pub marked : new ≡ with_slots old (map (λ s. with_mark (mark_after (reached s.address) (pending s.address) (own_mark walks s.address) s.mark) s) old.slots)

@@ -1,11 +1,10 @@
 -- Which blocks edges reach, and what must hold of tables, bytes and blocks so that they can be marked.
-use Rattle.std.specs.Prelude.{◌≡◌, ℕ, List, map, flat_map, IfSome, IsTrue, false, Contains, All}
+use Rattle.std.specs.Prelude.{◌≡◌, ℕ, List, map, flat_map, IfSome, IsTrue, Contains, All}
 use Rattle.gt_space.specs.Range.{Range}
 use Rattle.gt_entries.specs.declared.marks.Mark.{Mark}
 use Rattle.gt_pages.specs.Slots.{Slot, StartsSome, is_marked}
 use Rattle.gt_walk.specs.declared.tables.Tables.{Tables}
 use Rattle.gt_walk.specs.Rows.{Edge, edges_of}
-use Rattle.gt_walk.specs.Nested.{IsNested, IsWalk}
 
 -- how the elements of a block are walked: by which walk, and how many there are
 pub record Walked : Type 0 where
@@ -47,9 +46,10 @@ IsReached tables space walks starts address = (start : ℕ) × Contains starts s
 
 -- ---- what must hold before
 
--- the mark that a block has once it is walked
-abbrev pub own_mark : Walks → ℕ → Mark
-own_mark walks address = record { walk = (walks address).walk; count = (walks address).count; pending = false }
+-- a mark has the block's own walk and count
+pub record IsOwn (walks : Walks) (address : ℕ) (m : Mark) : Type 0 where
+  pub walk : m.walk ≡ (walks address).walk
+  pub count : m.count ≡ (walks address).count
 
 -- a marked block starts at the address
 abbrev pub IsMarkedAt : List Slot → ℕ → Type 0
@@ -61,13 +61,11 @@ pub record NamesBlock (slots : List Slot) (walks : Walks) (e : Edge) : Type 0 wh
   pub walk : e.walk ≡ (walks e.target).walk
   pub count : e.count ≡ (walks e.target).count
 
--- Blocks can be marked from those at these addresses: the tables are nested and have the walk of each block; a marked block has its own
--- walk and count in its mark, and was walked; each edge of what is reached names a block; and edges lead from marked blocks to marked
--- ones alone.
+-- Blocks can be marked from those at these addresses: a block that is marked before has its own walk and count in its mark, whether or
+-- not it is still to be walked, and its edges lead to marked blocks alone, so that it need not be walked again; and each edge of another
+-- block that is reached names a block. Nothing more is asked of the tables: edges are what `visit` gives on them.
 pub record CanMark (tables : Tables) (space : Range) (walks : Walks) (slots : List Slot) (starts : List ℕ) : Type 0 where
-  pub nested : IsNested tables
-  pub listed : (s : Slot) → Contains slots s → IsWalk tables (walks s.address).walk
-  pub marks : (s : Slot) → Contains slots s → IfSome s.mark (λ m. m ≡ own_mark walks s.address)
-  pub starts_block : All (StartsSome slots) starts
-  pub edges : (address : ℕ) → IsReached tables space walks starts address → All (NamesBlock slots walks) (block_edges tables space walks address)
+  pub marks : (s : Slot) → Contains slots s → IfSome s.mark (IsOwn walks s.address)
   pub closed : (from to : ℕ) → IsMarkedAt slots from → LeadsTo tables space walks from to → IsMarkedAt slots to
+  pub starts_block : All (StartsSome slots) starts
+  pub edges : (address : ℕ) → IsReached tables space walks starts address → ¬ IsMarkedAt slots address → All (NamesBlock slots walks) (block_edges tables space walks address)

@@ -1,5 +1,5 @@
--- Why many blocks that one block leads to do not fit on the stack, and few that are named aside do. Only the functions inside the crate
--- cite this; it promises nothing.
+-- No promise: why many blocks that one block leads to do not fit on the stack, and few that are named aside do. Only the functions inside
+-- the crate cite this.
 use Rattle.std.specs.Prelude.{◌≡◌, ◌≢◌, ◌⊎◌, ◌≤◌, ℕ, true, List, length, map, Option, Some, None, is_some, nat_eq, IfSome, Contains}
 use Rattle.std.specs.List.{IsDistinct}
 use Rattle.gt_space.specs.Range.{Range}
@@ -7,7 +7,8 @@ use Rattle.gt_pages.specs.Slots.{StartsSome, mark_at}
 use Rattle.gt_walk.specs.declared.tables.Tables.{Tables}
 use Rattle.gt_walk.specs.Rows.{Edge, word_at}
 use Rattle.gt_mark.specs.declared.stack.Block.{Block}
-use Rattle.gt_mark.specs.Reached.{LeadsTo, IsReached, block_edges, own_mark}
+use Rattle.gt_mark.specs.Reached.{LeadsTo, IsReached, block_edges}
+use Rattle.gt_mark.specs.Marks.{own_mark}
 use Rattle.gt_mark.specs.Rounds.{IsChainEdge}
 use Rattle.gt_mark.specs.Steps.{State, Task}
 
@@ -65,17 +66,18 @@ module _ {tables : Tables} {space : Range} (t : Task tables space) (st : State) 
   pub record KeepsAside : Type 0 where
     pub distinct : IsDistinct nat_eq (map (λ b. b.addr) st.stack)
     pub aside : (b : Block) → Contains st.stack b → IsAside t b.addr
-    pub over : st.overflowed ≡ true → HasTooMany t
+    pub over : is_some st.lost ≡ true → HasTooMany t
     pub chained : IfSome st.next (λ b. (place : ℕ) × (st.chain ≡ Some place) × (word_at space place ≡ Some b.addr))
 
-  -- while the edges of a block are taken
+  -- while the edges of a block are taken, before any pass
   pub record Opened (opened : Option ℕ) : Type 0 where
+    pub no_pass : st.pass ≡ None
     pub keeps : KeepsAside
     pub short : length st.stack ≤ 64
     pub stacked : (b : Block) → Contains st.stack b → is_some (mark_at st.pages.slots b.addr) ≡ true
     pub followed : IfSome st.next (λ b. is_some (mark_at st.pages.slots b.addr) ≡ true)
     pub origin : (a : ℕ) → is_some (mark_at st.pages.slots a) ≡ true → (is_some (mark_at t.before.slots a) ≡ true) ⊎ Origin a
-    pub wide : (from : ℕ) (blocks : List ℕ) → opened ≢ Some from → IsCrowd from blocks → mark_at st.pages.slots from ≡ Some (own_mark t.walks from) → st.overflowed ≡ true
+    pub wide : (from : ℕ) (blocks : List ℕ) → opened ≢ Some from → IsCrowd from blocks → mark_at st.pages.slots from ≡ Some (own_mark t.walks from) → is_some st.lost ≡ true
 
   -- with a block in hand
   pub record Wide (hand : Option Block) : Type 0 where

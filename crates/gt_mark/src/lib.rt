@@ -3,8 +3,11 @@
 #![tactic(auto)]
 
 mod chains;
+mod laws;
 mod marker;
 mod marking;
+mod spans;
 mod stack;
 
+pub use laws::marking_goes_on;
 pub use marking::{mark_from, mark_roots};

@@ -1,10 +1,13 @@
 //! The marker while it works: it takes the edges of one block after another.
-ghost use Rattle.std.specs.Prelude.{◌≡◌, ◌⊎◌, ◌≤◌, ℕ, List, [], Option, Some, None, false};
+ghost use Rattle.std.specs.Prelude.{◌≡◌, ◌⊎◌, ◌≤◌, ◌<◌, ℕ, List, [], Option, Some, None, false, is_some, IsTrue};
+ghost use Rattle.gt_space.specs.Range.{Range};
 ghost use Rattle.gt_pages.specs.Slots.{StartsSome};
-ghost use Rattle.gt_mark.specs.Steps.{Task, Ends, Goes, Holds, Leaves, start_state, state_of};
+ghost use Rattle.gt_walk.specs.declared.tables.Tables.{Tables};
+ghost use Rattle.gt_mark.specs.Steps.{Task, Ends, Goes, Holds, Leaves, PassesOver, ahead, begun_state, lost_in, place_of, start_state, state_of};
 ghost use Rattle.gt_mark.specs.Wide.{Wide};
 
 use crate::chains::chain_place;
+use crate::spans::{Pass, Span};
 use crate::stack::{Block, Stack};
 use arrayvec::ArrayVec;
 use gt_pages::Pages;
@@ -12,12 +15,15 @@ use gt_space::Space;
 use gt_walk::{EdgeSink, Tables, visit};
 
 /// Marks the blocks that edges name. What is marked is still to be walked: it is on the stack, or it is the next of a chain; or the
-/// stack had no room for it, so that the marked blocks have to be passed over.
+/// stack had no room for it, and it lies ahead of the pass that runs, or in the span that the next pass goes over.
 #[derive(Drop)]
 pub struct Marker<'a> {
     pages: &'a mut Pages,
     stack: Stack,
-    overflowed: bool,
+    // Where the blocks lie for which the stack had no room, and that are left to the next pass.
+    lost: Option<Span>,
+    // The pass that runs.
+    pass: Option<Pass>,
     // The address of the chain pointer of the block in hand.
     chain: Option<u64>,
     // The block that this pointer names, where it was not marked.
@@ -43,7 +49,7 @@ impl<'a> EdgeSink for Marker<'a> {
             return;
         }
         let Ok(()) = self.stack.try_push(block) else {
-            self.overflowed = true;
+            self.lose(target);
             return;
         };
     }
@@ -57,18 +63,35 @@ impl<'a> Marker<'a> {
         Marker {
             pages,
             stack: ArrayVec::new(),
-            overflowed: false,
+            lost: None,
+            pass: None,
             chain: None,
             next: None,
         }
     }
 
+    // A block for which the stack has no room is left to the pass that runs, where that has not come to it, else to the next one.
+    fn lose(&mut self, addr: u64)
+        ensures same_reference { self.new.pages.ghost_name ≡ self.old.pages.ghost_name }
+        ensures lost { state_of self.new ≡ lost_in self.old.pass (state_of self.old) addr }
+    {
+        match self.pass {
+            Some(pass) if pass.at < addr => {
+                self.pass = Some(Pass {
+                    at: pass.at,
+                    last: pass.last.max(addr),
+                });
+            }
+            _ => self.lost = Some(Span::with(self.lost, addr)),
+        }
+    }
+
     /// Takes the edges of a block, which is then walked, and says which block its chain pointer names, where it was not marked.
     fn walk_block(&mut self, tables: &Tables, space: &Space, block: Block) -> Option<Block>
-        requires ready { (t : Task tables.now space.now) × (begun : List ℕ) × (pass : Option ℕ) × Holds t begun (Some block) pass (state_of self.old) }
+        requires ready { (t : Task tables.now space.now) × (begun : List ℕ) × Holds t begun (Some block) (state_of self.old) }
         ensures same_reference { self.new.pages.ghost_name ≡ self.old.pages.ghost_name }
-        ensures goes { (t : Task tables.now space.now) (begun : List ℕ) (pass : Option ℕ) → Holds t begun (Some block) pass (state_of self.old) → Goes t begun result pass (state_of self.old) (state_of self.new) }
-        ensures wide { (t : Task tables.now space.now) (begun : List ℕ) (pass : Option ℕ) → Holds t begun (Some block) pass (state_of self.old) → Wide t (state_of self.old) (Some block) → Wide t (state_of self.new) result }
+        ensures goes { (t : Task tables.now space.now) (begun : List ℕ) → Holds t begun (Some block) (state_of self.old) → Goes t begun result (state_of self.old) (state_of self.new) }
+        ensures wide { (t : Task tables.now space.now) (begun : List ℕ) → Holds t begun (Some block) (state_of self.old) → Wide t (state_of self.old) (Some block) → Wide t (state_of self.new) result }
     {
         self.chain = chain_place(tables, block);
         self.pages.set_walked(block.addr);
@@ -79,10 +102,10 @@ impl<'a> Marker<'a> {
 
     /// Walks a block, and the blocks of its chain that were not marked.
     fn walk_chain(&mut self, tables: &Tables, space: &Space, block: Block)
-        requires ready { (t : Task tables.now space.now) × (begun : List ℕ) × (pass : Option ℕ) × Holds t begun (Some block) pass (state_of self.old) }
+        requires ready { (t : Task tables.now space.now) × (begun : List ℕ) × Holds t begun (Some block) (state_of self.old) }
         ensures same_reference { self.new.pages.ghost_name ≡ self.old.pages.ghost_name }
-        ensures goes { (t : Task tables.now space.now) (begun : List ℕ) (pass : Option ℕ) → Holds t begun (Some block) pass (state_of self.old) → Goes t begun None pass (state_of self.old) (state_of self.new) }
-        ensures wide { (t : Task tables.now space.now) (begun : List ℕ) (pass : Option ℕ) → Holds t begun (Some block) pass (state_of self.old) → Wide t (state_of self.old) (Some block) → Wide t (state_of self.new) None }
+        ensures goes { (t : Task tables.now space.now) (begun : List ℕ) → Holds t begun (Some block) (state_of self.old) → Goes t begun None (state_of self.old) (state_of self.new) }
+        ensures wide { (t : Task tables.now space.now) (begun : List ℕ) → Holds t begun (Some block) (state_of self.old) → Wide t (state_of self.old) (Some block) → Wide t (state_of self.new) None }
     {
         let mut block = block;
         'chain: loop {
@@ -95,10 +118,10 @@ impl<'a> Marker<'a> {
 
     /// Walks the blocks on the stack, and those that come onto it.
     pub fn walk_stack(&mut self, tables: &Tables, space: &Space)
-        requires ready { (t : Task tables.now space.now) × (begun : List ℕ) × (pass : Option ℕ) × Holds t begun None pass (state_of self.old) }
+        requires ready { (t : Task tables.now space.now) × (begun : List ℕ) × Holds t begun None (state_of self.old) }
         ensures same_reference { self.new.pages.ghost_name ≡ self.old.pages.ghost_name }
-        ensures goes { (t : Task tables.now space.now) (begun : List ℕ) (pass : Option ℕ) → Holds t begun None pass (state_of self.old) → Goes t begun None pass (state_of self.old) (state_of self.new) }
-        ensures wide { (t : Task tables.now space.now) (begun : List ℕ) (pass : Option ℕ) → Holds t begun None pass (state_of self.old) → Wide t (state_of self.old) None → Wide t (state_of self.new) None }
+        ensures goes { (t : Task tables.now space.now) (begun : List ℕ) → Holds t begun None (state_of self.old) → Goes t begun None (state_of self.old) (state_of self.new) }
+        ensures wide { (t : Task tables.now space.now) (begun : List ℕ) → Holds t begun None (state_of self.old) → Wide t (state_of self.old) None → Wide t (state_of self.new) None }
         ensures empty { self.new.stack.items ≡ [] }
     {
         'stack: loop {
@@ -109,46 +132,83 @@ impl<'a> Marker<'a> {
         }
     }
 
-    /// Passes once over the marked blocks, and walks those that are still to be walked, by rising address.
-    fn pass(&mut self, tables: &Tables, space: &Space)
-        requires ready { (t : Task tables.now space.now) × (begun : List ℕ) × Holds t begun None (Some 0) (state_of self.old) }
+    // Begins a pass over the blocks that are left to it, and says whether there are any.
+    fn begin_pass(&mut self) -> bool
+        ensures same_reference { self.new.pages.ghost_name ≡ self.old.pages.ghost_name }
+        ensures lost { result ≡ is_some self.old.lost }
+        ensures begun { IsTrue result → state_of self.new ≡ begun_state (state_of self.old) }
+        ensures unchanged { result ≡ false → state_of self.new ≡ state_of self.old }
+    {
+        match self.lost.take() {
+            None => false,
+            Some(span) => {
+                self.pass = Some(Pass::over(span));
+                true
+            }
+        }
+    }
+
+    // Moves the pass on to the next block that is to be walked. Where there is none the pass is over.
+    fn next_in_pass(&mut self) -> Option<Block>
+        requires ready { (tables : Tables) × (space : Range) × (t : Task tables space) × (begun : List ℕ) × Holds t begun None (state_of self.old) }
+        ensures same_reference { self.new.pages.ghost_name ≡ self.old.pages.ghost_name }
+        ensures same { state_of self.new ≡ record (state_of self.old) { pass = self.new.pass } }
+        ensures goes { (tables : Tables) (space : Range) (t : Task tables space) (begun : List ℕ) → Holds t begun None (state_of self.old) → Holds t begun result (state_of self.new) }
+        ensures over { result ≡ None → self.new.pass ≡ None }
+        ensures less { IsTrue (is_some result) → ahead (state_of self.new) < ahead (state_of self.old) }
+    {
+        let pass = self.pass.take()?;
+        if pass.last <= pass.at {
+            return None;
+        }
+        let (addr, walk, count) = self.pages.next_pending(pass.at)?;
+        self.pass = Some(Pass {
+            at: addr,
+            last: pass.last,
+        });
+        Some(Block { addr, walk, count })
+    }
+
+    // Walks the blocks that the pass has still to come to, by rising address, and those that come onto the stack.
+    fn run_pass(&mut self, tables: &Tables, space: &Space)
+        requires ready { (t : Task tables.now space.now) × (begun : List ℕ) × Holds t begun None (state_of self.old) }
         requires empty { self.old.stack.items ≡ [] }
         ensures same_reference { self.new.pages.ghost_name ≡ self.old.pages.ghost_name }
-        ensures goes { (t : Task tables.now space.now) (begun : List ℕ) → Holds t begun None (Some 0) (state_of self.old) → Goes t begun None None (state_of self.old) (state_of self.new) }
+        ensures goes { (t : Task tables.now space.now) (begun : List ℕ) → Holds t begun None (state_of self.old) → PassesOver t begun (state_of self.old) (state_of self.new) }
+        ensures over { self.new.pass ≡ None }
         ensures empty { self.new.stack.items ≡ [] }
     {
-        let mut after = 0;
         'blocks: loop {
-            match self.pages.next_pending(after) {
+            match self.next_in_pass() {
                 None => return,
-                Some((addr, walk, count)) => {
-                    self.walk_chain(tables, space, Block { addr, walk, count });
+                Some(block) => {
+                    self.walk_chain(tables, space, block);
                     self.walk_stack(tables, space);
-                    after = addr;
                 }
             }
         }
     }
 
-    /// Passes over the marked blocks until the stack had room for all, and says how many rounds there were with the first.
+    /// Passes over the blocks for which the stack had no room until none is left, and says how many rounds there were with the first.
     pub fn walk_rest(&mut self, tables: &Tables, space: &Space) -> u32
-        requires ready { (t : Task tables.now space.now) × (begun : List ℕ) × Holds t begun None None (state_of self.old) }
+        requires ready { (t : Task tables.now space.now) × (begun : List ℕ) × Holds t begun None (state_of self.old) }
+        requires idle { place_of (state_of self.old) ≡ None }
         requires empty { self.old.stack.items ≡ [] }
         ensures same_reference { self.new.pages.ghost_name ≡ self.old.pages.ghost_name }
-        ensures ends { (t : Task tables.now space.now) (begun : List ℕ) → Holds t begun None None (state_of self.old) → Ends t begun result (state_of self.old) (state_of self.new) }
+        ensures ends { (t : Task tables.now space.now) (begun : List ℕ) → Holds t begun None (state_of self.old) → Ends t begun result (state_of self.old) (state_of self.new) }
         ensures at_least { 1 ≤ result }
+        ensures idle { place_of (state_of self.new) ≡ None }
         ensures empty { self.new.stack.items ≡ [] }
-        ensures room { self.new.overflowed ≡ false }
+        ensures room { self.new.lost ≡ None }
         ensures again { (state_of self.new ≡ state_of self.old) ⊎ (2 ≤ result) }
-        ensures one { self.old.overflowed ≡ false → result ≡ 1 }
+        ensures one { self.old.lost ≡ None → result ≡ 1 }
     {
         let mut rounds: u32 = 1;
         'rounds: loop {
-            if !self.overflowed {
+            if !self.begin_pass() {
                 return rounds;
             }
-            self.overflowed = false;
-            self.pass(tables, space);
+            self.run_pass(tables, space);
             rounds = rounds.saturating_add(1);
         }
     }

@@ -1,7 +1,7 @@
 //! Marking from a block and from the roots.
 ghost use Rattle.std.specs.Prelude.{◌≡◌, ℕ, List, [], ◌∷◌, None, Contains, All};
 ghost use Rattle.gt_walk.specs.Rows.{Edge, edges_of};
-ghost use Rattle.gt_mark.specs.Steps.{Task, Fits, Goes, Holds, block_in, state_of, with_targets};
+ghost use Rattle.gt_mark.specs.Steps.{Task, Suits, Goes, Holds, state_of, with_targets};
 ghost use Rattle.gt_mark.specs.Wide.{Wide};
 ghost use Rattle.gt_mark.specs.Reached.{Walks, CanMark, NamesBlock, root_edges, root_targets};
 ghost use Rattle.gt_mark.specs.Marks.{Marks};
@@ -13,8 +13,9 @@ use gt_space::Space;
 use gt_walk::{EdgeSink, Tables, visit};
 
 /// Marks the block that starts at an address, which is walked by this walk with so many elements, and all blocks that edges reach from
-/// there. The answer is the number of rounds: one, and one more for each pass over marked blocks for which the stack of 64 had no
-/// room. It takes no memory, and its time is linear in the newly marked blocks and their edges, and in the pages for each pass.
+/// there. The answer is the number of rounds: one, and one more for each pass over blocks for which the stack of 64 had no room. It
+/// takes no memory, and its time is linear in the newly marked blocks and their edges, and for each pass in the pages from the first
+/// to the last block that was left to it.
 pub fn mark_from(
     tables: &Tables,
     space: &Space,
@@ -38,11 +39,11 @@ pub fn mark_from(
 
 // Marks the blocks that one root names, and those that edges reach from there.
 fn take_root(tables: &Tables, space: &Space, walk: u32, marker: &mut Marker<'_>)
-    requires ready { (t : Task tables.now space.now) × (begun : List ℕ) × Holds t begun None None (state_of marker.old) × All (λ e. Fits t (block_in e)) (edges_of tables.now walk 1 space.now 0) }
+    requires ready { (t : Task tables.now space.now) × (begun : List ℕ) × Holds t begun None (state_of marker.old) × All (Suits t) (edges_of tables.now walk 1 space.now 0) }
     ensures same_reference { marker.new.pages.ghost_name ≡ marker.old.pages.ghost_name }
-    ensures goes { (t : Task tables.now space.now) (begun : List ℕ) → Holds t begun None None (state_of marker.old) → All (λ e. Fits t (block_in e)) (edges_of tables.now walk 1 space.now 0)
-        → Goes t (with_targets (edges_of tables.now walk 1 space.now 0) begun) None None (state_of marker.old) (state_of marker.new) }
-    ensures wide { (t : Task tables.now space.now) (begun : List ℕ) → Holds t begun None None (state_of marker.old) → All (λ e. Fits t (block_in e)) (edges_of tables.now walk 1 space.now 0)
+    ensures goes { (t : Task tables.now space.now) (begun : List ℕ) → Holds t begun None (state_of marker.old) → All (Suits t) (edges_of tables.now walk 1 space.now 0)
+        → Goes t (with_targets (edges_of tables.now walk 1 space.now 0) begun) None (state_of marker.old) (state_of marker.new) }
+    ensures wide { (t : Task tables.now space.now) (begun : List ℕ) → Holds t begun None (state_of marker.old) → All (Suits t) (edges_of tables.now walk 1 space.now 0)
         → ((e : Edge) → Contains (edges_of tables.now walk 1 space.now 0) e → Contains t.starts e.target) → Wide t (state_of marker.old) None → Wide t (state_of marker.new) None }
     ensures empty { marker.new.stack.items ≡ [] }
 {

@@ -46,13 +46,19 @@ walk_rest-requires-clause-ready c =
     let taken = c.loop-walk.invariant.taken t (sym c.new-marker.ensures.state) refl r.1 in
     (t, taken.begun, taken.holds)
 
+pub walk_rest-requires-clause-idle : goal.walk_rest-requires-clause-idle
+walk_rest-requires-clause-idle c =
+    let r = c.requires.ready in
+    let t = task_of c.args.tables.now c.args.space.now r.0 (root_targets c.args.tables.now c.args.space.now) c.args.pages.now r.2 c.sound.ensures.laid in
+    (c.loop-walk.invariant.taken t (sym c.new-marker.ensures.state) refl r.1).stands
+
 pub returns-clause-marked : goal.returns-clause-marked
 returns-clause-marked c = λ walks names can.
     let t = task_of c.args.tables.now c.args.space.now walks (root_targets c.args.tables.now c.args.space.now) c.args.pages.now can c.sound.ensures.laid in
     let taken = c.loop-walk.invariant.taken t (sym c.new-marker.ensures.state) refl names in
     let last = c.walk_rest.ensures.ends t taken.begun taken.holds in
     let whole : length c.as_slice-walk-items.result.now ≤ c.loop-walk.walk-index = search rules in
-    marks_as t taken.begun (state_of c.walk_rest.new.self) _ last.holds c.walk_rest.ensures.empty c.walk_rest.ensures.room
+    marks_as t taken.begun (state_of c.walk_rest.new.self) _ last.holds c.walk_rest.ensures.empty c.walk_rest.ensures.room c.walk_rest.ensures.idle
     (roots_all t refl c.as_slice-walk-items.result.now c.as_slice-walk-items.ensures.items (state_of c.loop-walk.marker) c.loop-walk.walk-index whole taken) (search rules)
 
 pub returns-clause-rounds : goal.returns-clause-rounds
@@ -62,9 +68,9 @@ returns-clause-rounds c = λ walks names can.
     let last = c.walk_rest.ensures.ends t taken.begun taken.holds in
     let whole : length c.as_slice-walk-items.result.now ≤ c.loop-walk.walk-index = search rules in
     rounds_as t taken.begun taken.begun c.walk_rest.result (state_of c.loop-walk.marker) (state_of c.walk_rest.new.self) _ c.walk_rest.ensures.room taken.lessens last c.walk_rest.ensures.at_least
-    (one_final t taken.begun (state_of c.walk_rest.new.self) last.holds c.walk_rest.ensures.empty c.walk_rest.ensures.room
+    (one_final t taken.begun (state_of c.walk_rest.new.self) last.holds c.walk_rest.ensures.empty c.walk_rest.ensures.room c.walk_rest.ensures.idle
     (roots_all t refl c.as_slice-walk-items.result.now c.as_slice-walk-items.ensures.items (state_of c.loop-walk.marker) c.loop-walk.walk-index whole taken) _ (search rules) (state_of c.loop-walk.marker) c.walk_rest.result
     (c.loop-walk.invariant.wide t (sym c.new-marker.ensures.state) refl names) c.walk_rest.ensures.one)
-    (more_final t taken.begun (state_of c.loop-walk.marker) (state_of c.walk_rest.new.self) c.walk_rest.result _ last.holds c.walk_rest.ensures.empty c.walk_rest.ensures.room
+    (more_final t taken.begun (state_of c.loop-walk.marker) (state_of c.walk_rest.new.self) c.walk_rest.result _ last.holds c.walk_rest.ensures.empty c.walk_rest.ensures.room c.walk_rest.ensures.idle
     (roots_all t refl c.as_slice-walk-items.result.now c.as_slice-walk-items.ensures.items (state_of c.loop-walk.marker) c.loop-walk.walk-index whole taken)
     (c.loop-walk.invariant.wide t (sym c.new-marker.ensures.state) refl names) c.walk_rest.ensures.again (search rules)) (search rules)

@@ -1,4 +1,4 @@
-use Rattle.std.proofs.Common.{◌≡◌, ℕ, List, Option, Some}
+use Rattle.std.proofs.Common.{◌≡◌, ℕ, List, Some}
 use Rattle.gt_mark.specs.Steps.{Task, Holds, left, state_of}
 use Rattle.gt_mark.proofs.Steps.{WentOn}
 use Rattle.gt_mark.specs.Wide.{Wide}
@@ -6,10 +6,10 @@ use Rattle.gt_mark.proofs.marker.Marker.walk_chain.Given as goal
 
 abbrev pub invariant-chain : goal.invariant-chain
 invariant-chain l = record {
-  ready : (t : Task l.tables l.space) × (begun : List ℕ) × (pass : Option ℕ) × Holds t begun (Some l.block) pass (state_of l.self);
+  ready : (t : Task l.tables l.space) × (begun : List ℕ) × Holds t begun (Some l.block) (state_of l.self);
   same_reference : l.self.pages.ghost_name ≡ l.initial.self.pages.ghost_name;
-  goes : (t : Task l.tables l.space) (begun : List ℕ) (pass : Option ℕ) → Holds t begun (Some l.initial.block) pass (state_of l.initial.self) → WentOn t begun l.block pass (state_of l.initial.self) (state_of l.self);
-  wide : (t : Task l.tables l.space) (begun : List ℕ) (pass : Option ℕ) → Holds t begun (Some l.initial.block) pass (state_of l.initial.self) → Wide t (state_of l.initial.self) (Some l.initial.block) → Wide t (state_of l.self) (Some l.block);
+  goes : (t : Task l.tables l.space) (begun : List ℕ) → Holds t begun (Some l.initial.block) (state_of l.initial.self) → WentOn t begun l.block (state_of l.initial.self) (state_of l.self);
+  wide : (t : Task l.tables l.space) (begun : List ℕ) → Holds t begun (Some l.initial.block) (state_of l.initial.self) → Wide t (state_of l.initial.self) (Some l.initial.block) → Wide t (state_of l.self) (Some l.block);
 }
 
 abbrev pub decreases-chain : goal.decreases-chain
