@@ -1,8 +1,9 @@
 #!/usr/bin/env bash
 # Reads scripts of 100,000 and 1,000,000 lines `set $a.f $b` with the reader of gt_script and with a small one in C, which cuts lines into
-# words and interns the names, and compares the times: the ratio should stay under 2. Then it reads scripts that are made to take
-# memory, and says how much of what is allowed, eight times the bytes of the script and 64 MiB, each takes at the most: all should
-# stay under 1. Run by hand, from any folder. The program around gt_script is written and built in a copy of the crates that it needs.
+# words and interns the names, and compares the times: the ratio should stay under 2. Neither program frees the commands that it has read.
+# Then it reads scripts that are made to take memory, and says how much of what is allowed, eight times the bytes of the script and 64 MiB,
+# each takes at the most: all should stay under 1. Run by hand, from any folder. The program around gt_script is written and built in a
+# copy of the crates that it needs.
 . "$(dirname "$0")/shared.sh"
 mkdir -p "$work/crates/read_script/src"
 copy_crates gt_types gt_text gt_script
@@ -13,6 +14,7 @@ cat >"$work/crates/read_script/src/main.rt" <<'RT'
 use gt_script::{ScriptStop, parse_script};
 use std::io;
 use std::io::Read;
+use std::mem;
 
 fn main(rt: HostRuntime) -> io::Result<()> {
     let alloc = rt.alloc();
@@ -22,7 +24,11 @@ fn main(rt: HostRuntime) -> io::Result<()> {
         return Ok(());
     }
     match parse_script(alloc, &text) {
-        Ok(lines) => println!(rt; "{} commands", lines.len()),
+        Ok(lines) => {
+            let count = lines.len();
+            mem::forget(lines);
+            println!(rt; "{count} commands")
+        }
         Err(ScriptStop::Memory) => println!(rt; "out of memory"),
         Err(ScriptStop::ScriptSyntax { line }) => println!(rt; "line {line} refused"),
         Err(ScriptStop::ScriptTooLong) => println!(rt; "too long"),

@@ -1,5 +1,5 @@
 -- Texts that are UTF-8, and texts that are not.
-use Rattle.std.proofs.Common.{◌≡◌, ℕ, Bool, true, false, not, cond, eqb, List, length, Some, None, refl, sym, ap, subst, ◌∙◌}
+use Rattle.std.proofs.Common.{◌≡◌, ℕ, Bool, true, false, not, cond, eqb, List, length, Some, None, refl, sym, ap, ◌∙◌}
 use Rattle.std.specs.Prelude.{◌&&◌}
 use Rattle.std.specs.List.{list_any}
 use Rattle.std.specs.Str.{IsUtf8, is_utf8, chars}
@@ -22,9 +22,6 @@ unfolding name_at
 name_some text inner word same utf8 identifier e =
     let is_name : is_identifier_of (chars text) ≡ true = ap (λ t. is_identifier_of (chars t)) (sym same) ∙ sym identifier in
     rw (is_utf8-from_IsUtf8 text utf8, is_name) (ap Some (e ∙ ap chars same))
-
-pub name_shared : (text shared inner word : List ℕ) → IsUtf8 shared → shared ≡ text → inner ≡ shared → true ≡ is_identifier_of (chars inner) → word ≡ chars shared → Some word ≡ name_at text
-name_shared text shared inner word utf8 same lent identifier e = name_some text inner word (lent ∙ same) (subst IsUtf8 same utf8) identifier (e ∙ ap chars (sym lent))
 
 pub name_other : (text inner : List ℕ) → inner ≡ text → false ≡ is_identifier_of (chars inner) → None ≡ name_at text
 unfolding name_at

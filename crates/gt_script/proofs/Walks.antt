@@ -1,6 +1,7 @@
 -- Paths, from left to right.
-use Rattle.std.proofs.Common.{◌≡◌, ℕ, suc, ◌+◌, Bool, true, false, not, List, [], ◌∷◌, ◌++◌, take, drop, Option, Some, None, refl, sym, ap, subst, ◌∙◌, append_assoc, arith}
+use Rattle.std.proofs.Common.{◌≡◌, ℕ, suc, ◌+◌, Bool, true, false, not, List, [], ◌∷◌, ◌++◌, length, take, drop, Option, Some, None, refl, sym, ap, subst, ◌∙◌, append_assoc, arith}
 use Rattle.std.specs.List.{prefix_len}
+use Rattle.std.proofs.Math.Seq.{take-length, drop-length}
 use Rattle.std.proofs.lemmas.List.{append-nil}
 use Rattle.gt_script.specs.declared.command.Hop.{Hop}
 use Rattle.gt_script.specs.Texts.{◌>>=◌}
@@ -105,6 +106,21 @@ unfolding cut_steps hops_at
 reads_all front rest all e read =
     let whole : with_hops front (hops_at (cut_steps rest).1) ≡ Some front = rw e (ap (λ (hs : List Hop). Some hs) (append-nil front)) in
     sym whole ∙ read
+
+-- a text that is one step
+pub one_step : (text others : List ℕ) (mark : ℕ) → text ≡ mark ∷ others → (cut_steps text).0 ≡ [] → place others ≡ length others → (cut_steps text).1 ≡ text ∷ []
+unfolding cut_steps
+one_step text others mark e begins all =
+    let is_mark = mark_step mark others (begins_step mark) refl (subst (λ (r : List ℕ). (cut_steps r).0 ≡ []) e begins) in
+    let front : take (place others) others ≡ others = ap (λ k. take k others) all ∙ take-length others in
+    let back : (cut_steps others).1 ≡ [] =
+    sym (ap (λ (p : List ℕ × List (List ℕ)). p.1) (cut_back others)) ∙ ap (λ k. (cut_steps (drop k others)).1) all ∙ ap (λ (r : List ℕ). (cut_steps r).1) (drop-length others) in
+    let cut : (cut_steps (mark ∷ others)).1 ≡ (mark ∷ take (place others) others) ∷ (cut_steps others).1 = ap (λ (p : List ℕ × List (List ℕ)). p.1) (cut_mark mark others is_mark) in
+    rw e (cut ∙ rw (front, back) refl)
+
+pub reads_one : (text : List ℕ) (hop : Option Hop) (hops : Option (List Hop)) → (cut_steps text).1 ≡ text ∷ [] → hop ≡ hop_at text → hops ≡ (hop >>= λ hop. Some (hop ∷ [])) → hops ≡ hops_at (cut_steps text).1
+unfolding hops_at
+reads_one text hop hops cut read is = is ∙ rw (cut, read) refl
 
 -- a path by its name and its steps, cut in two
 pub route_is : (variable : Bool) (text start after : List ℕ) (n : ℕ) → n ≡ place text → start ≡ take n text → after ≡ drop n text

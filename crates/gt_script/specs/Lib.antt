@@ -6,3 +6,5 @@ pub mod Commands
 pub mod Language
 pub mod Outcome
 pub mod Scanning
+pub mod ShortLists
+pub mod Integers

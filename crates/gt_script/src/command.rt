@@ -1,4 +1,5 @@
-use gt_types::{Bytes, List, Word};
+use crate::{Number, ShortList};
+use gt_types::{Bytes, Word};
 
 /// A line of a script. The answer to a quiet line is printed only where it is a refusal.
 #[derive(Debug, PartialEq, Eq, Drop)]
@@ -15,13 +16,13 @@ pub enum Command {
     New {
         var: Word,
         ty: TypeName,
-        n: Option<i128>,
+        n: Option<Number>,
     },
     /// `array $v T N`: make a block of `n` elements of the type.
     Array {
         var: Word,
         ty: TypeName,
-        n: i128,
+        n: Number,
     },
     /// `string $v "text"`: make a block of the text's bytes and one zero.
     Text {
@@ -31,7 +32,7 @@ pub enum Command {
     /// `block $v N`: make a block of `n` bytes that are never scanned.
     Block {
         var: Word,
-        n: i128,
+        n: Number,
     },
     /// `set PATH VALUE`: store the value at the path.
     Set {
@@ -69,7 +70,7 @@ pub enum Command {
     /// `save "f" PAGE`: write an image of the heap to the file, with `page` as its preferred page.
     Save {
         file: Word,
-        page: i128,
+        page: Number,
     },
     /// `load "f"`: replace the heap by the file's image.
     Load {
@@ -95,7 +96,7 @@ pub struct TypeName {
 pub struct Route {
     pub variable: bool,
     pub name: Word,
-    pub steps: List<Hop>,
+    pub steps: ShortList<Hop>,
 }
 
 /// A step of a path: to a field, or to an element counted from 0.
@@ -108,7 +109,7 @@ pub enum Hop {
 /// A value that a line gives: an integer, the null pointer, or what a variable means.
 #[derive(Debug, PartialEq, Eq, Drop)]
 pub enum Given {
-    Integer(i128),
+    Integer(Number),
     Null,
     Var(Word),
 }

@@ -12,6 +12,7 @@ use std::alloc::AllocError;
 
 /// The command that a first word and the words behind it are.
 #[tactic(auto, unfolding(crate::specs::Commands::command_at))]
+#[inline(always)]
 pub fn command(
     names: &mut Names,
     verb: &[u8],

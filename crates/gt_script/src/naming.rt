@@ -3,7 +3,7 @@ ghost use Rattle.std.specs.Prelude.{◌≡◌, ◌<◌, ◌==◌, [], ◌∷◌,
 ghost use Rattle.std.specs.List.{list_all, list_any};
 ghost use Rattle.std.specs.Str.{chars, IsUtf8};
 ghost use Rattle.gt_text.specs.Identifier.{continues_identifier_of};
-ghost use Rattle.gt_script.specs.Values.{is_identifier_of, name_at, variable_at, named_type, type_at, file_at};
+ghost use Rattle.gt_script.specs.Values.{is_identifier_of, variable_at, named_type, type_at, file_at};
 
 use crate::TypeName;
 use crate::names::Names;
@@ -21,7 +21,7 @@ fn first(text: &str) -> Option<(char, &str)>
 }
 
 #[tactic(auto, unfolding(crate::specs::Values::is_identifier_of))]
-fn is_identifier(text: &str) -> bool
+pub fn is_identifier(text: &str) -> bool
     ensures { result ≡ is_identifier_of (chars text.now) }
 {
     match first(text) {
@@ -36,20 +36,6 @@ fn all_continue(text: &str) -> bool
     text.chars().all(|c| continues_identifier(c))
 }
 
-// The name that a text is.
-#[tactic(auto, unfolding(crate::specs::Values::name_at))]
-pub fn name(names: &mut Names, text: &[u8]) -> Result<Option<Word>, AllocError>
-    ensures { IfOk result (λ found. found ≡ name_at text.now) }
-{
-    let Some(shared) = names.text(text)? else {
-        return Ok(None);
-    };
-    if !is_identifier(shared.as_str()) {
-        return Ok(None);
-    }
-    Ok(Some(Word::from_shared(shared)))
-}
-
 // The name of the variable that a text is.
 #[tactic(auto, unfolding(crate::specs::Values::variable_at, crate::specs::Texts::behind))]
 pub fn variable(names: &mut Names, text: &[u8]) -> Result<Option<Word>, AllocError>
@@ -58,7 +44,7 @@ pub fn variable(names: &mut Names, text: &[u8]) -> Result<Option<Word>, AllocErr
     let Some(text) = text.strip_prefix(b"$") else {
         return Ok(None);
     };
-    name(names, text)
+    names.name(text)
 }
 
 // The type that a text is.
@@ -75,7 +61,7 @@ pub fn type_name(names: &mut Names, text: &[u8]) -> Result<Option<TypeName>, All
 fn named_type(names: &mut Names, star: bool, text: &[u8]) -> Result<Option<TypeName>, AllocError>
     ensures { IfOk result (λ found. found ≡ named_type star text.now) }
 {
-    let Some(name) = name(names, text)? else {
+    let Some(name) = names.name(text)? else {
         return Ok(None);
     };
     Ok(Some(TypeName { name, star }))

@@ -6,28 +6,30 @@ ghost use Rattle.std.specs.List.{list_all};
 ghost use Rattle.gt_text.specs.Integer.{value_of};
 ghost use Rattle.gt_script.specs.Values.{digits_at, leads_with_zero, decimal_at, natural_at, negative_at, integer_at};
 
+use crate::Number;
+
 const LARGEST_NEGATIVE: u64 = 1 << 63;
 
 // The integer that a text is, decimal or hexadecimal, from -2^63 to 2^64 - 1.
 #[tactic(auto, unfolding(crate::specs::Values::integer_at, crate::specs::Texts::behind))]
-pub fn integer(text: &[u8]) -> Option<i128>
+pub fn integer(text: &[u8]) -> Option<Number>
     ensures { result ≡ integer_at text.now }
 {
     match text.strip_prefix(b"-") {
         Some(text) => negative(text),
-        None => natural(text).map(i128::from),
+        None => natural(text).map(Number::natural),
     }
 }
 
 #[tactic(auto, unfolding(crate::specs::Values::negative_at))]
-fn negative(text: &[u8]) -> Option<i128>
+fn negative(text: &[u8]) -> Option<Number>
     ensures { result ≡ negative_at text.now }
 {
     let number = natural(text)?;
     if number > LARGEST_NEGATIVE {
         return None;
     }
-    Some(-i128::from(number))
+    Some(Number::negative(number))
 }
 
 #[tactic(auto, unfolding(crate::specs::Values::natural_at, crate::specs::Texts::behind))]

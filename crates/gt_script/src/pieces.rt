@@ -21,6 +21,7 @@ pub enum Piece<'a> {
 }
 
 #[tactic(auto, unfolding(crate::specs::Cutting::is_blank))]
+#[inline(always)]
 pub fn is_blank(byte: u8) -> bool
     ensures { result ≡ is_blank byte }
 {
@@ -29,6 +30,7 @@ pub fn is_blank(byte: u8) -> bool
 
 // Makes a list that of the words of a line, and says whether that is done: it is not where there are more of them than any command
 // has, or a quoted one has no end, has an escape that means nothing, or touches another word.
+#[inline(always)]
 pub fn read_words<'a>(
     alloc: Global,
     text: &'a [u8],
@@ -51,6 +53,7 @@ pub fn read_words<'a>(
     Ok(true)
 }
 
+#[inline(always)]
 fn without_blanks(text: &[u8]) -> &[u8]
     ensures { result.now ≡ without_blanks text.now }
 {
@@ -66,6 +69,7 @@ fn without_blanks(text: &[u8]) -> &[u8]
 
 // The word at the front and what stands behind it.
 #[tactic(auto, unfolding(crate::specs::Cutting::word_at))]
+#[inline(always)]
 fn word_at<'a>(alloc: Global, text: &'a [u8]) -> Result<Option<(Piece<'a>, &'a [u8])>, AllocError>
     ensures { IfOk result (λ found. option_map (λ r. (r.0, r.1.now)) found ≡ word_at text.now) }
 {
@@ -80,6 +84,7 @@ fn word_at<'a>(alloc: Global, text: &'a [u8]) -> Result<Option<(Piece<'a>, &'a [
 }
 
 // How many bytes stand before the first blank.
+#[inline(always)]
 fn plain_len(text: &[u8]) -> usize
     ensures len { result ≡ plain_len text.now }
     ensures within { result ≤ length text.now }
@@ -104,6 +109,7 @@ fn quoted_word<'a>(
     Ok(Some((Piece::Quoted(bytes), after)))
 }
 
+#[inline(always)]
 fn ends_word(text: &[u8]) -> bool
     ensures { result ≡ ends_word text.now }
 {

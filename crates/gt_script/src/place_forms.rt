@@ -4,7 +4,7 @@ ghost use Rattle.gt_script.specs.Commands.{set_at, print_at, put_at, find_at, pl
 
 use crate::Command;
 use crate::names::Names;
-use crate::naming::{name, variable};
+use crate::naming::variable;
 use crate::pieces::Piece;
 use crate::routes::{given, path};
 use crate::variable_forms::variable_command;
@@ -12,6 +12,7 @@ use std::alloc::AllocError;
 
 /// The command that a first word and the words behind it are, where it is none of the whole heap.
 #[tactic(auto, unfolding(crate::specs::Commands::place_command_at))]
+#[inline(always)]
 pub fn place_command(
     names: &mut Names,
     verb: &[u8],
@@ -35,6 +36,7 @@ pub fn place_command(
 }
 
 #[tactic(auto, unfolding(crate::specs::Commands::set_at))]
+#[inline(always)]
 fn set(names: &mut Names, words: &[Piece<'_>]) -> Result<Option<Command>, AllocError>
     ensures { IfOk result (λ found. found ≡ set_at words.now) }
 {
@@ -79,7 +81,7 @@ fn put(names: &mut Names, words: &[Piece<'_>]) -> Result<Option<Command>, AllocE
     let (Piece::Plain(cache), Piece::Plain(key), Piece::Plain(value)) = (cache, key, value) else {
         return Ok(None);
     };
-    let Some(cache) = name(names, cache.as_slice())? else {
+    let Some(cache) = names.name(cache.as_slice())? else {
         return Ok(None);
     };
     let Some(key) = variable(names, key.as_slice())? else {
@@ -101,7 +103,7 @@ fn find(names: &mut Names, words: &[Piece<'_>]) -> Result<Option<Command>, Alloc
     let (Piece::Plain(cache), Piece::Plain(key)) = (cache, key) else {
         return Ok(None);
     };
-    let Some(cache) = name(names, cache.as_slice())? else {
+    let Some(cache) = names.name(cache.as_slice())? else {
         return Ok(None);
     };
     let Some(key) = variable(names, key.as_slice())? else {

@@ -9,13 +9,13 @@ ghost use Rattle.gt_script.specs.Steps.{begins_step, cut_steps, index_at, hop_at
 
 use crate::front::front;
 use crate::names::Names;
-use crate::naming::name;
 use crate::numbers::{decimal, integer};
-use crate::{Given, Hop, Route};
+use crate::{Given, Hop, Route, ShortList};
 use gt_types::List;
 use std::alloc::AllocError;
 
 #[tactic(auto, unfolding(crate::specs::Steps::begins_step))]
+#[inline(always)]
 fn begins_step(byte: u8) -> bool
     ensures { result ≡ begins_step byte }
 {
@@ -23,6 +23,7 @@ fn begins_step(byte: u8) -> bool
 }
 
 // How many bytes stand before the first step.
+#[inline(always)]
 fn step_place(text: &[u8]) -> usize
     ensures place { result ≡ prefix_len (λ c. not (begins_step c)) text.now }
     ensures within { result ≤ length text.now }
@@ -32,6 +33,7 @@ fn step_place(text: &[u8]) -> usize
 
 // The path that a text is.
 #[tactic(auto, unfolding(crate::specs::Steps::path_at, crate::specs::Texts::behind))]
+#[inline(always)]
 pub fn path(names: &mut Names, text: &[u8]) -> Result<Option<Route>, AllocError>
     ensures { IfOk result (λ found. found ≡ path_at text.now) }
 {
@@ -42,14 +44,15 @@ pub fn path(names: &mut Names, text: &[u8]) -> Result<Option<Route>, AllocError>
 }
 
 #[tactic(auto, unfolding(crate::specs::Steps::route_at))]
+#[inline(always)]
 fn route(names: &mut Names, variable: bool, text: &[u8]) -> Result<Option<Route>, AllocError>
     ensures { IfOk result (λ found. found ≡ route_at variable text.now) }
 {
     let (start, steps) = text.split_at(step_place(text));
-    let Some(name) = name(names, start)? else {
+    let Some(name) = names.name(start)? else {
         return Ok(None);
     };
-    let Some(steps) = hops(names, steps)? else {
+    let Some(steps) = steps_of(names, steps)? else {
         return Ok(None);
     };
     Ok(Some(Route {
@@ -59,12 +62,34 @@ fn route(names: &mut Names, variable: bool, text: &[u8]) -> Result<Option<Route>
     }))
 }
 
+// The steps that a text is, which begins with one where it has a byte. A single one needs no list.
+#[inline(always)]
+fn steps_of(names: &mut Names, text: &[u8]) -> Result<Option<ShortList<Hop>>, AllocError>
+    requires { (cut_steps text.now).0 ≡ [] }
+    ensures { IfOk result (λ found. found ≡ hops_at (cut_steps text.now).1) }
+{
+    match front(text) {
+        Some((_, others)) if step_place(others) == others.len() => {
+            let Some(hop) = hop(names, text)? else {
+                return Ok(None);
+            };
+            Ok(Some(ShortList::one(hop)))
+        }
+        _ => {
+            let Some(hops) = hops(names, text)? else {
+                return Ok(None);
+            };
+            Ok(Some(ShortList::many(hops)))
+        }
+    }
+}
+
 // How many steps a text has at most.
 fn steps_in(text: &[u8]) -> usize {
     text.iter().filter(|byte| begins_step(**byte)).count()
 }
 
-// The steps that a text is, which begins with one where it has a byte.
+// The list of these steps.
 fn hops(names: &mut Names, text: &[u8]) -> Result<Option<List<Hop>>, AllocError>
     requires { (cut_steps text.now).0 ≡ [] }
     ensures { IfOk result (λ found. found ≡ hops_at (cut_steps text.now).1) }
@@ -87,6 +112,7 @@ fn hops(names: &mut Names, text: &[u8]) -> Result<Option<List<Hop>>, AllocError>
 }
 
 #[tactic(auto, unfolding(crate::specs::Steps::hop_at, crate::specs::Texts::behind))]
+#[inline(always)]
 fn hop(names: &mut Names, text: &[u8]) -> Result<Option<Hop>, AllocError>
     ensures { IfOk result (λ found. found ≡ hop_at text.now) }
 {
@@ -96,10 +122,11 @@ fn hop(names: &mut Names, text: &[u8]) -> Result<Option<Hop>, AllocError>
     }
 }
 
+#[inline(always)]
 fn field(names: &mut Names, text: &[u8]) -> Result<Option<Hop>, AllocError>
     ensures { IfOk result (λ found. found ≡ option_map Name (name_at text.now)) }
 {
-    let Some(name) = name(names, text)? else {
+    let Some(name) = names.name(text)? else {
         return Ok(None);
     };
     Ok(Some(Hop::Name(name)))
@@ -117,6 +144,7 @@ fn index(text: &[u8]) -> Option<Hop>
 
 // The value that a text gives.
 #[tactic(auto, unfolding(crate::specs::Values::given_at, crate::specs::Texts::behind))]
+#[inline(always)]
 pub fn given(names: &mut Names, text: &[u8]) -> Result<Option<Given>, AllocError>
     ensures { IfOk result (λ found. found ≡ given_at text.now) }
 {
@@ -129,10 +157,11 @@ pub fn given(names: &mut Names, text: &[u8]) -> Result<Option<Given>, AllocError
     }
 }
 
+#[inline(always)]
 fn given_variable(names: &mut Names, text: &[u8]) -> Result<Option<Given>, AllocError>
     ensures { IfOk result (λ found. found ≡ option_map Var (name_at text.now)) }
 {
-    let Some(name) = name(names, text)? else {
+    let Some(name) = names.name(text)? else {
         return Ok(None);
     };
     Ok(Some(Given::Var(name)))

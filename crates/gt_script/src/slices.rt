@@ -18,12 +18,14 @@ impl<'a> Model for Slice<'a> {
 }
 
 impl<'a> Slice<'a> {
+    #[inline(always)]
     pub fn of(bytes: &'a [u8]) -> Slice<'a>
         ensures { result ≡ bytes.now }
     {
         Slice { bytes }
     }
 
+    #[inline(always)]
     pub fn as_slice(&self) -> &[u8]
         ensures { result.now ≡ self.now }
     {

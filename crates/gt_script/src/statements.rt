@@ -16,6 +16,7 @@ use std::alloc::AllocError;
 
 /// What a line says: None where it is refused, and no line in it where it is passed over.
 #[tactic(auto, unfolding(crate::specs::Scanning::line_at))]
+#[inline(always)]
 pub fn statement<'a>(
     names: &mut Names,
     words: &mut Vec<Piece<'a>>,
@@ -31,6 +32,7 @@ pub fn statement<'a>(
 
 // The same of a text without its carriage return.
 #[tactic(auto, unfolding(crate::specs::Scanning::said_at))]
+#[inline(always)]
 fn said<'a>(
     names: &mut Names,
     words: &mut Vec<Piece<'a>>,
@@ -51,18 +53,21 @@ fn said<'a>(
 }
 
 #[tactic(auto, unfolding(crate::specs::Language::is_passed_over))]
+#[inline(always)]
 fn is_passed_over(text: &[u8]) -> bool
     ensures { result ≡ is_passed_over text.now }
 {
     is_empty_line(text) || is_comment(text)
 }
 
+#[inline(always)]
 fn is_empty_line(text: &[u8]) -> bool
     ensures { result ≡ list_all is_blank text.now }
 {
     text.iter().all(|byte| is_blank(*byte))
 }
 
+#[inline(always)]
 fn is_comment(text: &[u8]) -> bool
     ensures { result ≡ is_comment_of text.now }
 {
@@ -77,6 +82,7 @@ fn is_comment(text: &[u8]) -> bool
 }
 
 // The line that a text is.
+#[inline(always)]
 fn spoken<'a>(
     names: &mut Names,
     words: &mut Vec<Piece<'a>>,
@@ -93,6 +99,7 @@ fn spoken<'a>(
 
 // The line that words are.
 #[tactic(auto, unfolding(crate::specs::Commands::line_of, crate::specs::Texts::behind))]
+#[inline(always)]
 fn line(names: &mut Names, words: &[Piece<'_>]) -> Result<Option<Line>, AllocError>
     ensures { IfOk result (λ found. found ≡ line_of words.now) }
 {
@@ -108,6 +115,7 @@ fn line(names: &mut Names, words: &[Piece<'_>]) -> Result<Option<Line>, AllocErr
     }
 }
 
+#[inline(always)]
 fn told(
     names: &mut Names,
     quiet: bool,
