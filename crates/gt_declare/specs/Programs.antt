@@ -166,3 +166,9 @@ pub record IsMadeOf (draft : Draft) (program : Program) : Type 0 where
   pub planes : List Plane
   pub laid : AreLaidOut program planes
   pub made : program ≡ program_by draft planes
+
+-- a draft makes a program, and no other
+pub record MakesOneProgram (draft : Draft) : Type 0 where
+  pub program : Program
+  pub made : IsMadeOf draft program
+  pub only : (other : Program) → IsMadeOf draft other → other ≡ program

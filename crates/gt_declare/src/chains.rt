@@ -16,7 +16,7 @@ use std::alloc::{AllocError, Global};
 
 // The kind of a chain option.
 fn chain_kind(kind: Option<OptionKind>) -> Option<ChainKind>
-    ensures { result ≡ chain_kind kind }
+    ensures kind { result ≡ chain_kind kind }
 {
     match kind {
         Some(OptionKind::ChainNext) => Some(ChainKind::Next),
