@@ -1,6 +1,6 @@
 //! The machine's own files and output, tried: files that are absent, empty, as long as the limit and one byte longer, and a folder
-//! are read, and files are written and read back. Each answer is a line of the standard output. No contract can say what a file
-//! of the machine holds; here a run shows it.
+//! are read, and files are written and read back, one of them of more bytes than are read at a time. Each answer is a line of the
+//! standard output. No contract can say what a file of the machine holds; here a run shows it.
 #![tactic(auto)]
 
 use gt_io::{Files, HostFiles, HostOut, ReadFail, Sink, WriteFail};
@@ -10,6 +10,9 @@ use std::process::ExitCode;
 
 /// The most bytes that are read of a file.
 const LIMIT: u64 = 4;
+
+/// The bytes of a long file.
+const LONG: usize = 70000;
 
 /// The status where memory or the output fails.
 const FAILED: u8 = 1;
@@ -46,7 +49,38 @@ fn try_all(alloc: Global, files: &mut HostFiles, out: &mut HostOut) -> Result<()
         write_one(alloc, files, out, name, bytes)?;
         read_one(alloc, files, out, name)?;
     }
-    Ok(())
+    try_long(alloc, files, out)
+}
+
+// Writes a long file, and says what is read of it.
+fn try_long(alloc: Global, files: &mut HostFiles, out: &mut HostOut) -> Result<(), WriteFail> {
+    let Ok(bytes) = long_bytes(alloc) else {
+        return Err(WriteFail::Memory);
+    };
+    write_one(alloc, files, out, "long", &bytes)?;
+    let Ok(word) = Word::of(alloc, "long") else {
+        return Err(WriteFail::Memory);
+    };
+    let answer = match files.read(alloc, &word, LONG as u64) {
+        Ok(Some(read)) if read.as_slice() == bytes.as_slice() => "what was written",
+        Ok(Some(_)) => "other bytes",
+        Ok(None) => "absent",
+        Err(ReadFail::Memory) => return Err(WriteFail::Memory),
+        Err(_) => "failed",
+    };
+    match format!(in alloc; "read long: {answer}\n") {
+        Ok(line) => out.write_all(line.as_str().as_bytes()),
+        Err(_) => Err(WriteFail::Memory),
+    }
+}
+
+// The bytes of a long file.
+fn long_bytes(alloc: Global) -> Result<Vec<u8>, AllocError> {
+    let mut bytes = Vec::new(alloc);
+    for i in 0..LONG {
+        bytes.push((i % 251) as u8)?;
+    }
+    Ok(bytes)
 }
 
 // Reads a file, and writes what it answered.
