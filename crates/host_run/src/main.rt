@@ -61,16 +61,27 @@ fn try_long(alloc: Global, files: &mut HostFiles, out: &mut HostOut) -> Result<(
     let Ok(word) = Word::of(alloc, "long") else {
         return Err(WriteFail::Memory);
     };
-    let answer = match files.read(alloc, &word, LONG as u64) {
-        Ok(Some(read)) if read.as_slice() == bytes.as_slice() => "what was written",
-        Ok(Some(_)) => "other bytes",
-        Ok(None) => "absent",
-        Err(ReadFail::Memory) => return Err(WriteFail::Memory),
-        Err(_) => "failed",
-    };
-    match format!(in alloc; "read long: {answer}\n") {
+    let answer = files.read(alloc, &word, LONG as u64);
+    match long_line(alloc, &answer, &bytes) {
         Ok(line) => out.write_all(line.as_str().as_bytes()),
         Err(_) => Err(WriteFail::Memory),
+    }
+}
+
+// The line of an answer to a read of the long file, into which these bytes were written.
+fn long_line(
+    alloc: Global,
+    answer: &Result<Option<Bytes>, ReadFail>,
+    written: &[u8],
+) -> Result<String, AllocError> {
+    match answer {
+        Ok(Some(bytes)) => {
+            let same = bytes.as_slice() == written;
+            format!(in alloc; "read long: {} bytes, as written: {same}\n", bytes.len())
+        }
+        Ok(None) => format!(in alloc; "read long: absent\n"),
+        Err(ReadFail::Memory) => Err(AllocError),
+        Err(_) => format!(in alloc; "read long: failed\n"),
     }
 }
 
