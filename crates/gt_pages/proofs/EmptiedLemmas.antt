@@ -1,12 +1,10 @@
 -- Which entries are cached after a sweep.
-use Rattle.std.proofs.Common.{◌≡◌, ℕ, ◌+◌, ◌<◌, ◌≤◌, ◌⊎◌, true, refl, sym, subst, ◌∙◌, inl, inr}
+use Rattle.std.proofs.Common.{ℕ, ◌+◌, ◌<◌, ◌≤◌, refl, sym, subst, ◌∙◌, inl, inr}
 use Rattle.std.proofs.lemmas.Bool.{cases_Bool, false≢true}
 use Rattle.gt_bits.specs.Sets.{has}
-use Rattle.gt_links.specs.Lists.{Holds}
-use Rattle.gt_pages.specs.declared.pages.TheConstants.{CACHED}
 use Rattle.gt_pages.specs.Ledger.{PageRange}
 use Rattle.gt_pages.specs.Contents.{CachesEmptied, HasBlocks}
-use Rattle.gt_pages.specs.Parts.{IsKept, IsOfImage, Parts, contents_of, entry_at}
+use Rattle.gt_pages.specs.Parts.{IsKept, Parts, contents_of, entry_at}
 use Rattle.gt_pages.proofs.ListViewLemmas.{listed_start, start_listed}
 use Rattle.gt_pages.proofs.SweepLemmas.{SweptTo, WasClosed}
 

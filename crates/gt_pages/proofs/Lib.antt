@@ -22,3 +22,5 @@ pub mod PlacedLemmas
 pub mod ListViewLemmas
 pub mod ImageLemmas
 pub mod RunLemmas
+pub mod UsedLemmas
+pub mod ShiftLemmas

@@ -1,5 +1,5 @@
 -- What calls do to the parts.
-use Rattle.std.specs.Prelude.{◌≡◌, ℕ, ◌+◌, ◌/◌, ◌<◌, ◌≤◌, ◌⊎◌, ◌↔◌, true, false, ◌≢◌, List, [], ◌∷◌, length, filter, map, replicate, slice_set, IsTrue, Some, None}
+use Rattle.std.specs.Prelude.{◌≡◌, ℕ, ◌+◌, ◌-◌, ◌/◌, ◌<◌, ◌≤◌, ◌⊎◌, ◌↔◌, true, false, ◌≢◌, List, [], ◌∷◌, length, filter, map, replicate, slice_set, IsTrue, Some, None}
 use Rattle.gt_bits.specs.Sets.{has}
 use Rattle.gt_links.specs.Lists.{Lists, Holds, empty_lists, nodes_of, with_nodes, without}
 use Rattle.gt_entries.specs.Cells.{Used, swept, unmarked}
@@ -59,6 +59,11 @@ pub record Releases (old new : Parts) : Type 0 where
   pub entries : length new.entries ≡ length old.entries
   pub rest : new ≡ record old { entries = new.entries; lists = with_nodes old.lists CACHED (nodes_of new.lists CACHED) }
   pub in_use : (page : ℕ) → has old.starts page ≡ true → entry_at new.entries page ≡ entry_at old.entries page
+
+-- one cached entry was used, where there was one, and none is cached that was not
+pub record UsesOne (old new : Lists) : Type 0 where
+  pub fewer : length (nodes_of new CACHED) ≡ length (nodes_of old CACHED) - 1
+  pub kept : (page : ℕ) → Holds new CACHED page → Holds old CACHED page
 
 -- the entry without the blocks that are not marked
 abbrev pub swept_entry : Entry → Entry

@@ -95,3 +95,10 @@ pub record IsEntry (c : Contents) (page : ℕ) (entry : PageEntry) : Type 0 wher
 abbrev pub IsInFirst : Contents → (size address : ℕ) → Type 0
 IsInFirst c size address =
     (i : ℕ) → IsSize i size → HasSharedPage (ledger_of c) size → slice_get (nodes_of c.lists i) 0 ≡ Some (page_of address)
+
+-- Where a page of this size has a free place, the cached entries are as they were. Else a cached entry is used where there is one: there is
+-- one less, and each that is cached now was cached before.
+pub record UsesCached (old : Contents) (size : ℕ) (new : Contents) : Type 0 where
+  pub shared : HasSharedPage (ledger_of old) size → nodes_of new.lists cached_list ≡ nodes_of old.lists cached_list
+  pub opened : ¬ (HasSharedPage (ledger_of old) size) → length (nodes_of new.lists cached_list) ≡ length (nodes_of old.lists cached_list) - 1
+  pub kept : (page : ℕ) → Holds new.lists cached_list page → Holds old.lists cached_list page

@@ -4,7 +4,7 @@ ghost use Rattle.gt_space.specs.declared.TheConstants.{MIN_PAGES, MAX_PAGES};
 ghost use Rattle.gt_links.specs.Lists.{Holds, nodes_of, with_nodes};
 ghost use Rattle.gt_pages.specs.Ledger.{AreFree, Base, IsTooLong, Place, Room, sizes};
 ghost use Rattle.gt_pages.specs.Slots.{StartsSome, block_of, is_marked, is_pending, is_unmarked, mark_at, new_mark, next_slot, owner_of, slot_at, told_of, unmarked, walked, with_mark_at, with_slot};
-ghost use Rattle.gt_pages.specs.Contents.{AreLaidOut, CachesEmptied, HasLists, IsEntry, IsInFirst, KeepsPages, empty_contents, ledger_of, with_slots};
+ghost use Rattle.gt_pages.specs.Contents.{AreLaidOut, CachesEmptied, HasLists, IsEntry, IsInFirst, KeepsPages, UsesCached, cached_list, empty_contents, ledger_of, with_slots};
 ghost use Rattle.gt_pages.specs.Images.{AreRuns, IsImage, image_pages};
 
 use crate::store::Store;
@@ -80,13 +80,14 @@ impl Pages {
         ensures placed { IfOk result (λ addr. Place (ledger_of self.old) (block_of (slot_at addr size))) }
         ensures added { IfOk result (λ addr. self.new.slots ≡ with_slot self.old.slots (slot_at addr size)) }
         ensures first { IfOk result (λ addr. IsInFirst self.old size addr) }
+        ensures cached { OnOk result (UsesCached self.old size self.new) }
         ensures kept { KeepsPages self.old self.new }
         ensures room { OnOk result (Room (ledger_of self.old) size) }
         ensures full { IfErr result (λ e. e ≡ SlotFail.Full → ¬ (Room (ledger_of self.old) size)) }
         ensures memory { IfErr result (λ e. e ≡ SlotFail.Memory → Room (ledger_of self.old) size) }
         ensures unchanged { IfErr result (λ e. e ≡ SlotFail.Memory → self.new ≡ self.old) }
         ensures released { IfErr result (λ e. e ≡ SlotFail.Full
-            → self.new ≡ record self.old { lists = with_nodes self.old.lists CACHED [] }) }
+            → self.new ≡ record self.old { lists = with_nodes self.old.lists cached_list [] }) }
     {
         self.store.alloc_slot(size)
     }
@@ -109,7 +110,7 @@ impl Pages {
     /// Takes all marks away, and releases the cached entries.
     pub fn clear_marks(&mut self)
         ensures cleared { self.new
-            ≡ record (with_slots self.old (map unmarked self.old.slots)) { lists = with_nodes self.old.lists CACHED [] } }
+            ≡ record (with_slots self.old (map unmarked self.old.slots)) { lists = with_nodes self.old.lists cached_list [] } }
     {
         self.store.clear_marks();
     }
@@ -209,7 +210,7 @@ impl Pages {
 
     /// An entry of one of the lists of sizes, by its number.
     pub fn entry(&self, node: u32) -> PageEntry
-        requires { (i : ℕ) × (i < CACHED) × Holds self.now.lists i node }
+        requires listed { (i : ℕ) × (i < cached_list) × Holds self.now.lists i node }
         ensures entry { IsEntry self.now node result }
     {
         let entry = &self.store.entries[node as usize];

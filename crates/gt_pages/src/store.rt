@@ -8,18 +8,18 @@ ghost use Rattle.gt_pages.specs.Spots.{HasNoneAbove, IsAbove, IsFirstIn, IsNextS
 ghost use Rattle.gt_pages.specs.Slots as slots;
 ghost use Rattle.gt_entries.specs.Cells as cells;
 ghost use Rattle.gt_pages.specs.Slots.{StartsSome, block_of, is_unmarked, mark_at, new_mark, next_slot, owner_of, slot_at, told_of, unmarked, walked, with_mark_at, with_slot};
-ghost use Rattle.gt_pages.specs.Contents.{CachesEmptied, IsInFirst, KeepsPages, ledger_of, with_slots};
+ghost use Rattle.gt_pages.specs.Contents.{CachesEmptied, IsInFirst, KeepsPages, UsesCached, ledger_of, with_slots};
 ghost use Rattle.gt_pages.specs.Places.{IsWithin, Shares};
 ghost use Rattle.gt_entries.specs.Cells.{Free, Used, cell_at, is_free, is_lost, is_marked, mark_in};
 ghost use Rattle.gt_pages.specs.Images.{AreRuns, IsImage, image_pages, run_pages};
 ghost use Rattle.gt_pages.specs.Runs.{AddsRun, image_end};
-ghost use Rattle.gt_pages.specs.Changes.{ClearsMarks, Closes, IsNew, Opens, Releases, Sweeps, cleared_entry, swept_entry, with_entry, with_first, with_list, with_place, without_cached, without_places};
+ghost use Rattle.gt_pages.specs.Changes.{ClearsMarks, Closes, IsNew, Opens, Releases, Sweeps, UsesOne, cleared_entry, swept_entry, with_entry, with_first, with_list, with_place, without_cached, without_places};
 ghost use Rattle.gt_links.specs.Lists.{Holds, IsFree, IsInList, nodes_of, with_nodes, without};
 
 use crate::pages::{CACHED, LISTS, Run, SlotFail};
 use crate::parts::{
     Spot, empty_entries, first_pages, insert_range, no_pages, page_address, pages_of,
-    place_address, places_of, remove_range,
+    place_address, place_in, places_of, remove_range,
 };
 use crate::sizes::list_of;
 use crate::tables::PageTable;
@@ -122,6 +122,7 @@ impl Store {
         ensures added { IfOk result (λ addr. (contents_of (parts_of self.new)).slots
             ≡ with_slot (contents_of (parts_of self.old)).slots (slot_at addr size)) }
         ensures first { IfOk result (λ addr. IsInFirst (contents_of (parts_of self.old)) size addr) }
+        ensures cached { OnOk result (UsesCached (contents_of (parts_of self.old)) size (contents_of (parts_of self.new))) }
         ensures room { OnOk result (Room (ledger_of (contents_of (parts_of self.old))) size) }
         ensures full { IfErr result (λ e. e ≡ SlotFail.Full → ¬ (Room (ledger_of (contents_of (parts_of self.old))) size)) }
         ensures memory { IfErr result (λ e. e ≡ SlotFail.Memory → Room (ledger_of (contents_of (parts_of self.old))) size) }
@@ -436,8 +437,8 @@ impl Store {
         ensures page { result.page ≡ page }
         ensures place { result.place ≡ (addr - ledger_page_address page) / (entry_at (parts_of self.now).entries page).size }
     {
-        let size = self.entries[page as usize].size as u64;
-        let place = ((addr - page_address(page)) / size) as u32;
+        let offset = (addr - page_address(page)) as u32;
+        let place = place_in(offset, self.entries[page as usize].size);
         Spot { page, place }
     }
 
@@ -512,6 +513,7 @@ impl Store {
         ensures kept { IsKept (parts_of self.new) }
         ensures pages { KeepsPages (contents_of (parts_of self.old)) (contents_of (parts_of self.new)) }
         ensures shares { IfSome result (Shares (contents_of (parts_of self.old)) size) }
+        ensures cached { IfSome result (λ _. nodes_of (parts_of self.new).lists CACHED ≡ nodes_of (parts_of self.old).lists CACHED) }
         ensures added { IfSome result (λ addr. (contents_of (parts_of self.new)).slots
             ≡ with_slot (contents_of (parts_of self.old)).slots (slot_at addr size)) }
         ensures none { IfNone result (¬ (HasSharedPage (ledger_of (contents_of (parts_of self.old))) size)) }
@@ -545,6 +547,7 @@ impl Store {
         ensures kept { IsKept (parts_of self.new) }
         ensures pages { KeepsPages (contents_of (parts_of self.old)) (contents_of (parts_of self.new)) }
         ensures within { IfOk result (IsWithin page size) }
+        ensures cached { OnOk result (UsesOne (parts_of self.old).lists (parts_of self.new).lists) }
         ensures added { IfOk result (λ addr. (contents_of (parts_of self.new)).slots
             ≡ with_slot (contents_of (parts_of self.old)).slots (slot_at addr size)) }
         ensures unchanged { OnErr result (contents_of (parts_of self.new) ≡ contents_of (parts_of self.old)) }
@@ -626,7 +629,9 @@ impl Store {
         ensures kept { IsKept (parts_of self.new) }
         ensures released { Releases (parts_of self.old) (parts_of self.new) }
         ensures own { ¬ (Holds (parts_of self.new).lists CACHED page) }
+        ensures used { UsesOne (parts_of self.old).lists (parts_of self.new).lists }
     {
+        self.lists.lists_are_disjoint();
         match self.cached_for(page) {
             None => {}
             Some(node) => self.release(node),
@@ -640,6 +645,7 @@ impl Store {
         ensures cached { IfSome result (λ node. Holds (parts_of self.now).lists CACHED node) }
         ensures bounded { IfSome result (λ node. node < (parts_of self.now).lists.nodes) }
         ensures own { Holds (parts_of self.now).lists CACHED page → result ≡ Some page }
+        ensures none { IfNone result (nodes_of (parts_of self.now).lists CACHED ≡ []) }
     {
         if self.lists.list_of(page) == Some(CACHED) {
             return Some(page);

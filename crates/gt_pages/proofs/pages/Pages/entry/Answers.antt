@@ -11,7 +11,7 @@ use Rattle.gt_pages.proofs.pages.Pages.entry.Goals as goal
 pub index-entry-requires : goal.index-entry-requires
 index-entry-requires c =
     let p = parts_of c.self.inside.store in
-    let held = subst (λ v. (i : ℕ) × (i < CACHED) × Holds v.lists i c.args.node) (sym c.self.view_is) c.requires in
+    let held = subst (λ v. (i : ℕ) × (i < CACHED) × Holds v.lists i c.args.node) (sym c.self.view_is) c.requires.listed in
     let is = listed_node p c.self.invariant c.args.node held in
     let low = c.self.invariant.starts c.args.node is.1.starts in
     let len = c.self.invariant.entries in
@@ -20,7 +20,7 @@ index-entry-requires c =
 pub returns : goal.returns
 returns c =
     let p = parts_of c.self.inside.store in
-    let held = subst (λ v. (i : ℕ) × (i < CACHED) × Holds v.lists i c.args.node) (sym c.self.view_is) c.requires in
+    let held = subst (λ v. (i : ℕ) × (i < CACHED) × Holds v.lists i c.args.node) (sym c.self.view_is) c.requires.listed in
     let is = listed_node p c.self.invariant c.args.node held in
     let low = c.self.invariant.starts c.args.node is.1.starts in
     let len = c.self.invariant.entries in

@@ -8,6 +8,7 @@ use Rattle.gt_pages.proofs.CachedLemmas.{contents_emptied}
 use Rattle.gt_pages.proofs.FreeLemmas.{run_free}
 use Rattle.gt_pages.proofs.PlacedLemmas.{no_room, placed_open, placed_shared, run_of}
 use Rattle.gt_pages.proofs.SizeLemmas.{size_bounds}
+use Rattle.gt_pages.proofs.UsedLemmas.{uses_opened, uses_shared}
 use Rattle.gt_pages.specs.Ledger.{pages_of}
 use Rattle.gt_pages.proofs.store.Store.alloc_slot.Goals as goal
 
@@ -57,3 +58,12 @@ returns-in-Err-clause-memory c = λ _.
     let run = run_of p (parts_of c.share.new.self) c.args.size c.pages_of.result c.deref.result.now c.first_run.result _
     c.in_default.ensures.unchanged c.deref.ensures.value c.pages_of.ensures c.in-Some-first_run.is c.first_run.ensures in
     inr (c.in-Some-first_run.page, run_free p c.requires.kept c.in-Some-first_run.page (pages_of c.args.size) run.run.0 run.run.1)
+
+pub returns-in-Some-clause-cached : goal.returns-in-Some-clause-cached
+returns-in-Some-clause-cached c =
+    uses_shared (parts_of c.args.self.now) (parts_of c.share.new.self) c.args.size c.in-Some.addr c.in-Some.ensures.shares c.in-Some.ensures.cached
+
+pub returns-in-Ok-clause-cached : goal.returns-in-Ok-clause-cached
+returns-in-Ok-clause-cached c =
+    uses_opened (parts_of c.args.self.now) (parts_of c.share.new.self) (parts_of c.open.new.self) c.args.size c.in_default.ensures.unchanged
+    c.in_default.ensures.none c.in-Ok.ensures.cached

@@ -7,6 +7,7 @@ use Rattle.gt_pages.proofs.CachedLemmas.{contents_taken, releases_then}
 use Rattle.gt_pages.proofs.OpenLemmas.{at_error, free_node, opened_all, places_made}
 use Rattle.gt_pages.proofs.PlaceLemmas.{place_bytes, place_within, shape}
 use Rattle.gt_pages.proofs.SizeLemmas.{size_bounds}
+use Rattle.gt_pages.proofs.UsedLemmas.{used_opened}
 use Rattle.gt_pages.proofs.store.Store.open.Goals as goal
 
 pub take_memory-memory-requires-clause-page : goal.take_memory-memory-requires-clause-page
@@ -75,3 +76,9 @@ returns-clause-added c =
     (subst (λ e. Opens (parts_of c.release_for.new.self) c.args.page e (parts_of c.put_entry.new.self)) is c.put_entry.ensures)
     c.push_entry.ensures.back c.push_entry.ensures.front).1
     ∙ ap (λ a. with_slot (contents_of (parts_of c.args.self.now)).slots (slot_at a c.args.size)) (sym c.place_address.ensures)
+
+pub returns-clause-cached : goal.returns-clause-cached
+returns-clause-cached c =
+    used_opened (parts_of c.args.self.now) (parts_of c.take_memory-memory.new.self) (parts_of c.release_for.new.self) (parts_of c.put_entry.new.self)
+    (parts_of c.push_entry.new.self) c.args.page c.list_of.result c.args.size c.list_of.ensures.number c.take_memory-memory.ensures.lists
+    c.release_for.ensures.used (ap (λ x. x.lists) c.put_entry.ensures.rest) c.push_entry.ensures.back c.push_entry.ensures.front

@@ -5,6 +5,7 @@ use Rattle.gt_pages.specs.Parts.{contents_of, parts_of}
 use Rattle.gt_pages.proofs.PlaceLemmas.{place_bytes}
 use Rattle.gt_pages.proofs.RoomLemmas.{full_shared, none_shared}
 use Rattle.gt_pages.proofs.ShareLemmas.{if_none, place_low, shared_all, shares_first}
+use Rattle.gt_pages.proofs.UsedLemmas.{cached_shared}
 use Rattle.gt_pages.proofs.store.Store.share.Goals as goal
 
 pub returns-in_err-page-clause-none : goal.returns-in_err-page-clause-none
@@ -42,3 +43,9 @@ returns-clause-added c =
     (sym c.first.ensures.first ∙ c.in_ok-page.was) c.in_ok-place.ensures.free.0 c.in_ok-place.ensures.free.1
     (parts_of c.take_place.new.self) (parts_of c.move_full.new.self) c.in_ok-place.ensures.taken c.move_full.ensures.full c.move_full.ensures.unchanged).1
     ∙ ap (λ a. with_slot (contents_of (parts_of c.args.self.now)).slots (slot_at a c.args.size)) (sym c.place_address.ensures)
+
+pub returns-clause-cached : goal.returns-clause-cached
+returns-clause-cached c =
+    cached_shared (parts_of c.args.self.now) (parts_of c.take_place.new.self) (parts_of c.move_full.new.self) c.in_ok-page.page c.in_ok-place.place
+    c.list_of.result c.args.size c.list_of.ensures.number (sym c.first.ensures.first ∙ c.in_ok-page.was) c.in_ok-place.ensures.taken
+    c.move_full.ensures.full c.move_full.ensures.unchanged

@@ -1,4 +1,4 @@
-use Rattle.std.proofs.Common.{ap, sym, subst}
+use Rattle.std.proofs.Common.{sym, subst}
 use Rattle.gt_pages.specs.Changes.{Releases}
 use Rattle.gt_pages.specs.Parts.{IsKept, parts_of}
 use Rattle.gt_pages.proofs.CachedLemmas.{kept_taken, releases_taken}

@@ -1,4 +1,3 @@
-use Rattle.std.proofs.Common.{arith}
 use Rattle.gt_pages.proofs.LeafLemmas.{fresh-table}
 use Rattle.gt_pages.proofs.tables.PageTable.new.Goals as goal
 

@@ -1,8 +1,7 @@
-use Rattle.std.proofs.Common.{◌≡◌, ◌<◌, ◌/◌, ◌%◌, [], None, length, get_or, set, sym, ap, ◌∙◌, arith, rules}
+use Rattle.std.proofs.Common.{◌≡◌, ◌<◌, ◌/◌, [], length, set, ap, ◌∙◌, arith}
 use Rattle.std.proofs.lemmas.List.{get_or_default}
 use Rattle.gt_pages.specs.Leaves.{leaf_of}
-use Rattle.gt_pages.specs.Tables.{page_at}
-use Rattle.gt_pages.proofs.LeafLemmas.{has_leaf, length-table, write-table, write-leaves}
+use Rattle.gt_pages.proofs.LeafLemmas.{has_leaf, length-table, write-table}
 use Rattle.gt_pages.proofs.tables.PageTable.write.Goals as goal
 
 pub index_mut-requires : goal.index_mut-requires
