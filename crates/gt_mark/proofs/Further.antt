@@ -1,6 +1,7 @@
 -- Marking from some blocks, and then from others.
-use Rattle.std.proofs.Common.{◌≡◌, ℕ, ◌⊎◌, ◌==◌, Bool, true, false, List, [], ◌∷◌, map, Option, Some, None, is_some, refl, sym, ap, subst, ◌∙◌, inl, inr}
-use Rattle.std.specs.Prelude.{◌||◌, Contains, IfSome}
+use Rattle.std.proofs.Common.{◌≡◌, ℕ, ◌+◌, ◌-◌, ◌≤◌, ◌⊎◌, ◌==◌, Bool, true, false, List, [], ◌∷◌, ◌++◌, length, map, Option, Some, None, is_some, refl, sym, ap, subst, ◌∙◌, inl, inr, arith}
+use Rattle.std.specs.Prelude.{◌||◌, All, Contains, IfSome, nat_eq}
+use Rattle.std.specs.List.{IsDistinct}
 use Rattle.std.proofs.lemmas.Bool.{cases_Bool, eqb-true, eq-eqb, false≢true}
 use Rattle.std.proofs.lemmas.List.Elements.{All-contains, Contains-append_left, Contains-append_right, Contains-append_cases}
 use Rattle.gt_space.specs.Range.{Range}
@@ -12,7 +13,8 @@ use Rattle.gt_walk.specs.declared.tables.Tables.{Tables}
 use Rattle.gt_walk.specs.Rows.{Edge}
 use Rattle.gt_mark.specs.Reached.{Walks, CanMark, IsMarkedAt, IsOwn, IsReached, LeadsTo, NamesBlock, Reaches, itself, onward, block_edges}
 use Rattle.gt_mark.specs.Marks.{Marks, mark_after, own_mark}
-use Rattle.gt_mark.specs.Further.{CanGoOn, MarksBoth, NamesStay}
+use Rattle.gt_mark.specs.Rounds.{AreRounds, IsNamedAside, IsNewlyMarked, IsOnlyFrom}
+use Rattle.gt_mark.specs.Further.{CanGoOn, MarksBoth, NamesStay, RoundsBoth}
 use Rattle.gt_mark.proofs.Remarked.{contains_cases, contains_head, contains_map, contains_map_from, contains_none, contains_tail}
 use Rattle.gt_mark.proofs.Going.{all_from}
 
@@ -92,20 +94,24 @@ module _ (tables : Tables) (space : Range) (walks : Walks) (starts : List ℕ) (
       let is : m.reached s.address ≡ true = (m.exact s start.1).1 (subst (IsReached tables space walks starts) (sym start.2) reached) in
       (after s, slot_after s start.1, start.2, after_reached (m.pending s.address) (own_mark walks s.address) (m.reached s.address) s.mark is)
 
+  -- what is marked now and was not before is reached
+  reached_from : (a : ℕ) → IsMarkedAt new.slots a → (IsMarkedAt old.slots a → ⊥) → IsReached tables space walks starts a
+  reached_from a at fresh =
+      let x = slot_from at.0 at.1 in
+      let here : x.0.address ≡ a = ap (λ s. s.address) x.2 ∙ at.2 in
+      let some : is_some (mark_after (m.reached x.0.address) (m.pending x.0.address) (own_mark walks x.0.address) x.0.mark) ≡ true = ap is_marked x.2 ∙ at.3 in
+      elim (after_from (m.pending x.0.address) (own_mark walks x.0.address) (m.reached x.0.address) x.0.mark some) [
+        | inl was ↦ absurd (fresh (x.0, x.1, here, was))
+        | inr is ↦ subst (IsReached tables space walks starts) here ((m.exact x.0 x.1).0 is)
+      ]
+
   closed_after : CanMark tables space walks old.slots starts → (from to : ℕ) → IsMarkedAt new.slots from → LeadsTo tables space walks from to → IsMarkedAt new.slots to
   closed_after can from to at leads = elim (marked_or_not old.slots from) [
     | inl before ↦ marked_after to (can.closed from to before leads)
     | inr fresh ↦
-        let x = slot_from at.0 at.1 in
-        let here : x.0.address ≡ from = ap (λ s. s.address) x.2 ∙ at.2 in
-        let some : is_some (mark_after (m.reached x.0.address) (m.pending x.0.address) (own_mark walks x.0.address) x.0.mark) ≡ true = ap is_marked x.2 ∙ at.3 in
-        elim (after_from (m.pending x.0.address) (own_mark walks x.0.address) (m.reached x.0.address) x.0.mark some) [
-          | inl was ↦ absurd (fresh (x.0, x.1, here, was))
-          | inr is ↦
-              let reached : IsReached tables space walks starts from = subst (IsReached tables space walks starts) here ((m.exact x.0 x.1).0 is) in
-              let names = All-contains (NamesBlock old.slots walks) (block_edges tables space walks from) leads.0 (can.edges from reached fresh) leads.1 in
-              reached_after to (subst (StartsSome old.slots) leads.2 names.starts) (reached.0, reached.1, reaches_more reached.0 from to reached.2 leads)
-        ]
+        let reached = reached_from from at fresh in
+        let names = All-contains (NamesBlock old.slots walks) (block_edges tables space walks from) leads.0 (can.edges from reached fresh) leads.1 in
+        reached_after to (subst (StartsSome old.slots) leads.2 names.starts) (reached.0, reached.1, reaches_more reached.0 from to reached.2 leads)
   ]
 
 pub names_stay : NamesStay
@@ -182,3 +188,115 @@ marks_both tables space walks starts more old between new m n =
           (after_twice (own_mark walks s.address) (m.reached s.address) (m.pending s.address) (n.reached s.address) (n.pending s.address) s.mark refl
           (n.left (f s) (slot_after tables space walks starts old between m s there)))));
     }
+
+-- ---- the rounds of one call after another
+
+-- a block that is reached from another is that one, or an edge leads there from one that is reached
+last_step : {tables : Tables} {space : Range} {walks : Walks} (a b : ℕ) → Reaches tables space walks a b
+    → (a ≡ b) ⊎ ((c : ℕ) × Reaches tables space walks a c × LeadsTo tables space walks c b)
+last_step a b itself = inl refl
+last_step {tables} {space} {walks} a b (onward {through = c} leads rest) = elim (last_step c b rest) [
+  | inl same ↦ inr (a, itself, subst (LeadsTo tables space walks a) same leads)
+  | inr step ↦ inr (step.0, onward leads step.1, step.2)
+]
+
+-- what is reached is a block
+reached_starts : {tables : Tables} {space : Range} {walks : Walks} (starts : List ℕ) (slots : List Slot) → CanMark tables space walks slots starts
+    → (start a b : ℕ) → Contains starts start → Reaches tables space walks start a → StartsSome slots a → Reaches tables space walks a b → StartsSome slots b
+reached_starts starts slots can start a b there path here itself = here
+reached_starts {tables} {space} {walks} starts slots can start a b there path here (onward {through = c} leads rest) =
+    reached_starts starts slots can start c b there (reaches_more start a c path leads) next rest
+  where
+    next : StartsSome slots c
+    next = elim (marked_or_not slots a) [
+      | inl at ↦ let to = can.closed a c at leads in (to.0, to.1, to.2)
+      | inr fresh ↦
+          let names = All-contains (NamesBlock slots walks) (block_edges tables space walks a) leads.0 (can.edges a (start, there, path) fresh) leads.1 in
+          subst (StartsSome slots) leads.2 names.starts
+    ]
+
+module _ (tables : Tables) (space : Range) (walks : Walks) (starts more : List ℕ) (old between new : Contents) (can : CanMark tables space walks old.slots starts)
+    (m : Marks tables space walks starts old between) (n : Marks tables space walks more between new) where
+  stays : (a : ℕ) → IsMarkedAt between.slots a → IsMarkedAt new.slots a
+  stays a at = marked_after tables space walks more between new n a at
+
+  newly_first : (a : ℕ) → IsNewlyMarked old.slots between.slots a → IsNewlyMarked old.slots new.slots a
+  newly_first a is = record { now = stays a is.now; not_before = is.not_before }
+
+  newly_second : (a : ℕ) → IsNewlyMarked between.slots new.slots a → IsNewlyMarked old.slots new.slots a
+  newly_second a is = record { now = is.now; not_before = λ at. is.not_before (marked_after tables space walks starts old between m a at) }
+
+  aside_first : (a : ℕ) → IsNamedAside tables space walks starts old.slots between.slots a → IsNamedAside tables space walks (starts ++ more) old.slots new.slots a
+  aside_first a is = elim is [
+    | inl start ↦ inl (Contains-append_left starts more a start)
+    | inr edge ↦ inr (edge.0, edge.1, newly_first edge.0 edge.2, edge.3, edge.4, edge.5)
+  ]
+
+  aside_second : (a : ℕ) → IsNamedAside tables space walks more between.slots new.slots a → IsNamedAside tables space walks (starts ++ more) old.slots new.slots a
+  aside_second a is = elim is [
+    | inl start ↦ inl (Contains-append_right starts more a start)
+    | inr edge ↦ inr (edge.0, edge.1, newly_second edge.0 edge.2, edge.3, edge.4, edge.5)
+  ]
+
+  module _ (from : ℕ) where
+    only_first : (a : ℕ) → IsOnlyFrom tables space walks (starts ++ more) old.slots new.slots from a → IsOnlyFrom tables space walks starts old.slots between.slots from a
+    only_first a is = record {
+      leads = is.leads;
+      unmarked = is.unmarked;
+      no_start = λ there. is.no_start (Contains-append_left starts more a there);
+      no_other = λ other apart at. is.no_other other apart (stays other at);
+    }
+
+    -- the first call did not come to the block, which would have led to the other one
+    not_between : (IsMarkedAt between.slots from → ⊥) → (a : ℕ) → IsOnlyFrom tables space walks (starts ++ more) old.slots new.slots from a → IsMarkedAt between.slots a → ⊥
+    not_between fresh a is at =
+        let reached = reached_from tables space walks starts old between m a at is.unmarked in
+        elim (last_step reached.0 a reached.2) [
+          | inl same ↦ is.no_start (Contains-append_left starts more a (subst (Contains starts) same reached.1))
+          | inr step ↦
+              let start = All-contains (StartsSome old.slots) starts reached.0 can.starts_block reached.1 in
+              let block = reached_starts starts old.slots can reached.0 reached.0 step.0 reached.1 itself start step.1 in
+              let marked = reached_after tables space walks starts old between m step.0 block (reached.0, reached.1, step.1) in
+              is.no_other step.0 (λ same. fresh (subst (IsMarkedAt between.slots) same marked)) (stays step.0 marked) step.2
+        ]
+
+    only_second : (IsMarkedAt between.slots from → ⊥) → (a : ℕ) → IsOnlyFrom tables space walks (starts ++ more) old.slots new.slots from a
+        → IsOnlyFrom tables space walks more between.slots new.slots from a
+    only_second fresh a is = record {
+      leads = is.leads;
+      unmarked = not_between fresh a is;
+      no_start = λ there. is.no_start (Contains-append_right starts more a there);
+      no_other = is.no_other;
+    }
+
+  two_rounds : (first second from : ℕ) (blocks : List ℕ) → AreRounds tables space walks starts old.slots between.slots first
+      → AreRounds tables space walks more between.slots new.slots second → IsNewlyMarked old.slots new.slots from → IsDistinct nat_eq blocks → 66 ≤ length blocks
+      → All (IsOnlyFrom tables space walks (starts ++ more) old.slots new.slots from) blocks → 2 ≤ first + second - 1
+  two_rounds first second from blocks r s newly distinct many each = elim (marked_or_not between.slots from) [
+    | inl at ↦
+        let two =
+        r.more from blocks (record { now = at; not_before = newly.not_before }) distinct many
+        (all_from (IsOnlyFrom tables space walks starts old.slots between.slots from) blocks (λ a there. only_first from a (only a there))) in
+        let one = s.at_least in
+        omega (arith, two, one)
+    | inr fresh ↦
+        let two =
+        s.more from blocks (record { now = newly.now; not_before = fresh }) distinct many
+        (all_from (IsOnlyFrom tables space walks more between.slots new.slots from) blocks (λ a there. only_second from fresh a (only a there))) in
+        let one = r.at_least in
+        omega (arith, two, one)
+  ]
+    where
+      only : (a : ℕ) → Contains blocks a → IsOnlyFrom tables space walks (starts ++ more) old.slots new.slots from a
+      only a there = All-contains (IsOnlyFrom tables space walks (starts ++ more) old.slots new.slots from) blocks a each there
+
+pub rounds_both : RoundsBoth
+rounds_both tables space walks starts more old between new first second can m n r s = record {
+  at_least = let a = r.at_least in let b = s.at_least in omega (arith, a, b);
+  at_most = let a = r.at_most in let b = s.at_most in let c = r.at_least in omega (arith, a, b, c);
+  one = λ blocks few each.
+      let a = r.one blocks few (λ x newly aside. each x (newly_first tables space walks starts more old between new can m n x newly) (aside_first tables space walks starts more old between new can m n x aside)) in
+      let b = s.one blocks few (λ x newly aside. each x (newly_second tables space walks starts more old between new can m n x newly) (aside_second tables space walks starts more old between new can m n x aside)) in
+      omega (arith, a, b);
+  more = λ from blocks newly distinct many each. two_rounds tables space walks starts more old between new can m n first second from blocks r s newly distinct many each;
+}

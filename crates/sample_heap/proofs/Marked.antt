@@ -1,12 +1,12 @@
 -- The marked blocks of a heap, one after another.
-use Rattle.std.proofs.Common.{◌≡◌, ℕ, ◌<◌, ◌≤◌, ◌⊎◌, ◌==◌, Bool, true, false, cond, List, [], ◌∷◌, Option, Some, None, is_some, refl, sym, ap, subst, ◌∙◌, inl, inr, arith}
-use Rattle.std.specs.Prelude.{Contains, find, nat_lt, option_and_then, option_map}
+use Rattle.std.proofs.Common.{◌≡◌, ℕ, ◌<◌, ◌≤◌, ◌⊎◌, Bool, true, cond, List, [], ◌∷◌, Option, Some, None, is_some, refl, sym, ap, subst, ◌∙◌, inl, inr, arith}
+use Rattle.std.specs.Prelude.{Contains, nat_lt, option_map}
 use Rattle.std.proofs.lemmas.Bool.{cases_Bool, cases_lt, false≢true, and_left, and_right, and_from, lt-ltb, le-ltb}
 use Rattle.gt_entries.specs.declared.marks.Mark.{Mark}
-use Rattle.gt_pages.specs.Slots.{Slot, StartsSome, is_marked, mark_at, next_slot, told_of}
+use Rattle.gt_pages.specs.Slots.{Slot, is_marked, mark_at, next_slot, told_of}
 use Rattle.gt_pages.specs.Contents.{Rises}
 use Rattle.gt_mark.specs.Reached.{IsMarkedAt}
-use Rattle.gt_mark.proofs.Remarked.{contains_cases, contains_head, contains_none, contains_tail, mark_of_slot, marked_slot, rises_above, rises_tail, slot_marked}
+use Rattle.gt_mark.proofs.Remarked.{contains_cases, contains_head, contains_none, contains_tail, mark_of_slot, marked_slot, rises_above, rises_tail}
 
 -- the next marked block above an address
 pub record IsNext (slots : List Slot) (after address w n : ℕ) : Type 0 where

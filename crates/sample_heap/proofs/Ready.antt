@@ -10,7 +10,7 @@ use Rattle.gt_pages.specs.Contents.{Contents, Rises}
 use Rattle.gt_walk.specs.declared.tables.Tables.{Tables}
 use Rattle.gt_walk.specs.Rows.{Edge, edges_of}
 use Rattle.gt_walk.specs.Sinks.{Took}
-use Rattle.gt_mark.specs.Reached.{CanMark, IsMarkedAt, IsOwn, IsReached, LeadsTo, NamesBlock, Reaches, itself, onward, block_edges, root_edges, root_targets}
+use Rattle.gt_mark.specs.Reached.{CanMark, IsMarkedAt, IsOwn, LeadsTo, NamesBlock, Reaches, itself, onward, block_edges, root_edges, root_targets}
 use Rattle.gt_mark.specs.Marks.{Marks}
 use Rattle.gt_mark.proofs.Remarked.{contains_cases, contains_map_from, contains_none, mark_of_slot, marked_slot, slot_marked}
 use Rattle.gt_mark.proofs.Going.{all_from}

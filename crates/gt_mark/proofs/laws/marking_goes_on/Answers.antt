@@ -1,4 +1,4 @@
-use Rattle.gt_mark.proofs.Further.{can_go_on, marks_both, names_stay}
+use Rattle.gt_mark.proofs.Further.{can_go_on, marks_both, names_stay, rounds_both}
 use Rattle.gt_mark.proofs.laws.marking_goes_on.Goals as goal
 
 pub returns-clause-can : goal.returns-clause-can
@@ -9,3 +9,6 @@ returns-clause-names c = names_stay
 
 pub returns-clause-both : goal.returns-clause-both
 returns-clause-both c = marks_both
+
+pub returns-clause-rounds : goal.returns-clause-rounds
+returns-clause-rounds c = rounds_both

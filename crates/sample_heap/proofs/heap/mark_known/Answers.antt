@@ -1,4 +1,4 @@
-use Rattle.std.proofs.Common.{[], ◌∷◌, ap}
+use Rattle.std.proofs.Common.{ap}
 use Rattle.sample_heap.specs.Named.{walked_in, walks_of}
 use Rattle.sample_heap.proofs.Ready.{can_still}
 use Rattle.sample_heap.proofs.heap.mark_known.Goals as goal
