@@ -1,4 +1,3 @@
-pub mod NameLemmas
 pub mod PathLemmas
 pub mod ChainLemmas
 pub mod FieldTypes

@@ -6,7 +6,8 @@ use Rattle.std.proofs.lemmas.List.{take_rest, append_assoc}
 use Rattle.gt_types.specs.declared.program.Field.{Field}
 use Rattle.gt_types.specs.declared.program.Structure.{Structure}
 use Rattle.gt_types.specs.declared.types.TypeId.{TypeId}
-use Rattle.gt_declare.specs.Programs.{bind, place_in, structure_in, places_on}
+use Rattle.gt_fields.specs.Places.{bind, place_in}
+use Rattle.gt_declare.specs.Programs.{structure_in, places_on}
 use Rattle.gt_declare.specs.Steps.{place_of, inner_of}
 
 -- ---- one step

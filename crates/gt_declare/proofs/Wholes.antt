@@ -75,12 +75,12 @@ same_program draft known planes is =
 
 -- ---- structures with their chains
 
-chained_length : (all : List Structure) (k : ℕ) (ds : List DraftStructure) (u : DraftStructure → Structure) → length (with_chains all k ds (map u ds)) ≡ length ds
+pub chained_length : (all : List Structure) (k : ℕ) (ds : List DraftStructure) (u : DraftStructure → Structure) → length (with_chains all k ds (map u ds)) ≡ length ds
 unfolding with_chains
 chained_length all k [] u = refl
 chained_length all k (d ∷ ds) u = ap suc (chained_length all (1 + k) ds u)
 
-chained_at : (all : List Structure) (k : ℕ) (ds : List DraftStructure) (u : DraftStructure → Structure) (place : ℕ) (d : DraftStructure) → slice_get ds place ≡ Some d
+pub chained_at : (all : List Structure) (k : ℕ) (ds : List DraftStructure) (u : DraftStructure → Structure) (place : ℕ) (d : DraftStructure) → slice_get ds place ≡ Some d
     → (chains : List Chain) × (slice_get (with_chains all k ds (map u ds)) place ≡ Some (record (u d) { chains = chains }))
 unfolding with_chains
 chained_at all k [] u place d there = absurd (none-some d there)

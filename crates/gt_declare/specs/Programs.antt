@@ -1,6 +1,5 @@
 -- The program that a draft declares.
-use Rattle.std.specs.Prelude.{◌≡◌, ℕ, ◌+◌, Bool, codes, List, [], ◌∷◌, map, Option, Some, None, option_map, filter_map, position, slice_get}
-use Rattle.std.specs.Str.{bytes_eq}
+use Rattle.std.specs.Prelude.{◌≡◌, ℕ, ◌+◌, Bool, codes, List, [], ◌∷◌, map, Option, Some, None, option_map, filter_map, slice_get}
 use Rattle.gt_types.specs.declared.expressions.Base.TheVariants.{Here}
 use Rattle.gt_types.specs.declared.types.Ty.{Ty}
 use Rattle.gt_types.specs.declared.types.Ty.TheVariants as ty
@@ -34,6 +33,7 @@ use Rattle.gt_resolve.specs.declared.draft.DraftRoot.{DraftRoot}
 use Rattle.gt_resolve.specs.declared.draft.DraftStructure.{DraftStructure}
 use Rattle.gt_resolve.specs.declared.draft.DraftWord.{DraftWord}
 use Rattle.gt_resolve.specs.Drafts.{has_option}
+use Rattle.gt_fields.specs.Places.{bind, place_in}
 use Rattle.gt_markers.specs.declared.kinds.OptionKind.{OptionKind}
 use Rattle.gt_markers.specs.declared.kinds.OptionKind.TheVariants.{ChainNext, ChainPrev, ChainCircular}
 use Rattle.gt_markers.specs.Options.{kind_of}
@@ -62,14 +62,6 @@ chain_kind kind = None
 abbrev pub structure_in : Ty → Option TypeId
 structure_in (ty.Node node desc) = Some node
 structure_in type = None
-
--- what is found with a value, where there is one
-abbrev pub bind : {A B : Type 0} → Option A → (A → Option B) → Option B
-bind (Some x) f = f x
-bind None f = None
-
-abbrev pub place_in : List ℕ → Structure → Option ℕ
-place_in name s = position (λ f. bytes_eq f.name name) s.fields
 
 -- the places of fields on a path from a structure, by their names, through structures by value
 unfoldable pub places_on : List Structure → TypeId → List (List ℕ) → Option (List ℕ)

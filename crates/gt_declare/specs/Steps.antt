@@ -2,7 +2,8 @@
 use Rattle.std.specs.Prelude.{ℕ, List, Option, slice_get}
 use Rattle.gt_types.specs.declared.types.TypeId.{TypeId}
 use Rattle.gt_types.specs.declared.program.Structure.{Structure}
-use Rattle.gt_declare.specs.Programs.{bind, place_in, structure_in}
+use Rattle.gt_fields.specs.Places.{bind, place_in}
+use Rattle.gt_declare.specs.Programs.{structure_in}
 
 -- the place of a field of a structure
 abbrev pub place_of : List Structure → TypeId → List ℕ → Option ℕ

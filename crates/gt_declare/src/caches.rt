@@ -19,8 +19,8 @@ fn pointed(base: &BaseType, stars: Stars) -> Option<TypeId>
     }
 }
 
-// The structure that a key or a value points to.
-fn key_type(resolved: &Resolved) -> Option<TypeId>
+/// The structure that a key or a value points to.
+pub fn key_type(resolved: &Resolved) -> Option<TypeId>
     requires small { HasSmallId resolved.now.base }
     ensures { result ≡ key_type resolved.now }
 {

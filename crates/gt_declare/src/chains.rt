@@ -3,11 +3,11 @@ ghost use Rattle.std.specs.Prelude.{◌≡◌, ◌≤◌, ◌++◌, filter_map, 
 ghost use Rattle.std.specs.Option.{option_to_list};
 ghost use Rattle.gt_types.specs.declared.limits.TheConstants.{MAX_STRUCTURES, MAX_FIELDS};
 ghost use Rattle.gt_declare.specs.Programs.{chain_kind, chain_of, with_chains};
-ghost use Rattle.gt_declare.specs.FieldNames.{AreNamesOf};
+ghost use Rattle.gt_fields.specs.FieldNames.{AreNamesOf};
 ghost use Rattle.gt_declare.specs.Chains.{chains_of, chains_from, joined};
 
-use crate::field_names::FieldNames;
 use crate::paths::path_places;
+use gt_fields::FieldNames;
 use gt_items::RawOption;
 use gt_markers::OptionKind;
 use gt_resolve::DraftStructure;

@@ -5,7 +5,6 @@
 mod caches;
 mod chains;
 mod declaring;
-mod field_names;
 mod fields;
 pub mod laws;
 mod paths;
@@ -14,4 +13,6 @@ mod roots;
 mod structures;
 mod words;
 
+pub use caches::key_type;
 pub use declaring::declare;
+pub use paths::path_places;

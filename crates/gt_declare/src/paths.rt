@@ -2,11 +2,11 @@
 ghost use Rattle.std.specs.Prelude.{◌≡◌, ◌∷◌, ◌++◌, [], option_map, slice_get, IfOk};
 ghost use Rattle.std.specs.Option.{option_copied};
 ghost use Rattle.gt_declare.specs.Programs.{structure_in, places_on, own_path, path_places};
-ghost use Rattle.gt_declare.specs.FieldNames.{AreNamesOf};
+ghost use Rattle.gt_fields.specs.FieldNames.{AreNamesOf};
 ghost use Rattle.gt_declare.specs.Steps.{inner_of};
 
-use crate::field_names::FieldNames;
 use gt_expr::RawExpr;
+use gt_fields::FieldNames;
 use gt_items::Parameter;
 use gt_types::{Base, List, Structure, Ty, TypeId, Word};
 use std::alloc::{AllocError, Global};

@@ -19,6 +19,7 @@ mod walking;
 
 pub use constants::constant_value;
 pub use draft_faults::first_draft_fault;
+pub use earliest::with_fault;
 pub use expressions::{Scope, are_named, with_names};
 pub use kinds::OptionKind;
 pub use lookups::Lookup;

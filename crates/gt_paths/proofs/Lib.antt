@@ -1,0 +1,15 @@
+pub mod Lists
+pub mod Walks
+pub mod PartLists
+pub mod ByNumber
+pub mod ByStep
+pub mod Marking
+pub mod Ascents
+pub mod Containing
+pub mod Outermost
+pub mod Fitting
+pub mod Nodes
+pub mod Trails
+pub mod Meetings
+pub mod Odd
+pub mod Firsts

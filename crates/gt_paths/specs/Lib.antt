@@ -1,0 +1,9 @@
+pub mod Results
+pub mod Numbers
+pub mod Containers
+pub mod Climbs
+pub mod Indexes
+pub mod Steps
+pub mod Places
+pub mod Marks
+pub mod Starts

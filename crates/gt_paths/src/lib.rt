@@ -1,0 +1,23 @@
+//! What the expressions of options may read in a program, and where a structure may stand alone. The layer above makes a
+//! [`PathIndex`] once, and then asks of each option.
+#![tactic(auto)]
+
+mod climbing;
+mod commons;
+mod containers;
+mod distinct;
+mod expressions;
+mod indexes;
+mod inner;
+mod names;
+mod options;
+mod plain;
+mod standing;
+mod starts;
+mod steps;
+mod structures;
+
+pub use indexes::PathIndex;
+pub use options::{is_field_desc, is_option, is_root_count, is_root_desc};
+pub use standing::{is_bare_union, is_inner, may_stand, names_sortable};
+pub use steps::leads_to_own_pointer;

@@ -1,0 +1,4 @@
+pub mod FirstLemmas
+pub mod PartLemmas
+pub mod MadeLemmas
+pub mod WholeLemmas

@@ -1,0 +1,32 @@
+use Rattle.std.proofs.Common.{◌≤◌, List, length, sym, subst}
+use Rattle.std.specs.Prelude.{All}
+use Rattle.gt_types.specs.declared.program.Structure.{Structure}
+use Rattle.gt_types.specs.declared.limits.TheConstants.{MAX_FIELDS}
+use Rattle.gt_rules.proofs.FirstLemmas.{first_of_both}
+use Rattle.gt_rules.proofs.MadeLemmas.{few_fields, few_structures, structure_made}
+use Rattle.gt_rules.proofs.WholeLemmas.{first_of_parts}
+use Rattle.gt_rules.proofs.program_faults.first_program_fault.Goals as goal
+
+pub returns : goal.returns
+returns c =
+    let draft = c.args.draft.now in
+    let program = c.args.program.now in
+    record {
+      first =
+          first_of_parts draft program c.of_caches.result
+          (λ k ds drafted. let made = structure_made draft program c.requires.made k ds drafted in (made.0, made.1))
+          (first_of_both c.in_ok-earliest.ensures.first (first_of_both c.in_ok-earliest-2.ensures.first c.of_caches.ensures.first));
+    }
+
+pub new-requires-clause-few : goal.new-requires-clause-few
+new-requires-clause-few c = few_structures c.args.draft.now c.args.program.now c.requires.sound c.requires.made
+
+pub new-requires-clause-fields : goal.new-requires-clause-fields
+new-requires-clause-fields c = few_fields c.args.draft.now c.args.program.now c.requires.sound c.requires.made
+
+pub of-requires : goal.of-requires
+of-requires c = record {
+  few =
+      subst (λ (ss : List Structure). All (λ (s : Structure). length s.fields ≤ MAX_FIELDS) ss) (sym c.as_slice.ensures.items)
+      (few_fields c.args.draft.now c.args.program.now c.requires.sound c.requires.made);
+}

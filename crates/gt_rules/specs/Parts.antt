@@ -1,0 +1,201 @@
+-- No promise: the faults that only the program tells, part by part, and the first of them so far.
+use Rattle.std.specs.Prelude.{◌≡◌, ◌⊎◌, ℕ, true, if◌then◌else◌, codes, IsTrue, List, Option, Some, None, IsSome, slice_get}
+use Rattle.gt_types.specs.declared.expressions.Expr.{Expr}
+use Rattle.gt_types.specs.declared.faults.Fault.{Fault}
+use Rattle.gt_types.specs.declared.types.Ty.{Ty}
+use Rattle.gt_types.specs.declared.types.TypeId.{TypeId}
+use Rattle.gt_types.specs.declared.program.Field.{Field}
+use Rattle.gt_types.specs.declared.program.Structure.{Structure}
+use Rattle.gt_types.specs.declared.program.Root.{Root}
+use Rattle.gt_types.specs.declared.program.Program.{Program}
+use Rattle.gt_types.specs.Shapes.{innermost}
+use Rattle.gt_types.specs.Contains.{held_by}
+use Rattle.gt_types.specs.Paths.{IsInner, LeadsToOwnPointer, IsOption, IsFieldDesc, IsRootCount, IsRootDesc}
+use Rattle.gt_types.specs.Settled.{NamesSortable}
+use Rattle.gt_items.specs.declared.items.Parameter.{Parameter}
+use Rattle.gt_items.specs.declared.items.RawOption.{RawOption}
+use Rattle.gt_resolve.specs.declared.types.DeclaredType.{DeclaredType}
+use Rattle.gt_resolve.specs.declared.draft.Draft.{Draft}
+use Rattle.gt_resolve.specs.declared.draft.DraftCache.{DraftCache}
+use Rattle.gt_resolve.specs.declared.draft.DraftField.{DraftField}
+use Rattle.gt_resolve.specs.declared.draft.DraftRoot.{DraftRoot}
+use Rattle.gt_resolve.specs.declared.draft.DraftStructure.{DraftStructure}
+use Rattle.gt_resolve.specs.Drafts.{has_skip}
+use Rattle.gt_resolve.specs.Faults.{is_no_later}
+use Rattle.gt_markers.specs.declared.TheConstants.{WRONG_PLACE, MISSING_DESC, BAD_PATH, CHAIN_NOT_OWN_POINTER, CACHE_SHAPE}
+use Rattle.gt_markers.specs.declared.expressions.Scope.{Scope}
+use Rattle.gt_markers.specs.declared.expressions.Scope.TheVariants.{Fields, Roots}
+use Rattle.gt_markers.specs.NameScopes.{names_of}
+use Rattle.gt_markers.specs.Options.{kind_of, option_named}
+use Rattle.gt_markers.specs.Typing.{node}
+use Rattle.gt_declare.specs.Programs.{chain_kind, path_places, key_type}
+use Rattle.gt_rules.specs.declared.purposes.Purpose.{Purpose}
+use Rattle.gt_rules.specs.declared.purposes.Purpose.TheVariants.{Own, FieldDesc, RootCount, RootDesc}
+use Rattle.gt_rules.specs.Faults.{IsBareUnion, IsGood, LacksDesc, NamesBareUnion, NamesInner, StandsAlone, fault}
+
+-- ---- the first so far
+
+-- of faults and the first before them, this one is the first
+pub record IsFirstWith (before : Option Fault) (faults : Fault → Type 0) (first : Option Fault) : Type 0 where
+  pub there : (f : Fault) → first ≡ Some f → (before ≡ Some f) ⊎ faults f
+  pub least : (f : Fault) → (before ≡ Some f) ⊎ faults f → (g : Fault) × (first ≡ Some g) × IsTrue (is_no_later g f)
+
+-- the faults of one part and those of another
+abbrev pub Either : (Fault → Type 0) → (Fault → Type 0) → Fault → Type 0
+Either a b f = a f ⊎ b f
+
+-- the faults of each of some items, by place
+abbrev pub Each : {A : Type 0} → List A → (ℕ → A → Fault → Type 0) → Fault → Type 0
+Each {A} xs faults f = (k : ℕ) × (x : A) × (slice_get xs k ≡ Some x) × faults k x f
+
+-- the faults of what stands at a place, where something does
+abbrev pub AtPlace : {A : Type 0} → List A → ℕ → (A → Fault → Type 0) → Fault → Type 0
+AtPlace {A} xs k faults f = (x : A) × (slice_get xs k ≡ Some x) × faults x f
+
+-- ---- parts
+
+-- a fault of this number at a place, where this holds
+abbrev pub FaultIf : Type 0 → (number file at : ℕ) → Fault → Type 0
+FaultIf holds number file at f = holds × (f ≡ fault number file at)
+
+-- the option of a name that is read
+abbrev pub read_option : List ℕ → List RawOption → Option RawOption
+read_option name options = if has_skip options then None else option_named name options
+
+-- the option of a name that is read, and of which this is true
+abbrev pub OptionFault : List RawOption → List ℕ → (RawOption → Type 0) → (number file : ℕ) → Fault → Type 0
+OptionFault options name holds number file f =
+    (o : RawOption) × (read_option name options ≡ Some o) × holds o × (f ≡ fault number file o.name.at)
+
+-- which names count in an expression
+abbrev pub scope_of : Purpose → Scope
+scope_of (Own structure) = Fields
+scope_of (FieldDesc structure held) = Fields
+scope_of RootCount = Roots
+scope_of (RootDesc held) = Roots
+
+-- which expressions are good
+abbrev pub Fits : Program → Purpose → Expr → Type 0
+Fits program (Own structure) = IsOption program structure
+Fits program (FieldDesc structure held) = IsFieldDesc program structure held
+Fits program RootCount = IsRootCount program
+Fits program (RootDesc held) = IsRootDesc program held
+
+-- a parameter is good for a purpose
+abbrev pub Serves : Draft → Program → Purpose → Parameter → Type 0
+Serves draft program purpose parameter = IsGood (names_of (scope_of purpose) draft) (Fits program purpose) parameter
+
+-- the option of a name that is read, where it is not good for a purpose
+abbrev pub ExpressionFault : Draft → Program → Purpose → List RawOption → List ℕ → ℕ → Fault → Type 0
+ExpressionFault draft program purpose options name file =
+    OptionFault options name (λ o. ¬ Serves draft program purpose o.parameter) BAD_PATH file
+
+-- the `reorder` of what is not sorted
+abbrev pub ReorderFault : Program → List RawOption → Ty → ℕ → Fault → Type 0
+ReorderFault program options type file = OptionFault options (codes "reorder") (λ o. ¬ NamesSortable program type) WRONG_PLACE file
+
+-- a structure is named, and of it this is true
+abbrev pub Names : Option TypeId → (TypeId → Type 0) → Type 0
+Names named holds = (id : TypeId) × (named ≡ Some id) × holds id
+
+-- a type holds a union without `desc`, or names a union without a `desc` of its own
+abbrev pub LacksItsDesc : Program → Option TypeId → Ty → Type 0
+LacksItsDesc program named type = LacksDesc program (innermost type) ⊎ Names named (IsBareUnion program)
+
+-- at a name: a union without `desc`, a pointer to an inner structure
+abbrev pub TypeFaults : Program → List RawOption → DeclaredType → Ty → (file at : ℕ) → Fault → Type 0
+TypeFaults program options t type file at =
+    Either (FaultIf (LacksDesc program (innermost type) ⊎ NamesBareUnion program options t) MISSING_DESC file at)
+    (FaultIf (NamesInner program options t) BAD_PATH file at)
+
+-- the faults of what a type holds by value, where it holds a structure
+abbrev pub OfHeld : Option TypeId → (TypeId → Fault → Type 0) → Fault → Type 0
+OfHeld found faults f = (held : TypeId) × (found ≡ Some held) × faults held f
+
+-- the `desc` of a field that holds a union, where it is not good
+abbrev pub FieldDescFault : Draft → Program → TypeId → List RawOption → Ty → ℕ → Fault → Type 0
+FieldDescFault draft program structure options type file =
+    OfHeld (held_by type) (λ held. ExpressionFault draft program (FieldDesc structure held) options (codes "desc") file)
+
+-- the `desc` of a root that holds a union, where it is not good
+abbrev pub RootDescFault : Draft → Program → List RawOption → Ty → ℕ → Fault → Type 0
+RootDescFault draft program options type file = OfHeld (held_by type) (λ held. ExpressionFault draft program (RootDesc held) options (codes "desc") file)
+
+-- the faults of a field of these options and this type, at its name or at an option
+abbrev pub FieldFaultsBy : Draft → Program → TypeId → (file at : ℕ) → DeclaredType → Ty → List RawOption → Fault → Type 0
+FieldFaultsBy draft program structure file at t type options =
+    Either (TypeFaults program options t type file at)
+    (Either (ExpressionFault draft program (Own structure) options (codes "length") file)
+    (Either (ExpressionFault draft program (Own structure) options (codes "string_length") file)
+    (Either (FieldDescFault draft program structure options type file) (ReorderFault program options type file))))
+
+-- the faults of a field, as the draft has it and as the program has it
+abbrev pub FieldFaults : Draft → Program → TypeId → (file : ℕ) → DraftField → Field → Fault → Type 0
+FieldFaults draft program structure file df f = FieldFaultsBy draft program structure file df.name.at df.ty f.ty df.options
+
+-- the faults of fields, which the draft and the program have at the same places
+abbrev pub FieldsFaults : Draft → Program → TypeId → (file : ℕ) → List DraftField → List Field → Fault → Type 0
+FieldsFaults draft program structure file drafted made =
+    Each drafted (λ k df. AtPlace made k (λ f. FieldFaults draft program structure file df f))
+
+-- the `desc` of a union itself, where it is not good
+abbrev pub UnionDescFault : Draft → Program → TypeId → DraftStructure → Fault → Type 0
+UnionDescFault draft program structure ds f =
+    (o : RawOption) × (ds.is_union ≡ true) × (option_named (codes "desc") ds.options ≡ Some o)
+    × (¬ Serves draft program (Own structure) o.parameter) × (f ≡ fault BAD_PATH ds.file o.name.at)
+
+-- the path of a chain leads to a plain pointer to its own structure
+abbrev pub LeadsBack : Program → TypeId → Parameter → Type 0
+LeadsBack program structure parameter =
+    (path : List ℕ) × (path_places program.structures structure parameter ≡ Some path) × LeadsToOwnPointer program structure path
+
+-- a chain whose path does not lead back
+abbrev pub ChainFault : Program → TypeId → ℕ → RawOption → Fault → Type 0
+ChainFault program structure file o =
+    FaultIf (IsSome (chain_kind (kind_of o.name.word)) × ¬ LeadsBack program structure o.parameter) CHAIN_NOT_OWN_POINTER file o.name.at
+
+-- the faults of the chains among some options
+abbrev pub ChainsFaults : Program → TypeId → ℕ → List RawOption → Fault → Type 0
+ChainsFaults program structure file options = Each options (λ k o. ChainFault program structure file o)
+
+-- the faults of a structure, of which the draft's and the program's stand at one place
+abbrev pub StructureFaults : Draft → Program → TypeId → DraftStructure → Structure → Fault → Type 0
+StructureFaults draft program structure ds s =
+    Either (UnionDescFault draft program structure ds)
+    (Either (ChainsFaults program structure ds.file ds.options) (FieldsFaults draft program structure ds.file ds.fields s.fields))
+
+-- the faults of all structures
+abbrev pub StructuresFaults : Draft → Program → Fault → Type 0
+StructuresFaults draft program = Each draft.structures (λ k ds. AtPlace program.structures k (λ s. StructureFaults draft program (node k) ds s))
+
+-- a root of an inner type
+abbrev pub HoldsInner : Program → Ty → Type 0
+HoldsInner program type = Names (held_by type) (IsInner program)
+
+-- the faults of a root of these options and this type, at its name or at an option
+abbrev pub RootFaultsBy : Draft → Program → (file at : ℕ) → DeclaredType → Ty → List RawOption → Fault → Type 0
+RootFaultsBy draft program file at t type options =
+    Either (TypeFaults program options t type file at)
+    (Either (FaultIf (HoldsInner program type) BAD_PATH file at)
+    (Either (ExpressionFault draft program RootCount options (codes "length") file)
+    (Either (RootDescFault draft program options type file) (ReorderFault program options type file))))
+
+-- the faults of a root, as the draft has it and as the program has it
+abbrev pub RootFaults : Draft → Program → DraftRoot → Root → Fault → Type 0
+RootFaults draft program dr r = RootFaultsBy draft program dr.file dr.name.at dr.ty r.ty dr.options
+
+-- the faults of all roots
+abbrev pub RootsFaults : Draft → Program → Fault → Type 0
+RootsFaults draft program = Each draft.roots (λ k dr. AtPlace program.roots k (λ r. RootFaults draft program dr r))
+
+-- a cache with a key or a value that may not stand alone
+abbrev pub CacheFault : Program → DraftCache → Fault → Type 0
+CacheFault program c = FaultIf (¬ (StandsAlone program (key_type c.key) × StandsAlone program (key_type c.value))) CACHE_SHAPE c.file c.name.at
+
+-- the faults of all caches
+abbrev pub CachesFaults : Draft → Program → Fault → Type 0
+CachesFaults draft program = Each draft.caches (λ k c. CacheFault program c)
+
+-- all of them
+abbrev pub ProgramFaults : Draft → Program → Fault → Type 0
+ProgramFaults draft program = Either (StructuresFaults draft program) (Either (RootsFaults draft program) (CachesFaults draft program))

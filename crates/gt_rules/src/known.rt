@@ -1,0 +1,26 @@
+// What faults are looked for in.
+use gt_fields::FieldNames;
+use gt_items::RawOption;
+use gt_markers::Lookup;
+use gt_paths::PathIndex;
+use gt_resolve::Draft;
+use gt_types::Program;
+use std::alloc::Global;
+
+/// A draft and its program, with what is looked up in them.
+#[derive(Clone, Copy)]
+pub struct Known<'a> {
+    pub alloc: Global,
+    pub draft: &'a Draft,
+    pub lookup: &'a Lookup,
+    pub program: &'a Program,
+    pub index: &'a PathIndex,
+    pub names: &'a FieldNames,
+}
+
+/// The options of one marker, and the file in which they stand.
+#[derive(Clone, Copy)]
+pub struct Options<'a> {
+    pub file: u32,
+    pub options: &'a [RawOption],
+}

@@ -1,0 +1,60 @@
+// What pointers name by their declarations.
+ghost use Rattle.std.specs.Prelude.{◌≡◌, option_map};
+ghost use Rattle.std.specs.Bool.{Decides};
+ghost use Rattle.gt_types.specs.Paths.{IsInner};
+ghost use Rattle.gt_markers.specs.Typing.{node};
+ghost use Rattle.gt_typing.specs.SmallTypes.{HasSmallId};
+ghost use Rattle.gt_paths.specs.Indexes.{IsIndexOf};
+ghost use Rattle.gt_rules.specs.Faults.{IsBareUnion, named_by, names_node};
+ghost use Rattle.gt_rules.specs.Parts.{Names};
+
+use crate::known::Known;
+use gt_items::{RawOption, Stars};
+use gt_markers::has_skip;
+use gt_paths::{is_bare_union, is_inner};
+use gt_resolve::{BaseType, DeclaredType};
+use gt_types::{Program, TypeId};
+use gt_typing::node;
+
+// The structure that a pointer, or a pointer to pointers, names by its declaration.
+fn named_by(base: &BaseType, stars: Stars) -> Option<TypeId>
+    requires small { HasSmallId base.now }
+    ensures { result ≡ option_map node (named_by base.now stars) }
+{
+    match (base, stars) {
+        (BaseType::Structure(id), Stars::One | Stars::Two) => Some(node(*id)),
+        _ => None,
+    }
+}
+
+/// The structure that a pointer without `skip` names by its declaration.
+pub fn names_node(options: &[RawOption], ty: &DeclaredType) -> Option<TypeId>
+    requires small { HasSmallId ty.now.resolved.base }
+    ensures named { result ≡ option_map node (names_node options.now ty.now) }
+{
+    if has_skip(options) || ty.is_function {
+        return None;
+    }
+    named_by(&ty.resolved.base, ty.resolved.stars)
+}
+
+/// Whether what is named is a union without a `desc` of its own.
+pub fn is_bare(program: &Program, named: Option<TypeId>) -> bool
+    ensures decides { Decides result (Names named (IsBareUnion program.now)) }
+{
+    match named {
+        None => false,
+        Some(id) => is_bare_union(program, id),
+    }
+}
+
+/// Whether what is named is an inner structure.
+pub fn is_named_inner(known: Known, named: Option<TypeId>) -> bool
+    requires index { IsIndexOf known.program.now known.index.now }
+    ensures decides { Decides result (Names named (IsInner known.entry.program.now)) }
+{
+    match named {
+        None => false,
+        Some(id) => is_inner(known.program, known.index, id),
+    }
+}

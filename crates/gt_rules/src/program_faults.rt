@@ -1,0 +1,46 @@
+// The first fault that only the program tells.
+ghost use Rattle.std.specs.Prelude.{IfOk};
+ghost use Rattle.gt_markers.specs.Lookups.{IsLookupOf};
+ghost use Rattle.gt_markers.specs.Sound.{IsSound};
+ghost use Rattle.gt_declare.specs.Programs.{IsMadeOf};
+ghost use Rattle.gt_rules.specs.Firsts.{IsFirstProgramFault};
+
+use crate::caches::of_caches;
+use crate::known::Known;
+use crate::roots::of_roots;
+use crate::structures::of_structures;
+use gt_fields::FieldNames;
+use gt_markers::Lookup;
+use gt_paths::PathIndex;
+use gt_resolve::Draft;
+use gt_types::{Fault, Program};
+use std::alloc::{AllocError, Global};
+
+/// The first fault of a draft that only the program tells which it declares: at the earliest place, and of those at one place the lowest
+/// number. `None` says that there is none. Its time is linear in the draft, but for what paths of options need: see [`PathIndex`]. It
+/// answers want of memory alone.
+pub fn first_program_fault(
+    alloc: Global,
+    draft: &Draft,
+    lookup: &Lookup,
+    program: &Program,
+) -> Result<Option<Fault>, AllocError>
+    requires sound { IsSound draft.now }
+    requires lookup { IsLookupOf draft.now lookup.now }
+    requires made { IsMadeOf draft.now program.now }
+    ensures first { IfOk result (IsFirstProgramFault draft.now program.now) }
+{
+    let index = PathIndex::new(alloc, program)?;
+    let names = FieldNames::of(alloc, program.structures.as_slice())?;
+    let known = Known {
+        alloc,
+        draft,
+        lookup,
+        program,
+        index: &index,
+        names: &names,
+    };
+    let earliest = of_structures(None, known)?;
+    let earliest = of_roots(earliest, known)?;
+    Ok(of_caches(earliest, known))
+}
