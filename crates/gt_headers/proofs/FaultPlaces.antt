@@ -10,6 +10,7 @@ use Rattle.gt_resolve.proofs.FaultPlaces.{InFiles, first_fault_in, structures_in
 use Rattle.gt_headers.specs.Reading.{AreRead}
 use Rattle.gt_headers.specs.Built.{HasUnbuilt}
 use Rattle.gt_headers.specs.Headers.{IsFirstFault, IsNotBuilt}
+use Rattle.gt_headers.proofs.OptionFiles.{of_options}
 
 -- there are as many files as texts
 as_many : (texts : List (List ℕ)) (files : List Items) → AreRead texts files → length files ≡ length texts
@@ -24,7 +25,12 @@ fault_within texts fault (inl r) =
     let file = r.file in
     let size : length texts ≡ length r.before + suc (length r.after) = ap length r.split ∙ length-append r.before (r.text ∷ r.after) in
     (omega (arith, file), omega (arith, file, size))
-fault_within texts fault (inr (files, read, first)) =
+fault_within texts fault (inr (inr (draft, resolved, first))) =
+    let P = InFiles (length resolved.files) in
+    let within = of_options P draft (structures_in resolved.files draft [] resolved.resolved) (roots_in resolved.files draft [] resolved.resolved) (caches_in resolved.files draft [] resolved.resolved) first.program fault first.there in
+    let many = as_many texts resolved.files resolved.are_read in
+    (within.0, omega (arith, within.1, many))
+fault_within texts fault (inr (inl (files, read, first))) =
     let in_files : InFiles (length files) fault.file = first_fault_in files fault first in
     let many = as_many texts files read in
     (in_files.0, omega (arith, in_files.1, many))
@@ -40,7 +46,7 @@ unbuilt_in files draft file is (inr (inr (c, there, same))) =
 
 -- and so of one of the texts
 pub unbuilt_within : (texts : List (List ℕ)) (file : ℕ) → IsNotBuilt texts file → (1 ≤ file) × (file ≤ length texts)
-unbuilt_within texts file (draft, resolved, first) =
-    let within = unbuilt_in resolved.files draft file resolved.resolved first.0 in
-    let many = as_many texts resolved.files resolved.are_read in
+unbuilt_within texts file not_built =
+    let within = unbuilt_in not_built.resolved.files not_built.draft file not_built.resolved.resolved not_built.first.0 in
+    let many = as_many texts not_built.resolved.files not_built.resolved.are_read in
     (within.0, omega (arith, within.1, many))

@@ -1,12 +1,14 @@
 mod Zipped
+mod Programs
 mod PointerLemmas
 mod ReadingLemmas
 mod DecidingLemmas
 mod ProgramLemmas
-mod DeclaredPlaces
-mod PlaceLemmas
+mod MadeLemmas
 mod ItemOutcomes
 mod ReadOutcomes
 mod ProgramOutcomes
+mod SoundLemmas
 mod Outcomes
+mod OptionFiles
 pub mod FaultPlaces

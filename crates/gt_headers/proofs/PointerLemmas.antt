@@ -19,7 +19,8 @@ use Rattle.gt_resolve.specs.Resolution.{Resolves}
 use Rattle.gt_headers.specs.Built.{IsStructPointer}
 use Rattle.gt_headers.specs.Headers.{Declares}
 use Rattle.gt_headers.specs.Pointers.{IsNode, IsOfPointers, IsPlain}
-use Rattle.gt_headers.specs.Programs.{IsFieldOf, IsRootOf, IsStructureOf, pointer_to}
+use Rattle.gt_headers.proofs.Programs.{IsFieldOf, IsRootOf, IsStructureOf, pointer_to}
+use Rattle.gt_headers.proofs.MadeLemmas.{made_is_program}
 use Rattle.gt_headers.proofs.Zipped.{All-zipped}
 
 module _ (structures : List DraftStructure) (program : Program) (zipped : AllZip (IsStructureOf structures) structures program.structures) where
@@ -57,26 +58,27 @@ module _ (few_structures : (files : List Items) (draft : Draft) → Resolves fil
   -- so it is of a program that texts declare
   pub are_of_pointers : (texts : List (List ℕ)) (program : Program) → Declares texts program → IsOfPointers program
   are_of_pointers texts program d =
+      let is = made_is_program d.draft program d.declares.made d.built in
       let structures = d.draft.structures in
       let files = d.resolved.files in
       let resolved = d.resolved.resolved in
       let few = few_structures files d.draft resolved in
       let roots_few = few_roots files d.draft resolved in
-      let long = AllZip-long (IsStructureOf structures) structures program.structures d.is.structures in
-      let long_roots = AllZip-long (IsRootOf structures) d.draft.roots program.roots d.is.roots in
+      let long = AllZip-long (IsStructureOf structures) structures program.structures is.structures in
+      let long_roots = AllZip-long (IsRootOf structures) d.draft.roots program.roots is.roots in
       let Any : DraftRoot → Type 0 = λ r. Unit {0} in
       let Plain : Root → Type 0 = λ r. IsPlain program r.ty in
       let Kept : Root → Type 0 = λ r. r.deletable ≡ false in
       record {
         few_structures = omega (arith, few, long);
         structures =
-            All-zipped HasFew (IsStructureOf structures) (IsNode program) (is_node structures program d.is.structures) structures program.structures
-            (few_fields files d.draft resolved) d.is.structures;
+            All-zipped HasFew (IsStructureOf structures) (IsNode program) (is_node structures program is.structures) structures program.structures
+            (few_fields files d.draft resolved) is.structures;
         few_roots = omega (arith, roots_few, long_roots);
         roots =
-            All-zipped Any (IsRootOf structures) Plain (λ r root any one. is_plain_root structures program d.is.structures r root one) d.draft.roots program.roots
-            (λ k d l. tt) d.is.roots;
+            All-zipped Any (IsRootOf structures) Plain (λ r root any one. is_plain_root structures program is.structures r root one) d.draft.roots program.roots
+            (λ k d l. tt) is.roots;
         no_deletable =
-            All-zipped Any (IsRootOf structures) Kept (λ r root any one. ap (λ (x : Root). x.deletable) one.is) d.draft.roots program.roots (λ k d l. tt) d.is.roots;
-        no_caches = d.is.none;
+            All-zipped Any (IsRootOf structures) Kept (λ r root any one. ap (λ (x : Root). x.deletable) one.is) d.draft.roots program.roots (λ k d l. tt) is.roots;
+        no_caches = is.none;
       }

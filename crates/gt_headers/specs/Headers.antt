@@ -6,8 +6,8 @@ use Rattle.gt_items.specs.declared.items.Items.{Items}
 use Rattle.gt_resolve.specs.declared.draft.Draft.{Draft}
 use Rattle.gt_resolve.specs.Resolution.{Resolves, HasFirstFault}
 use Rattle.gt_headers.specs.Reading.{AreRead, IsReadingFault}
-use Rattle.gt_headers.specs.Built.{IsFirstUnbuilt}
-use Rattle.gt_headers.specs.Programs.{IsProgramOf}
+use Rattle.gt_rules.specs.Faults.{Declares as DeclaresProgram, IsFirstFault as IsFirstOptionFault}
+use Rattle.gt_headers.specs.Built.{HasUnbuilt, IsFirstUnbuilt}
 use Rattle.gt_headers.specs.declared.declaring.HeaderStop.{HeaderStop}
 use Rattle.gt_headers.specs.declared.declaring.HeaderStop.TheVariants.{Memory, Faulty, NotBuilt}
 
@@ -17,19 +17,32 @@ pub record AreResolved (texts : List (List ℕ)) (draft : Draft) : Type 0 where
   pub are_read : AreRead texts files
   pub resolved : Resolves files draft
 
--- the texts declare this program
+-- the texts declare this program, built or not
+pub record Settles (texts : List (List ℕ)) (program : Program) : Type 0 where
+  pub draft : Draft
+  pub resolved : AreResolved texts draft
+  pub declares : DeclaresProgram draft program
+
+-- the texts declare this program, and all of it is built
 pub record Declares (texts : List (List ℕ)) (program : Program) : Type 0 where
   pub draft : Draft
   pub resolved : AreResolved texts draft
-  pub is : IsProgramOf draft program
+  pub declares : DeclaresProgram draft program
+  pub built : (file : ℕ) → ¬ HasUnbuilt draft file
 
--- the first fault: of the reading of a text; or else, where all are read, of names and types
+-- the first fault: of the reading of a text; or else, where all are read, of names and types; or else of options
 abbrev pub IsFirstFault : List (List ℕ) → Fault → Type 0
-IsFirstFault texts fault = IsReadingFault texts fault ⊎ ((files : List Items) × AreRead texts files × HasFirstFault files fault)
+IsFirstFault texts fault =
+    IsReadingFault texts fault ⊎ ((files : List Items) × AreRead texts files × HasFirstFault files fault)
+    ⊎ ((draft : Draft) × AreResolved texts draft × IsFirstOptionFault draft fault)
 
 -- the texts have no fault, and the one at this place is the first with something that is not built so far
-abbrev pub IsNotBuilt : List (List ℕ) → ℕ → Type 0
-IsNotBuilt texts file = (draft : Draft) × AreResolved texts draft × IsFirstUnbuilt draft file
+pub record IsNotBuilt (texts : List (List ℕ)) (file : ℕ) : Type 0 where
+  pub draft : Draft
+  pub resolved : AreResolved texts draft
+  pub program : Program
+  pub declares : DeclaresProgram draft program
+  pub first : IsFirstUnbuilt draft file
 
 -- why texts give no program; of want of memory nothing is said
 abbrev pub IsHeaderStop : List (List ℕ) → HeaderStop → Type 0

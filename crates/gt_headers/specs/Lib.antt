@@ -1,9 +1,7 @@
 pub mod Reading
 pub mod Built
-pub mod Programs
 pub mod Headers
 pub mod Pointers
 pub mod Stops
 pub mod Deciding
-pub mod Making
 pub mod Halting

@@ -29,8 +29,8 @@ fn is_struct(structures: &[DraftStructure], id: usize) -> bool
     }
 }
 
-/// The place of the struct to which a type is a pointer.
-pub fn target(structures: &[DraftStructure], ty: &DeclaredType) -> Option<usize>
+// The place of the struct to which a type is a pointer.
+fn target(structures: &[DraftStructure], ty: &DeclaredType) -> Option<usize>
     ensures { result ≡ target_in structures.now ty.now }
 {
     match &ty.resolved.base {

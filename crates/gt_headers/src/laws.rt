@@ -12,8 +12,10 @@ ghost use Rattle.gt_parse.specs.declared.faults.TheConstants.{UNCLOSED, UNEXPECT
 ghost use Rattle.gt_resolve.specs.declared.TheConstants.{REDEFINED, UNDEFINED, BY_VALUE_CYCLE, BAD_BOUND, TOO_MANY, TYPE_TOO_LARGE, MAX_STRUCTURES, MAX_FIELDS, MAX_ROOTS, MAX_CACHES, MAX_DEPTH, MAX_DIMENSIONS, MAX_BOUND};
 
 use gt_lex::one_answer;
+use gt_options::laws::one_settlement;
 use gt_parse::one_search;
 use gt_resolve::few;
+use gt_sound::{read_is_well_made, resolved_is_sound};
 
 /// Headers declare at most one program, have at most one first fault, and at most one of them is the first with something that
 /// is not built; and never two of these hold.
@@ -28,6 +30,9 @@ pub fn one_outcome()
     one_answer();
     one_search();
     gt_resolve::one_outcome();
+    read_is_well_made();
+    resolved_is_sound();
+    one_settlement();
 }
 
 /// What headers declare so far is few structures of plain pointers to one another, and few such roots.

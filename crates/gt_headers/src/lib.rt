@@ -5,10 +5,9 @@
 mod built;
 mod declaring;
 pub mod laws;
-mod program;
 mod reading;
 
-pub use declaring::{HeaderStop, declare};
+pub use declaring::{HeaderStop, are_within_limits, declare, program_of};
 pub use laws::{is_of_pointers, numbers, one_outcome, text_places};
 
 /// The most headers of a call.

@@ -5,15 +5,14 @@
 ghost use Rattle.std.specs.Prelude.{◌<◌, ◌^◌, length};
 
 mod rendering;
-mod rows;
 
 use gt_items::Items;
 use gt_lex::lex;
 use gt_parse::parse;
 use gt_resolve::resolve;
 use gt_types::{Fault, Stop};
+use header_rows::rows_of;
 use rendering::rendered;
-use rows::rows_of;
 use std::alloc::{AllocError, Global};
 use std::io;
 

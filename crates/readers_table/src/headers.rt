@@ -1,14 +1,12 @@
 // What sets of headers declare, in one line: structures with the places of the structs to which their fields point, roots, and
 // names of typedefs.
-ghost use Rattle.std.specs.Prelude.{◌≡◌, ◌<◌, ◌^◌, All, true, length};
-
-use gt_headers::{HeaderStop, MAX_HEADERS, declare};
+use gt_headers::{HeaderStop, are_within_limits, declare};
 use gt_types::{Bytes, Fault, Program, PtrKind, Root, Structure, Target, Ty, TypeId, TypeWord};
 use std::alloc::{AllocError, Global};
 
 /// What the headers declare, or the first fault, or the first header that is not built.
 pub fn answer(alloc: Global, texts: &[Bytes]) -> Result<String, AllocError> {
-    if texts.len() > MAX_HEADERS || !are_short(texts) {
+    if !are_within_limits(texts) {
         return String::from_str(alloc, "more than headers may be");
     }
     match declare(alloc, texts) {
@@ -79,11 +77,4 @@ fn stop_text(alloc: Global, stop: HeaderStop) -> Result<String, AllocError> {
         }
         HeaderStop::NotBuilt { file } => format!(in alloc; "not built {file}"),
     }
-}
-
-// Whether each of the texts is short.
-fn are_short(texts: &[Bytes]) -> bool
-    ensures { result ≡ true → All (λ text. length text < 2 ^ 32) texts.now }
-{
-    texts.iter().all(|text| text.len() < 1_000_000)
 }

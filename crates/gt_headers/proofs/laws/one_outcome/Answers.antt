@@ -1,4 +1,5 @@
 use Rattle.gt_headers.proofs.ReadOutcomes.{one_reading, read_no_reading_fault, one_reading_fault}
+use Rattle.gt_headers.proofs.SoundLemmas.{sound_by}
 use Rattle.gt_headers.proofs.Outcomes.{one_declared, one_first_fault, one_not_built, declared_no_fault, declared_built, fault_built}
 use Rattle.gt_headers.proofs.laws.one_outcome.Goals as goal
 
@@ -10,11 +11,13 @@ returns c =
     let one = one_reading search lexed.tokens lexed.not_both lexed.fault in
     let none = read_no_reading_fault search lexed.tokens lexed.not_both lexed.fault in
     let same = one_reading_fault search lexed.tokens lexed.not_both lexed.fault in
+    let settled = c.one_settlement.ensures.not_two in
+    let sound = sound_by c.read_is_well_made.ensures.well_made c.resolved_is_sound.ensures.sound in
     record {
-      program = one_declared one none same resolved.not_both resolved.draft resolved.fault;
-      fault = one_first_fault one none same resolved.not_both resolved.draft resolved.fault;
-      file = one_not_built one none same resolved.not_both resolved.draft resolved.fault;
-      no_fault = declared_no_fault one none same resolved.not_both resolved.draft resolved.fault;
-      built = declared_built one none same resolved.not_both resolved.draft resolved.fault;
-      fault_first = fault_built one none same resolved.not_both resolved.draft resolved.fault;
+      program = one_declared one none same resolved.not_both resolved.draft resolved.fault sound settled;
+      fault = one_first_fault one none same resolved.not_both resolved.draft resolved.fault sound settled;
+      file = one_not_built one none same resolved.not_both resolved.draft resolved.fault sound settled;
+      no_fault = declared_no_fault one none same resolved.not_both resolved.draft resolved.fault sound settled;
+      built = declared_built one none same resolved.not_both resolved.draft resolved.fault sound settled;
+      fault_first = fault_built one none same resolved.not_both resolved.draft resolved.fault sound settled;
     }

@@ -1,4 +1,4 @@
--- The program of declarations of which all is built.
+-- The program of declarations of which all is built, as its proofs see it.
 use Rattle.std.specs.Prelude.{◌≡◌, false, ℕ, List, [], Some, None, map}
 use Rattle.std.specs.List.{AllZip}
 use Rattle.gt_types.specs.declared.types.Target.TheVariants.{Node}
