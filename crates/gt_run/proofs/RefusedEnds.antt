@@ -1,4 +1,4 @@
--- Where something is refused first, the program ends with that, or for want of memory.
+-- Where something is refused first, the program ends with that, or since the sink failed, or for want of memory.
 use Rattle.std.proofs.Common.{◌≡◌, ℕ, ◌⊎◌, List, refl, ap, ◌∙◌, Some, Option, inl, inr}
 use Rattle.gt_space.specs.Range.{Range}
 use Rattle.gt_io.specs.Held.{Held}
@@ -36,13 +36,13 @@ NoRun = (words : List (List ℕ)) (held : Held) (texts : Texts) (refusal : Refus
 
 module _ (one : OneRefusal) (no_run : NoRun) (words : List (List ℕ)) (held : Held) (texts : Texts) (refusal : Refusal) (old new : Option (List ℕ)) (outcome : Outcome) (range : Range) where
   pub Ends-refused : IsRefusedFirst words (Some held) texts refusal → IsTold refusal → Ends words (Some held) old new outcome range
-      → ((word : ℕ) → outcome.refusal ≡ Some (InFile word Fault) → ⊥) → (outcome.status ≡ 4 → ⊥)
-      → ((outcome.refusal ≡ Some refusal) × (outcome.status ≡ refusal_status refusal)) ⊎ (outcome.status ≡ 9)
-  Ends-refused first told ends no_fault no_sink =
+      → ((word : ℕ) → outcome.refusal ≡ Some (InFile word Fault) → ⊥)
+      → ((outcome.refusal ≡ Some refusal) × (outcome.status ≡ refusal_status refusal)) ⊎ (outcome.status ≡ 4) ⊎ (outcome.status ≡ 9)
+  Ends-refused first told ends no_fault =
       by_ending ends.ending ends.status ends.refusal ends.ended where
         by_ending : (ending : Ending) → outcome.status ≡ status_of ending outcome.answers → outcome.refusal ≡ refusal_of ending
             → Ended words (Some held) old ending outcome.answers new range
-            → ((outcome.refusal ≡ Some refusal) × (outcome.status ≡ refusal_status refusal)) ⊎ (outcome.status ≡ 9)
+            → ((outcome.refusal ≡ Some refusal) × (outcome.status ≡ refusal_status refusal)) ⊎ (outcome.status ≡ 4) ⊎ (outcome.status ≡ 9)
         by_ending Finished s r h = absurd (no_run words held texts refusal outcome.answers range first told h.0)
         by_ending (Refused other) s r h =
             elim (told_or_fault other) [
@@ -51,5 +51,5 @@ module _ (one : OneRefusal) (no_run : NoRun) (words : List (List ℕ)) (held : H
                   inl (r ∙ ap (λ x. Some x) same, s ∙ ap refusal_status same)
               | inr fault ↦ absurd (no_fault fault.0 (r ∙ ap (λ x. Some x) fault.1))
             ]
-        by_ending SinkFailed s r h = absurd (no_sink s)
-        by_ending NoMemory s r h = inr s
+        by_ending SinkFailed s r h = inr (inl s)
+        by_ending NoMemory s r h = inr (inr s)

@@ -1,5 +1,5 @@
 -- Runs that go on by one step, and texts that go on by one answer.
-use Rattle.std.proofs.Common.{◌≡◌, ℕ, ◌+◌, ◌<◌, List, [], ◌∷◌, ◌++◌, length, take, get_or, refl, sym, ap, subst, ◌∙◌, append_assoc, append-nil, Some, None, Option}
+use Rattle.std.proofs.Common.{◌≡◌, ◌≢◌, ℕ, ◌+◌, ◌<◌, List, [], ◌∷◌, ◌++◌, length, take, get_or, refl, sym, ap, subst, ◌∙◌, append_assoc, append-nil, Some, None, Option}
 use Rattle.std.proofs.lemmas.List.{take_more}
 use Rattle.gt_types.specs.declared.program.Program.{Program}
 use Rattle.gt_io.specs.Appends.{Adds, AddsFront, IsFrontOf}
@@ -97,3 +97,8 @@ pub AddsAllBut-nothing : (old mid new : Option (List ℕ)) (lines : List Line) (
     → Adds old (texts_of (take i lines) answers) mid → new ≡ mid → AddsAllBut old (take (i + 1) lines) now IsNothing new
 AddsAllBut-nothing old mid new lines i line answers now answer within at e g h =
     (take i lines, line, take-line lines i line within at, answers, answer, e, [], refl, λ before t. h ∙ g before t ∙ ap (λ x. Some (before ++ x)) (sym (append-nil (texts_of (take i lines) answers))))
+
+-- one more answer is not none
+pub answered-some : (before now : List Answer) (answer : Answer) → now ≡ before ++ answer ∷ [] → now ≢ []
+answered-some [] now answer e none = let is : answer ∷ [] ≡ [] = sym e ∙ none in cc
+answered-some (a ∷ more) now answer e none = let is : a ∷ more ++ answer ∷ [] ≡ [] = sym e ∙ none in cc

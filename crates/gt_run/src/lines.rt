@@ -41,6 +41,7 @@ pub fn run_line<F: Files, K: Sink>(
     ensures files { files.new ≡ files.old }
     ensures later { K.faults out.old ≤ K.faults out.new }
     ensures cause { IsErrOf result LineStop.NotWritten → Rose (K.faults out.old) (K.faults out.new) }
+    ensures unanswered { IsErrOf result LineStop.NoAnswer → space.new ≡ space.old }
 {
     let Ok(()) = answers.reserve(1) else {
         return Err(LineStop::NoAnswer);
@@ -82,6 +83,7 @@ pub fn run_lines<F: Files, K: Sink>(
     ensures files { files.new ≡ files.old }
     ensures later { K.faults out.old ≤ K.faults out.new }
     ensures cause { result ≡ Ending.SinkFailed → Rose (K.faults out.old) (K.faults out.new) }
+    ensures unanswered { answers.new.items ≡ [] → space.new ≡ space.old }
 {
     for line in lines {
         match run_line(alloc, s, files, out, space, answers, line) {

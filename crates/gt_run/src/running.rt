@@ -12,7 +12,7 @@ ghost use Rattle.gt_heap.specs.Heap.{IsLinked};
 ghost use Rattle.gt_machine.specs.Built.{IsBuilt};
 ghost use Rattle.gt_run.specs.Comes.{IsRefusedFirst, IsTold};
 ghost use Rattle.gt_run.specs.Lines.{RunsScript};
-ghost use Rattle.gt_run.specs.Ended.{Ends, refusal_status};
+ghost use Rattle.gt_run.specs.Ended.{Ends, IsUnused, refusal_status};
 ghost use Rattle.gt_run.specs.Complete.{IsWell};
 
 use crate::built::are_built;
@@ -43,6 +43,9 @@ pub fn top<F: Files, K: Sink>(
     requires empty { space.old ≡ empty_range }
     ensures ended { Ends words.now (F.told files.old) (K.written out.old) (K.written out.new) result space.new }
 
+    // Where no line was answered, no command has changed a byte of the space.
+    ensures unused { result.answers ≡ [] → IsUnused space.new }
+
     // No command writes a file.
     ensures files { F.told files.new ≡ F.told files.old }
     ensures files_later { F.faults files.old ≤ F.faults files.new }
@@ -57,10 +60,10 @@ pub fn top<F: Files, K: Sink>(
         → (Rose (F.faults files.old) (F.faults files.new) → ⊥) → (Rose (K.faults out.old) (K.faults out.new) → ⊥)
         → (result.status ≡ 0) ⊎ (result.status ≡ 1) ⊎ (result.status ≡ 9) }
 
-    // Where something is refused first, it is refused, or there is want of memory.
+    // Where something is refused first, it is refused, or the sink failed, or there is want of memory.
     ensures refused { (held : Held) (texts : Texts) (refusal : Refusal) → F.told files.old ≡ Some held → IsRefusedFirst words.now (Some held) texts refusal → IsTold refusal
-        → (Rose (F.faults files.old) (F.faults files.new) → ⊥) → (Rose (K.faults out.old) (K.faults out.new) → ⊥)
-        → ((result.refusal ≡ Some refusal) × (result.status ≡ refusal_status refusal)) ⊎ (result.status ≡ 9) }
+        → (Rose (F.faults files.old) (F.faults files.new) → ⊥)
+        → ((result.refusal ≡ Some refusal) × (result.status ≡ refusal_status refusal)) ⊎ (result.status ≡ 4) ⊎ (result.status ≡ 9) }
 {
     is_of_pointers();
     well_is_not_refused();
@@ -85,12 +88,12 @@ fn well_is_not_refused()
     headers_outcome();
 }
 
-// Where something is refused first, and nothing outside failed, it is what is told, or there is want of memory. It does nothing:
-// its clause is a law.
+// Where something is refused first, and no file's reading failed, it is what is told, or the sink failed, or there is want of memory. It
+// does nothing: its clause is a law.
 fn refused_is_told()
     ensures { (words : List (List ℕ)) (held : Held) (texts : Texts) (refusal : Refusal) (old new : Option (List ℕ)) (outcome : Outcome) (range : Range) → IsRefusedFirst words (Some held) texts refusal → IsTold refusal
-        → Ends words (Some held) old new outcome range → ((word : ℕ) → outcome.refusal ≡ Some (Refusal.File word FileWhy.Fault) → ⊥) → (outcome.status ≡ 4 → ⊥)
-        → ((outcome.refusal ≡ Some refusal) × (outcome.status ≡ refusal_status refusal)) ⊎ (outcome.status ≡ 9) }
+        → Ends words (Some held) old new outcome range → ((word : ℕ) → outcome.refusal ≡ Some (Refusal.File word FileWhy.Fault) → ⊥)
+        → ((outcome.refusal ≡ Some refusal) × (outcome.status ≡ refusal_status refusal)) ⊎ (outcome.status ≡ 4) ⊎ (outcome.status ≡ 9) }
 {
     one_refusal();
 }
@@ -108,6 +111,7 @@ fn run_ready<F: Files, K: Sink>(
     requires empty { space.old ≡ empty_range }
     ensures ended { (words : List (List ℕ)) → Asks words (F.told files.old) ready.call ready.program ready.lines → Ends words (F.told files.old) (K.written out.old) (K.written out.new) result space.new }
     ensures refusal { IfSome result.refusal (λ refusal. refusal ≡ Refusal.NotBuilt 0) }
+    ensures unused { result.answers ≡ [] → IsUnused space.new }
     ensures files { files.new ≡ files.old }
     ensures later { K.faults out.old ≤ K.faults out.new }
     ensures cause { result.status ≡ 4 → Rose (K.faults out.old) (K.faults out.new) }
@@ -169,6 +173,7 @@ fn run<F: Files, K: Sink>(
     requires none_yet { answers.old.items ≡ [] }
     requires empty { space.old ≡ empty_range }
     ensures ran { RunsScript program settings lines.now (F.told files.old) answers.new.items (K.written out.old) (K.written out.new) space.new result }
+    ensures unanswered { answers.new.items ≡ [] → IsUnused space.new }
     ensures files { files.new ≡ files.old }
     ensures later { K.faults out.old ≤ K.faults out.new }
     ensures cause { result ≡ Ending.SinkFailed → Rose (K.faults out.old) (K.faults out.new) }

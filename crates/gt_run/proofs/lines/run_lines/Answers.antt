@@ -1,6 +1,6 @@
-use Rattle.std.proofs.Common.{◌≡◌, ◌+◌, take, drop, ◌∙◌, arith, append-nil, rules, inl, inr}
+use Rattle.std.proofs.Common.{◌≡◌, ◌+◌, take, drop, ◌∙◌, arith, append-nil, rules, inl, inr, refl, sym}
 use Rattle.std.proofs.lemmas.List.{take-append-drop, take_all}
-use Rattle.gt_run.proofs.RunLemmas.{Run-more, Run-unchanged, Adds-same, Adds-texts, AddsAllBut-front, AddsAllBut-nothing}
+use Rattle.gt_run.proofs.RunLemmas.{Run-more, Run-unchanged, answered-some, Adds-same, Adds-texts, AddsAllBut-front, AddsAllBut-nothing}
 use Rattle.gt_run.proofs.lines.run_lines.Goals as goal
 
 pub returns-in-Err-NotWritten-clause-ran : goal.returns-in-Err-NotWritten-clause-ran
@@ -50,6 +50,7 @@ loop-line-preserved g c =
       program = search rules;
       files = search rules;
       later = search rules;
+      unanswered = λ none. absurd (answered-some _ _ ran.0 ran.1.0 none);
     }
 
 pub returns-clause-ran : goal.returns-clause-ran
@@ -58,3 +59,19 @@ returns-clause-ran g c =
     let inv = c.loop-line.invariant in
     let all : take c.loop-line.line-index lines ≡ lines = take_all c.loop-line.line-index lines (omega arith) in
     ((take c.loop-line.line-index lines, append-nil (take c.loop-line.line-index lines) ∙ all, inv.ran), inv.written)
+
+pub returns-in-Err-NotWritten-clause-unanswered : goal.returns-in-Err-NotWritten-clause-unanswered
+returns-in-Err-NotWritten-clause-unanswered g c =
+    let ran = rw c.in-Err-NotWritten.field-0-is at c.in-Err-NotWritten.ensures.ran in
+    λ none. absurd (answered-some _ _ ran.0 ran.1.0 none)
+
+pub returns-in-Err-NoText-clause-unanswered : goal.returns-in-Err-NoText-clause-unanswered
+returns-in-Err-NoText-clause-unanswered g c =
+    let ran = rw c.in-Err-NoText.field-0-is at c.in-Err-NoText.ensures.ran in
+    λ none. absurd (answered-some _ _ ran.0 ran.1.0 none)
+
+pub returns-in-Err-NoAnswer-clause-unanswered : goal.returns-in-Err-NoAnswer-clause-unanswered
+returns-in-Err-NoAnswer-clause-unanswered g c =
+    let ran = rw c.in-Err-NoAnswer.field-0-is at c.in-Err-NoAnswer.ensures.ran in
+    let same = rw c.in-Err-NoAnswer.field-0-is at c.in-Err-NoAnswer.ensures.unanswered in
+    λ none. same refl ∙ c.loop-line.invariant.unanswered (sym ran.0 ∙ none)

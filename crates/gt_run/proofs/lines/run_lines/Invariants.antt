@@ -1,4 +1,4 @@
-use Rattle.std.proofs.Common.{◌≡◌, ◌≤◌, take}
+use Rattle.std.proofs.Common.{◌≡◌, ◌≤◌, [], take}
 use Rattle.gt_io.specs.Appends.{Adds}
 use Rattle.gt_machine.specs.Session.{state_of, IsSession}
 use Rattle.gt_machine.specs.Run.{Run}
@@ -15,4 +15,5 @@ invariant-loop-line g l =
       program : l.s.program ≡ l.fn.s.program;
       files : l.files ≡ l.fn.files;
       later : g.K.Sink.faults l.fn.out ≤ g.K.Sink.faults l.out;
+      unanswered : l.answers.items ≡ [] → l.space ≡ l.fn.space;
     }

@@ -26,14 +26,14 @@ returns-in-Ok-clause-complete g c = λ held told well no_file no_sink.
     file_rose c.run_ready.ensures.cause ended
 
 pub returns-in-Ok-clause-refused : goal.returns-in-Ok-clause-refused
-returns-in-Ok-clause-refused g c = λ held texts refusal told first known no_file no_sink.
+returns-in-Ok-clause-refused g c = λ held texts refusal told first known no_file.
     let words = c.args.words.now in
     let before = g.F.Files.told c.args.files.now in
     let ended : Ends words before (g.K.Sink.written c.args.out.now) (g.K.Sink.written c.run_ready.new.out) c.run_ready.result c.run_ready.new.space = search rules in
     let file_rose : (word : ℕ) → c.run_ready.result.refusal ≡ Some (InFile word Fault) → Rose (g.F.Files.faults c.args.files.now) (g.F.Files.faults c.run_ready.new.files) = search rules in
     let E : Option Held → Type 0 = λ told. Ends words told (g.K.Sink.written c.args.out.now) (g.K.Sink.written c.run_ready.new.out) c.run_ready.result c.run_ready.new.space in
     c.refused_is_told.ensures words held texts refusal _ _ c.run_ready.result c.run_ready.new.space first known (subst E told ended)
-    (λ word is. no_file (file_rose word is)) (λ is. no_sink (c.run_ready.ensures.cause is))
+    (λ word is. no_file (file_rose word is))
 
 module _ (g : Over) (c : goal.After-drop-line-inside g) where
   halts : Halts c.args.words.now (g.F.Files.told c.args.files.now) (halt.Refused c.in-Err-Refused.refusal c.in-Err-Refused.line)
@@ -58,9 +58,9 @@ returns-in-Err-Refused-clause-complete g c = λ held told well no_file no_sink.
     file_rose c.refused_outcome.ensures.cause (refused_ends g c)
 
 pub returns-in-Err-Refused-clause-refused : goal.returns-in-Err-Refused-clause-refused
-returns-in-Err-Refused-clause-refused g c = λ held texts refusal told first known no_file no_sink.
+returns-in-Err-Refused-clause-refused g c = λ held texts refusal told first known no_file.
     let words = c.args.words.now in
     let file_rose : (word : ℕ) → c.refused_outcome.result.refusal ≡ Some (InFile word Fault) → Rose (g.F.Files.faults c.args.files.now) (g.F.Files.faults c.prepare.new.files) = search rules in
     let E : Option Held → Type 0 = λ told. Ends words told (g.K.Sink.written c.args.out.now) (g.K.Sink.written c.refused_outcome.new.out) c.refused_outcome.result c.args.space.now in
     c.refused_is_told.ensures words held texts refusal _ _ c.refused_outcome.result c.args.space.now first known (subst E told (refused_ends g c))
-    (λ word is. no_file (file_rose word is)) (λ is. no_sink (c.refused_outcome.ensures.cause is))
+    (λ word is. no_file (file_rose word is))
