@@ -174,66 +174,7 @@ fn main(rt: HostRuntime) -> io::Result<()> {
     println!(rt; "freed {freed} rounds {rounds}")
 }
 RT
-cat >"$work/mark.c" <<'C'
-/* The list in plain C: pages of 4096 bytes, each of one size, with a bit for each place, a list of pages with a free place for each size,
-   and an explicit stack. */
-#include <stdint.h>
-#include <stdio.h>
-#include <stdlib.h>
-#include <string.h>
-#include <sys/mman.h>
-enum { PAGE = 4096, PAGES = 16384, SHIFT = 5, PLACES = PAGE >> SHIFT };
-typedef struct page { uint64_t bits[PLACES / 64]; uint16_t free, hint; uint32_t next; } page;
-typedef struct node { struct node *next, *other; uint64_t key, pad; } node;
-static page *table; static char *base; static uint32_t top, first = ~0u, empty = ~0u;
-static node *take (void)
-{
-  uint32_t p = first;
-  if (p == ~0u) {
-    if (empty != ~0u) { p = empty; empty = table[p].next; } else p = top++;
-    if (p >= PAGES) abort ();
-    page *e = &table[p]; memset (e, 0, sizeof *e); e->free = PLACES; e->next = first; first = p;
-  }
-  page *e = &table[p]; unsigned i = e->hint;
-  if (i >= PLACES || (e->bits[i >> 6] >> (i & 63) & 1)) { unsigned w = 0; while (~e->bits[w] == 0) w++; i = w * 64 + __builtin_ctzll (~e->bits[w]); }
-  e->bits[i >> 6] |= 1ull << (i & 63); e->hint = i + 1;
-  if (--e->free == 0) first = e->next;
-  void *r = base + (size_t) p * PAGE + ((size_t) i << SHIFT); memset (r, 0, 1u << SHIFT); return r;
-}
-static int mark (void *block)
-{
-  size_t off = (char *) block - base; page *e = &table[off >> 12]; unsigned i = (off & (PAGE - 1)) >> SHIFT;
-  uint64_t bit = 1ull << (i & 63);
-  if (e->bits[i >> 6] & bit) return 0;
-  e->bits[i >> 6] |= bit; e->free--; return 1;
-}
-int main (int argc, char **argv)
-{
-  long n = argc > 2 ? atol (argv[2]) : 0, kept = 0; node *head = 0, **stack = malloc ((2 * n + 16) * sizeof *stack); size_t depth = 0;
-  base = mmap (0, (size_t) PAGES * PAGE, PROT_READ | PROT_WRITE, MAP_PRIVATE | MAP_ANONYMOUS, -1, 0);
-  table = calloc (PAGES, sizeof *table);
-  for (long i = 0; i < n; i++) {
-    node *x = take (); x->key = i; x->next = head; head = x;
-    if (i % 3 == 2) { node *y = take (); y->other = x; }
-  }
-  if (strcmp (argv[1], "collect")) { printf ("%ld\n", n); return 0; }
-  for (uint32_t p = 0; p < top; p++) { page *e = &table[p]; memset (e->bits, 0, sizeof e->bits); e->free = PLACES; }
-  if (head && mark (head)) stack[depth++] = head;
-  while (depth) {
-    node *x = stack[--depth]; kept++;
-    if (x->next && mark (x->next)) stack[depth++] = x->next;
-    if (x->other && mark (x->other)) stack[depth++] = x->other;
-  }
-  first = ~0u;
-  for (uint32_t p = top; p-- > 0;) {
-    page *e = &table[p]; e->hint = 0;
-    if (e->free == PLACES) { e->next = empty; empty = p; }
-    else if (e->free) { e->next = first; first = p; }
-  }
-  printf ("%ld\n", kept); return 0;
-}
-C
-cc -O2 -o "$work/mark" "$work/mark.c"
+build_small
 build_spent
 : >"$program/stdin"
 build_copied $crates
@@ -254,6 +195,6 @@ for shape in list tree arrays levels links; do
     printf "%s of %d: %.2f ms, of a tenth %.2f ms, ratio %.1f (%s)\n", s, n, m, l, m / l, t }'
 done
 for n in 100000 1000000; do
-  awk -v n=$n -v o="$(collects list $n)" -v a="$(seconds "$work/mark" collect $n)" -v b="$(seconds "$work/mark" make $n)" 'BEGIN {
+  awk -v n=$n -v o="$(collects list $n)" -v a="$(seconds "$work/small" collect $n)" -v b="$(seconds "$work/small" make $n)" 'BEGIN {
     printf "list of %d: %.2f ms, in C %.2f ms, ratio %.1f\n", n, o, 1000 * (a - b), o / (1000 * (a - b)) }'
 done

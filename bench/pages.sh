@@ -174,68 +174,7 @@ fn main(rt: HostRuntime) -> io::Result<()> {
     println!(rt; "{}", collect(alloc, &mut pages, &space, head, n)?)
 }
 RT
-cat >"$work/pages.c" <<'C'
-/* The same in plain C: pages of 4096 bytes, each of one size, with a bit for each place, a list of pages with a free place for each size,
-   and an explicit stack. */
-#include <stdint.h>
-#include <stdio.h>
-#include <stdlib.h>
-#include <string.h>
-#include <sys/mman.h>
-enum { PAGE = 4096, PAGES = 16384 };
-typedef struct page { uint64_t bits[8]; uint16_t count, free, hint, shift; uint32_t next; } page;
-typedef struct node { struct node *next, *other; uint64_t key, pad; } node;
-static page *table; static char *base; static uint32_t top, first[32], empty = ~0u;
-static void *take (unsigned shift)
-{
-  uint32_t p = first[shift];
-  if (p == ~0u) {
-    if (empty != ~0u) { p = empty; empty = table[p].next; } else p = top++;
-    if (p >= PAGES) abort ();
-    page *e = &table[p]; memset (e, 0, sizeof *e);
-    e->shift = shift; e->count = e->free = PAGE >> shift; e->next = first[shift]; first[shift] = p;
-  }
-  page *e = &table[p]; unsigned i = e->hint;
-  if (i >= e->count || (e->bits[i >> 6] >> (i & 63) & 1)) { unsigned w = 0; while (~e->bits[w] == 0) w++; i = w * 64 + __builtin_ctzll (~e->bits[w]); }
-  e->bits[i >> 6] |= 1ull << (i & 63); e->hint = i + 1;
-  if (--e->free == 0) first[shift] = e->next;
-  void *r = base + (size_t) p * PAGE + ((size_t) i << shift); memset (r, 0, 1u << shift); return r;
-}
-static int mark (void *block)
-{
-  size_t off = (char *) block - base; page *e = &table[off >> 12]; unsigned i = (off & (PAGE - 1)) >> e->shift;
-  uint64_t bit = 1ull << (i & 63);
-  if (e->bits[i >> 6] & bit) return 0;
-  e->bits[i >> 6] |= bit; e->free--; return 1;
-}
-int main (int argc, char **argv)
-{
-  long n = argc > 2 ? atol (argv[2]) : 0, kept = 0; node *head = 0, **stack = malloc ((2 * n + 16) * sizeof *stack); size_t depth = 0;
-  base = mmap (0, (size_t) PAGES * PAGE, PROT_READ | PROT_WRITE, MAP_PRIVATE | MAP_ANONYMOUS, -1, 0);
-  table = calloc (PAGES, sizeof *table);
-  for (int i = 0; i < 32; i++) first[i] = ~0u;
-  for (long i = 0; i < n; i++) {
-    node *x = take (5); x->key = i; x->next = head; head = x;
-    if (i % 3 == 2) { node *y = take (5); y->other = x; }
-  }
-  if (strcmp (argv[1], "collect")) { printf ("%ld\n", n); return 0; }
-  for (uint32_t p = 0; p < top; p++) { page *e = &table[p]; memset (e->bits, 0, sizeof e->bits); e->free = e->count; }
-  if (head && mark (head)) stack[depth++] = head;
-  while (depth) {
-    node *x = stack[--depth]; kept++;
-    if (x->next && mark (x->next)) stack[depth++] = x->next;
-    if (x->other && mark (x->other)) stack[depth++] = x->other;
-  }
-  for (int i = 0; i < 32; i++) first[i] = ~0u;
-  for (uint32_t p = top; p-- > 0;) {
-    page *e = &table[p]; e->hint = 0;
-    if (e->free == e->count) { e->next = empty; empty = p; }
-    else if (e->free) { e->next = first[e->shift]; first[e->shift] = p; }
-  }
-  printf ("%ld\n", kept); return 0;
-}
-C
-cc -O2 -o "$work/pages" "$work/pages.c"
+build_small
 build_spent
 : >"$program/stdin"
 build_copied gt_space gt_links gt_bits gt_entries gt_pages
@@ -246,10 +185,10 @@ ours=$program/out/time_pages
 seconds() { for _ in 1 2 3 4 5 6 7 8 9; do "$work/spent" /dev/null "$@" 2>&1 >"$work/out"; done | sort -n | head -n 1 | awk '{ print $1 }'; }
 for n in 100000 1000000; do
   for what in make collect; do
-    [ "$("$ours" $what $n)" = "$("$work/pages" $what $n)" ] || { echo "$what $n: other answers" >&2; exit 2; }
+    [ "$("$ours" $what $n)" = "$("$work/small" $what $n)" ] || { echo "$what $n: other answers" >&2; exit 2; }
   done
   awk -v n=$n -v om="$(seconds "$ours" make $n)" -v oc="$(seconds "$ours" collect $n)" -v on="$(seconds "$ours" make 0)" \
-    -v cm="$(seconds "$work/pages" make $n)" -v cc="$(seconds "$work/pages" collect $n)" -v cn="$(seconds "$work/pages" make 0)" 'BEGIN {
+    -v cm="$(seconds "$work/small" make $n)" -v cc="$(seconds "$work/small" collect $n)" -v cn="$(seconds "$work/small" make 0)" 'BEGIN {
     printf "%7d nodes made: %.2f ms, in C %.2f ms, ratio %.1f; collected: %.2f ms, in C %.2f ms, ratio %.1f\n",
       n, 1000 * (om - on), 1000 * (cm - cn), (om - on) / (cm - cn), 1000 * (oc - om), 1000 * (cc - cm), (oc - om) / (cc - cm) }'
 done
