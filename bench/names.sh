@@ -2,8 +2,7 @@
 # Runs an empty script under headers that declare much, and under half as much, and compares the times. Run by hand, from any
 # folder, once ./gtyheap has built the program, which is taken as it is; each ratio should be about 2.0.
 . "$(dirname "$0")/shared.sh"
-program=$root/crates/gtyheap/out/gtyheap
-[ -x "$program" ] || { echo "names.sh: no program: run ./gtyheap first" >&2; exit 2; }
+take_program
 : >"$work/empty.gty"
 
 # So many structures of 30 pointers to the next ones, 1,024 of them in a header.

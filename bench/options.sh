@@ -3,8 +3,7 @@
 # are not built, so the program reads all of them, settles what they declare, and refuses them. Run by hand, from any folder, once
 # ./gtyheap has built the program, which is taken as it is; each ratio should be at most 12.
 . "$(dirname "$0")/shared.sh"
-program=$root/crates/gtyheap/out/gtyheap
-[ -x "$program" ] || { echo "options.sh: no program: run ./gtyheap first" >&2; exit 2; }
+take_program
 : >"$work/empty.gty"
 
 # So many structures with 29 pointers, each with a path to a length; 256 in a header.

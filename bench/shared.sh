@@ -8,6 +8,12 @@ trap 'rm -rf "$work"' EXIT
 # Runs a command, and shows what it prints only where it fails.
 quiet() { "$@" >"$work/log" 2>&1 || { cat "$work/log" >&2; exit 2; }; }
 
+# Takes the program that ./gtyheap has built as `program`; where there is none the bench ends.
+take_program() {
+  program=$root/crates/gtyheap/out/gtyheap
+  [ -x "$program" ] || { echo "$(basename "$0"): no program: run ./gtyheap first" >&2; exit 2; }
+}
+
 # Copies these crates into `work`, each with its line of crates.txt.
 copy_crates() {
   local name
