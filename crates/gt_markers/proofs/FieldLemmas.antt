@@ -1,14 +1,12 @@
 -- The faults of the fields of a structure, one field after another.
-use Rattle.std.proofs.Common.{◌≡◌, ◌∙◌, ℕ, ◌+◌, ◌-◌, ◌<◌, ◌≤◌, Bool, List, [], ◌∷◌, ◌++◌, map, length, get_or, take, drop, Option, refl, sym, ap, arith}
+use Rattle.std.proofs.Common.{◌≡◌, ◌∙◌, ℕ, ◌+◌, ◌-◌, ◌<◌, ◌≤◌, Bool, List, [], ◌∷◌, ◌++◌, length, get_or, take, drop, Option, refl, sym, ap, arith}
 use Rattle.std.specs.Prelude.{◌==◌}
 use Rattle.std.proofs.lemmas.Bool.Decides.{nat_tests}
-use Rattle.std.proofs.lemmas.List.{take_more, drop_more, drop_all, map-append, length-drop}
+use Rattle.std.proofs.lemmas.List.{take_more, drop_more, drop_all, length-drop}
 use Rattle.gt_types.specs.declared.faults.Fault.{Fault}
-use Rattle.gt_types.specs.declared.program.Active.{Active}
 use Rattle.gt_resolve.specs.declared.draft.Draft.{Draft}
 use Rattle.gt_resolve.specs.declared.draft.DraftField.{DraftField}
 use Rattle.gt_resolve.specs.declared.draft.DraftStructure.{DraftStructure}
-use Rattle.gt_markers.specs.Actives.{active_of}
 use Rattle.gt_markers.specs.FirstFaults.{first_from}
 use Rattle.gt_markers.specs.MarkerFaults.{field_faults, fields_faults, is_empty}
 use Rattle.gt_markers.proofs.Firsts.{first_from_both, first_from_nil}
@@ -25,32 +23,25 @@ is_end xs place l = empty_at (drop place xs) place (length xs) (length-drop plac
 
 -- ---- the fields from one on
 
-module _ (draft : Draft) (s : DraftStructure) where
-  -- when fields are active
-  abbrev pub actives : List DraftField → List Active
-  actives fields = map (λ f. active_of draft s.is_union f.options) fields
+pub taken_more : (i : ℕ) (fields : List DraftField) (f : DraftField) → i < length fields → f ≡ get_or fields i f → take (i + 1) fields ≡ take i fields ++ f ∷ []
+taken_more i fields f l is = take_more fields i f l ∙ ap (λ (x : DraftField). take i fields ++ x ∷ []) (sym is)
 
+module _ (draft : Draft) (s : DraftStructure) where
   -- the faults of the fields from one on
   abbrev pub rest_faults : ℕ → List DraftField → List Fault
-  rest_faults i fields = fields_faults draft s (actives (take i fields)) (drop i fields)
-
-  pub actives_more : (i : ℕ) (fields : List DraftField) (f : DraftField) → i < length fields → f ≡ get_or fields i f
-      → actives (take (i + 1) fields) ≡ actives (take i fields) ++ active_of draft s.is_union f.options ∷ []
-  actives_more i fields f l is =
-      let grown : take (i + 1) fields ≡ take i fields ++ f ∷ [] = take_more fields i f l ∙ ap (λ (x : DraftField). take i fields ++ x ∷ []) (sym is) in
-      ap actives grown ∙ map-append (λ (f : DraftField). active_of draft s.is_union f.options) (take i fields) (f ∷ [])
+  rest_faults i fields = fields_faults draft s (take i fields) (drop i fields)
 
   -- one more field
   pub first_from_field : (e e1 : Option Fault) (i : ℕ) (fields : List DraftField) (f : DraftField) (last : Bool) → i < length fields → f ≡ get_or fields i f
-      → last ≡ is_empty (drop (i + 1) fields) → e1 ≡ first_from e (field_faults draft s (actives (take i fields)) last f)
+      → last ≡ is_empty (drop (i + 1) fields) → e1 ≡ first_from e (field_faults draft s (take i fields) last f)
       → first_from e1 (rest_faults (i + 1) fields) ≡ first_from e (rest_faults i fields)
   unfolding fields_faults
   first_from_field e e1 i fields f last l is end h =
-      let before = actives (take i fields) in
+      let before = take i fields in
       let rest = drop (i + 1) fields in
-      let after = before ++ active_of draft s.is_union f.options ∷ [] in
+      let after = before ++ f ∷ [] in
       let item : drop i fields ≡ f ∷ rest = drop_more fields i f l ∙ ap (λ (x : DraftField). x ∷ rest) (sym is) in
-      ap (λ (actives : List Active). first_from e1 (fields_faults draft s actives rest)) (actives_more i fields f l is)
+      ap (λ (taken : List DraftField). first_from e1 (fields_faults draft s taken rest)) (taken_more i fields f l is)
       ∙ first_from_both e e1 (first_from e1 (fields_faults draft s after rest)) (field_faults draft s before (is_empty rest) f) (fields_faults draft s after rest)
       (h ∙ ap (λ (b : Bool). first_from e (field_faults draft s before b f)) end) refl
       ∙ ap (λ (fs : List DraftField). first_from e (fields_faults draft s before fs)) (sym item)
@@ -59,4 +50,4 @@ module _ (draft : Draft) (s : DraftStructure) where
   pub first_from_fields : (e : Option Fault) (i : ℕ) (fields : List DraftField) → length fields ≤ i → e ≡ first_from e (rest_faults i fields)
   unfolding fields_faults
   first_from_fields e i fields l =
-      sym (first_from_nil e) ∙ ap (λ (fs : List DraftField). first_from e (fields_faults draft s (actives (take i fields)) fs)) (sym (drop_all i fields l))
+      sym (first_from_nil e) ∙ ap (λ (fs : List DraftField). first_from e (fields_faults draft s (take i fields) fs)) (sym (drop_all i fields l))

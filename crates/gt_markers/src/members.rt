@@ -1,15 +1,13 @@
-// When the members of a union are a part of its value, and which of them would be at once.
-ghost use Rattle.std.specs.Prelude.{◌≡◌, ℤ, ◌||◌, false, IfOk, OnOk};
+// When the members of a union are a part of its value, and which of them say the same.
+ghost use Rattle.std.specs.Prelude.{◌≡◌, ℤ, ◌||◌, [], IfOk, OnOk, Option};
 ghost use Rattle.std.specs.BTreeSet.{contains};
-ghost use Rattle.std.specs.Option.{option_copied};
 ghost use Rattle.std.specs.Ordering.{int_cmp, int_eq};
-ghost use Rattle.gt_types.specs.declared.program.Active.{Active};
 ghost use Rattle.gt_resolve.specs.declared.draft.Draft.{Draft};
 ghost use Rattle.gt_markers.specs.Actives.{active_of, tag_of, without_tag};
 ghost use Rattle.gt_markers.specs.Expressions.{constant_value};
 ghost use Rattle.gt_markers.specs.Lookups.{IsLookupOf};
-ghost use Rattle.gt_markers.specs.MarkerFaults.{active_option, same_active};
-ghost use Rattle.gt_markers.specs.Members.{holds};
+ghost use Rattle.gt_markers.specs.MarkerFaults.{same_tag, tag_value};
+ghost use Rattle.gt_markers.specs.Members.{AreMembers, holds_tag};
 
 use crate::constants::constant_value;
 use crate::lookups::Lookup;
@@ -57,18 +55,21 @@ pub fn active_of(
     }
 }
 
-/// The option that says when a member is active.
-pub fn active_option<'a>(active: Active, options: &'a [RawOption]) -> Option<&'a RawOption>
-    ensures option { option_copied result ≡ active_option active options.now }
+/// The value of a member's tag; `None` where it has no tag, or one without a value. It answers want of memory alone.
+pub fn tag_value(
+    alloc: Global,
+    lookup: &Lookup,
+    options: &[RawOption],
+) -> Result<Option<i64>, AllocError>
+    ensures value { IfOk result (λ v. (draft : Draft) → IsLookupOf draft lookup.now → v ≡ tag_value draft options.now) }
 {
-    match active {
-        Active::Tag(_) => option_named(options, "tag"),
-        Active::Other => option_named(options, "default"),
-        Active::Always | Active::Never => None,
+    match option_named(options, "tag") {
+        Some(option) => constant_value(alloc, lookup, &option.parameter),
+        None => Ok(None),
     }
 }
 
-/// The members of a union so far, by their tags and by whether one of them is the default.
+/// The fields of a structure so far, by their tags and by whether one of them is the default.
 #[derive(Drop)]
 pub struct Members {
     tags: BTreeSet<i64>,
@@ -76,9 +77,9 @@ pub struct Members {
 }
 
 impl Members {
-    /// No members.
+    /// No fields.
     pub fn new(alloc: Global) -> Members
-        ensures none { (active : Active) → holds result active ≡ false }
+        ensures none { (draft : Draft) → AreMembers draft [] result }
     {
         Members {
             tags: BTreeSet::new(alloc),
@@ -86,15 +87,21 @@ impl Members {
         }
     }
 
-    /// Whether a member so far would be active at once with another.
-    pub fn hold(&self, active: Active) -> bool
-        ensures held { result ≡ holds self.now active }
+    /// Whether a field so far has a tag of this value.
+    pub fn hold_tag(&self, tag: Option<i64>) -> bool
+        ensures held { result ≡ holds_tag self.now tag }
     {
-        match active {
-            Active::Tag(value) => self.tags.contains(&value),
-            Active::Other => self.has_default,
-            Active::Always | Active::Never => false,
+        match tag {
+            Some(value) => self.tags.contains(&value),
+            None => false,
         }
+    }
+
+    /// Whether a field so far is the default.
+    pub fn hold_default(&self) -> bool
+        ensures held { result ≡ self.now.has_default }
+    {
+        self.has_default
     }
 
     fn add_tag(&mut self, value: i64) -> Result<(), AllocError>
@@ -105,17 +112,15 @@ impl Members {
         Ok(())
     }
 
-    /// Adds a member. It answers want of memory alone.
-    pub fn add(&mut self, active: Active) -> Result<(), AllocError>
-        ensures added { OnOk result ((other : Active) → holds self.new other ≡ (holds self.old other || same_active other active)) }
+    /// Adds a field with this tag, which is the default or not. It answers want of memory alone.
+    pub fn add(&mut self, tag: Option<i64>, is_default: bool) -> Result<(), AllocError>
+        ensures tags { OnOk result ((other : Option ℤ) → holds_tag self.new other ≡ (holds_tag self.old other || same_tag other tag)) }
+        ensures default { OnOk result (self.new.has_default ≡ (self.old.has_default || is_default)) }
     {
-        match active {
-            Active::Tag(value) => self.add_tag(value),
-            Active::Other => {
-                self.has_default = true;
-                Ok(())
-            }
-            Active::Always | Active::Never => Ok(()),
+        self.has_default = self.has_default || is_default;
+        match tag {
+            Some(value) => self.add_tag(value),
+            None => Ok(()),
         }
     }
 }

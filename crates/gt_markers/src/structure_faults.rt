@@ -1,23 +1,26 @@
 // The faults of structures and of their fields.
-ghost use Rattle.std.specs.Prelude.{◌≡◌, ◌&&◌, ◌∷◌, ◌++◌, [], IfOk, OnOk, List};
-ghost use Rattle.gt_types.specs.declared.program.Active.{Active};
-ghost use Rattle.gt_markers.specs.Actives.{active_of};
+ghost use Rattle.std.specs.Prelude.{◌≡◌, ◌&&◌, ◌∷◌, ◌++◌, [], IfOk, OnOk, IsTrue, List};
+ghost use Rattle.std.specs.List.{list_all};
+ghost use Rattle.std.specs.Char.{is_ascii};
+ghost use Rattle.gt_resolve.specs.declared.draft.Draft.{Draft};
+ghost use Rattle.gt_resolve.specs.declared.draft.DraftField.{DraftField};
 ghost use Rattle.gt_markers.specs.FirstFaults.{first_from};
 ghost use Rattle.gt_markers.specs.Lookups.{IsLookupOf};
-ghost use Rattle.gt_markers.specs.MarkerFaults.{active_option, field_faults, fields_faults, is_unmarked, repeated_faults, structure_faults};
+ghost use Rattle.gt_markers.specs.MarkerFaults.{field_faults, fields_faults, is_unmarked, repeated_fault, repeated_faults, structure_faults};
 ghost use Rattle.gt_markers.specs.Members.{AreMembers, own_faults};
+ghost use Rattle.gt_markers.specs.Options.{option_named};
 
 use crate::earliest::with_fault;
 use crate::field_faults::is_untyped;
 use crate::lookups::Lookup;
 use crate::marker_faults::{Marker, of_marker};
-use crate::members::{Members, active_of, active_option};
-use crate::options::{has_option, has_skip};
+use crate::members::{Members, tag_value};
+use crate::options::{has_option, has_skip, option_named};
 use crate::sites::Site;
 use crate::{DUPLICATE_TAG, MISSING_DESC, WRONG_PLACE};
 use gt_items::RawOption;
 use gt_resolve::{Draft, DraftField, DraftStructure};
-use gt_types::{Active, Fault};
+use gt_types::Fault;
 use std::alloc::{AllocError, Global};
 
 // A field of a structure, which is its last or not.
@@ -67,23 +70,42 @@ fn of_own(
     Ok(with_fault(earliest, unmarked, MISSING_DESC, structure.file, at))
 }
 
-// The earliest fault with that of a field which is active at once with one before it.
+// The earliest fault with that of the first option of a name of ASCII characters, where it is repeated.
 fn of_repeated(
     earliest: Option<Fault>,
-    before: &Members,
+    repeated: bool,
     file: u32,
-    active: Active,
     options: &[RawOption],
+    name: &str,
 ) -> Option<Fault>
-    ensures earliest { (actives : List Active) → AreMembers actives before.now → result ≡ first_from earliest (repeated_faults actives file active (active_option active options.now)) }
+    requires ascii { IsTrue (list_all is_ascii name.now) }
+    ensures earliest { result ≡ first_from earliest (repeated_fault repeated file (option_named name.now options.now)) }
 {
-    match active_option(active, options) {
-        Some(option) => {
-            let repeated = before.hold(active);
-            with_fault(earliest, repeated, DUPLICATE_TAG, file, option.name.at)
-        }
+    match option_named(options, name) {
+        Some(option) => with_fault(earliest, repeated, DUPLICATE_TAG, file, option.name.at),
         None => earliest,
     }
+}
+
+// The earliest fault with those of a field whose tag, or whose default, a field before has too. It is added to those before.
+fn of_repeats(
+    alloc: Global,
+    earliest: Option<Fault>,
+    lookup: &Lookup,
+    before: &mut Members,
+    structure: &DraftStructure,
+    options: &[RawOption],
+) -> Result<Option<Fault>, AllocError>
+    ensures earliest { IfOk result (λ r. (draft : Draft) (fields : List DraftField) → IsLookupOf draft lookup.now → AreMembers draft fields before.old → r ≡ first_from earliest (repeated_faults draft structure.now.is_union fields structure.now.file options.now)) }
+    ensures members { OnOk result ((draft : Draft) (fields : List DraftField) (f : DraftField) → IsLookupOf draft lookup.now → AreMembers draft fields before.old → f.options ≡ options.now → AreMembers draft (fields ++ f ∷ []) before.new) }
+{
+    let tag = tag_value(alloc, lookup, options)?;
+    let same_tag = structure.is_union && before.hold_tag(tag);
+    let earliest = of_repeated(earliest, same_tag, structure.file, options, "tag");
+    let default_twice = structure.is_union && before.hold_default();
+    let earliest = of_repeated(earliest, default_twice, structure.file, options, "default");
+    before.add(tag, has_option(options, "default"))?;
+    Ok(earliest)
 }
 
 // The earliest fault with those of a field, which is added to those before it.
@@ -96,16 +118,12 @@ fn of_field(
     member: Member,
 ) -> Result<Option<Fault>, AllocError>
     requires lookup { IsLookupOf draft.now lookup.now }
-    ensures earliest { IfOk result (λ r. (actives : List Active) → AreMembers actives before.old → r ≡ first_from earliest (field_faults draft.now member.entry.structure.now actives member.entry.last member.entry.field.now)) }
-    ensures members { OnOk result ((actives : List Active) → AreMembers actives before.old → AreMembers (actives ++ active_of draft.now member.entry.structure.now.is_union member.entry.field.now.options ∷ []) before.new) }
+    ensures earliest { IfOk result (λ r. (fields : List DraftField) → AreMembers draft.now fields before.old → r ≡ first_from earliest (field_faults draft.now member.entry.structure.now fields member.entry.last member.entry.field.now)) }
+    ensures members { OnOk result ((fields : List DraftField) → AreMembers draft.now fields before.old → AreMembers draft.now (fields ++ member.entry.field.now ∷ []) before.new) }
 {
-    let structure = member.structure;
     let options = member.field.options.as_slice();
     let earliest = of_own(alloc, earliest, draft, lookup, member)?;
-    let active = active_of(alloc, lookup, structure.is_union, options)?;
-    let earliest = of_repeated(earliest, before, structure.file, active, options);
-    before.add(active)?;
-    Ok(earliest)
+    of_repeats(alloc, earliest, lookup, before, member.structure, options)
 }
 
 // The earliest fault with those of the fields of a structure.

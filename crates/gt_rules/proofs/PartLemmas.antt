@@ -34,18 +34,18 @@ use Rattle.gt_rules.proofs.FirstLemmas.{first_if, first_of_none, first_of_same}
 -- ---- options
 
 -- no option of the name is read
-pub no_option : (options : List RawOption) (name : List ℕ) (holds : RawOption → Type 0) (number file : ℕ) (e : Option Fault) → read_option name options ≡ None
-    → IsFirstWith e (OptionFault options name holds number file) e
-no_option options name holds number file e none = first_of_none e (OptionFault options name holds number file) (λ f p. none-some p.0 (sym none ∙ p.1))
+pub no_option : (of_field : Bool) (options : List RawOption) (name : List ℕ) (holds : RawOption → Type 0) (number file : ℕ) (e : Option Fault) → read_option of_field name options ≡ None
+    → IsFirstWith e (OptionFault of_field options name holds number file) e
+no_option of_field options name holds number file e none = first_of_none e (OptionFault of_field options name holds number file) (λ f p. none-some p.0 (sym none ∙ p.1))
 
 -- an option of the name is read, and was tested
-pub one_option : (options : List RawOption) (name : List ℕ) (holds : RawOption → Type 0) (number file : ℕ) (o : RawOption) (b : Bool) (e r : Option Fault) → read_option name options ≡ Some o
-    → r ≡ first_from e (fault_if b number file o.name.at) → Decides b (holds o) → IsFirstWith e (OptionFault options name holds number file) r
-one_option options name holds number file o b e r at is decides =
-    first_of_same e r (FaultIf (holds o) number file o.name.at) (OptionFault options name holds number file) (λ f p. (o, at, p.0, p.1)) (λ f p. back f p.0 p.1 p.2 p.3)
+pub one_option : (of_field : Bool) (options : List RawOption) (name : List ℕ) (holds : RawOption → Type 0) (number file : ℕ) (o : RawOption) (b : Bool) (e r : Option Fault) → read_option of_field name options ≡ Some o
+    → r ≡ first_from e (fault_if b number file o.name.at) → Decides b (holds o) → IsFirstWith e (OptionFault of_field options name holds number file) r
+one_option of_field options name holds number file o b e r at is decides =
+    first_of_same e r (FaultIf (holds o) number file o.name.at) (OptionFault of_field options name holds number file) (λ f p. (o, at, p.0, p.1)) (λ f p. back f p.0 p.1 p.2 p.3)
     (first_if e r b (holds o) number file o.name.at is decides)
   where
-    back : (f : Fault) (other : RawOption) → read_option name options ≡ Some other → holds other → f ≡ fault number file other.name.at → FaultIf (holds o) number file o.name.at f
+    back : (f : Fault) (other : RawOption) → read_option of_field name options ≡ Some other → holds other → f ≡ fault number file other.name.at → FaultIf (holds o) number file o.name.at f
     back f other there h says =
         let same : other ≡ o = same_Some other o (sym there ∙ at) in
         (subst holds same h, says ∙ ap (λ (x : RawOption). fault number file x.name.at) same)

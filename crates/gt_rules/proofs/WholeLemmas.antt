@@ -38,10 +38,10 @@ read_by false found o is = (refl, is)
 read_again : (b : Bool) (found : Option RawOption) (o : RawOption) → b ≡ false → found ≡ Some o → (if b then None else found) ≡ Some o
 read_again b found o off is = ap (λ (x : Bool). if x then None else found) off ∙ is
 
-is_read : (options : List RawOption) (name : List ℕ) (o : RawOption) → read_option name options ≡ Some o → IsReadOption options name o
+is_read : (options : List RawOption) (name : List ℕ) (o : RawOption) → read_option true name options ≡ Some o → IsReadOption options name o
 is_read options name o is = read_by (has_skip options) (option_named name options) o is
 
-reads : (options : List RawOption) (name : List ℕ) (o : RawOption) → IsReadOption options name o → read_option name options ≡ Some o
+reads : (options : List RawOption) (name : List ℕ) (o : RawOption) → IsReadOption options name o → read_option true name options ≡ Some o
 reads options name o is = read_again (has_skip options) (option_named name options) o is.0 is.1
 
 -- ---- from parts
@@ -82,9 +82,9 @@ module _ (draft : Draft) (program : Program) where
   root_has : (dr : DraftRoot) (r : Root) (g : Fault) → IsRootAt draft program dr r → RootFaults draft program dr r g → HasProgramFault draft program g
   root_has dr r g at (inl type) = root_type dr r g at type
   root_has dr r g at (inr (inl ((id, holds, inner), is))) = said draft program g _ (root_of_inner at holds inner) is
-  root_has dr r g at (inr (inr (inl (o, read, bad, is)))) = said draft program g _ (root_length at (is_read dr.options (codes "length") o read) bad) is
-  root_has dr r g at (inr (inr (inr (inl (held, holds, (o, read, bad, is)))))) = said draft program g _ (root_desc at (is_read dr.options (codes "desc") o read) holds bad) is
-  root_has dr r g at (inr (inr (inr (inr (o, read, bad, is))))) = said draft program g _ (root_reorder at (is_read dr.options (codes "reorder") o read) bad) is
+  root_has dr r g at (inr (inr (inl (o, read, bad, is)))) = said draft program g _ (root_length at read bad) is
+  root_has dr r g at (inr (inr (inr (inl (held, holds, (o, read, bad, is)))))) = said draft program g _ (root_desc at read holds bad) is
+  root_has dr r g at (inr (inr (inr (inr (id, sorted, (o, read, bad, is)))))) = said draft program g _ (root_reorder at read sorted bad) is
 
   has_fault : (g : Fault) → ProgramFaults draft program g → HasProgramFault draft program g
   has_fault g (inl (k, ds, drafted, (s, made, faults))) = structure_has (node k) ds s g drafted made faults
@@ -122,11 +122,11 @@ module _ (draft : Draft) (program : Program) where
       of_field _ _ _ _ _ at (inr (inr (inr (inl (held, holds, (o, reads df.options (codes "desc") o read, bad, refl))))))
   parts_of are g (union_desc {id = id} {ds = ds} {o = o} drafted union named bad) =
       let made = are id.0 ds drafted in of_structure id ds made.0 _ drafted made.1 (inl (o, union, named, bad, refl))
-  parts_of are g (root_length {dr = dr} {o = o} at read bad) = of_root _ _ _ at (inr (inr (inl (o, reads dr.options (codes "length") o read, bad, refl))))
-  parts_of are g (root_desc {dr = dr} {union = held} {o = o} at read holds bad) =
-      of_root _ _ _ at (inr (inr (inr (inl (held, holds, (o, reads dr.options (codes "desc") o read, bad, refl))))))
+  parts_of are g (root_length {o = o} at read bad) = of_root _ _ _ at (inr (inr (inl (o, read, bad, refl))))
+  parts_of are g (root_desc {union = held} {o = o} at read holds bad) =
+      of_root _ _ _ at (inr (inr (inr (inl (held, holds, (o, read, bad, refl))))))
   parts_of are g (field_reorder {df = df} {o = o} at read bad) = of_field _ _ _ _ _ at (inr (inr (inr (inr (o, reads df.options (codes "reorder") o read, bad, refl)))))
-  parts_of are g (root_reorder {dr = dr} {o = o} at read bad) = of_root _ _ _ at (inr (inr (inr (inr (o, reads dr.options (codes "reorder") o read, bad, refl)))))
+  parts_of are g (root_reorder {id = id} {o = o} at read sorted bad) = of_root _ _ _ at (inr (inr (inr (inr (id, sorted, (o, read, bad, refl))))))
   parts_of are g (chain {id = id} {ds = ds} {o = o} drafted there kind none) =
       let made = are id.0 ds drafted in
       let at = by_place ds.options o there in

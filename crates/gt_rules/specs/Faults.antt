@@ -1,5 +1,5 @@
 -- The faults of options.
-use Rattle.std.specs.Prelude.{◌≡◌, ◌⊎◌, ◌||◌, ℕ, true, false, if◌then◌else◌, codes, IsTrue, List, Option, Some, None, IsSome, slice_get, Contains, All}
+use Rattle.std.specs.Prelude.{◌≡◌, ◌⊎◌, ◌&&◌, ◌||◌, not, ℕ, Bool, true, false, if◌then◌else◌, codes, option_map, IsTrue, List, Option, Some, None, IsSome, slice_get, Contains, All}
 use Rattle.gt_types.specs.declared.expressions.Expr.{Expr}
 use Rattle.gt_types.specs.declared.faults.Fault.{Fault}
 use Rattle.gt_types.specs.declared.types.Ty.{Ty}
@@ -12,7 +12,7 @@ use Rattle.gt_types.specs.declared.program.Program.{Program}
 use Rattle.gt_types.specs.Shapes.{innermost}
 use Rattle.gt_types.specs.Contains.{HasStructure, held_by}
 use Rattle.gt_types.specs.Paths.{IsInner, MayStand, LeadsToOwnPointer, IsOption, IsFieldDesc, IsRootCount, IsRootDesc}
-use Rattle.gt_types.specs.Settled.{NamesSortable}
+use Rattle.gt_types.specs.Settled.{EndsInPointers, NamesSortable}
 use Rattle.gt_expr.specs.declared.raw.RawExpr.{RawExpr}
 use Rattle.gt_items.specs.declared.items.Parameter.{Parameter}
 use Rattle.gt_items.specs.declared.items.Parameter.TheVariants.{Expression}
@@ -27,12 +27,13 @@ use Rattle.gt_resolve.specs.declared.draft.DraftCache.{DraftCache}
 use Rattle.gt_resolve.specs.declared.draft.DraftField.{DraftField}
 use Rattle.gt_resolve.specs.declared.draft.DraftRoot.{DraftRoot}
 use Rattle.gt_resolve.specs.declared.draft.DraftStructure.{DraftStructure}
-use Rattle.gt_resolve.specs.Drafts.{has_skip}
+use Rattle.gt_resolve.specs.Drafts.{has_option, has_skip}
 use Rattle.gt_resolve.specs.Faults.{is_no_later}
+use Rattle.gt_resolve.specs.Shapes.{held_type, is_nil}
 use Rattle.gt_markers.specs.declared.TheConstants.{WRONG_PLACE, MISSING_DESC, BAD_PATH, CHAIN_NOT_OWN_POINTER, CACHE_SHAPE}
 use Rattle.gt_markers.specs.Options.{kind_of, option_named}
 use Rattle.gt_markers.specs.Expressions.{Names, constants, constants_and_roots, names_in, with_names}
-use Rattle.gt_declare.specs.Programs.{IsMadeOf, chain_kind, path_places, key_type}
+use Rattle.gt_declare.specs.Programs.{IsMadeOf, chain_kind, path_places, key_type, pointed}
 use Rattle.gt_markers.specs.MarkerFaults.{draft_faults}
 use Rattle.gt_markers.specs.Typing.{node}
 
@@ -87,13 +88,25 @@ pub record IsRootAt (draft : Draft) (program : Program) (dr : DraftRoot) (r : Ro
   pub drafted : slice_get draft.roots place ≡ Some dr
   pub made : slice_get program.roots place ≡ Some r
 
--- the option of a name that is read: the first, and none beside `skip`
+-- the option of a name that is read at a field: the first, and none beside `skip`
 abbrev pub IsReadOption : List RawOption → List ℕ → RawOption → Type 0
 IsReadOption options name o = (has_skip options ≡ false) × (option_named name options ≡ Some o)
 
 -- a length, of elements or of characters
 abbrev pub IsLengthOption : List RawOption → RawOption → Type 0
 IsLengthOption options o = IsReadOption options (codes "length") o ⊎ IsReadOption options (codes "string_length") o
+
+-- the structure that a root holds by its declaration, alone or in an array
+abbrev pub held_node : DeclaredType → Option TypeId
+held_node t = option_map node (held_type t)
+
+-- no array and no function, and neither `length` nor `atomic`
+abbrev pub is_plain : List RawOption → DeclaredType → Bool
+is_plain options t = is_nil t.bounds && not t.is_function && not (has_option (codes "length") options || has_option (codes "atomic") options)
+
+-- the structure to which a root is a plain pointer by its declaration
+abbrev pub plain_node : List RawOption → DeclaredType → Option TypeId
+plain_node options t = if is_plain options t then pointed t.resolved.base t.resolved.stars else None
 
 -- a key or a value points to a structure that may stand alone
 abbrev pub StandsAlone : Program → Option TypeId → Type 0
@@ -120,7 +133,8 @@ pub data HasProgramFault (draft : Draft) (program : Program) : Fault → Type 0 
       → NamesInner program dr.options dr.ty → HasProgramFault draft program (fault BAD_PATH dr.file dr.name.at)
   root_of_inner : {dr : DraftRoot} {r : Root} {id : TypeId} → IsRootAt draft program dr r → held_by r.ty ≡ Some id → IsInner program id
       → HasProgramFault draft program (fault BAD_PATH dr.file dr.name.at)
-  -- at the option: an expression that leads to nothing
+  -- At the option: an expression that leads to nothing. On a root `skip` passes over nothing, so what stands beside it counts by the
+  -- declaration.
   field_length : {id : TypeId} {ds : DraftStructure} {df : DraftField} {f : Field} {o : RawOption} → IsFieldAt draft program id ds df f
       → IsLengthOption df.options o → ¬ IsGood (constants draft) (IsOption program id) o.parameter
       → HasProgramFault draft program (fault BAD_PATH ds.file o.name.at)
@@ -131,16 +145,16 @@ pub data HasProgramFault (draft : Draft) (program : Program) : Fault → Type 0 
   union_desc : {id : TypeId} {ds : DraftStructure} {o : RawOption} → slice_get draft.structures id.0 ≡ Some ds → ds.is_union ≡ true
       → option_named (codes "desc") ds.options ≡ Some o → ¬ IsGood (constants draft) (IsOption program id) o.parameter
       → HasProgramFault draft program (fault BAD_PATH ds.file o.name.at)
-  root_length : {dr : DraftRoot} {r : Root} {o : RawOption} → IsRootAt draft program dr r → IsReadOption dr.options (codes "length") o
+  root_length : {dr : DraftRoot} {r : Root} {o : RawOption} → IsRootAt draft program dr r → option_named (codes "length") dr.options ≡ Some o
       → ¬ IsGood (constants_and_roots draft) (IsRootCount program) o.parameter → HasProgramFault draft program (fault BAD_PATH dr.file o.name.at)
-  root_desc : {dr : DraftRoot} {r : Root} {union : TypeId} {o : RawOption} → IsRootAt draft program dr r → IsReadOption dr.options (codes "desc") o
-      → held_by r.ty ≡ Some union → ¬ IsGood (constants_and_roots draft) (IsRootDesc program union) o.parameter
+  root_desc : {dr : DraftRoot} {r : Root} {union : TypeId} {o : RawOption} → IsRootAt draft program dr r → option_named (codes "desc") dr.options ≡ Some o
+      → held_node dr.ty ≡ Some union → ¬ IsGood (constants_and_roots draft) (IsRootDesc program union) o.parameter
       → HasProgramFault draft program (fault BAD_PATH dr.file o.name.at)
   -- at the option: what is sorted in an image is no struct that ends in plain pointers
   field_reorder : {id : TypeId} {ds : DraftStructure} {df : DraftField} {f : Field} {o : RawOption} → IsFieldAt draft program id ds df f
       → IsReadOption df.options (codes "reorder") o → ¬ NamesSortable program f.ty → HasProgramFault draft program (fault WRONG_PLACE ds.file o.name.at)
-  root_reorder : {dr : DraftRoot} {r : Root} {o : RawOption} → IsRootAt draft program dr r → IsReadOption dr.options (codes "reorder") o
-      → ¬ NamesSortable program r.ty → HasProgramFault draft program (fault WRONG_PLACE dr.file o.name.at)
+  root_reorder : {dr : DraftRoot} {r : Root} {id : TypeId} {o : RawOption} → IsRootAt draft program dr r → option_named (codes "reorder") dr.options ≡ Some o
+      → plain_node dr.options dr.ty ≡ Some id → ¬ EndsInPointers program id → HasProgramFault draft program (fault WRONG_PLACE dr.file o.name.at)
   -- at the option: a chain that leads to no plain pointer to its own structure
   chain : {id : TypeId} {ds : DraftStructure} {o : RawOption} → slice_get draft.structures id.0 ≡ Some ds → Contains ds.options o
       → IsSome (chain_kind (kind_of o.name.word))

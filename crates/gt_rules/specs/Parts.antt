@@ -1,5 +1,5 @@
 -- No promise: the faults that only the program tells, part by part, and the first of them so far.
-use Rattle.std.specs.Prelude.{◌≡◌, ◌⊎◌, ℕ, true, if◌then◌else◌, codes, IsTrue, List, Option, Some, None, IsSome, slice_get}
+use Rattle.std.specs.Prelude.{◌≡◌, ◌⊎◌, ◌&&◌, ℕ, Bool, true, false, if◌then◌else◌, codes, IsTrue, List, Option, Some, None, IsSome, slice_get}
 use Rattle.gt_types.specs.declared.expressions.Expr.{Expr}
 use Rattle.gt_types.specs.declared.faults.Fault.{Fault}
 use Rattle.gt_types.specs.declared.types.Ty.{Ty}
@@ -11,7 +11,7 @@ use Rattle.gt_types.specs.declared.program.Program.{Program}
 use Rattle.gt_types.specs.Shapes.{innermost}
 use Rattle.gt_types.specs.Contains.{held_by}
 use Rattle.gt_types.specs.Paths.{IsInner, LeadsToOwnPointer, IsOption, IsFieldDesc, IsRootCount, IsRootDesc}
-use Rattle.gt_types.specs.Settled.{NamesSortable}
+use Rattle.gt_types.specs.Settled.{EndsInPointers, NamesSortable}
 use Rattle.gt_items.specs.declared.items.Parameter.{Parameter}
 use Rattle.gt_items.specs.declared.items.RawOption.{RawOption}
 use Rattle.gt_resolve.specs.declared.types.DeclaredType.{DeclaredType}
@@ -31,7 +31,7 @@ use Rattle.gt_markers.specs.Typing.{node}
 use Rattle.gt_declare.specs.Programs.{chain_kind, path_places, key_type}
 use Rattle.gt_rules.specs.declared.purposes.Purpose.{Purpose}
 use Rattle.gt_rules.specs.declared.purposes.Purpose.TheVariants.{Own, FieldDesc, RootCount, RootDesc}
-use Rattle.gt_rules.specs.Faults.{IsBareUnion, IsGood, LacksDesc, NamesBareUnion, NamesInner, StandsAlone, fault}
+use Rattle.gt_rules.specs.Faults.{IsBareUnion, IsGood, LacksDesc, NamesBareUnion, NamesInner, StandsAlone, fault, held_node, plain_node}
 
 -- ---- the first so far
 
@@ -58,14 +58,14 @@ AtPlace {A} xs k faults f = (x : A) × (slice_get xs k ≡ Some x) × faults x f
 abbrev pub FaultIf : Type 0 → (number file at : ℕ) → Fault → Type 0
 FaultIf holds number file at f = holds × (f ≡ fault number file at)
 
--- the option of a name that is read
-abbrev pub read_option : List ℕ → List RawOption → Option RawOption
-read_option name options = if has_skip options then None else option_named name options
+-- the option of a name that is read: on a field none beside `skip`
+abbrev pub read_option : (of_field : Bool) → List ℕ → List RawOption → Option RawOption
+read_option of_field name options = if of_field && has_skip options then None else option_named name options
 
 -- the option of a name that is read, and of which this is true
-abbrev pub OptionFault : List RawOption → List ℕ → (RawOption → Type 0) → (number file : ℕ) → Fault → Type 0
-OptionFault options name holds number file f =
-    (o : RawOption) × (read_option name options ≡ Some o) × holds o × (f ≡ fault number file o.name.at)
+abbrev pub OptionFault : (of_field : Bool) → List RawOption → List ℕ → (RawOption → Type 0) → (number file : ℕ) → Fault → Type 0
+OptionFault of_field options name holds number file f =
+    (o : RawOption) × (read_option of_field name options ≡ Some o) × holds o × (f ≡ fault number file o.name.at)
 
 -- which names count in an expression
 abbrev pub scope_of : Purpose → Scope
@@ -86,13 +86,17 @@ abbrev pub Serves : Draft → Program → Purpose → Parameter → Type 0
 Serves draft program purpose parameter = IsGood (names_of (scope_of purpose) draft) (Fits program purpose) parameter
 
 -- the option of a name that is read, where it is not good for a purpose
-abbrev pub ExpressionFault : Draft → Program → Purpose → List RawOption → List ℕ → ℕ → Fault → Type 0
-ExpressionFault draft program purpose options name file =
-    OptionFault options name (λ o. ¬ Serves draft program purpose o.parameter) BAD_PATH file
+abbrev pub ExpressionFault : Draft → Program → Purpose → (of_field : Bool) → List RawOption → List ℕ → ℕ → Fault → Type 0
+ExpressionFault draft program purpose of_field options name file =
+    OptionFault of_field options name (λ o. ¬ Serves draft program purpose o.parameter) BAD_PATH file
 
--- the `reorder` of what is not sorted
+-- the `reorder` of a field that is not sorted
 abbrev pub ReorderFault : Program → List RawOption → Ty → ℕ → Fault → Type 0
-ReorderFault program options type file = OptionFault options (codes "reorder") (λ o. ¬ NamesSortable program type) WRONG_PLACE file
+ReorderFault program options type file = OptionFault true options (codes "reorder") (λ o. ¬ NamesSortable program type) WRONG_PLACE file
+
+-- the `reorder` of a root that points to this structure, where it is not sorted
+abbrev pub RootReorderFaultOf : Program → List RawOption → ℕ → TypeId → Fault → Type 0
+RootReorderFaultOf program options file id = OptionFault false options (codes "reorder") (λ o. ¬ EndsInPointers program id) WRONG_PLACE file
 
 -- a structure is named, and of it this is true
 abbrev pub Names : Option TypeId → (TypeId → Type 0) → Type 0
@@ -113,21 +117,26 @@ abbrev pub OfHeld : Option TypeId → (TypeId → Fault → Type 0) → Fault �
 OfHeld found faults f = (held : TypeId) × (found ≡ Some held) × faults held f
 
 -- the `desc` of a field that holds a union, where it is not good
-abbrev pub FieldDescFault : Draft → Program → TypeId → List RawOption → Ty → ℕ → Fault → Type 0
-FieldDescFault draft program structure options type file =
-    OfHeld (held_by type) (λ held. ExpressionFault draft program (FieldDesc structure held) options (codes "desc") file)
+abbrev pub FieldDescFault : Draft → Program → TypeId → (of_field : Bool) → List RawOption → Ty → ℕ → Fault → Type 0
+FieldDescFault draft program structure of_field options type file =
+    OfHeld (held_by type) (λ held. ExpressionFault draft program (FieldDesc structure held) of_field options (codes "desc") file)
 
 -- the `desc` of a root that holds a union, where it is not good
-abbrev pub RootDescFault : Draft → Program → List RawOption → Ty → ℕ → Fault → Type 0
-RootDescFault draft program options type file = OfHeld (held_by type) (λ held. ExpressionFault draft program (RootDesc held) options (codes "desc") file)
+abbrev pub RootDescFault : Draft → Program → (of_field : Bool) → List RawOption → DeclaredType → ℕ → Fault → Type 0
+RootDescFault draft program of_field options t file =
+    OfHeld (held_node t) (λ held. ExpressionFault draft program (RootDesc held) of_field options (codes "desc") file)
+
+-- the `reorder` of a root that is a plain pointer, where it is not sorted
+abbrev pub RootReorderFault : Program → List RawOption → DeclaredType → ℕ → Fault → Type 0
+RootReorderFault program options t file = OfHeld (plain_node options t) (RootReorderFaultOf program options file)
 
 -- the faults of a field of these options and this type, at its name or at an option
 abbrev pub FieldFaultsBy : Draft → Program → TypeId → (file at : ℕ) → DeclaredType → Ty → List RawOption → Fault → Type 0
 FieldFaultsBy draft program structure file at t type options =
     Either (TypeFaults program options t type file at)
-    (Either (ExpressionFault draft program (Own structure) options (codes "length") file)
-    (Either (ExpressionFault draft program (Own structure) options (codes "string_length") file)
-    (Either (FieldDescFault draft program structure options type file) (ReorderFault program options type file))))
+    (Either (ExpressionFault draft program (Own structure) true options (codes "length") file)
+    (Either (ExpressionFault draft program (Own structure) true options (codes "string_length") file)
+    (Either (FieldDescFault draft program structure true options type file) (ReorderFault program options type file))))
 
 -- the faults of a field, as the draft has it and as the program has it
 abbrev pub FieldFaults : Draft → Program → TypeId → (file : ℕ) → DraftField → Field → Fault → Type 0
@@ -177,8 +186,8 @@ abbrev pub RootFaultsBy : Draft → Program → (file at : ℕ) → DeclaredType
 RootFaultsBy draft program file at t type options =
     Either (TypeFaults program options t type file at)
     (Either (FaultIf (HoldsInner program type) BAD_PATH file at)
-    (Either (ExpressionFault draft program RootCount options (codes "length") file)
-    (Either (RootDescFault draft program options type file) (ReorderFault program options type file))))
+    (Either (ExpressionFault draft program RootCount false options (codes "length") file)
+    (Either (RootDescFault draft program false options t file) (RootReorderFault program options t file))))
 
 -- the faults of a root, as the draft has it and as the program has it
 abbrev pub RootFaults : Draft → Program → DraftRoot → Root → Fault → Type 0

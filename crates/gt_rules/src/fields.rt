@@ -56,7 +56,7 @@ fn of_desc(
 ) -> Result<Option<Fault>, AllocError>
     requires lookup { IsLookupOf known.draft.now known.lookup.now }
     requires index { IsIndexOf known.program.now known.index.now }
-    ensures first { IfOk result (IsFirstWith earliest (FieldDescFault known.entry.draft.now known.entry.program.now structure options.entry.options.now ty.now options.entry.file)) }
+    ensures first { IfOk result (IsFirstWith earliest (FieldDescFault known.entry.draft.now known.entry.program.now structure options.entry.of_field options.entry.options.now ty.now options.entry.file)) }
 {
     match held_by(ty) {
         None => Ok(earliest),
@@ -82,6 +82,7 @@ fn of_field(
     ensures first { IfOk result (IsFirstWith earliest (FieldFaults known.entry.draft.now known.entry.program.now structure file field.now made.now)) }
 {
     let options = Options {
+        of_field: true,
         file,
         options: field.options.as_slice(),
     };

@@ -18,9 +18,10 @@ pub struct Known<'a> {
     pub names: &'a FieldNames,
 }
 
-/// The options of one marker, and the file in which they stand.
+/// The options of the marker of a field or of a root, and the file in which they stand.
 #[derive(Clone, Copy)]
 pub struct Options<'a> {
+    pub of_field: bool,
     pub file: u32,
     pub options: &'a [RawOption],
 }

@@ -5,12 +5,13 @@ ghost use Rattle.gt_types.specs.Paths.{IsInner};
 ghost use Rattle.gt_markers.specs.Typing.{node};
 ghost use Rattle.gt_typing.specs.SmallTypes.{HasSmallId};
 ghost use Rattle.gt_paths.specs.Indexes.{IsIndexOf};
-ghost use Rattle.gt_rules.specs.Faults.{IsBareUnion, named_by, names_node};
+ghost use Rattle.gt_declare.specs.Programs.{pointed};
+ghost use Rattle.gt_rules.specs.Faults.{IsBareUnion, held_node, is_plain, named_by, names_node, plain_node};
 ghost use Rattle.gt_rules.specs.Parts.{Names};
 
 use crate::known::Known;
 use gt_items::{RawOption, Stars};
-use gt_markers::has_skip;
+use gt_markers::{has_option, has_skip};
 use gt_paths::{is_bare_union, is_inner};
 use gt_resolve::{BaseType, DeclaredType};
 use gt_types::{Program, TypeId};
@@ -36,6 +37,49 @@ pub fn names_node(options: &[RawOption], ty: &DeclaredType) -> Option<TypeId>
         return None;
     }
     named_by(&ty.resolved.base, ty.resolved.stars)
+}
+
+/// The structure that a root holds by its declaration, alone or in an array.
+pub fn held_node(ty: &DeclaredType) -> Option<TypeId>
+    requires small { HasSmallId ty.now.resolved.base }
+    ensures held { result ≡ held_node ty.now }
+{
+    match (&ty.resolved.base, ty.resolved.stars, ty.is_function) {
+        (BaseType::Structure(id), Stars::Zero, false) => Some(node(*id)),
+        _ => None,
+    }
+}
+
+// The structure to which one star is a pointer.
+fn pointed(base: &BaseType, stars: Stars) -> Option<TypeId>
+    requires small { HasSmallId base.now }
+    ensures { result ≡ pointed base.now stars }
+{
+    match (base, stars) {
+        (BaseType::Structure(id), Stars::One) => Some(node(*id)),
+        _ => None,
+    }
+}
+
+// Whether what is no array and no function has neither `length` nor `atomic`.
+fn is_plain(options: &[RawOption], ty: &DeclaredType) -> bool
+    ensures { result ≡ is_plain options.now ty.now }
+{
+    ty.bounds.is_empty()
+        && !ty.is_function
+        && !(has_option(options, "length") || has_option(options, "atomic"))
+}
+
+/// The structure to which a root is a plain pointer by its declaration.
+pub fn plain_node(options: &[RawOption], ty: &DeclaredType) -> Option<TypeId>
+    requires small { HasSmallId ty.now.resolved.base }
+    ensures named { result ≡ plain_node options.now ty.now }
+{
+    if is_plain(options, ty) {
+        pointed(&ty.resolved.base, ty.resolved.stars)
+    } else {
+        None
+    }
 }
 
 /// Whether what is named is a union without a `desc` of its own.

@@ -6,17 +6,17 @@ ghost use Rattle.gt_markers.specs.Sound.{IsSound};
 ghost use Rattle.gt_declare.specs.Programs.{IsMadeOf};
 ghost use Rattle.gt_typing.specs.SmallTypes.{HasSmallId};
 ghost use Rattle.gt_paths.specs.Indexes.{IsIndexOf};
-ghost use Rattle.gt_rules.specs.Parts.{IsFirstWith, HoldsInner, RootDescFault, RootFaults, RootsFaults};
+ghost use Rattle.gt_rules.specs.Parts.{IsFirstWith, HoldsInner, RootDescFault, RootFaults, RootReorderFault, RootsFaults};
 
 use crate::fields::of_type;
 use crate::known::{Known, Options};
-use crate::names::is_named_inner;
-use crate::options::{of_expression, of_reorder};
+use crate::names::{held_node, is_named_inner, plain_node};
+use crate::options::{of_expression, of_root_reorder};
 use crate::purposes::Purpose;
 use crate::types::held_by;
 use gt_markers::{BAD_PATH, with_fault};
-use gt_resolve::DraftRoot;
-use gt_types::{Fault, Root, Ty};
+use gt_resolve::{DeclaredType, DraftRoot};
+use gt_types::{Fault, Program, Root, Ty};
 use std::alloc::AllocError;
 
 // Whether a type holds an inner structure by value.
@@ -32,15 +32,32 @@ fn of_desc(
     earliest: Option<Fault>,
     known: Known,
     options: Options,
-    ty: &Ty,
+    declared: &DeclaredType,
 ) -> Result<Option<Fault>, AllocError>
     requires lookup { IsLookupOf known.draft.now known.lookup.now }
     requires index { IsIndexOf known.program.now known.index.now }
-    ensures first { IfOk result (IsFirstWith earliest (RootDescFault known.entry.draft.now known.entry.program.now options.entry.options.now ty.now options.entry.file)) }
+    requires small { HasSmallId declared.now.resolved.base }
+    ensures first { IfOk result (IsFirstWith earliest (RootDescFault known.entry.draft.now known.entry.program.now options.entry.of_field options.entry.options.now declared.now options.entry.file)) }
 {
-    match held_by(ty) {
+    match held_node(declared) {
         None => Ok(earliest),
         Some(held) => of_expression(earliest, known, options, "desc", Purpose::RootDesc(held)),
+    }
+}
+
+// The earliest fault with that of a `reorder` at a root which is a plain pointer.
+fn of_reorder(
+    earliest: Option<Fault>,
+    program: &Program,
+    options: Options,
+    declared: &DeclaredType,
+) -> Option<Fault>
+    requires small { HasSmallId declared.now.resolved.base }
+    ensures first { IsFirstWith earliest (RootReorderFault program.now options.entry.options.now declared.now options.entry.file) result }
+{
+    match plain_node(options.options, declared) {
+        None => earliest,
+        Some(node) => of_root_reorder(earliest, program, options, node),
     }
 }
 
@@ -58,6 +75,7 @@ fn of_root(
 {
     let file = root.file;
     let options = Options {
+        of_field: false,
         file,
         options: root.options.as_slice(),
     };
@@ -66,8 +84,8 @@ fn of_root(
     let inner = holds_inner(known, &made.ty);
     let earliest = with_fault(earliest, inner, BAD_PATH, file, at);
     let earliest = of_expression(earliest, known, options, "length", Purpose::RootCount)?;
-    let earliest = of_desc(earliest, known, options, &made.ty)?;
-    Ok(of_reorder(earliest, known.program, options, &made.ty))
+    let earliest = of_desc(earliest, known, options, &root.ty)?;
+    Ok(of_reorder(earliest, known.program, options, &root.ty))
 }
 
 /// The earliest fault with those of all roots. It answers want of memory alone.

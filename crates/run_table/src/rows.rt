@@ -1,7 +1,7 @@
-// The table, taken apart. Its parts are parted by blank lines, and a line of a part begins with what it says:
+// The table, taken apart. Its parts are separated by blank lines, and a line of a part begins with what it says:
 //
 //     # TEXT               a comment; the first one of a row says what the row shows
-//     words WORD WORD ..   the words of the command line, parted by single spaces
+//     words WORD WORD ..   the arguments of the command line, separated by single spaces
 //     file NAME            a file, whose lines follow
 //     filled NAME N        a file of N spaces
 //     bytes ADDRESS N      after the run, a line with the N bytes of the space at a decimal address is written after the output
@@ -10,7 +10,7 @@
 //     | LINE               a line of the file or of the output before it
 //     times N | LINE       such a line N times, with the numbers 0, 1, .. in place of each #; ` / ` parts several lines
 //
-// A part with words, a status and an output is a row. One with files alone says which files all rows behind it share.
+// A part with words, a status and an output is a row. One with files alone says which files all rows after it share.
 use crate::running::File;
 use gt_types::Word;
 use std::alloc::{AllocError, Global};
@@ -37,7 +37,7 @@ pub struct Look {
 #[derive(Drop)]
 pub enum Part {
     Row(Row),
-    /// The files that all rows behind it share.
+    /// The files that all rows after it share.
     Shared(Vec<File>),
     /// A comment alone.
     Nothing,
@@ -56,7 +56,7 @@ struct Lines {
     output: Option<String>,
 }
 
-/// Reads a part of the table. It answers want of memory alone.
+/// Reads a part of the table. It fails only if memory runs out.
 pub fn read_part(alloc: Global, text: &str) -> Result<Part, AllocError> {
     let mut lines = Lines {
         shows: None,

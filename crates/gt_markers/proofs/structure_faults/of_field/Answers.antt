@@ -1,20 +1,39 @@
-use Rattle.std.proofs.Common.{◌≡◌, ◌∙◌, ap}
-use Rattle.gt_markers.specs.Actives.{active_of}
-use Rattle.gt_markers.proofs.Firsts.{first_from_both}
-use Rattle.gt_markers.proofs.MemberLemmas.{first_from_repeated, one_added}
+use Rattle.std.proofs.Common.{◌≡◌, ◌∙◌, List, [], ◌∷◌, ◌++◌, ap, sym}
+use Rattle.gt_items.specs.declared.items.RawOption.{RawOption}
+use Rattle.gt_resolve.specs.declared.draft.Draft.{Draft}
+use Rattle.gt_resolve.specs.declared.draft.DraftField.{DraftField}
+use Rattle.gt_markers.specs.FirstFaults.{first_from}
+use Rattle.gt_markers.specs.Lookups.{IsLookupOf}
+use Rattle.gt_markers.specs.MarkerFaults.{field_faults, repeated_faults}
+use Rattle.gt_markers.specs.Members.{AreMembers}
+use Rattle.gt_markers.proofs.Firsts.{first_from_both, if_ok}
+use Rattle.gt_markers.proofs.MemberLemmas.{on_ok}
 use Rattle.gt_markers.proofs.structure_faults.of_field.Goals as goal
 
-pub returns : goal.returns
-returns c =
+pub returns-clause-earliest : goal.returns-clause-earliest
+returns-clause-earliest c =
     let draft = c.args.draft.now in
     let s = c.args.member.structure.now in
     let f = c.args.member.field.now in
-    let items = c.as_slice-options.ensures.items in
-    let active : c.in_ok-active.active ≡ active_of draft s.is_union f.options =
-    c.in_ok-active.ensures.active draft c.requires.lookup ∙ ap (active_of draft s.is_union) items in
-    record {
-      earliest = λ actives are.
-          first_from_both _ _ _ _ _ c.in_ok-earliest.ensures.earliest
-          (first_from_repeated _ _ actives s.file _ _ _ _ (c.of_repeated-earliest.ensures.earliest actives are) active items);
-      members = λ actives are. one_added actives _ _ _ _ are c.in_ok-add.ensures.added active;
-    }
+    let before = c.args.before.now in
+    let options = c.as_slice-options.result.now in
+    let e = c.in_ok-earliest.earliest in
+    if_ok c.of_repeats.result
+    (λ r. (d : Draft) (fields : List DraftField) → IsLookupOf d c.args.lookup.now → AreMembers d fields before → r ≡ first_from e (repeated_faults d s.is_union fields s.file options))
+    (λ r. (fields : List DraftField) → AreMembers draft fields before → r ≡ first_from c.args.earliest (field_faults draft s fields c.args.member.last f))
+    (λ r h fields are.
+    first_from_both _ _ _ _ _ c.in_ok-earliest.ensures.earliest
+    (h draft fields c.requires.lookup are ∙ ap (λ (os : List RawOption). first_from e (repeated_faults draft s.is_union fields s.file os)) c.as_slice-options.ensures.items))
+    c.of_repeats.ensures.earliest
+
+pub returns-clause-members : goal.returns-clause-members
+returns-clause-members c =
+    let draft = c.args.draft.now in
+    let f = c.args.member.field.now in
+    let before = c.args.before.now in
+    let after = c.of_repeats.new.before in
+    on_ok c.of_repeats.result
+    ((d : Draft) (fields : List DraftField) (g : DraftField) → IsLookupOf d c.args.lookup.now → AreMembers d fields before → g.options ≡ c.as_slice-options.result.now
+    → AreMembers d (fields ++ g ∷ []) after)
+    ((fields : List DraftField) → AreMembers draft fields before → AreMembers draft (fields ++ f ∷ []) after)
+    (λ h fields are. h draft fields f c.requires.lookup are (sym c.as_slice-options.ensures.items)) c.of_repeats.ensures.members

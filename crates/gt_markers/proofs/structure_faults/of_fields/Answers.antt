@@ -1,8 +1,11 @@
-use Rattle.std.proofs.Common.{◌+◌, ◌∙◌, sym, subst, take, arith, List}
-use Rattle.gt_types.specs.declared.program.Active.{Active}
+use Rattle.std.proofs.Common.{◌+◌, ◌∙◌, refl, sym, subst, take, arith, List}
+use Rattle.gt_resolve.specs.declared.draft.DraftField.{DraftField}
 use Rattle.gt_markers.specs.Members.{AreMembers}
-use Rattle.gt_markers.proofs.FieldLemmas.{actives, actives_more, first_from_field, first_from_fields, is_end}
+use Rattle.gt_markers.proofs.FieldLemmas.{first_from_field, first_from_fields, is_end, taken_more}
 use Rattle.gt_markers.proofs.structure_faults.of_fields.Goals as goal
+
+pub loop-place-init : goal.loop-place-init
+loop-place-init c = record { found = refl; members = c.new-before.ensures.none c.args.draft.now }
 
 pub loop-place-preserved : goal.loop-place-preserved
 loop-place-preserved c =
@@ -11,14 +14,14 @@ loop-place-preserved c =
     let fields = c.args.fields.now in
     let place = c.loop-place.place in
     let field = c.index-fields-place.result in
-    let before = actives draft structure (take place fields) in
+    let before = take place fields in
     record {
       found =
           first_from_field draft structure c.loop-place.earliest c.in_ok-earliest.earliest place fields field _ (omega arith) c.index-fields-place.is
           (is_end fields (place + 1) (omega arith)) (c.in_ok-earliest.ensures.earliest before c.loop-place.invariant.members)
           ∙ c.loop-place.invariant.found;
       members =
-          subst (λ (actives : List Active). AreMembers actives c.of_field.new.before) (sym (actives_more draft structure place fields field (omega arith) c.index-fields-place.is))
+          subst (λ (taken : List DraftField). AreMembers draft taken c.of_field.new.before) (sym (taken_more place fields field (omega arith) c.index-fields-place.is))
           (c.in_ok-earliest.ensures.members before c.loop-place.invariant.members);
     }
 

@@ -1,7 +1,7 @@
 use Rattle.std.proofs.Common.{◌∙◌, sym, ap, Option}
 use Rattle.gt_items.specs.declared.items.RawOption.{RawOption}
 use Rattle.gt_markers.specs.FirstFaults.{first_from}
-use Rattle.gt_markers.specs.MarkerFaults.{repeated_faults}
+use Rattle.gt_markers.specs.MarkerFaults.{repeated_fault}
 use Rattle.gt_markers.proofs.Firsts.{first_from_nil}
 use Rattle.gt_markers.proofs.structure_faults.of_repeated.Goals as goal
 
@@ -9,6 +9,6 @@ pub returns-in-None : goal.returns-in-None
 returns-in-None c =
     let e = c.args.earliest in
     record {
-      earliest = λ actives are.
-          sym (first_from_nil e) ∙ ap (λ (o : Option RawOption). first_from e (repeated_faults actives c.args.file c.args.active o)) c.in-None.ensures.option;
+      earliest =
+          sym (first_from_nil e) ∙ ap (λ (o : Option RawOption). first_from e (repeated_fault c.args.repeated c.args.file o)) c.in-None.ensures.first;
     }

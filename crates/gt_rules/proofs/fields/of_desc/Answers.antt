@@ -10,12 +10,12 @@ use Rattle.gt_rules.proofs.fields.of_desc.Goals as goal
 
 pub returns-in-None : goal.returns-in-None
 returns-in-None c =
-    let faults = λ (held : TypeId). ExpressionFault c.args.known.draft.now c.args.known.program.now (FieldDesc c.args.structure held) c.args.options.options.now (codes "desc") c.args.options.file in
+    let faults = λ (held : TypeId). ExpressionFault c.args.known.draft.now c.args.known.program.now (FieldDesc c.args.structure held) c.args.options.of_field c.args.options.options.now (codes "desc") c.args.options.file in
     record { first = nothing_held (held_by c.args.ty.now) faults c.args.earliest (sym c.in-None.ensures.held) }
 
 pub returns-in-Some : goal.returns-in-Some
 returns-in-Some c =
-    let faults = λ (held : TypeId). ExpressionFault c.args.known.draft.now c.args.known.program.now (FieldDesc c.args.structure held) c.args.options.options.now (codes "desc") c.args.options.file in
+    let faults = λ (held : TypeId). ExpressionFault c.args.known.draft.now c.args.known.program.now (FieldDesc c.args.structure held) c.args.options.of_field c.args.options.options.now (codes "desc") c.args.options.file in
     record {
       first =
           IfOk-weaker c.of_expression.result (IsFirstWith c.args.earliest (faults c.in-Some.held)) (IsFirstWith c.args.earliest (OfHeld (held_by c.args.ty.now) faults))
