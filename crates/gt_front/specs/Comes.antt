@@ -48,7 +48,7 @@ abbrev pub IsGenerated : Call → Type 0
 IsGenerated call = (word : List ℕ) × (n : ℕ) × (call.script ≡ Generated word n)
 
 -- What is refused first, where these are the texts of the files, if they are read. A generated script is refused directly
--- behind the words.
+-- after the words.
 abbrev pub Comes : List (List ℕ) → Option Held → Texts → Refusal → Type 0
 Comes words told texts Words = call_of words ≡ None
 Comes words told texts (InFile word why) = (call : Call) × (name : List ℕ) × Calls words call name × IsRefusedFile told (files_in_order name call.headers) word why

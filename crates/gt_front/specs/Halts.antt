@@ -7,7 +7,7 @@ use Rattle.gt_front.specs.Refused.{IsRefusalLine}
 use Rattle.gt_front.specs.declared.preparing.Halt.{Halt}
 use Rattle.gt_front.specs.declared.preparing.Halt.TheVariants.{Memory, Refused}
 
--- the refusal that comes first, with its line; of want of memory nothing is said
+-- the refusal that comes first, with its line; nothing is said of running out of memory
 abbrev pub Halts : List (List ℕ) → Option Held → Halt → Type 0
 Halts words told Memory = Unit {0}
 Halts words told (Refused refusal line) = (texts : Texts) × Comes words told texts refusal × IsRefusalLine words texts refusal line

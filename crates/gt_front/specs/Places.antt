@@ -6,7 +6,7 @@ unfoldable pub line_ends : List ℕ → ℕ
 line_ends [] = 0
 line_ends (byte ∷ bytes) = if byte == 10 then line_ends bytes + 1 else line_ends bytes
 
--- how many bytes stand behind the last newline, where so many stand before them on their line
+-- how many bytes stand after the last newline, where so many stand before them on their line
 unfoldable pub behind_newline : ℕ → List ℕ → ℕ
 behind_newline count [] = count
 behind_newline count (byte ∷ bytes) = if byte == 10 then behind_newline 0 bytes else behind_newline (count + 1) bytes

@@ -7,7 +7,7 @@ use Rattle.gt_front.specs.Comes.{IsRefusedFile, IsRefusedFor}
 use Rattle.gt_front.specs.declared.reading.ReadStop.{ReadStop}
 use Rattle.gt_front.specs.declared.reading.ReadStop.TheVariants.{Memory, Refused}
 
--- want of memory, or a refusal of this file
+-- out of memory, or a refusal of this file
 abbrev pub IsStopAt : Option Held → File → ReadStop → Type 0
 IsStopAt told file Memory = Unit {0}
 IsStopAt told file (Refused word why) = (word ≡ file.word) × IsRefusedFor told file why
@@ -16,12 +16,12 @@ IsStopAt told file (Refused word why) = (word ≡ file.word) × IsRefusedFor tol
 abbrev pub AreHeadersRead : Option Held → (names texts : List (List ℕ)) → Type 0
 AreHeadersRead told names texts = AreTextsOf told (headers_from 1 names) texts
 
--- want of memory, or the refusal of the first header that was not read
+-- out of memory, or the refusal of the first header that was not read
 abbrev pub IsStopIn : Option Held → (names : List (List ℕ)) → ReadStop → Type 0
 IsStopIn told names Memory = Unit {0}
 IsStopIn told names (Refused word why) = (word ≤ length names) × IsRefusedFile told (headers_from 1 names) word why
 
--- want of memory, or the refusal of the first of all files that was not read
+-- out of memory, or the refusal of the first of all files that was not read
 abbrev pub IsStopOf : Option Held → (script : List ℕ) → (headers : List (List ℕ)) → ReadStop → Type 0
 IsStopOf told script headers Memory = Unit {0}
 IsStopOf told script headers (Refused word why) = IsRefusedFile told (files_in_order script headers) word why

@@ -68,7 +68,7 @@ abbrev pub script_text : (number line : ℕ) → List ℕ
 script_text number line =
     if number == SCRIPT_SYNTAX then codes ":" ++ decimal line ++ codes ": fault 25 ScriptSyntax" else codes ": fault 26 ScriptTooLong"
 
--- the line begins with the word at this place of what the words ask for, and this stands behind it
+-- the line begins with the word at this place of what the words ask for, and this stands after it
 abbrev pub IsLineOf : List (List ℕ) → ℕ → List ℕ → List ℕ → Type 0
 IsLineOf words word said line =
     (call : Call) × (name : List ℕ) × (call_of words ≡ Some call) × (word_at call word ≡ Some name) × (line ≡ encode_utf8_all name ++ said ++ 10 ∷ [])

@@ -40,7 +40,7 @@ fn line_ends(front: &[u8]) -> u32
     ends
 }
 
-// How many bytes stand behind the last newline.
+// How many bytes stand after the last newline.
 #[tactic(auto, unfolding(crate::specs::Places::behind_newline))]
 fn behind_newline(front: &[u8]) -> u32
     requires within { length front.now ≤ MAX_HEADER_BYTES }

@@ -13,7 +13,7 @@ use gt_types::{Bytes, List, Program, Word};
 use gt_words::Call;
 use std::alloc::Global;
 
-/// What the words ask for, the program of the headers, and the lines of the script.
+/// What the arguments ask for, the program of the headers, and the lines of the script.
 #[derive(Drop)]
 pub struct Ready {
     pub call: Call,
@@ -21,15 +21,15 @@ pub struct Ready {
     pub lines: List<Line>,
 }
 
-/// Why nothing runs: want of memory, or a refusal and the line that says it, which ends with a newline.
+/// Why nothing runs: out of memory, or a refusal and the line that says it, which ends with a newline.
 #[derive(Drop)]
 pub enum Halt {
     Memory,
     Refused { refusal: Refusal, line: Bytes },
 }
 
-/// The order of work up to the first command: the words; each header read in order, and then the script; the faults of the
-/// headers and their program; the lines of the script. What is refused first ends it. The words are those behind the
+/// The order of work up to the first command: the arguments; each header read in order, and then the script; the faults of
+/// the headers and their program; the lines of the script. What is refused first ends it. The arguments come without the
 /// program's name. No file changes.
 pub fn prepare<F: Files>(alloc: Global, words: &[Word], files: &mut F) -> Result<Ready, Halt>
     ensures ready { IfOk result (λ ready. Asks words.now (F.told files.old) ready.call ready.program ready.lines) }

@@ -9,7 +9,7 @@ use gt_io::{Files, ReadFail};
 use gt_types::{Bytes, Word};
 use std::alloc::{AllocFailed, Global};
 
-/// Why a file was not read: want of memory, or the place of its word and why it is refused.
+/// Why a file was not read: out of memory, or the place of its word and why it is refused.
 #[derive(Clone, Copy, Debug, PartialEq, Eq)]
 pub enum ReadStop {
     Memory,

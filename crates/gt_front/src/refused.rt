@@ -11,7 +11,7 @@ use gt_types::{Bytes, Fault, Word};
 use gt_words::{Call, Script};
 use std::alloc::{AllocError, Global};
 
-/// The line of words that ask for nothing.
+/// The line of arguments that are refused.
 pub fn words_line(alloc: Global) -> Result<Bytes, AllocError>
     ensures line { (words : List (List ℕ)) (texts : Texts) → IfOk result (IsRefusalLine words texts Refusal.Words) }
 {
@@ -53,7 +53,8 @@ pub fn script_line(alloc: Global, call: &Call, number: u8, line: u32) -> Result<
     file_line(alloc, call, 0, said.as_slice())
 }
 
-/// The line that begins with the word of a file, 0 for the script and i for the i-th header, and goes on with what is said.
+/// The line that begins with the argument of a file, 0 for the script and i for the i-th header, and goes on with this
+/// text.
 pub fn file_line(alloc: Global, call: &Call, word: u32, said: &[u8]) -> Result<Bytes, AllocError>
     requires there { word ≤ length call.now.headers }
     ensures line { (words : List (List ℕ)) → call_of words ≡ Some call.now → IfOk result (IsLineOf words word said.now) }

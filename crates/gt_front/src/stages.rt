@@ -33,7 +33,7 @@ pub struct Found {
     pub script: Bytes,
 }
 
-/// What the words ask for.
+/// What the arguments ask for.
 pub fn called(alloc: Global, words: &[Word]) -> Result<Call, Halt>
     ensures called { IfOk result (λ call. call_of words.now ≡ Some call) }
     ensures ranges { IfOk result IsInRange }

@@ -1,11 +1,10 @@
 -- The faults of options stand in the files of what they are of.
 use Rattle.std.proofs.Common.{◌≡◌, ℕ, suc, Bool, true, false, List, [], ◌∷◌, ◌++◌, subst, inl, inr, Option, Some, None}
-use Rattle.std.specs.Prelude.{zero, All, Contains, flat_map, slice_get, if◌then◌else◌, ◌&&◌, not, is_none}
+use Rattle.std.specs.Prelude.{zero, All, Contains, flat_map, slice_get, if◌then◌else◌, ◌&&◌, not, is_none, codes}
 use Rattle.std.specs.List.{list_any}
 use Rattle.std.specs.Option.{option_map_or}
 use Rattle.std.proofs.lemmas.List.Elements.{All-nil, All-cons, All-head, All-tail, All-append, All-contains}
 use Rattle.gt_types.specs.declared.faults.Fault.{Fault}
-use Rattle.gt_types.specs.declared.program.Active.{Active}
 use Rattle.gt_types.specs.declared.program.Program.{Program}
 use Rattle.gt_types.specs.declared.program.Field.{Field}
 use Rattle.gt_types.specs.declared.program.Root.{Root}
@@ -20,13 +19,12 @@ use Rattle.gt_resolve.specs.Faults.{fault_if}
 use Rattle.gt_resolve.proofs.FaultFiles.{OfFault, OfStructure, OfRoot, OfCache}
 use Rattle.gt_markers.specs.declared.TheConstants.{UNKNOWN_OPTION, WRONG_PLACE, MISSING_DESC, DUPLICATE_TAG, BAD_PATH, UNKNOWN_HOOK}
 use Rattle.gt_markers.specs.declared.kinds.OptionKind.{OptionKind}
-use Rattle.gt_markers.specs.Options.{kind_of}
+use Rattle.gt_markers.specs.Options.{kind_of, option_named}
 use Rattle.gt_markers.specs.Expressions.{constant_value, constants, constants_and_roots}
 use Rattle.gt_markers.specs.Typing.{says, walked_type}
 use Rattle.gt_resolve.specs.Drafts.{has_skip}
 use Rattle.gt_markers.specs.Sites.{Site, at_cache, at_field, at_root, at_structure, faults_after, is_ill_formed, is_passed_over, is_tag, is_unknown_hook, known_faults, marker_faults, may_stand, option_faults, stands_among, wrong_number}
-use Rattle.gt_markers.specs.MarkerFaults.{active_option, cache_faults, draft_faults, field_faults, fields_faults, is_empty, is_unmarked, is_untyped, repeated_faults, root_faults, same_active, structure_faults}
-use Rattle.gt_markers.specs.Actives.{active_of}
+use Rattle.gt_markers.specs.MarkerFaults.{cache_faults, draft_faults, field_faults, fields_faults, has_tag, is_default, is_empty, is_unmarked, is_untyped, repeated_fault, repeated_faults, root_faults, structure_faults, tag_value}
 use Rattle.gt_rules.specs.Faults.{HasFault, HasProgramFault, IsFieldAt, IsRootAt, field_without_desc, field_to_bare_union, field_to_inner, root_without_desc, root_to_bare_union, root_to_inner, root_of_inner, field_length, field_desc, union_desc, root_length, root_desc, field_reorder, root_reorder, chain, cache_shape}
 
 -- what a place of a list has
@@ -89,30 +87,37 @@ module _ (P : ℕ → Type 0) where
 
   -- ---- the faults that the draft alone tells
 
-  repeated : (before : List Active) (file : ℕ) (active : Active) (o : Option RawOption) → P file → All (OfFault P) (repeated_faults before file active o)
-  repeated before file active (Some o) here = one (list_any (same_active active) before) DUPLICATE_TAG file o.name.at here
-  repeated before file active None here = All-nil (OfFault P)
+  repeated : (is : Bool) (file : ℕ) (o : Option RawOption) → P file → All (OfFault P) (repeated_fault is file o)
+  repeated is file (Some o) here = one is DUPLICATE_TAG file o.name.at here
+  repeated is file None here = All-nil (OfFault P)
 
-  of_field : (draft : Draft) (s : DraftStructure) (before : List Active) (last : Bool) (f : DraftField) → P s.file → All (OfFault P) (field_faults draft s before last f)
+  repeats : (draft : Draft) (in_union : Bool) (before : List DraftField) (file : ℕ) (options : List RawOption) → P file
+      → All (OfFault P) (repeated_faults draft in_union before file options)
+  repeats draft in_union before file options here =
+      let same_tag = in_union && list_any (has_tag draft (tag_value draft options)) before in
+      let default_twice = in_union && list_any is_default before in
+      let tag = option_named (codes "tag") options in
+      let default = option_named (codes "default") options in
+      both (repeated_fault same_tag file tag) (repeated_fault default_twice file default) (repeated same_tag file tag here) (repeated default_twice file default here)
+
+  of_field : (draft : Draft) (s : DraftStructure) (before : List DraftField) (last : Bool) (f : DraftField) → P s.file → All (OfFault P) (field_faults draft s before last f)
   of_field draft s before last f here =
-      let active = active_of draft s.is_union f.options in
       let marker = marker_faults draft (at_field s.is_union last f.ty) s.file f.options in
       let untyped = fault_if (is_untyped (constants draft) draft f.options f) WRONG_PLACE s.file f.name.at in
       let unmarked = fault_if (s.is_union && is_unmarked f.options) MISSING_DESC s.file f.name.at in
-      let again = repeated_faults before s.file active (active_option active f.options) in
-      both (marker ++ untyped ++ unmarked) again
+      both (marker ++ untyped ++ unmarked) (repeated_faults draft s.is_union before s.file f.options)
       (both (marker ++ untyped) unmarked
       (both marker untyped (of_marker draft (at_field s.is_union last f.ty) s.file f.options here)
       (one (is_untyped (constants draft) draft f.options f) WRONG_PLACE s.file f.name.at here))
       (one (s.is_union && is_unmarked f.options) MISSING_DESC s.file f.name.at here))
-      (repeated before s.file active (active_option active f.options) here)
+      (repeats draft s.is_union before s.file f.options here)
 
-  of_fields : (draft : Draft) (s : DraftStructure) (before : List Active) (fs : List DraftField) → P s.file → All (OfFault P) (fields_faults draft s before fs)
+  of_fields : (draft : Draft) (s : DraftStructure) (before fs : List DraftField) → P s.file → All (OfFault P) (fields_faults draft s before fs)
   unfolding fields_faults
   of_fields draft s before [] here = All-nil (OfFault P)
   of_fields draft s before (f ∷ fs) here =
-      both (field_faults draft s before (is_empty fs) f) (fields_faults draft s (before ++ active_of draft s.is_union f.options ∷ []) fs) (of_field draft s before (is_empty fs) f here)
-      (of_fields draft s (before ++ active_of draft s.is_union f.options ∷ []) fs here)
+      both (field_faults draft s before (is_empty fs) f) (fields_faults draft s (before ++ f ∷ []) fs) (of_field draft s before (is_empty fs) f here)
+      (of_fields draft s (before ++ f ∷ []) fs here)
 
   of_structure : (draft : Draft) (s : DraftStructure) → OfStructure P s → All (OfFault P) (structure_faults draft s)
   of_structure draft s here = both (marker_faults draft (at_structure s.is_union) s.file s.options) (fields_faults draft s [] s.fields) (of_marker draft (at_structure s.is_union) s.file s.options here) (of_fields draft s [] s.fields here)
@@ -157,7 +162,7 @@ module _ (P : ℕ → Type 0) where
     of_program program f (root_length is o bad) = at_root_of program _ _ is
     of_program program f (root_desc is o held bad) = at_root_of program _ _ is
     of_program program f (field_reorder is o bad) = at_field_of program _ _ _ _ is
-    of_program program f (root_reorder is o bad) = at_root_of program _ _ is
+    of_program program f (root_reorder is o sorted bad) = at_root_of program _ _ is
     of_program program f (chain {id} {ds} is o some bad) = at_place (OfStructure P) draft.structures id.0 ds structures is
     of_program program f (cache_shape {c} is bad) = All-contains (OfCache P) draft.caches c caches is
 

@@ -11,9 +11,13 @@ use Rattle.gt_options.specs.declared.settling.Settlement.{Settlement}
 use Rattle.gt_options.specs.declared.settling.Settlement.TheVariants as settlement
 use Rattle.gt_options.specs.Settlements.{IsSettlement}
 use Rattle.gt_headers.specs.Built.{HasUnbuilt, IsFirstUnbuilt}
-use Rattle.gt_headers.specs.Headers.{AreResolved, Declares, IsFirstFault, IsNotBuilt}
+use Rattle.gt_headers.specs.Headers.{AreResolved, Declares, IsFirstFault, IsNotBuilt, Settles}
 use Rattle.gt_headers.specs.Reading.{AreRead, IsReadingFault}
 use Rattle.gt_headers.proofs.ProgramOutcomes.{one_unbuilt}
+
+-- a program that is declared, all of it built, is declared
+settled_too : (texts : List (List ℕ)) (program : Program) → Declares texts program → Settles texts program
+settled_too texts program d = record { draft = d.draft; resolved = d.resolved; declares = d.declares }
 
 module _ (one_reading : (texts : List (List ℕ)) (files others : List Items) → AreRead texts files → AreRead texts others → files ≡ others)
     (read_no_fault : (texts : List (List ℕ)) (files : List Items) (fault : Fault) → AreRead texts files → IsReadingFault texts fault → ⊥)
@@ -41,12 +45,15 @@ module _ (one_reading : (texts : List (List ℕ)) (files others : List Items) �
       one_settlement draft (settlement.Program program) (settlement.Fault fault) (sound texts draft a) d (resolved_no_fault texts draft fault a f) in
       cc
 
-  pub one_declared : (texts : List (List ℕ)) (program other : Program) → Declares texts program → Declares texts other → program ≡ other
-  one_declared texts program other a b =
+  pub one_settled : (texts : List (List ℕ)) (program other : Program) → Settles texts program → Settles texts other → program ≡ other
+  one_settled texts program other a b =
       let d : DeclaresProgram b.draft program = subst (λ (x : Draft). DeclaresProgram x program) (one_resolved texts a.draft b.draft a.resolved b.resolved) a.declares in
       let same : settlement.Program program ≡ settlement.Program other =
       one_settlement b.draft (settlement.Program program) (settlement.Program other) (sound texts b.draft b.resolved) d b.declares in
       cc
+
+  pub one_declared : (texts : List (List ℕ)) (program other : Program) → Declares texts program → Declares texts other → program ≡ other
+  one_declared texts program other a b = one_settled texts program other (settled_too texts program a) (settled_too texts other b)
 
   one_option_fault : (texts : List (List ℕ)) (draft : Draft) (fault other : Fault) → AreResolved texts draft → IsFirstOptionFault draft fault → IsFirstOptionFault draft other → fault ≡ other
   one_option_fault texts draft fault other a f g =
@@ -69,11 +76,23 @@ module _ (one_reading : (texts : List (List ℕ)) (files others : List Items) �
   one_not_built texts file other a b =
       one_unbuilt b.draft file other (subst (λ (d : Draft). IsFirstUnbuilt d file) (one_resolved texts a.draft b.draft a.resolved b.resolved) a.first) b.first
 
+  pub settled_no_fault : (texts : List (List ℕ)) (program : Program) (fault : Fault) → Settles texts program → IsFirstFault texts fault → ⊥
+  settled_no_fault texts program fault s f = faultless texts s.draft program fault s.resolved s.declares f
+
   pub declared_no_fault : (texts : List (List ℕ)) (program : Program) (fault : Fault) → Declares texts program → IsFirstFault texts fault → ⊥
-  declared_no_fault texts program fault d f = faultless texts d.draft program fault d.resolved d.declares f
+  declared_no_fault texts program fault d f = settled_no_fault texts program fault (settled_too texts program d) f
 
   pub declared_built : (texts : List (List ℕ)) (program : Program) (file : ℕ) → Declares texts program → IsNotBuilt texts file → ⊥
   declared_built texts program file d n = d.built file (subst (λ (x : Draft). HasUnbuilt x file) (one_resolved texts n.draft d.draft n.resolved d.resolved) n.first.0)
 
   pub fault_built : (texts : List (List ℕ)) (fault : Fault) (file : ℕ) → IsFirstFault texts fault → IsNotBuilt texts file → ⊥
   fault_built texts fault file f n = faultless texts n.draft n.program fault n.resolved n.declares f
+
+  -- where names and types have no fault, it cannot be that there is neither a program nor a first fault
+  pub some_outcome : ((draft : Draft) → IsSound draft → ¬ ((s : Settlement) → ¬ IsSettlement draft s)) → (texts : List (List ℕ)) (draft : Draft) → AreResolved texts draft
+      → ((program : Program) → ¬ Settles texts program) → ((fault : Fault) → ¬ IsFirstFault texts fault) → ⊥
+  some_outcome some texts draft a no_program no_fault = some draft (sound texts draft a) none
+    where
+      none : (s : Settlement) → ¬ IsSettlement draft s
+      none (settlement.Program program) d = no_program program (record { draft = draft; resolved = a; declares = d })
+      none (settlement.Fault fault) f = no_fault fault (inr (inr (draft, a, f)))

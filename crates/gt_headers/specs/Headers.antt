@@ -44,7 +44,7 @@ pub record IsNotBuilt (texts : List (List ℕ)) (file : ℕ) : Type 0 where
   pub declares : DeclaresProgram draft program
   pub first : IsFirstUnbuilt draft file
 
--- why texts give no program; of want of memory nothing is said
+-- why texts give no program; nothing is said of running out of memory
 abbrev pub IsHeaderStop : List (List ℕ) → HeaderStop → Type 0
 IsHeaderStop texts Memory = Unit {0}
 IsHeaderStop texts (Faulty fault) = IsFirstFault texts fault

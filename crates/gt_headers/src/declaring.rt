@@ -1,5 +1,6 @@
 // The program that headers declare.
-ghost use Rattle.std.specs.Prelude.{◌≡◌, ◌≤◌, ◌<◌, ◌^◌, All, IfErr, IfOk, IsTrue, length};
+ghost use Rattle.std.specs.Prelude.{◌≡◌, ◌≤◌, ◌<◌, ◌^◌, All, IfErr, IfOk, length};
+ghost use Rattle.std.specs.Bool.{Decides};
 ghost use Rattle.gt_markers.specs.Sound.{IsSound};
 ghost use Rattle.gt_rules.specs.Faults.{Declares as DeclaresProgram};
 ghost use Rattle.gt_headers.specs.Headers.{AreResolved, Declares, IsHeaderStop, Settles};
@@ -14,7 +15,7 @@ use gt_sound::{read_is_well_made, resolved_is_sound};
 use gt_types::{Bytes, Fault, Program, Stop};
 use std::alloc::{AllocError, Global};
 
-/// Why headers give no program: want of memory; their first fault; or, where there is none, the place from 1 of the first
+/// Why headers give no program: out of memory; their first fault; or, where there is none, the place from 1 of the first
 /// header with something that is not built so far.
 #[derive(Clone, Copy, Debug, PartialEq, Eq)]
 pub enum HeaderStop {
@@ -36,8 +37,7 @@ impl From<AllocError> for HeaderStop {
 
 /// Whether texts may be read together: there are at most 64, and each is shorter than 4 GiB.
 pub fn are_within_limits(texts: &[Bytes]) -> bool
-    ensures few { IsTrue result → length texts.now ≤ MAX_HEADERS }
-    ensures short { IsTrue result → All (λ text. length text < 2 ^ 32) texts.now }
+    ensures decides { Decides result ((length texts.now ≤ MAX_HEADERS) × All (λ text. length text < 2 ^ 32) texts.now) }
 {
     texts.len() <= MAX_HEADERS && texts.iter().all(|text| text.len() < 1 << 32)
 }

@@ -4,28 +4,37 @@ ghost use Rattle.std.specs.Prelude.{◌≡◌, ◌≤◌, ℕ, List, length, pos
 ghost use Rattle.gt_types.specs.declared.faults.Fault.{Fault};
 ghost use Rattle.gt_types.specs.declared.program.Program.{Program};
 ghost use Rattle.gt_types.specs.declared.limits.TheConstants.{MAX_STRUCTURES as most_structures, MAX_FIELDS as most_fields, MAX_ROOTS as most_roots, MAX_CACHES as most_caches, MAX_DEPTH as most_depth, MAX_DIMENSIONS as most_dimensions, MAX_BOUND as most_elements, TOO_LARGE};
-ghost use Rattle.gt_headers.specs.Headers.{Declares, IsFirstFault, IsNotBuilt};
+ghost use Rattle.gt_types.specs.Settled.{Settled};
+ghost use Rattle.gt_resolve.specs.declared.draft.Draft.{Draft};
+ghost use Rattle.gt_headers.specs.Headers.{AreResolved, Declares, IsFirstFault, IsNotBuilt, Settles};
 ghost use Rattle.gt_headers.specs.Pointers.{IsOfPointers};
 ghost use Rattle.gt_lex.specs.declared.faults.TheConstants.{BAD_UTF8, OPEN_COMMENT, OPEN_STRING, BAD_NUMBER};
 ghost use Rattle.gt_expr.specs.declared.TheConstants.{BAD_EXPR, EXPR_TOO_LARGE, MAX_PARTS};
 ghost use Rattle.gt_parse.specs.declared.faults.TheConstants.{UNCLOSED, UNEXPECTED, UNSUPPORTED, BAD_MARKER_PLACE};
+ghost use Rattle.gt_markers.specs.declared.TheConstants.{UNKNOWN_OPTION, WRONG_PLACE, MISSING_DESC, DUPLICATE_TAG, BAD_PATH, CHAIN_NOT_OWN_POINTER, UNKNOWN_HOOK, CACHE_SHAPE};
 ghost use Rattle.gt_resolve.specs.declared.TheConstants.{REDEFINED, UNDEFINED, BY_VALUE_CYCLE, BAD_BOUND, TOO_MANY, TYPE_TOO_LARGE, MAX_STRUCTURES, MAX_FIELDS, MAX_ROOTS, MAX_CACHES, MAX_DEPTH, MAX_DIMENSIONS, MAX_BOUND};
 
 use gt_lex::one_answer;
 use gt_options::laws::one_settlement;
 use gt_parse::one_search;
 use gt_resolve::few;
+use gt_settled::declared_is_settled;
 use gt_sound::{read_is_well_made, resolved_is_sound};
 
-/// Headers declare at most one program, have at most one first fault, and at most one of them is the first with something that
-/// is not built; and never two of these hold.
+/// Headers declare at most one program, built or not, have at most one first fault, and at most one of them is the first with
+/// something that is not built. A program never stands beside a first fault, and what is not built stands neither beside one nor
+/// beside a program of which all is built. Where names and types are without a fault, it cannot be that there is neither a program nor a
+/// first fault.
 pub fn one_outcome()
     ensures program { (texts : List (List ℕ)) (program other : Program) → Declares texts program → Declares texts other → program ≡ other }
+    ensures settled { (texts : List (List ℕ)) (program other : Program) → Settles texts program → Settles texts other → program ≡ other }
     ensures fault { (texts : List (List ℕ)) (fault other : Fault) → IsFirstFault texts fault → IsFirstFault texts other → fault ≡ other }
     ensures file { (texts : List (List ℕ)) (file other : ℕ) → IsNotBuilt texts file → IsNotBuilt texts other → file ≡ other }
     ensures no_fault { (texts : List (List ℕ)) (program : Program) (fault : Fault) → Declares texts program → IsFirstFault texts fault → ⊥ }
+    ensures settled_no_fault { (texts : List (List ℕ)) (program : Program) (fault : Fault) → Settles texts program → IsFirstFault texts fault → ⊥ }
     ensures built { (texts : List (List ℕ)) (program : Program) (file : ℕ) → Declares texts program → IsNotBuilt texts file → ⊥ }
     ensures fault_first { (texts : List (List ℕ)) (fault : Fault) (file : ℕ) → IsFirstFault texts fault → IsNotBuilt texts file → ⊥ }
+    ensures resolved { (texts : List (List ℕ)) (draft : Draft) → AreResolved texts draft → ((program : Program) → ¬ Settles texts program) → ((fault : Fault) → ¬ IsFirstFault texts fault) → ⊥ }
 {
     one_answer();
     one_search();
@@ -33,6 +42,15 @@ pub fn one_outcome()
     read_is_well_made();
     resolved_is_sound();
     one_settlement();
+}
+
+/// The program to which headers settle, built or not, is settled.
+pub fn settles_is_settled()
+    ensures settled { (texts : List (List ℕ)) (program : Program) → Settles texts program → Settled program }
+{
+    read_is_well_made();
+    resolved_is_sound();
+    declared_is_settled();
 }
 
 /// What headers declare so far is few structures of plain pointers to one another, and few such roots.
@@ -55,6 +73,7 @@ pub fn numbers()
     ensures options { (BAD_EXPR ≡ 5) × (EXPR_TOO_LARGE ≡ 6) }
     ensures items { (UNCLOSED ≡ 7) × (UNEXPECTED ≡ 8) × (UNSUPPORTED ≡ 9) × (BAD_MARKER_PLACE ≡ 10) }
     ensures names { (REDEFINED ≡ 11) × (UNDEFINED ≡ 12) × (BY_VALUE_CYCLE ≡ 13) × (BAD_BOUND ≡ 14) × (TOO_MANY ≡ 15) × (TYPE_TOO_LARGE ≡ 24) }
+    ensures markers { (UNKNOWN_OPTION ≡ 16) × (WRONG_PLACE ≡ 17) × (MISSING_DESC ≡ 18) × (DUPLICATE_TAG ≡ 19) × (BAD_PATH ≡ 20) × (CHAIN_NOT_OWN_POINTER ≡ 21) × (UNKNOWN_HOOK ≡ 22) × (CACHE_SHAPE ≡ 23) }
     ensures counts { (MAX_STRUCTURES ≡ 4096) × (MAX_FIELDS ≡ 1024) × (MAX_ROOTS ≡ 4096) × (MAX_CACHES ≡ 64) }
     ensures shapes { (MAX_DEPTH ≡ 32) × (MAX_DIMENSIONS ≡ 4) × (MAX_BOUND ≡ pos 1048576) × (MAX_PARTS ≡ 256) }
     ensures settled_counts { (most_structures ≡ 4096) × (most_fields ≡ 1024) × (most_roots ≡ 4096) × (most_caches ≡ 64) }

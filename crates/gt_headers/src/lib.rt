@@ -8,7 +8,7 @@ pub mod laws;
 mod reading;
 
 pub use declaring::{HeaderStop, are_within_limits, declare, program_of};
-pub use laws::{is_of_pointers, numbers, one_outcome, text_places};
+pub use laws::{is_of_pointers, numbers, one_outcome, settles_is_settled, text_places};
 
 /// The most headers of a call.
 pub const MAX_HEADERS: usize = 64;

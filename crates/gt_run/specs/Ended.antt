@@ -27,7 +27,7 @@ AddsAllBut old lines answers Last new = (first : List Line) × (line : Line) × 
 abbrev pub IsNothing : List ℕ → List ℕ → Type 0
 IsNothing front text = front ≡ []
 
--- the refusal's line is written; or a front of it, where the sink failed; or nothing, for want of memory
+-- the refusal's line is written; or a front of it, where the sink failed; or nothing, for out of memory
 abbrev pub Refuses : Refusal → List ℕ → (taken takes : Option (List ℕ)) → Ending → Type 0
 Refuses refusal line taken takes (Refused told) = (told ≡ refusal) × Adds taken line takes
 Refuses refusal line taken takes SinkFailed = AddsFront taken line takes
@@ -43,7 +43,7 @@ IsUnused range = (range ≡ empty_range) ⊎ ((pages : ℕ) × (statics : ℕ) �
 -- refused: what comes first in the order of work, and its line; no command ran, and the space is empty, as it came
 -- the sink failed: a front of a refusal's line, where no command ran and the space is empty, as it came; or of the text of the
 -- answers with all but the last whole
--- want of memory: no answer, where no command ran; or the text of the answers, or of all but the last: the answers are those to
+-- out of memory: no answer, where no command ran; or the text of the answers, or of all but the last: the answers are those to
 -- the lines that were run
 abbrev pub Ended : List (List ℕ) → Option Held → Option (List ℕ) → Ending → List Answer → Option (List ℕ) → Range → Type 0
 Ended words told old Finished answers new range = (r : Runs words told answers range) × (r.left ≡ []) × Adds old (texts_of r.done answers) new

@@ -15,9 +15,9 @@ use gt_front::Refusal;
 use gt_headers::one_outcome as headers_outcome;
 use gt_machine::Answer;
 
-/// The ranges and defaults of the words, the limits of files in bytes, the numbers of the faults of a script, where the pages
-/// begin, how large they are and how many a space has, how large the static record may be, how many variables may be bound, and
-/// the limits of a good state.
+/// The ranges and defaults of the arguments, the limits of files in bytes, the numbers of the faults of a script, where the
+/// pages begin, how large they are and how many a space has, how large the static record may be, how many variables may be
+/// bound, and the limits of a good state.
 pub fn numbers()
     ensures pages { (MIN_PAGES ≡ 16) × (MAX_PAGES ≡ 16384) × (DEFAULT_PAGES ≡ 4096) }
     ensures min_expand { (MAX_MIN_EXPAND ≡ 1000) × (DEFAULT_MIN_EXPAND ≡ 30) }
@@ -32,8 +32,8 @@ pub fn numbers()
     ensures settings { (most_expand ≡ 1000) × (most_heapsize ≡ 1048576) × (MAX_ALLOCATED ≡ 67108864) }
 {}
 
-/// Where the files are told, at most one refusal comes first but for read faults, which no file tells; and where one does, no
-/// command is run.
+/// With the contents of the files fixed, at most one refusal comes first, other than read faults, which no content decides;
+/// and if there is one, no command runs.
 pub fn one_refusal()
     ensures refusal { (words : List (List ℕ)) (held : Held) (texts others : Texts) (refusal other : Refusal) → IsRefusedFirst words (Some held) texts refusal → IsRefusedFirst words (Some held) others other → IsTold refusal → IsTold other → refusal ≡ other }
     ensures no_run { (words : List (List ℕ)) (held : Held) (texts : Texts) (refusal : Refusal) (answers : List Answer) (range : Range) → IsRefusedFirst words (Some held) texts refusal → IsTold refusal → Runs words (Some held) answers range → ⊥ }

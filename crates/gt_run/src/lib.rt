@@ -1,4 +1,4 @@
-//! The program as one call: words, files and a sink go in, and what comes out is a run of the typed-object machine.
+//! The program as one call: arguments, files and a sink go in, and what comes out is a run of the typed-object machine.
 //! The layer above uses `top` alone.
 #![tactic(auto)]
 

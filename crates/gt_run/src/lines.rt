@@ -17,7 +17,7 @@ use std::alloc::Global;
 pub enum LineStop {
     /// Want of memory before the answer.
     NoAnswer,
-    /// Want of memory behind the answer.
+    /// Memory ran out after the answer.
     NoText,
     /// The sink failed.
     NotWritten,

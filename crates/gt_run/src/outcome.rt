@@ -11,7 +11,7 @@ use gt_types::List;
 
 /// How a call of the program ended: its status, the answers so far, and the refusal where there was one.
 /// The status is 0 where all lines were answered, 1 where one of the answers is a refusal, 2 or 3 where no line was run, 4
-/// where the sink failed, and 9 for want of memory.
+/// where the sink failed, and 9 if memory ran out.
 #[derive(Debug, PartialEq, Eq, Drop)]
 pub struct Outcome {
     pub status: u8,

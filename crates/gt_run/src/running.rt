@@ -31,8 +31,8 @@ use gt_types::{List, Program, Word};
 use gt_words::{Call, Settings};
 use std::alloc::Global;
 
-/// Runs the program: reads the words, the files that they name, the headers and the script, and then answers each line of
-/// the script and writes its answer. The words are those behind the program's name.
+/// Runs the program: reads the arguments, the files that they name, the headers and the script, and then answers each
+/// line of the script and writes its answer. The arguments come without the program's name.
 pub fn top<F: Files, K: Sink>(
     alloc: Global,
     words: &[Word],
@@ -55,12 +55,12 @@ pub fn top<F: Files, K: Sink>(
     ensures file_cause { (word : ℕ) → result.refusal ≡ Some (Refusal.File word FileWhy.Fault) → Rose (F.faults files.old) (F.faults files.new) }
     ensures sink_cause { result.status ≡ 4 → Rose (K.faults out.old) (K.faults out.new) }
 
-    // Where all is well, the script is run to its end, or there is want of memory.
+    // Where all is well, the script is run to its end, or memory runs out  .
     ensures complete { (held : Held) → F.told files.old ≡ Some held → IsWell words.now held
         → (Rose (F.faults files.old) (F.faults files.new) → ⊥) → (Rose (K.faults out.old) (K.faults out.new) → ⊥)
         → (result.status ≡ 0) ⊎ (result.status ≡ 1) ⊎ (result.status ≡ 9) }
 
-    // Where something is refused first, it is refused, or the sink failed, or there is want of memory.
+    // Where something is refused first, it is refused, or the sink failed, or memory runs out  .
     ensures refused { (held : Held) (texts : Texts) (refusal : Refusal) → F.told files.old ≡ Some held → IsRefusedFirst words.now (Some held) texts refusal → IsTold refusal
         → (Rose (F.faults files.old) (F.faults files.new) → ⊥)
         → ((result.refusal ≡ Some refusal) × (result.status ≡ refusal_status refusal)) ⊎ (result.status ≡ 4) ⊎ (result.status ≡ 9) }
@@ -88,7 +88,7 @@ fn well_is_not_refused()
     headers_outcome();
 }
 
-// Where something is refused first, and no file's reading failed, it is what is told, or the sink failed, or there is want of memory. It
+// Where something is refused first, and no file's reading failed, it is what is told, or the sink failed, or memory runs out  . It
 // does nothing: its clause is a law.
 fn refused_is_told()
     ensures { (words : List (List ℕ)) (held : Held) (texts : Texts) (refusal : Refusal) (old new : Option (List ℕ)) (outcome : Outcome) (range : Range) → IsRefusedFirst words (Some held) texts refusal → IsTold refusal

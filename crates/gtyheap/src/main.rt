@@ -1,5 +1,4 @@
-//! The program gtyheap: the words of the command line, the machine's files and its standard output, handed to the one call
-//! that does the work.
+//! The program gtyheap: the arguments, the machine's files and its standard output, handed to the one call that does the work.
 #![tactic(auto)]
 
 use gt_io::{HostFiles, HostOut};
@@ -11,7 +10,7 @@ use std::env::{self, Env};
 use std::io::ErrorKind;
 use std::process::ExitCode;
 
-/// The status for want of memory.
+/// The status when memory runs out.
 const NO_MEMORY: u8 = 9;
 
 fn main(rt: HostRuntime) -> ExitCode {

@@ -1,4 +1,4 @@
-// What the words of the command line ask for: pages, percent and KiB, and then the script and its headers, or `generated` and the
+// What the arguments of the command line ask for: pages, percent and KiB, and then the script and its headers, or `generated` and the
 // number of nodes.
 use gt_types::{Bytes, Word};
 use gt_words::{Call, Script, read_words};

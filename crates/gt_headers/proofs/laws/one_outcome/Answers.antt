@@ -1,6 +1,6 @@
 use Rattle.gt_headers.proofs.ReadOutcomes.{one_reading, read_no_reading_fault, one_reading_fault}
 use Rattle.gt_headers.proofs.SoundLemmas.{sound_by}
-use Rattle.gt_headers.proofs.Outcomes.{one_declared, one_first_fault, one_not_built, declared_no_fault, declared_built, fault_built}
+use Rattle.gt_headers.proofs.Outcomes.{one_declared, one_settled, one_first_fault, one_not_built, declared_no_fault, settled_no_fault, declared_built, fault_built, some_outcome}
 use Rattle.gt_headers.proofs.laws.one_outcome.Goals as goal
 
 pub returns : goal.returns
@@ -15,9 +15,12 @@ returns c =
     let sound = sound_by c.read_is_well_made.ensures.well_made c.resolved_is_sound.ensures.sound in
     record {
       program = one_declared one none same resolved.not_both resolved.draft resolved.fault sound settled;
+      settled = one_settled one none same resolved.not_both resolved.draft resolved.fault sound settled;
       fault = one_first_fault one none same resolved.not_both resolved.draft resolved.fault sound settled;
       file = one_not_built one none same resolved.not_both resolved.draft resolved.fault sound settled;
       no_fault = declared_no_fault one none same resolved.not_both resolved.draft resolved.fault sound settled;
+      settled_no_fault = settled_no_fault one none same resolved.not_both resolved.draft resolved.fault sound settled;
       built = declared_built one none same resolved.not_both resolved.draft resolved.fault sound settled;
       fault_first = fault_built one none same resolved.not_both resolved.draft resolved.fault sound settled;
+      resolved = some_outcome one none same resolved.not_both resolved.draft resolved.fault sound settled c.one_settlement.ensures.one;
     }
