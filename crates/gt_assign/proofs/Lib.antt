@@ -20,3 +20,4 @@ pub mod Selves
 pub mod PartsFit
 pub mod Layers
 pub mod Endings
+pub mod Kept

@@ -14,6 +14,7 @@ ghost use Rattle.gt_assign.specs.Results.{FitsBeside, IsAssigned, IsMisfit, IsMa
 
 use crate::checks::{Checking, fits};
 use crate::copies::is_word;
+use crate::keeping::is_kept;
 use crate::parts::{part_at, with_part};
 use crate::scoping::Within;
 use crate::seeing::{Around, Seen};
@@ -35,16 +36,16 @@ pub fn leads_to_leaf(value: &Value, path: &[u32]) -> bool
     }
 }
 
-// What a value of an element of a block becomes, in which a leaf was replaced.
+// What a value of an element of a block becomes, in which a leaf was replaced: mostly itself.
 fn make_anew(
     alloc: Global,
     program: &Program,
     ty: &Ty,
     capacity: u32,
-    old: &Value,
+    old: Value,
 ) -> Result<Value, ValueFail>
     requires settled { Settled program.now }
-    ensures { Gives result (made program.now capacity 256 (past_outside End) ty.now (Whole (tree_of old.now))) }
+    ensures { Gives result (made program.now capacity 256 (past_outside End) ty.now (Whole (tree_of old))) }
 {
     let around = Around {
         here: None,
@@ -57,7 +58,10 @@ fn make_anew(
         program,
         capacity,
     };
-    turn(&on, ty, Seen::Whole(old), &around, MAX_NESTING)
+    if is_kept(&on, ty, &old, &around, MAX_NESTING) {
+        return Ok(old);
+    }
+    turn(&on, ty, Seen::Whole(&old), &around, MAX_NESTING)
 }
 
 // Whether a value fits an element of a block, where no structure is around it. Its expressions read no roots.
@@ -108,7 +112,7 @@ pub fn reshape(
         return Err(ValueFail::Shape);
     }
     let old = with_part(alloc, value, path, leaf)?;
-    make_anew(alloc, program, ty, capacity, &old)
+    make_anew(alloc, program, ty, capacity, old)
 }
 
 /// The value that an element of a block becomes, with room for so many elements at its end, where the leaf at a path is written:

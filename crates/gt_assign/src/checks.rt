@@ -48,8 +48,8 @@ fn opaque_fits(bytes: &[u8], ty: &Ty) -> bool
     }
 }
 
-// Whether this member of a union is the active one.
-fn is_active(value: Option<i64>, fields: &[Field], member: Option<u32>) -> bool
+/// Whether this member of a union is the active one.
+pub fn is_active(value: Option<i64>, fields: &[Field], member: Option<u32>) -> bool
     ensures { IsTrue result ↔ (active_member value fields.now ≡ member) }
 {
     match (active_member(value, fields), member) {
@@ -85,9 +85,9 @@ fn is_nothing(value: &Value) -> bool
     }
 }
 
-// Whether each pointer in a value is null.
+/// Whether each pointer in a value is null.
 #[cycle(null)]
-fn is_bare(value: &Value) -> bool
+pub fn is_bare(value: &Value) -> bool
     ensures { IsTrue result ↔ (without_pointers (tree_of value.now) ≡ tree_of value.now) }
 {
     match value {

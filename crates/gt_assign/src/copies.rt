@@ -84,8 +84,8 @@ pub fn is_word(value: &Value) -> bool
     }
 }
 
-// Whether a value has no parts of its own.
-fn is_leaf(value: &Value) -> bool
+/// Whether a value has no parts of its own.
+pub fn is_leaf(value: &Value) -> bool
     ensures { result ≡ is_leaf (tree_of value.now) }
 {
     match value {

@@ -8,6 +8,7 @@ mod assigning;
 mod checks;
 mod commons;
 mod copies;
+mod keeping;
 pub mod laws;
 mod naming;
 mod parts;

@@ -1,11 +1,11 @@
 // Writing one leaf of the static record.
-ghost use Rattle.std.specs.Prelude.{◌≡◌, ◌↔◌, IsTrue, IfOk, Err, map};
+ghost use Rattle.std.specs.Prelude.{◌≡◌, ◌↔◌, IsTrue, IfOk, Some, Err, map};
 ghost use Rattle.gt_types.specs.Settled.{Settled};
 ghost use Rattle.gt_tree.specs.Trees.{Trees, Rec};
 ghost use Rattle.gt_tree.specs.Fits.{AllFit, StaticsFit};
 ghost use Rattle.gt_value.specs.Values.{trees, tree_of};
 ghost use Rattle.gt_value.specs.declared.values.ValueFail.TheVariants.{Shape};
-ghost use Rattle.gt_assign.specs.Pasts.{was_of, past_of};
+ghost use Rattle.gt_assign.specs.Pasts.{Whole, was_of, past_of};
 ghost use Rattle.gt_assign.specs.Scoping.{scope_of};
 ghost use Rattle.gt_assign.specs.Turning.{Gives, made, roots_made, record_made};
 ghost use Rattle.gt_assign.specs.Results.{IsRecord, RecordFits, IsRecordAssigned, IsRecordMisfit, IsRecordWhereFit, NoneElseIsRecord, NoneIsRecord};
@@ -13,6 +13,7 @@ ghost use Rattle.gt_assign.specs.Results.{IsRecord, RecordFits, IsRecordAssigned
 use crate::assigning::{MAX_NESTING, leads_to_leaf};
 use crate::checks::{Checking, fits};
 use crate::copies::is_word;
+use crate::keeping::is_kept;
 use crate::parts::with_part;
 use crate::scoping::Within;
 use crate::seeing::{Around, Seen};
@@ -40,12 +41,28 @@ fn roots_anew(on: &Making, roots: &[Root], seen: Seen, around: &Around) -> Resul
     Ok(Value::Rec(parts))
 }
 
-// What the static record becomes, in which a leaf was replaced: its expressions read the roots as they are there.
-fn record_anew(alloc: Global, program: &Program, written: &Value) -> Result<Value, ValueFail>
-    requires settled { Settled program.now }
-    ensures { Gives result (record_made program.now 256 (tree_of written.now)) }
+// Whether the roots stay as they are, one after another.
+fn roots_kept(on: &Making, roots: &[Root], parts: &[Value], around: &Around) -> bool
+    requires settled { Settled on.now.program.now }
+    ensures { IsTrue result → roots_made (made on.now.program.now on.now.capacity 256) (past_of around.now) roots.now (Whole (Rec (trees (map tree_of parts.now)))) ≡ Some (Rec (trees (map tree_of parts.now))) }
 {
-    let Value::Rec(parts) = written else {
+    if parts.len() != roots.len() {
+        return false;
+    }
+    for (i, part) in parts.iter().enumerate() {
+        if !is_kept(on, &roots[i].ty, part, around, MAX_NESTING) {
+            return false;
+        }
+    }
+    true
+}
+
+// What the static record becomes, in which a leaf was replaced: mostly itself. Its expressions read the roots as they are there.
+fn record_anew(alloc: Global, program: &Program, written: Value) -> Result<Value, ValueFail>
+    requires settled { Settled program.now }
+    ensures { Gives result (record_made program.now 256 (tree_of written)) }
+{
+    let Value::Rec(parts) = &written else {
         return Err(ValueFail::Shape);
     };
     let around = Around {
@@ -59,7 +76,15 @@ fn record_anew(alloc: Global, program: &Program, written: &Value) -> Result<Valu
         program,
         capacity: 0,
     };
-    roots_anew(&on, program.roots.as_slice(), Seen::Whole(written), &around)
+    if roots_kept(&on, program.roots.as_slice(), parts.as_slice(), &around) {
+        return Ok(written);
+    }
+    roots_anew(
+        &on,
+        program.roots.as_slice(),
+        Seen::Whole(&written),
+        &around,
+    )
 }
 
 // Whether values fit these roots, one after another.
@@ -127,7 +152,7 @@ pub fn reshape_statics(
         return Err(ValueFail::Shape);
     }
     let written = with_part(alloc, values, path, leaf)?;
-    record_anew(alloc, program, &written)
+    record_anew(alloc, program, written)
 }
 
 /// What the static record becomes where the leaf at a path is written, of which the first place is that of a root. A root may say

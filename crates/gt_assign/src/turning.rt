@@ -90,8 +90,8 @@ fn tail(
     }
 }
 
-// How many elements an array with a length has. None where its length has no value, or says more than there is room for.
-fn tail_length(on: &Making, len: &Expr, around: &Around) -> Option<usize>
+/// How many elements an array with a length has. None where its length has no value, or says more than there is room for.
+pub fn tail_length(on: &Making, len: &Expr, around: &Around) -> Option<usize>
     ensures { result ≡ within on.now.capacity (value_was on.now.program.now (past_of around.now) len.now) }
 {
     let n = usize::try_from(value_of(on.program, len, around)?).ok()?;

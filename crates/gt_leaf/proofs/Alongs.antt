@@ -286,7 +286,7 @@ module _ {program : Program} (settled : Settled program) {a : Trees} where
   count-begins (Along.at_root r contains) len e = record { here = λ h is. absurd (cc); outer = λ h is. absurd (cc) }
   count-begins (Along.in_field {s} {node} {desc} {v} {x} {f} p has contains) len e = record {
     here = λ h is. subst (λ n. BeginsAt program len Here n) (node-held node v h is) (BeginsAt.own_here {node = node} {s = x} has (own-count x f len contains e));
-    outer = λ h is. BeginsAt.own_outer node {s = x} has (own-count x f len contains e) ((around settled p node (held-node node desc)).within h is);
+    outer = λ h is. BeginsAt.length_outer node {s = x} {f = f} has contains e ((around settled p node (held-node node desc)).within h is);
   }
   count-begins (Along.in_common p has o) len e = absurd (cc)
   count-begins (Along.in_array {type} {elem} {n} p e) len is =

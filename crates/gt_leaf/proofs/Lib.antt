@@ -3,11 +3,12 @@ pub mod Adding
 pub mod FirstNames
 pub mod PathWalks
 pub mod SeekLemmas
+pub mod PlainParts
+pub mod Arounds
 pub mod Swaps
 pub mod SwapReads
 pub mod Alongs
 pub mod SwapScopes
-pub mod PlainParts
 pub mod Refits
 pub mod UnreadLaws
 pub mod Texts

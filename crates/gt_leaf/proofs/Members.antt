@@ -27,7 +27,7 @@ module _ {X : Type 0} where
       let found = rest (ap (λ b. b || list_any p xs) (sym e) ∙ h) in
       (found.0, later x found.0 xs found.1, found.2)
 
-  any-found : (p : X → Bool) (xs : List X) → list_any p xs ≡ true → (x : X) × Contains xs x × (p x ≡ true)
+  pub any-found : (p : X → Bool) (xs : List X) → list_any p xs ≡ true → (x : X) × Contains xs x × (p x ≡ true)
   any-found p [] h = absurd (cc)
   any-found p (x ∷ xs) h = found-step p x xs (p x) refl (any-found p xs) h
 

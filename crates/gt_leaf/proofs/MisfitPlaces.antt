@@ -1,5 +1,7 @@
 -- Where a leaf does not fit at its place in the bytes, no value fits with it.
-use Rattle.std.proofs.Common.{◌≡◌, ℕ, true, List, refl, ap, sym, subst, ◌∙◌, ◌⊎◌, inl, inr}
+use Rattle.std.proofs.Common.{◌≡◌, ℕ, true, List, [], refl, ap, sym, subst, ◌∙◌, ◌⊎◌, Some, inl, inr}
+use Rattle.std.specs.Prelude.{Contains}
+use Rattle.gt_types.specs.declared.types.TypeId.{TypeId}
 use Rattle.gt_types.specs.declared.types.Ty.{Ty}
 use Rattle.gt_types.specs.declared.program.Root.{Root}
 use Rattle.gt_types.specs.declared.program.Program.{Program}
@@ -19,7 +21,9 @@ use Rattle.gt_value.specs.declared.places.LeafContent.TheVariants as content
 use Rattle.gt_value.specs.declared.places.Place.{Place}
 use Rattle.gt_value.specs.Places.{Part, PartLies, IsContentOf, IsPlaceOf, IsPlaceOfPart, IsStaticPlaceOf, content_at}
 use Rattle.gt_leaf.specs.Writing.{StandsBeside, StaticsStandBeside, is_number_leaf, IsAlone}
+use Rattle.gt_leaf.specs.Unread.{structures_on, structures_in_statics}
 use Rattle.gt_leaf.specs.Verdicts.{IsMisfit}
+use Rattle.gt_leaf.proofs.Arounds.{static-covers}
 use Rattle.gt_leaf.proofs.Swaps.{put-swaps}
 use Rattle.gt_leaf.proofs.Alongs.{Along, Contains-get}
 use Rattle.gt_leaf.proofs.SwapScopes.{outside-same}
@@ -36,7 +40,7 @@ content-bare content.Null tree means e = absurd (cc)
 content-bare (content.To address) tree means e = absurd (cc)
 
 -- the leaf at a place can be looked at alone, as a tree
-tree-alone : {program : Program} {range : Range} {address : ℕ} (p : Part) (place : Place) (leaf : LeafContent) (tree : Tree) → IsPlaceOfPart program range address p place → IsAlone program p leaf → IsContentOf leaf tree → StandsAlone program p tree
+tree-alone : {program : Program} {around : List TypeId} {range : Range} {address : ℕ} (p : Part) (place : Place) (leaf : LeafContent) (tree : Tree) → IsPlaceOfPart program range address p place → IsAlone program around p leaf → IsContentOf leaf tree → StandsAlone program around p tree
 tree-alone {range} p place leaf tree at alone means =
     let bare : (p.active ≡ true) ⊎ (without_pointers tree ≡ tree) = elim alone.active [ inl active ↦ inl active | inr number ↦ inr (content-bare leaf tree means number) ] in
     record {
@@ -48,29 +52,30 @@ tree-alone {range} p place leaf tree at alone means =
 module _ (program : Program) (layouts : Layouts) (settled : Settled program) where
   pub misfits : (blocks : Blocks) (statics : Trees) (capacity : ℕ) (type : Ty) (address : ℕ) (value : Tree) (path : List ℕ) (leaf : LeafContent) (range : Range) (place : Place)
       → StandsBeside program layouts blocks statics capacity type range address value
-      → (at : IsPlaceOf program layouts.structures (outside statics) lies_in.Element type range address value path place) → IsMisfit program blocks at.p leaf
+      → (at : IsPlaceOf program layouts.structures (outside statics) lies_in.Element type range address value path place) → IsMisfit program blocks (structures_on program (Some type) path) at.p leaf
       → (tree new : Tree) → IsContentOf leaf tree → ¬ Assigns program blocks statics capacity type value path tree new
   misfits blocks statics capacity type address value path leaf range place s at m tree new means = λ assigns.
       let here = subst (λ t. Assigns program blocks statics capacity t value path tree new) s.of_kind assigns in
       let lies = subst (λ t. PartLies program layouts.structures (outside statics) lies_in.Element true 0 t value path at.p) s.of_kind at.lies in
       let along : Along program statics (outside statics) (element_type program s.kind) = Along.at_block s.kind s.held in
-      let found = fits-there settled lies s.is.fits (outside statics) along (outside-same statics statics (λ i read. refl)) tree (tree-alone at.p place leaf tree at.is m.alone means) new here.fits here.reshapes in
+      let found = fits-there settled lies s.is.fits (outside statics) along (outside-same statics statics (λ i read. refl)) tree (tree-alone at.p place leaf tree at.is m.alone means) (record { each = λ b c. inr (subst (λ t. Contains (structures_on program (Some t) path) b) (sym s.of_kind) c) }) new here.fits here.reshapes in
       m.misfit (content-fits settled {t = found.scope} found.fits leaf means found.along found.same m.alone.word)
 
   pub static-misfits : (blocks : Blocks) (values : Trees) (path : List ℕ) (leaf : LeafContent) (range : Range) (place : Place)
-      → StaticsStandBeside program layouts blocks range values → (at : IsStaticPlaceOf program layouts range values path place) → IsMisfit program blocks at.p leaf
+      → StaticsStandBeside program layouts blocks range values → (at : IsStaticPlaceOf program layouts range values path place) → IsMisfit program blocks (structures_in_statics program path) at.p leaf
       → (tree : Tree) (new : Trees) → IsContentOf leaf tree → ¬ AssignsStatics program blocks values path tree new
   static-misfits blocks values path leaf range place s at m tree new means = λ assigns.
       let l = at.lies in
       let alone = tree-alone at.p place leaf tree at.is m.alone means in
+      let covers = static-covers program at.p.active l in
       let w = with_part_of values l.i l.rest tree in
       let same_rec : Rec w ≡ Rec assigns.written = ap (λ y. with_part (Rec values) y tree) (sym l.path_is) ∙ assigns.with_leaf in
       let is : w ≡ assigns.written = cc in
       let becomes = subst (λ y. AllReshape program (root_types program) y new) (sym is) assigns.reshapes in
       let type_is = get-map (λ (r : Root). r.ty) program.roots l.i l.r l.root in
-      let swap = put-swaps program lies_in.Root (root_types program) values l.i l.r.ty l.tree l.rest tree type_is l.there (alone-swap settled l.lies tree alone) in
+      let swap = put-swaps program [] lies_in.Root (root_types program) values l.i l.r.ty l.tree l.rest tree type_is l.there (alone-swap settled l.lies tree alone covers) in
       let same = outside-same values new (λ i read. root-swap swap i (λ unread. unread read) ∙ roots-kept becomes i) in
       let along : Along program values (outside values) l.r.ty = Along.at_root l.r (Contains-get program.roots l.i l.r l.root) in
       let one = all-at becomes assigns.fits l.i l.r.ty (with_part l.tree l.rest tree) type_is (put-there values l.i l.tree l.rest tree l.there) in
-      let found = fits-there settled l.lies (fit-at s.are.fit l.i l.r.ty l.tree type_is l.there) (outside new) along same tree alone one.new one.fits one.reshapes in
+      let found = fits-there settled l.lies (fit-at s.are.fit l.i l.r.ty l.tree type_is l.there) (outside new) along same tree alone covers one.new one.fits one.reshapes in
       m.misfit (content-fits settled {t = found.scope} found.fits leaf means found.along found.same m.alone.word)

@@ -1,5 +1,5 @@
 -- A value fits a type in each scope in which the expressions of the program read the same; and so it does where a leaf is replaced that none reads.
-use Rattle.std.proofs.Common.{◌≡◌, ℕ, zero, suc, Bool, true, false, List, refl, ap, sym, subst, ◌∙◌, Option, Some, None, inl, inr}
+use Rattle.std.proofs.Common.{◌≡◌, ℕ, zero, suc, Bool, true, false, List, [], refl, ap, sym, subst, ◌∙◌, Option, Some, None, inl, inr}
 use Rattle.std.specs.Prelude.{pos, All, Contains, slice_get}
 use Rattle.std.proofs.lemmas.List.Elements.{All-head, All-tail, All-map, All-weaker, All-contains_itself}
 use Rattle.gt_types.specs.declared.expressions.Expr.{Expr}
@@ -24,7 +24,9 @@ use Rattle.gt_tree.proofs.Fitting.{fits-struct, fits-member, fits-common, fits-a
 use Rattle.gt_tree.proofs.PathParts.{get-map}
 use Rattle.gt_value.specs.declared.places.Holder.{Holder}
 use Rattle.gt_value.specs.Places.{Part, PartLies}
-use Rattle.gt_leaf.specs.Unread.{IsUnread, MayReplace}
+use Rattle.gt_leaf.specs.Unread.{structures_on, IsUnread, MayReplace}
+use Rattle.gt_leaf.proofs.Arounds.{Covers, covers-none, field-covers, array-covers, tail-covers}
+use Rattle.gt_leaf.proofs.Members.{first}
 use Rattle.gt_leaf.proofs.Swaps.{Swap, swapped, with-member}
 use Rattle.gt_leaf.proofs.SwapReads.{reads-swapped}
 use Rattle.gt_leaf.proofs.Alongs.{Along, Contains-get}
@@ -39,21 +41,21 @@ long-row {program} s type elem length trees e fits =
     let same : found.0 ≡ trees = cc in
     found.2 ∙ ap (λ y. Some (pos (count y))) same
 
--- a leaf that no expression reads may be replaced by this one
-pub record Replaces (program : Program) (blocks : Blocks) (capacity : ℕ) (p : Part) (leaf : Tree) : Type 0 where
-  pub unread : IsUnread program p.holder
+-- a leaf inside these structures that no expression reads may be replaced by this one
+pub record Replaces (program : Program) (blocks : Blocks) (capacity : ℕ) (around : List TypeId) (p : Part) (leaf : Tree) : Type 0 where
+  pub unread : IsUnread program around p.active p.holder
   pub may : MayReplace p leaf
   pub fits : Fits program blocks capacity p.scope p.type leaf
 
-pub swap-of : {program : Program} {planes : List Plane} {blocks : Blocks} {capacity : ℕ} {s : Scope} {h : Holder} {active : Bool} {bit : ℕ} {type : Ty} {tree : Tree} {path : List ℕ} {p : Part} → PartLies program planes s h active bit type tree path p
-    → (leaf : Tree) → Replaces program blocks capacity p leaf → Swap program h type tree (with_part tree path leaf)
-swap-of lies leaf r = swapped lies leaf r.unread r.may.0 r.may.1 (leaf-type r.fits r.may.1)
+pub swap-of : {program : Program} {planes : List Plane} {blocks : Blocks} {capacity : ℕ} {around : List TypeId} {s : Scope} {h : Holder} {active : Bool} {bit : ℕ} {type : Ty} {tree : Tree} {path : List ℕ} {p : Part} → PartLies program planes s h active bit type tree path p
+    → (leaf : Tree) → Replaces program blocks capacity around p leaf → Covers around p.active (structures_on program (Some type) path) → Swap program [] h type tree (with_part tree path leaf)
+swap-of {around} {p} lies leaf r covers = swapped lies [] leaf r.unread (covers-none around p.active) covers r.may.0 r.may.1 (leaf-type r.fits r.may.1)
 
 pub plain-leaf : (p : Part) (leaf : Tree) → MayReplace p leaf → p.active ≡ false → without_pointers leaf ≡ leaf
 plain-leaf p leaf may e = elim may.2 [ inl active ↦ absurd (cc) | inr plain ↦ plain ]
 
-reads : {program : Program} {h : Holder} → Settled program → (node : TypeId) (desc : Option Expr) (v w : Tree) → Swap program h (ty.Node node desc) v w → ReadSame program node v w
-reads {h} settled node desc v w swap = λ steps leads read. reads-swapped settled leads.1 leads.2 read h desc v w swap
+reads : {program : Program} {h : Holder} → Settled program → (node : TypeId) (desc : Option Expr) (v w : Tree) → Swap program [] h (ty.Node node desc) v w → ReadSame program node v w
+reads {h} settled node desc v w swap = λ steps leads read. reads-swapped settled leads.1 leads.2 node read [] (first node []) h desc v w swap
 
 self-same : {program : Program} {s t : Scope} (node : TypeId) (v : Tree) → ScopesSame program s t → ScopesSame program (inside s node v) (inside t node v)
 self-same node v same = inside-same node v v same (λ steps leads read. refl)
@@ -139,20 +141,20 @@ module _ {program : Program} (settled : Settled program) {a : Trees} where
 
   -- ---- the value with the leaf
 
-  pub changes : {planes : List Plane} {blocks : Blocks} {capacity : ℕ} {s : Scope} {h : Holder} {active : Bool} {bit : ℕ} {type : Ty} {tree : Tree} {path : List ℕ} {p : Part} → PartLies program planes s h active bit type tree path p → Fits program blocks capacity s type tree → (t : Scope)
-      → Along program a s type → ScopesSame program s t → (leaf : Tree) → Replaces program blocks capacity p leaf → Fits program blocks capacity t type (with_part tree path leaf)
-  changes PartLies.whole fits t along same leaf r = stays r.fits t along same
-  changes {s} {h} (PartLies.field {i} {node} {desc} {s = x} {f} {trees} {tree} {path} has struct laid get spot there lies) fits t along same leaf r =
+  pub changes : {planes : List Plane} {blocks : Blocks} {capacity : ℕ} {around : List TypeId} {s : Scope} {h : Holder} {active : Bool} {bit : ℕ} {type : Ty} {tree : Tree} {path : List ℕ} {p : Part} → PartLies program planes s h active bit type tree path p → Fits program blocks capacity s type tree → (t : Scope)
+      → Along program a s type → ScopesSame program s t → (leaf : Tree) → Replaces program blocks capacity around p leaf → Covers around p.active (structures_on program (Some type) path) → Fits program blocks capacity t type (with_part tree path leaf)
+  changes PartLies.whole fits t along same leaf r covers = stays r.fits t along same
+  changes {s} {h} (PartLies.field {i} {node} {desc} {s = x} {f} {trees} {tree} {path} has struct laid get spot there lies) fits t along same leaf r covers =
       let w = Rec (with_part_of trees i path leaf) in
-      let read = reads {h = h} settled node desc (Rec trees) w (swap-of (PartLies.field {scope = s} has struct laid get spot there lies) leaf r) in
+      let read = reads {h = h} settled node desc (Rec trees) w (swap-of (PartLies.field {scope = s} has struct laid get spot there lies) leaf r covers) in
       let now = inside-same node (Rec trees) w same read in
       Fits.struct has struct
       (put-fits (fits-struct node desc x trees has fits) (inside t node w) i f.ty tree path leaf (get-map (λ g. g.ty) x.fields i f get) there
-      (λ inner. changes lies inner (inside t node w) (Along.in_field along has (Contains-get x.fields i f get)) now leaf r) (fields-along node desc (Rec trees) x along has) now)
-  changes {blocks} {capacity} {s} {h} (PartLies.member {i} {node} {desc} {s = x} {f} {tree} {path} has union get lies) fits t along same leaf r =
+      (λ inner. changes lies inner (inside t node w) (Along.in_field along has (Contains-get x.fields i f get)) now leaf r (field-covers program node desc x f i path has get covers)) (fields-along node desc (Rec trees) x along has) now)
+  changes {blocks} {capacity} {s} {h} (PartLies.member {i} {node} {desc} {s = x} {f} {tree} {path} has union get lies) fits t along same leaf r covers =
       let v = Alt (Some i) tree in
       let w = Alt (Some i) (with_part tree path leaf) in
-      let swap = subst (λ y. Swap program h (ty.Node node desc) v y) (sym (with-member i tree path leaf)) (swap-of (PartLies.member {scope = s} has union get lies) leaf r) in
+      let swap = subst (λ y. Swap program [] h (ty.Node node desc) v y) (sym (with-member i tree path leaf)) (swap-of (PartLies.member {scope = s} has union get lies) leaf r covers) in
       let read = reads {h = h} settled node desc v w swap in
       let now = inside-same node v w same read in
       let found = is-union node desc x v has union fits in
@@ -160,23 +162,23 @@ module _ {program : Program} (settled : Settled program) {a : Trees} where
       let was = subst (λ m. IsActive program s node desc x v m) active found.3 in
       subst (λ y. Fits program blocks capacity t (ty.Node node desc) y) (with-member i tree path leaf)
       (Fits.member has union (active-same t node desc x v w (Some i) along same read has union was) get
-      (changes lies (fits-member node desc x i f tree has get fits) (inside t node w) (Along.in_field along has (Contains-get x.fields i f get)) now leaf r))
-  changes {s} {h} {active = was_active} {p} (PartLies.common {i} {node} {common} {desc} {s = x} {tree} {path} has common_is lies) fits t along same leaf r =
+      (changes lies (fits-member node desc x i f tree has get fits) (inside t node w) (Along.in_field along has (Contains-get x.fields i f get)) now leaf r (field-covers program node desc x f i path has get covers)))
+  changes {s} {h} {active = was_active} {p} (PartLies.common {i} {node} {common} {desc} {s = x} {tree} {path} has common_is lies) fits t along same leaf r covers =
       let v = Alt None tree in
       let w = Alt None (with_part tree path leaf) in
-      let read = reads {h = h} settled node desc v w (swap-of {active = was_active} (PartLies.common {scope = s} {i = i} has common_is lies) leaf r) in
+      let read = reads {h = h} settled node desc v w (swap-of {active = was_active} (PartLies.common {scope = s} {i = i} has common_is lies) leaf r covers) in
       let now = inside-same node v w same read in
       let found = is-union node desc x v has common_is.union fits in
       let active : found.0 ≡ None = cc in
       let was = subst (λ m. IsActive program s node desc x v m) active found.3 in
       let plain = plain-with tree path leaf (is-plain node desc tree fits) (plain-leaf p leaf r.may (inactive lies refl)) in
       Fits.common has common_is.union (active-same t node desc x v w None along same read has common_is.union was) common_is plain
-      (changes lies (fits-common node common desc x tree settled has common_is fits) (inside t node w) (Along.in_common along has common_is) now leaf r)
-  changes (PartLies.array {i} {n} {type} {elem} {trees} {tree} {path} e there lies) fits t along same leaf r =
+      (changes lies (fits-common node common desc x tree settled has common_is fits) (inside t node w) (Along.in_common along has common_is) now leaf r (record { each = λ b c. inl (inactive lies refl) }))
+  changes (PartLies.array {i} {n} {type} {elem} {trees} {tree} {path} e there lies) fits t along same leaf r covers =
       let was = fits-array type elem n trees e fits in
-      Fits.array e (count-with trees i path leaf ∙ was.0) (put-each was.1 t i tree path leaf there (λ inner. changes lies inner t (Along.in_array along e) same leaf r) (Along.in_array along e) same)
-  changes {s} (PartLies.tail {i} {length} {type} {elem} {trees} {tree} {path} e there lies) fits t along same leaf r =
+      Fits.array e (count-with trees i path leaf ∙ was.0) (put-each was.1 t i tree path leaf there (λ inner. changes lies inner t (Along.in_array along e) same leaf r (array-covers program type elem n i path e covers)) (Along.in_array along e) same)
+  changes {s} (PartLies.tail {i} {length} {type} {elem} {trees} {tree} {path} e there lies) fits t along same leaf r covers =
       let was = fits-tail type elem length trees e fits in
       let long = long-row s type elem length trees e fits in
       Fits.tail e (sym (same-count settled t type length along same (count-tail type elem length e)) ∙ long) was.0 (count-with trees i path leaf)
-      (put-each was.1 t i tree path leaf there (λ inner. changes lies inner t (Along.in_tail along e) same leaf r) (Along.in_tail along e) same)
+      (put-each was.1 t i tree path leaf there (λ inner. changes lies inner t (Along.in_tail along e) same leaf r (tail-covers program type elem length i path e covers)) (Along.in_tail along e) same)

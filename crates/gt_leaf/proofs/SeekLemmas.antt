@@ -20,8 +20,10 @@ use Rattle.gt_types.specs.Contains.{ContainsStructure, held_by}
 use Rattle.gt_types.specs.Paths.{Way, paths_of, paths_step, own_expressions}
 use Rattle.gt_types.specs.Shapes.{innermost, count_of}
 use Rattle.gt_leaf.specs.declared.fields.FieldPlace.{FieldPlace}
+use Rattle.gt_leaf.specs.declared.readings.Reading.{Reading}
 use Rattle.gt_leaf.specs.declared.seeking.Start.{Start}
-use Rattle.gt_leaf.specs.Seeking.{Names, same_place, with_field, with_end, end_of, same_base, starting, seek_step, seek_expr, seek_option, seek_counts, seek_own, seek_own_of, seek_union, seek_outside, seek_desc, seek_descs, with_inner, with_inners, seek_inners, seek_structure, seek_all}
+use Rattle.gt_leaf.specs.Seeking.{Names, same_place, with_field, same_reading, with_reading, with_fields, with_end, end_of, same_base, starting, seek_step, seek_expr, seek_option, seek_counts, seek_own, seek_counts_of, seek_union, seek_outside, seek_desc, seek_descs, with_inner, with_inners, seek_inners, seek_structure, seek_all}
+use Rattle.gt_leaf.specs.Tables.{reading}
 use Rattle.gt_leaf.specs.Unread.{BeginsAt}
 use Rattle.gt_leaf.proofs.Adding.{Adds, adds-none, adds-both, adds-same, adds-fold, adds-each}
 use Rattle.gt_leaf.proofs.Alongs.{Contains-only}
@@ -44,9 +46,24 @@ same-field a b e =
 pub adds-field : (x : FieldPlace) → Adds (with_field x) (λ y. x ≡ y)
 adds-field x = record { each = λ k y. added (same_place x) k x y (λ z e. sym (same-field x z e)) }
 
-adds-end : (o : Option FieldPlace) → Adds (with_end o) (λ y. o ≡ Some y)
-adds-end None = adds-none (λ y e. cc)
-adds-end (Some x) = adds-same (adds-field x) (λ y. (λ e. ap Some e, λ e. cc))
+one-reading : (a b : Reading) → a.from ≡ b.from → a.field ≡ b.field → a ≡ b
+one-reading a b e h = ap₂ (λ n f. let y : Reading = record { from = n; field = f } in y) e h
+
+pub same-read : (a b : Reading) → same_reading a b ≡ true → a ≡ b
+same-read a b e =
+    let both = both-true _ _ e in
+    one-reading a b (eqb-true a.from b.from both.0) (same-field a.field b.field both.1)
+
+adds-reading : (x : Reading) → Adds (with_reading x) (λ y. x ≡ y)
+adds-reading x = record { each = λ k y. added (same_reading x) k x y (λ z e. sym (same-read x z e)) }
+
+adds-end : (begin : ℕ) (o : Option FieldPlace) → Adds (with_end begin o) (λ y. (o ≡ Some y.field) × (begin ≡ y.from))
+adds-end begin None = adds-none (λ y e. let h = e.0 in cc)
+adds-end begin (Some x) = adds-same (adds-reading (reading begin x)) (λ y. (λ e. (ap (λ (z : Reading). Some z.field) e, ap (λ (z : Reading). z.from) e), λ e. let is : x ≡ y.field = (let h = e.0 in cc) in one-reading (reading begin x) y e.1 is))
+
+-- the fields of readings are added
+pub adds-fields : (readings : List Reading) → Adds (with_fields readings) (λ y. (r : Reading) × Contains readings r × (r.field ≡ y))
+adds-fields readings = adds-fold (λ r. with_field r.field) (λ r y. r.field ≡ y) (λ r. adds-field r.field) readings
 
 -- ---- one expression
 
@@ -77,12 +94,12 @@ append-ways P xs ys = (there, back)
     back (inr (way, c, p)) = (way, (contains-append xs ys way).1 (inr c), p)
 
 module _ (program : Program) (index : List Names) where
-  -- a path from a base ends at a place
-  abbrev pub EndsThere : Start → FieldPlace → Way → Type 0
-  EndsThere at y way = (way.0 ≡ at.base) × (end_of program index at.structure way.1 ≡ Some y)
+  -- a path from a base ends at a place, from a structure
+  abbrev pub EndsThere : Start → Reading → Way → Type 0
+  EndsThere at y way = (way.0 ≡ at.base) × (end_of program index at.structure way.1 ≡ Some y.field) × (at.structure ≡ y.from)
 
   -- some path of several does
-  abbrev pub EndOf : Start → List Way → FieldPlace → Type 0
+  abbrev pub EndOf : Start → List Way → Reading → Type 0
   EndOf at ways y = (way : Way) × Contains ways way × EndsThere at y way
 
   module _ (at : Start) where
@@ -95,21 +112,21 @@ module _ (program : Program) (index : List Names) where
     none-of : Adds (λ k. k) (EndOf at [])
     none-of = adds-none (λ y (way, c, p). nothing way c)
 
-    one-path : (base : Base) (names : List (List ℕ)) (b : Bool) → same_base base at.base ≡ b → Adds (λ k. if b then with_end (end_of program index at.structure names) k else k) (EndOf at ((base, names) ∷ []))
-    one-path base names true e = adds-same (adds-end (end_of program index at.structure names)) (λ y. (there y, back y))
+    one-path : (base : Base) (names : List (List ℕ)) (b : Bool) → same_base base at.base ≡ b → Adds (λ k. if b then with_end at.structure (end_of program index at.structure names) k else k) (EndOf at ((base, names) ∷ []))
+    one-path base names true e = adds-same (adds-end at.structure (end_of program index at.structure names)) (λ y. (there y, back y))
       where
-        there : (y : FieldPlace) → end_of program index at.structure names ≡ Some y → EndOf at ((base, names) ∷ []) y
-        there y h = ((base, names), first (base, names) [], (base-is base at.base e, h))
+        there : (y : Reading) → (end_of program index at.structure names ≡ Some y.field) × (at.structure ≡ y.from) → EndOf at ((base, names) ∷ []) y
+        there y h = ((base, names), first (base, names) [], (base-is base at.base e, h.0, h.1))
 
-        back : (y : FieldPlace) → EndOf at ((base, names) ∷ []) y → end_of program index at.structure names ≡ Some y
-        back y (way, c, (is, h)) = elim (first-or-later (base, names) way [] c) [
-          | inl same ↦ ap (λ (w : Way). end_of program index at.structure w.1) same ∙ h
+        back : (y : Reading) → EndOf at ((base, names) ∷ []) y → (end_of program index at.structure names ≡ Some y.field) × (at.structure ≡ y.from)
+        back y (way, c, (is, h, from)) = elim (first-or-later (base, names) way [] c) [
+          | inl same ↦ (ap (λ (w : Way). end_of program index at.structure w.1) same ∙ h, from)
           | inr none ↦ absurd (nothing way none)
         ]
     one-path base names false e = adds-none not
       where
-        not : (y : FieldPlace) → ¬ EndOf at ((base, names) ∷ []) y
-        not y (way, c, (is, h)) = elim (first-or-later (base, names) way [] c) [
+        not : (y : Reading) → ¬ EndOf at ((base, names) ∷ []) y
+        not y (way, c, (is, h, from)) = elim (first-or-later (base, names) way [] c) [
           | inl same ↦
               let equal : base ≡ at.base = ap (λ (w : Way). w.0) same ∙ is in
               let yes_is : same_base base at.base ≡ true = subst (λ b. same_base base b ≡ true) equal (base-self base) in
@@ -117,11 +134,11 @@ module _ (program : Program) (index : List Names) where
           | inr none ↦ absurd (nothing way none)
         ]
 
-    both-of : {f g : List FieldPlace → List FieldPlace} (xs ys : List Way) → Adds f (EndOf at xs) → Adds g (EndOf at ys) → Adds (λ k. g (f k)) (EndOf at (xs ++ ys))
+    both-of : {f g : List Reading → List Reading} (xs ys : List Way) → Adds f (EndOf at xs) → Adds g (EndOf at ys) → Adds (λ k. g (f k)) (EndOf at (xs ++ ys))
     both-of xs ys p q = adds-both p q (λ y. append-ways (EndsThere at y) xs ys)
 
     expr-layer : (y : Expr-F ((e : Expr) × IsSought e))
-        → Adds (seek_step program index at (map-Expr Expr (List FieldPlace → List FieldPlace) (seek_expr program index at) (first-of y))) (EndOf at (paths_step (map-Expr Expr (List Way) paths_of (first-of y))))
+        → Adds (seek_step program index at (map-Expr Expr (List Reading → List Reading) (seek_expr program index at) (first-of y))) (EndOf at (paths_step (map-Expr Expr (List Way) paths_of (first-of y))))
     expr-layer (node.Int n) = none-of
     expr-layer (node.Path base names) = one-path base names (same_base base at.base) refl
     expr-layer (node.Root i) = none-of
@@ -129,14 +146,14 @@ module _ (program : Program) (index : List Names) where
     expr-layer (node.Two op a b) = both-of (paths_of a.0) (paths_of b.0) a.1 b.1
     expr-layer (node.Cond t a b) = both-of (paths_of t.0 ++ paths_of a.0) (paths_of b.0) (both-of (paths_of t.0) (paths_of a.0) t.1 a.1) b.1
 
-    expr-same : (f g : List FieldPlace → List FieldPlace) (xs ys : List Way) → f ≡ g → xs ≡ ys → Adds f (EndOf at xs) → Adds g (EndOf at ys)
+    expr-same : (f g : List Reading → List Reading) (xs ys : List Way) → f ≡ g → xs ≡ ys → Adds f (EndOf at xs) → Adds g (EndOf at ys)
     expr-same f g xs ys e h p = subst (λ x. Adds g (EndOf at x)) h (subst (λ z. Adds z (EndOf at xs)) e p)
 
     expr-whole : (y : Expr-F ((e : Expr) × IsSought e)) → IsSought (roll-Expr (first-of y))
     expr-whole y =
-        expr-same (seek_step program index at (map-Expr Expr (List FieldPlace → List FieldPlace) (seek_expr program index at) (first-of y))) (seek_expr program index at (roll-Expr (first-of y)))
+        expr-same (seek_step program index at (map-Expr Expr (List Reading → List Reading) (seek_expr program index at) (first-of y))) (seek_expr program index at (roll-Expr (first-of y)))
         (paths_step (map-Expr Expr (List Way) paths_of (first-of y))) (paths_of (roll-Expr (first-of y)))
-        (sym (fold-roll-Expr (List FieldPlace → List FieldPlace) (seek_step program index at) (first-of y))) (sym (fold-roll-Expr (List Way) paths_step (first-of y))) (expr-layer y)
+        (sym (fold-roll-Expr (List Reading → List Reading) (seek_step program index at) (first-of y))) (sym (fold-roll-Expr (List Way) paths_step (first-of y))) (expr-layer y)
 
     pub of-expr : (e : Expr) → IsSought e
     of-expr = ind-Expr IsSought (λ x y is. subst (λ z. IsSought (roll-Expr z)) is (expr-whole y))
@@ -147,17 +164,17 @@ module _ (program : Program) (index : List Names) where
     of-option None = adds-none (λ y (e, h, p). cc)
     of-option (Some e) = adds-same (of-expr e) (λ y. (λ p. (e, refl, p), λ (d, h, p). let is : e ≡ d = cc in subst (λ x. EndOf at (paths_of x) y) (sym is) p))
 
-    abbrev CountEnds : Field → FieldPlace → Type 0
+    abbrev CountEnds : Field → Reading → Type 0
     CountEnds f y = (e : Expr) × (count_of f.ty ≡ Some e) × EndOf at (paths_of e) y
 
     of-counts : (fields : List Field) → Adds (seek_counts program index at fields) (λ y. (f : Field) × Contains fields f × CountEnds f y)
     of-counts fields = adds-fold (λ f. seek_option program index at (count_of f.ty)) CountEnds (λ f. of-option (count_of f.ty)) fields
 
     -- some path of an expression that speaks of the structure as `%h` ends there
-    abbrev pub OwnEnds : Structure → FieldPlace → Type 0
+    abbrev pub OwnEnds : Structure → Reading → Type 0
     OwnEnds s y = (e : Expr) × Contains (own_expressions s) e × EndOf at (paths_of e) y
 
-    own-split : (s : Structure) (y : FieldPlace) → OwnEnds s y ↔ (((f : Field) × Contains s.fields f × CountEnds f y) ⊎ ((e : Expr) × (s.desc ≡ Some e) × EndOf at (paths_of e) y))
+    own-split : (s : Structure) (y : Reading) → OwnEnds s y ↔ (((f : Field) × Contains s.fields f × CountEnds f y) ⊎ ((e : Expr) × (s.desc ≡ Some e) × EndOf at (paths_of e) y))
     own-split s y = (there, back)
       where
         there : OwnEnds s y → ((f : Field) × Contains s.fields f × CountEnds f y) ⊎ ((e : Expr) × (s.desc ≡ Some e) × EndOf at (paths_of e) y)
@@ -175,36 +192,40 @@ module _ (program : Program) (index : List Names) where
     of-own : (s : Structure) → Adds (seek_own program index at s) (OwnEnds s)
     of-own s = adds-both (of-counts s.fields) (of-option s.desc) (own-split s)
 
-    of-own_of : (o : Option Structure) → Adds (seek_own_of program index at o) (λ y. (s : Structure) × (o ≡ Some s) × OwnEnds s y)
-    of-own_of None = adds-none (λ y (s, h, p). cc)
-    of-own_of (Some s) = adds-same (of-own s) (λ y. (λ p. (s, refl, p), λ (t, h, p). let is : s ≡ t = cc in subst (λ x. OwnEnds x y) (sym is) p))
+    -- some path of a length of the structure's fields ends there
+    abbrev pub LengthEnds : Structure → Reading → Type 0
+    LengthEnds s y = (f : Field) × Contains s.fields f × CountEnds f y
+
+    of-counts_of : (o : Option Structure) → Adds (seek_counts_of program index at o) (λ y. (s : Structure) × (o ≡ Some s) × LengthEnds s y)
+    of-counts_of None = adds-none (λ y (s, h, p). cc)
+    of-counts_of (Some s) = adds-same (of-counts s.fields) (λ y. (λ p. (s, refl, p), λ (t, h, p). let is : s ≡ t = cc in subst (λ x. LengthEnds x y) (sym is) p))
 
   -- ---- the `desc` of a field or root
 
-  abbrev UnionEnds : Ty → FieldPlace → Type 0
+  abbrev UnionEnds : Ty → Reading → Type 0
   UnionEnds type y = (union : TypeId) × (e : Expr) × (type ≡ ty.Node union (Some e)) × EndOf (starting Here union.0) (paths_of e) y
 
   of-union : (type : Ty) → Adds (seek_union program index type) (UnionEnds type)
   of-union (ty.Node union desc) = adds-same (of-option (starting Here union.0) desc) (λ y. (there y, back y))
     where
-      there : (y : FieldPlace) → (e : Expr) × (desc ≡ Some e) × EndOf (starting Here union.0) (paths_of e) y → UnionEnds (ty.Node union desc) y
+      there : (y : Reading) → (e : Expr) × (desc ≡ Some e) × EndOf (starting Here union.0) (paths_of e) y → UnionEnds (ty.Node union desc) y
       there y (e, h, p) = (union, e, ap (ty.Node union) h, p)
 
-      back : (y : FieldPlace) → UnionEnds (ty.Node union desc) y → (e : Expr) × (desc ≡ Some e) × EndOf (starting Here union.0) (paths_of e) y
+      back : (y : Reading) → UnionEnds (ty.Node union desc) y → (e : Expr) × (desc ≡ Some e) × EndOf (starting Here union.0) (paths_of e) y
       back y (other, e, h, p) =
           let one : union ≡ other = cc in
           let same : desc ≡ Some e = cc in
           (e, same, subst (λ n. EndOf (starting Here n.0) (paths_of e) y) (sym one) p)
   of-union type = adds-none (λ y (union, e, h, p). cc)
 
-  abbrev OutsideEnds : ℕ → Ty → FieldPlace → Type 0
+  abbrev OutsideEnds : ℕ → Ty → Reading → Type 0
   OutsideEnds at type y = (union : TypeId) × (e : Expr) × (type ≡ ty.Node union (Some e)) × EndOf (starting Outer at) (paths_of e) y
 
   of-outside : (at : ℕ) (type : Ty) → Adds (seek_outside program index at type) (OutsideEnds at type)
   of-outside at (ty.Node union desc) = adds-same (of-option (starting Outer at) desc) (λ y. (λ (e, h, p). (union, e, ap (ty.Node union) h, p), λ (other, e, h, p). let same : desc ≡ Some e = cc in (e, same, p)))
   of-outside at type = adds-none (λ y (union, e, h, p). cc)
 
-  abbrev DescEnds : ℕ → Field → FieldPlace → Type 0
+  abbrev DescEnds : ℕ → Field → Reading → Type 0
   DescEnds at f y = UnionEnds (innermost f.ty) y ⊎ OutsideEnds at (innermost f.ty) y
 
   of-descs : (at : ℕ) (fields : List Field) → Adds (seek_descs program index at fields) (λ y. (f : Field) × Contains fields f × DescEnds at f y)
@@ -227,16 +248,16 @@ module _ (program : Program) (index : List Names) where
       let all = every.each [] i in
       (λ c. elim (all.0 c) [ inl none ↦ absurd (nothing i none) | inr h ↦ h ], λ h. all.1 (inr h))
 
-  abbrev InnerEnds : ℕ → ℕ → FieldPlace → Type 0
-  InnerEnds at inner y = (s : Structure) × (slice_get program.structures inner ≡ Some s) × OwnEnds (starting Outer at) s y
+  abbrev InnerEnds : ℕ → ℕ → Reading → Type 0
+  InnerEnds at inner y = (s : Structure) × (slice_get program.structures inner ≡ Some s) × LengthEnds (starting Outer at) s y
 
   of-seek_inners : (at : ℕ) (inners : List ℕ) → Adds (seek_inners program index at inners) (λ y. (i : ℕ) × Contains inners i × InnerEnds at i y)
   of-seek_inners at inners =
-      adds-fold (λ inner. seek_own_of program index (starting Outer at) (slice_get program.structures inner)) (InnerEnds at) (λ inner. of-own_of (starting Outer at) (slice_get program.structures inner)) inners
+      adds-fold (λ inner. seek_counts_of program index (starting Outer at) (slice_get program.structures inner)) (InnerEnds at) (λ inner. of-counts_of (starting Outer at) (slice_get program.structures inner)) inners
 
   -- ---- a program
 
-  abbrev StructureEnds : ℕ → Structure → FieldPlace → Type 0
+  abbrev StructureEnds : ℕ → Structure → Reading → Type 0
   StructureEnds at s y =
       (OwnEnds (starting Here at) s y ⊎ ((f : Field) × Contains s.fields f × DescEnds at f y)) ⊎ ((i : ℕ) × Contains (with_inners s.fields []) i × InnerEnds at i y)
 
@@ -244,7 +265,7 @@ module _ (program : Program) (index : List Names) where
   of-structure at s =
       adds-both (adds-both (of-own (starting Here at) s) (of-descs at s.fields) (λ y. (λ h. h, λ h. h))) (of-seek_inners at (with_inners s.fields [])) (λ y. (λ h. h, λ h. h))
 
-  abbrev ProgramEnds : FieldPlace → Type 0
+  abbrev ProgramEnds : Reading → Type 0
   ProgramEnds y = ((i : ℕ) × (s : Structure) × (slice_get program.structures i ≡ Some s) × StructureEnds i s y) ⊎ ((r : Root) × Contains program.roots r × UnionEnds (innermost r.ty) y)
 
   of-program : Adds (seek_all program index) ProgramEnds
@@ -255,17 +276,18 @@ module _ (program : Program) (index : List Names) where
   -- ---- where the paths begin
 
   -- some path that begins at a structure ends at a place
-  pub record Seen (y : FieldPlace) : Type 0 where
+  pub record Seen (y : Reading) : Type 0 where
     pub e : Expr
     pub base : Base
     pub begin : TypeId
     pub begins : BeginsAt program e base begin
     pub names : List (List ℕ)
     pub there : Contains (paths_of e) (base, names)
-    pub end : end_of program index begin.0 names ≡ Some y
+    pub end : end_of program index begin.0 names ≡ Some y.field
+    pub from : begin.0 ≡ y.from
 
-  seen : (e : Expr) (base : Base) (begin : TypeId) (y : FieldPlace) → BeginsAt program e base begin → EndOf (starting base begin.0) (paths_of e) y → Seen y
-  seen e base begin y b (way, c, (is, h)) = record {
+  seen : (e : Expr) (base : Base) (begin : TypeId) (y : Reading) → BeginsAt program e base begin → EndOf (starting base begin.0) (paths_of e) y → Seen y
+  seen e base begin y b (way, c, (is, h, from)) = record {
     e = e;
     base = base;
     begin = begin;
@@ -273,6 +295,7 @@ module _ (program : Program) (index : List Names) where
     names = way.1;
     there = subst (λ (x : Base). Contains (paths_of e) (x, way.1)) is c;
     end = h;
+    from = from;
   }
 
   abbrev numbered : ℕ → TypeId
@@ -285,21 +308,21 @@ module _ (program : Program) (index : List Names) where
       let is : inner ≡ numbered i = ap numbered found.2.2 in
       (s, found.0, has, found.1, subst (λ n. held_by found.0.ty ≡ Some n) is found.2.1)
 
-  structure-seen : (at : ℕ) (s : Structure) (y : FieldPlace) → slice_get program.structures at ≡ Some s → StructureEnds at s y → Seen y
+  structure-seen : (at : ℕ) (s : Structure) (y : Reading) → slice_get program.structures at ≡ Some s → StructureEnds at s y → Seen y
   structure-seen at s y has (inl (inl (e, c, p))) = seen e Here (numbered at) y (BeginsAt.own_here {node = numbered at} {s = s} has c) p
   structure-seen at s y has (inl (inr (f, c, inl (union, e, h, p)))) = seen e Here union y (BeginsAt.desc_here (numbered at) {s = s} {f = f} has c h) p
   structure-seen at s y has (inl (inr (f, c, inr (union, e, h, p)))) = seen e Outer (numbered at) y (BeginsAt.desc_outer {union = union} {s = s} {f = f} has c h) p
-  structure-seen at s y has (inr (i, c, (t, there, (e, d, p)))) =
-      seen e Outer (numbered at) y (BeginsAt.own_outer (numbered i) {s = t} there d (container at s i has c)) p
+  structure-seen at s y has (inr (i, c, (t, there, (f, d, (e, h, p))))) =
+      seen e Outer (numbered at) y (BeginsAt.length_outer (numbered i) {s = t} {f = f} there d h (container at s i has c)) p
 
-  all-seen : (y : FieldPlace) → ProgramEnds y → Seen y
+  all-seen : (y : Reading) → ProgramEnds y → Seen y
   all-seen y (inl (i, s, has, h)) = structure-seen i s y has h
   all-seen y (inr (r, c, (union, e, h, p))) = seen e Here union y (BeginsAt.root_here {r = r} c h) p
 
-  seen-all : (y : FieldPlace) (e : Expr) (base : Base) (begin : TypeId) → BeginsAt program e base begin → EndOf (starting base begin.0) (paths_of e) y → ProgramEnds y
+  seen-all : (y : Reading) (e : Expr) (base : Base) (begin : TypeId) → BeginsAt program e base begin → EndOf (starting base begin.0) (paths_of e) y → ProgramEnds y
   seen-all y e base begin (BeginsAt.own_here {node} {s} has c) p = inl (node.0, s, has, inl (inl (e, c, p)))
-  seen-all y e base begin (BeginsAt.own_outer node {outer} {s} has c (o, f, there, in_it, held)) p =
-      inl (outer.0, o, there, inr (node.0, (of-inners o.fields node.0).1 (f, in_it, (node, held, refl)), (s, has, (e, c, p))))
+  seen-all y e base begin (BeginsAt.length_outer node {outer} {s} {f} has c is (o, g, there, in_it, held)) p =
+      inl (outer.0, o, there, inr (node.0, (of-inners o.fields node.0).1 (g, in_it, (node, held, refl)), (s, has, (f, c, (e, is, p)))))
   seen-all y e base begin (BeginsAt.desc_here node {union} {s} {f} has c h) p = inl (node.0, s, has, inl (inr (f, c, inl (union, e, h, p))))
   seen-all y e base begin (BeginsAt.desc_outer {node} {union} {s} {f} has c h) p = inl (node.0, s, has, inl (inr (f, c, inr (union, e, h, p))))
   seen-all y e base begin (BeginsAt.root_here {r} {union} c h) p = inr (r, c, (union, e, h, p))
@@ -307,4 +330,4 @@ module _ (program : Program) (index : List Names) where
   -- what is added is where such paths end
   pub adds-seen : Adds (seek_all program index) Seen
   adds-seen =
-      adds-same of-program (λ y. (all-seen y, λ s. seen-all y s.e s.base s.begin s.begins ((s.base, s.names), s.there, (refl, s.end))))
+      adds-same of-program (λ y. (all-seen y, λ s. seen-all y s.e s.base s.begin s.begins ((s.base, s.names), s.there, (refl, s.end, s.from))))

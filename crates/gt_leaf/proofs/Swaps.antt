@@ -1,5 +1,5 @@
 -- Two values that differ in one leaf, which no expression reads.
-use Rattle.std.proofs.Common.{◌≡◌, ℕ, zero, suc, Bool, true, false, cond, IsTrue, List, [], ◌∷◌, refl, sym, subst, Some, None, Option}
+use Rattle.std.proofs.Common.{◌≡◌, ℕ, zero, suc, Bool, true, false, cond, IsTrue, List, [], ◌∷◌, refl, sym, subst, Some, None, Option, inl}
 use Rattle.std.specs.Prelude.{slice_get}
 use Rattle.gt_types.specs.declared.expressions.Expr.{Expr}
 use Rattle.gt_types.specs.declared.types.TypeId.{TypeId}
@@ -22,38 +22,40 @@ use Rattle.gt_tree.proofs.FixedValues.{in-array, in-tail}
 use Rattle.gt_value.specs.declared.places.Holder.{Holder}
 use Rattle.gt_value.specs.declared.places.Holder.TheVariants as lies_in
 use Rattle.gt_value.specs.Places.{Part, PartLies}
-use Rattle.gt_leaf.specs.Unread.{IsUnread}
+use Rattle.gt_leaf.specs.Unread.{structures_on, IsUnread}
+use Rattle.gt_leaf.proofs.Arounds.{Covers, covers-more, unread-inside, node-on, field-covers}
+use Rattle.gt_leaf.proofs.PlainParts.{inactive}
 
 mutual
-  -- two values of a type that lies in this differ in one leaf, which no expression reads
-  pub data Swap (program : Program) : Holder → Ty → Tree → Tree → Type 0 where
-    replaced : {h : Holder} {type : Ty} {a b : Tree} → IsUnread program h → IsTrue (is_leaf a) → IsTrue (is_leaf b) → is_structure type ≡ false → Swap program h type a b
-    in_struct : {h : Holder} {node : TypeId} {desc : Option Expr} {s : Structure} {old new : Trees} → HasStructure program node s → s.is_union ≡ false
-        → OneSwaps program (lies_in.Field node) (types_of s.fields) old new → Swap program h (ty.Node node desc) (Rec old) (Rec new)
-    in_member : {h : Holder} {node : TypeId} {desc : Option Expr} {s : Structure} {i : ℕ} {f : Field} {old new : Tree} → HasStructure program node s → s.is_union ≡ true
-        → slice_get s.fields i ≡ Some f → Swap program (lies_in.Field node i) f.ty old new → Swap program h (ty.Node node desc) (Alt (Some i) old) (Alt (Some i) new)
-    in_common : {h : Holder} {node common : TypeId} {desc : Option Expr} {s : Structure} {old new : Tree} → HasStructure program node s → IsCommon program s common
-        → Swap program h (ty.Node common None) old new → Swap program h (ty.Node node desc) (Alt None old) (Alt None new)
-    in_row : {h : Holder} {type : Ty} {old new : Trees} → is_structure type ≡ false → Swap program h type (Row old) (Row new)
+  -- two values of a type that lies in this, inside these structures, differ in one leaf, which no expression reads
+  pub data Swap (program : Program) : List TypeId → Holder → Ty → Tree → Tree → Type 0 where
+    replaced : {around : List TypeId} {h : Holder} {type : Ty} {a b : Tree} → IsUnread program around true h → IsTrue (is_leaf a) → IsTrue (is_leaf b) → is_structure type ≡ false → Swap program around h type a b
+    in_struct : {around : List TypeId} {h : Holder} {node : TypeId} {desc : Option Expr} {s : Structure} {old new : Trees} → HasStructure program node s → s.is_union ≡ false
+        → OneSwaps program (node ∷ around) (lies_in.Field node) (types_of s.fields) old new → Swap program around h (ty.Node node desc) (Rec old) (Rec new)
+    in_member : {around : List TypeId} {h : Holder} {node : TypeId} {desc : Option Expr} {s : Structure} {i : ℕ} {f : Field} {old new : Tree} → HasStructure program node s → s.is_union ≡ true
+        → slice_get s.fields i ≡ Some f → Swap program (node ∷ around) (lies_in.Field node i) f.ty old new → Swap program around h (ty.Node node desc) (Alt (Some i) old) (Alt (Some i) new)
+    in_common : {around : List TypeId} {h : Holder} {node common : TypeId} {desc : Option Expr} {s : Structure} {old new : Tree} → HasStructure program node s → IsCommon program s common
+        → Swap program (node ∷ around) h (ty.Node common None) old new → Swap program around h (ty.Node node desc) (Alt None old) (Alt None new)
+    in_row : {around : List TypeId} {h : Holder} {type : Ty} {old new : Trees} → is_structure type ≡ false → Swap program around h type (Row old) (Row new)
 
   -- one of the values of these types differs so
-  pub data OneSwaps (program : Program) : (ℕ → Holder) → List Ty → Trees → Trees → Type 0 where
-    at_first : {at : ℕ → Holder} {type : Ty} {types : List Ty} {old new : Tree} {trees : Trees} → Swap program (at zero) type old new
-        → OneSwaps program at (type ∷ types) (And old trees) (And new trees)
-    at_later : {at : ℕ → Holder} {type : Ty} {types : List Ty} {tree : Tree} {olds news : Trees} → OneSwaps program (λ i. at (suc i)) types olds news
-        → OneSwaps program at (type ∷ types) (And tree olds) (And tree news)
+  pub data OneSwaps (program : Program) : List TypeId → (ℕ → Holder) → List Ty → Trees → Trees → Type 0 where
+    at_first : {around : List TypeId} {at : ℕ → Holder} {type : Ty} {types : List Ty} {old new : Tree} {trees : Trees} → Swap program around (at zero) type old new
+        → OneSwaps program around at (type ∷ types) (And old trees) (And new trees)
+    at_later : {around : List TypeId} {at : ℕ → Holder} {type : Ty} {types : List Ty} {tree : Tree} {olds news : Trees} → OneSwaps program around (λ i. at (suc i)) types olds news
+        → OneSwaps program around at (type ∷ types) (And tree olds) (And tree news)
 
 -- ---- the value with the part at a path replaced
 
-pub put-swaps : (program : Program) (at : ℕ → Holder) (types : List Ty) (trees : Trees) (i : ℕ) (type : Ty) (tree : Tree) (path : List ℕ) (leaf : Tree) → slice_get types i ≡ Some type → tree_at trees i ≡ Some tree
-    → Swap program (at i) type tree (with_part tree path leaf) → OneSwaps program at types trees (with_part_of trees i path leaf)
-put-swaps program at [] trees i type tree path leaf e there swap = absurd (cc)
-put-swaps program at (t ∷ ts) End i type tree path leaf e there swap = absurd (cc)
-put-swaps program at (t ∷ ts) (And x xs) zero type tree path leaf e there swap =
+pub put-swaps : (program : Program) (around : List TypeId) (at : ℕ → Holder) (types : List Ty) (trees : Trees) (i : ℕ) (type : Ty) (tree : Tree) (path : List ℕ) (leaf : Tree) → slice_get types i ≡ Some type → tree_at trees i ≡ Some tree
+    → Swap program around (at i) type tree (with_part tree path leaf) → OneSwaps program around at types trees (with_part_of trees i path leaf)
+put-swaps program around at [] trees i type tree path leaf e there swap = absurd (cc)
+put-swaps program around at (t ∷ ts) End i type tree path leaf e there swap = absurd (cc)
+put-swaps program around at (t ∷ ts) (And x xs) zero type tree path leaf e there swap =
     let same : type ≡ t = cc in
     let equal : tree ≡ x = cc in
-    OneSwaps.at_first (subst (λ y. Swap program (at zero) t y (with_part y path leaf)) equal (subst (λ y. Swap program (at zero) y tree (with_part tree path leaf)) same swap))
-put-swaps program at (t ∷ ts) (And x xs) (suc i) type tree path leaf e there swap = OneSwaps.at_later (put-swaps program (λ j. at (suc j)) ts xs i type tree path leaf e there swap)
+    OneSwaps.at_first (subst (λ y. Swap program around (at zero) t y (with_part y path leaf)) equal (subst (λ y. Swap program around (at zero) y tree (with_part tree path leaf)) same swap))
+put-swaps program around at (t ∷ ts) (And x xs) (suc i) type tree path leaf e there swap = OneSwaps.at_later (put-swaps program around (λ j. at (suc j)) ts xs i type tree path leaf e there swap)
 
 no-structure : (type : Ty) (b : Bool) → is_structure type ≡ b → ¬ (is_structure type ≡ true) → is_structure type ≡ false
 no-structure type true e not = absurd (not e)
@@ -69,13 +71,22 @@ tail-type type elem length e = no-structure type (is_structure type) refl (λ h.
 pub with-member : (i : ℕ) (tree : Tree) (path : List ℕ) (leaf : Tree) → Alt (Some i) (with_part tree path leaf) ≡ with_part (Alt (Some i) tree) (i ∷ path) leaf
 with-member i tree path leaf = sym (subst (λ b. cond b (Alt (Some i) (with_part tree path leaf)) (Alt (Some i) tree) ≡ Alt (Some i) (with_part tree path leaf)) (sym (same-number i)) refl)
 
-pub swapped : {program : Program} {planes : List Plane} {scope : Scope} {h : Holder} {active : Bool} {bit : ℕ} {type : Ty} {tree : Tree} {path : List ℕ} {p : Part} → PartLies program planes scope h active bit type tree path p
-    → (leaf : Tree) → IsUnread program p.holder → IsTrue (is_leaf p.tree) → IsTrue (is_leaf leaf) → is_structure p.type ≡ false → Swap program h type tree (with_part tree path leaf)
-swapped PartLies.whole leaf unread a b plain = Swap.replaced unread a b plain
-swapped {program} (PartLies.field {i} {node} {s} {f} {trees} {tree} {path} has struct laid get spot there lies) leaf unread a b plain =
-    Swap.in_struct has struct (put-swaps program (lies_in.Field node) (types_of s.fields) trees i f.ty tree path leaf (get-map (λ g. g.ty) s.fields i f get) there (swapped lies leaf unread a b plain))
-swapped {program} {h} {type} (PartLies.member {i} {node} {desc} {tree} {path} has union get lies) leaf unread a b plain =
-    subst (λ y. Swap program h (ty.Node node desc) (Alt (Some i) tree) y) (with-member i tree path leaf) (Swap.in_member has union get (swapped lies leaf unread a b plain))
-swapped (PartLies.common has common lies) leaf unread a b plain = Swap.in_common has common (swapped lies leaf unread a b plain)
-swapped (PartLies.array {n} {type} {elem} e there lies) leaf unread a b plain = Swap.in_row (array-type type elem n e)
-swapped (PartLies.tail {length} {type} {elem} e there lies) leaf unread a b plain = Swap.in_row (tail-type type elem length e)
+module _ {program : Program} {planes : List Plane} {around : List TypeId} where
+  pub swapped : {scope : Scope} {h : Holder} {active : Bool} {bit : ℕ} {type : Ty} {tree : Tree} {path : List ℕ} {p : Part} → PartLies program planes scope h active bit type tree path p → (inner : List TypeId) (leaf : Tree)
+      → IsUnread program around p.active p.holder → Covers around p.active inner → Covers around p.active (structures_on program (Some type) path) → IsTrue (is_leaf p.tree) → IsTrue (is_leaf leaf) → is_structure p.type ≡ false
+      → Swap program inner h type tree (with_part tree path leaf)
+  swapped {p} PartLies.whole inner leaf unread outer covers a b plain = Swap.replaced (unread-inside program p.holder around inner p.active outer unread) a b plain
+  swapped {p} (PartLies.field {i} {node} {desc} {s} {f} {trees} {tree} {path} has struct laid get spot there lies) inner leaf unread outer covers a b plain =
+      let more = covers-more around inner p.active node (covers.each node (node-on program node desc i path)) outer in
+      Swap.in_struct has struct
+      (put-swaps program (node ∷ inner) (lies_in.Field node) (types_of s.fields) trees i f.ty tree path leaf (get-map (λ g. g.ty) s.fields i f get) there
+      (swapped lies (node ∷ inner) leaf unread more (field-covers program node desc s f i path has get covers) a b plain))
+  swapped {h} {p} (PartLies.member {i} {node} {desc} {s} {f} {tree} {path} has union get lies) inner leaf unread outer covers a b plain =
+      let more = covers-more around inner p.active node (covers.each node (node-on program node desc i path)) outer in
+      subst (λ y. Swap program inner h (ty.Node node desc) (Alt (Some i) tree) y) (with-member i tree path leaf)
+      (Swap.in_member has union get (swapped lies (node ∷ inner) leaf unread more (field-covers program node desc s f i path has get covers) a b plain))
+  swapped {p} (PartLies.common {i} {node} {desc} {path} has common lies) inner leaf unread outer covers a b plain =
+      let more = covers-more around inner p.active node (covers.each node (node-on program node desc i path)) outer in
+      Swap.in_common has common (swapped lies (node ∷ inner) leaf unread more (record { each = λ b c. inl (inactive lies refl) }) a b plain)
+  swapped (PartLies.array {n} {type} {elem} e there lies) inner leaf unread outer covers a b plain = Swap.in_row (array-type type elem n e)
+  swapped (PartLies.tail {length} {type} {elem} e there lies) inner leaf unread outer covers a b plain = Swap.in_row (tail-type type elem length e)

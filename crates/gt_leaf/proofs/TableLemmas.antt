@@ -1,11 +1,12 @@
 -- The places that are collected are the table of the program, and what the table says of a holder.
-use Rattle.std.proofs.Common.{◌≡◌, ℕ, Bool, true, false, not, ◌&&◌, IsTrue, List, [], refl, ap, sym, subst, ◌∙◌, ◌⊎◌, Some, inl, inr, if◌then◌else◌}
+use Rattle.std.proofs.Common.{◌≡◌, ℕ, Bool, true, false, not, cond, ◌&&◌, IsTrue, List, [], ◌∷◌, refl, ap, sym, subst, ◌∙◌, Option, Some, inl, inr, if◌then◌else◌}
 use Rattle.std.specs.Prelude.{◌↔◌, Contains, nat_eq, slice_get}
 use Rattle.std.specs.List.{list_any}
 use Rattle.std.specs.Str.{bytes_eq}
 use Rattle.std.proofs.lemmas.Slice.Eq.{bytes_eq-Decides}
 use Rattle.std.proofs.lemmas.Bool.Decides.{Decides-eqb}
 use Rattle.gt_types.specs.declared.types.TypeId.{TypeId}
+use Rattle.gt_types.specs.declared.types.Ty.{Ty}
 use Rattle.gt_types.specs.declared.program.Field.{Field}
 use Rattle.gt_types.specs.declared.program.Structure.{Structure}
 use Rattle.gt_types.specs.declared.program.Program.{Program}
@@ -13,17 +14,18 @@ use Rattle.gt_types.specs.Shapes.{is_number}
 use Rattle.gt_value.specs.declared.places.Holder.{Holder}
 use Rattle.gt_value.specs.declared.places.Holder.TheVariants as lies_in
 use Rattle.gt_leaf.specs.declared.fields.FieldPlace.{FieldPlace}
+use Rattle.gt_leaf.specs.declared.readings.Reading.{Reading}
 use Rattle.gt_leaf.specs.declared.ends.Ends.{Ends}
 use Rattle.gt_leaf.specs.declared.reads.Reads.{Reads}
 use Rattle.gt_leaf.specs.Collecting.{ends_of}
-use Rattle.gt_leaf.specs.Seeking.{Names, same_place, with_field, with_named, with_named_fields, with_all_named, names_of_all, seek_all}
-use Rattle.gt_leaf.specs.Tables.{field_place, IsTableOf}
-use Rattle.gt_leaf.specs.Unread.{IsReadField, IsReadRoot, IsUnread}
+use Rattle.gt_leaf.specs.Seeking.{Names, same_place, same_reading, with_field, with_fields, with_named, with_named_fields, with_all_named, names_of_all, seek_all}
+use Rattle.gt_leaf.specs.Tables.{field_place, reading, IsTableOf}
+use Rattle.gt_leaf.specs.Unread.{root_at, structures_on, structures_in_statics, ReadsFrom, ReadsByName, MayStandAround, IsReadField, IsReadRoot, IsUnread}
 use Rattle.gt_leaf.proofs.Adding.{Adds, adds-none, adds-same, adds-each}
 use Rattle.gt_leaf.proofs.EndLemmas.{names-read, roots-read}
-use Rattle.gt_leaf.proofs.Members.{nothing, found-there, there-found}
+use Rattle.gt_leaf.proofs.Members.{nothing, any-found, found-there, there-found}
 use Rattle.gt_leaf.proofs.PathWalks.{ends-there, ends-back}
-use Rattle.gt_leaf.proofs.SeekLemmas.{both-true, same-field, adds-field, Seen, adds-seen}
+use Rattle.gt_leaf.proofs.SeekLemmas.{both-true, same-field, same-read, adds-field, adds-fields, Seen, adds-seen}
 
 -- ---- numbers of the names that are read
 
@@ -58,70 +60,119 @@ numbered i = record { 0 = i }
 one-number : (a b : ℕ) → a ≡ b → numbered a ≡ numbered b
 one-number a b e = ap numbered e
 
-read-at : (program : Program) (node other : TypeId) (i j : ℕ) → field_place other.0 j ≡ field_place node.0 i → IsReadField program other j → IsReadField program node i
-read-at program node other i j e read =
+abbrev all_named : Program → List FieldPlace
+all_named program = with_all_named (ends_of program).names program.structures []
+
+abbrev all_readings : Program → List Reading
+all_readings program = seek_all program (names_of_all program.structures) []
+
+named-at : (program : Program) (y : FieldPlace) → Contains (all_named program) y ↔ ((node : ℕ) × (s : Structure) × (slice_get program.structures node ≡ Some s) × NamedFields (ends_of program).names node s.fields y)
+named-at program y =
+    let all = of-structures (ends_of program).names program.structures in
+    let each = all.each [] y in
+    (λ c. elim (each.0 c) [ inl none ↦ absurd (nothing y none) | inr h ↦ h ], λ h. each.1 (inr h))
+
+sought-at : (program : Program) (y : Reading) → Contains (all_readings program) y ↔ Seen program (names_of_all program.structures) y
+sought-at program y =
+    let all = adds-seen program (names_of_all program.structures) in
+    let each = all.each [] y in
+    (λ c. elim (each.0 c) [ inl none ↦ absurd (nothing y none) | inr h ↦ h ], λ h. each.1 (inr h))
+
+-- ---- numbers that are read by name
+
+name-at : (program : Program) (node other : TypeId) (i j : ℕ) → field_place other.0 j ≡ field_place node.0 i → ReadsByName program other j → ReadsByName program node i
+name-at program node other i j e read =
     let same : other ≡ node = ap (λ (y : FieldPlace). numbered y.structure) e in
     let place : j ≡ i = ap (λ (y : FieldPlace). y.place) e in
-    subst (λ n. IsReadField program n i) same (subst (λ k. IsReadField program other k) place read)
+    subst (λ n. ReadsByName program n i) same (subst (λ k. ReadsByName program other k) place read)
 
-abbrev all_places : Program → List FieldPlace
-all_places program = seek_all program (names_of_all program.structures) (with_all_named (ends_of program).names program.structures [])
-
-named-at : (program : Program) (y : FieldPlace)
-    → Contains (with_all_named (ends_of program).names program.structures []) y
-    ↔ (Contains [] y ⊎ ((node : ℕ) × (s : Structure) × (slice_get program.structures node ≡ Some s) × NamedFields (ends_of program).names node s.fields y))
-named-at program y = let all = of-structures (ends_of program).names program.structures in all.each [] y
-
-sought-at : (program : Program) (y : FieldPlace)
-    → Contains (all_places program) y ↔ (Contains (with_all_named (ends_of program).names program.structures []) y ⊎ Seen program (names_of_all program.structures) y)
-sought-at program y = let all = adds-seen program (names_of_all program.structures) in all.each (with_all_named (ends_of program).names program.structures []) y
-
-from-name : (program : Program) (node : TypeId) (i n : ℕ) (s : Structure) → slice_get program.structures n ≡ Some s → NamedFields (ends_of program).names n s.fields (field_place node.0 i) → IsReadField program node i
-from-name program node i n s has (j, f, get, (test, is)) =
-    let both = both-true _ _ test in
-    let read = (names-read program f.name).0 (found-there (λ other. bytes_eq other f.name) (ends_of program).names f.name (λ z h. (bytes_eq-Decides z f.name).0 h) both.1) in
-    read-at program node (numbered n) i j is (s, f, has, get, both.0, inr read)
-
-from-path : (program : Program) (node : TypeId) (i : ℕ) → Seen program (names_of_all program.structures) (field_place node.0 i) → IsReadField program node i
-from-path program node i seen =
-    let found = ends-there program seen.names seen.begin (field_place node.0 i) seen.end in
-    read-at program node found.node i found.i (sym found.is) (found.s, found.f, found.has, found.get, found.number, inl (seen.e, seen.base, seen.begin, seen.names, seen.begins, seen.there, found.ends))
-
-fields-read : (program : Program) (node : TypeId) (i : ℕ) → Contains (all_places program) (field_place node.0 i) ↔ IsReadField program node i
-fields-read program node i = (there, back)
+names-there : (program : Program) (node : TypeId) (i : ℕ) → Contains (all_named program) (field_place node.0 i) ↔ ReadsByName program node i
+names-there program node i = (there, back)
   where
-    there : Contains (all_places program) (field_place node.0 i) → IsReadField program node i
-    there c = elim ((sought-at program (field_place node.0 i)).0 c) [
-      | inl d ↦ elim ((named-at program (field_place node.0 i)).0 d) [ inl none ↦ absurd (nothing (field_place node.0 i) none) | inr h ↦ from-name program node i h.0 h.1 h.2 h.3 ]
-      | inr seen ↦ from-path program node i seen
-    ]
+    found : (n : ℕ) (s : Structure) → slice_get program.structures n ≡ Some s → NamedFields (ends_of program).names n s.fields (field_place node.0 i) → ReadsByName program node i
+    found n s has (j, f, get, (test, is)) =
+        let both = both-true _ _ test in
+        let read = (names-read program f.name).0 (found-there (λ other. bytes_eq other f.name) (ends_of program).names f.name (λ z h. (bytes_eq-Decides z f.name).0 h) both.1) in
+        name-at program node (numbered n) i j is (record { s = s; f = f; has = has; get = get; number = both.0; read = read })
 
-    back : IsReadField program node i → Contains (all_places program) (field_place node.0 i)
-    back (s, f, has, get, number, inl (e, base, begin, names, begins, c, ends)) =
-        (sought-at program (field_place node.0 i)).1
-        (inr (record { e = e; base = base; begin = begin; begins = begins; names = names; there = c; end = ends-back program ends s f has get number }))
-    back (s, f, has, get, number, inr read) =
-        let found = there-found (λ other. bytes_eq other f.name) (ends_of program).names f.name ((bytes_eq-Decides f.name f.name).1 refl) ((names-read program f.name).1 read) in
-        let test = ap (λ b. b && list_any (λ other. bytes_eq other f.name) (ends_of program).names) number ∙ found in
-        (sought-at program (field_place node.0 i)).1 (inl ((named-at program (field_place node.0 i)).1 (inr (node.0, s, has, (i, f, get, (test, refl))))))
+    there : Contains (all_named program) (field_place node.0 i) → ReadsByName program node i
+    there c = let h = (named-at program (field_place node.0 i)).0 c in found h.0 h.1 h.2 h.3
 
-pub places-of : (program p : Program) (index : List Names) (ends : Ends) (structures : List Structure) (empty named all : List FieldPlace) → all ≡ seek_all p index named → p ≡ program → index ≡ names_of_all program.structures
-    → named ≡ with_all_named ends.names structures empty → ends ≡ ends_of program → structures ≡ program.structures → empty ≡ [] → all ≡ all_places program
-places-of program p index ends structures empty named all is same_program same_index is_named same_ends same_structures none =
-    is
-    ∙ ap (λ q. seek_all q index named) same_program
-    ∙ ap (λ i. seek_all program i named) same_index
-    ∙ ap (seek_all program (names_of_all program.structures))
-    (is_named
-    ∙ ap (λ (x : Ends). with_all_named x.names structures empty) same_ends
-    ∙ ap (λ (xs : List Structure). with_all_named (ends_of program).names xs empty) same_structures
-    ∙ ap (with_all_named (ends_of program).names program.structures) none)
+    back : ReadsByName program node i → Contains (all_named program) (field_place node.0 i)
+    back r =
+        let found = there-found (λ other. bytes_eq other r.f.name) (ends_of program).names r.f.name ((bytes_eq-Decides r.f.name r.f.name).1 refl) ((names-read program r.f.name).1 r.read) in
+        let test = ap (λ b. b && list_any (λ other. bytes_eq other r.f.name) (ends_of program).names) r.number ∙ found in
+        (named-at program (field_place node.0 i)).1 (node.0, r.s, r.has, (i, r.f, r.get, (test, refl)))
 
-pub table-of : (program : Program) (table : Reads) → table.fields ≡ all_places program → table.roots ≡ (ends_of program).roots → IsTableOf program table
-table-of program table fields roots = record {
-  fields = λ node i. subst (λ places. Contains places (field_place node.0 i) ↔ IsReadField program node i) (sym fields) (fields-read program node i);
-  roots = λ i. subst (λ places. Contains places i ↔ IsReadRoot program i) (sym roots) (roots-read program i);
-}
+-- ---- numbers that are read from structures
+
+from-at : (program : Program) (begin outer node other : TypeId) (i j : ℕ) → outer.0 ≡ begin.0 → field_place node.0 i ≡ field_place other.0 j → ReadsFrom program outer other j → ReadsFrom program begin node i
+from-at program begin outer node other i j h e read =
+    let one : outer ≡ begin = one-number outer.0 begin.0 h in
+    let same : other ≡ node = ap (λ (y : FieldPlace). numbered y.structure) (sym e) in
+    let place : j ≡ i = ap (λ (y : FieldPlace). y.place) (sym e) in
+    subst (λ b. ReadsFrom program b node i) one (subst (λ n. ReadsFrom program outer n i) same (subst (λ k. ReadsFrom program outer other k) place read))
+
+readings-there : (program : Program) (begin node : TypeId) (i : ℕ) → Contains (all_readings program) (reading begin.0 (field_place node.0 i)) ↔ ReadsFrom program begin node i
+readings-there program begin node i = (there, back)
+  where
+    there : Contains (all_readings program) (reading begin.0 (field_place node.0 i)) → ReadsFrom program begin node i
+    there c =
+        let seen = (sought-at program (reading begin.0 (field_place node.0 i))).0 c in
+        let found = ends-there program seen.names seen.begin (field_place node.0 i) seen.end in
+        from-at program begin seen.begin node found.node i found.i seen.from found.is
+        (record { s = found.s; f = found.f; has = found.has; get = found.get; number = found.number; e = seen.e; base = seen.base; names = seen.names; begins = seen.begins; there = seen.there; ends = found.ends })
+
+    back : ReadsFrom program begin node i → Contains (all_readings program) (reading begin.0 (field_place node.0 i))
+    back r =
+        (sought-at program (reading begin.0 (field_place node.0 i))).1
+        (record { e = r.e; base = r.base; begin = begin; begins = r.begins; names = r.names; there = r.there; end = ends-back program r.ends r.s r.f r.has r.get r.number; from = refl })
+
+ended-there : (program : Program) (node : TypeId) (i : ℕ) → Contains (with_fields (all_readings program) []) (field_place node.0 i) ↔ ((begin : TypeId) × ReadsFrom program begin node i)
+ended-there program node i = (there, back)
+  where
+    there : Contains (with_fields (all_readings program) []) (field_place node.0 i) → (begin : TypeId) × ReadsFrom program begin node i
+    there c =
+        let all = adds-fields (all_readings program) in
+        elim ((all.each [] (field_place node.0 i)).0 c) [
+          | inl none ↦ absurd (nothing (field_place node.0 i) none)
+          | inr (r, d, is) ↦
+              let same : r ≡ reading r.from (field_place node.0 i) = ap (reading r.from) is in
+              (numbered r.from, (readings-there program (numbered r.from) node i).0 (subst (Contains (all_readings program)) same d))
+        ]
+
+    back : (begin : TypeId) × ReadsFrom program begin node i → Contains (with_fields (all_readings program) []) (field_place node.0 i)
+    back (begin, read) =
+        let all = adds-fields (all_readings program) in
+        (all.each [] (field_place node.0 i)).1 (inr (reading begin.0 (field_place node.0 i), (readings-there program begin node i).1 read, refl))
+
+-- ---- the table
+
+pub table-of : (program p : Program) (index : List Names) (ends : Ends) (structures : List Structure) (named ended no_named no_ended : List FieldPlace) (from no_from : List Reading) (table : Reads)
+    → table ≡ record { named = named; ended = ended; from = from; roots = ends.roots } → named ≡ with_all_named ends.names structures no_named → from ≡ seek_all p index no_from → ended ≡ with_fields from no_ended
+    → p ≡ program → index ≡ names_of_all program.structures → ends ≡ ends_of program → structures ≡ program.structures → no_named ≡ [] → no_from ≡ [] → no_ended ≡ [] → IsTableOf program table
+table-of program p index ends structures named ended no_named no_ended from no_from table is named_is from_is ended_is same_program same_index same_ends same_structures no_name none_from none_ended =
+    let names : table.named ≡ all_named program =
+    ap (λ (t : Reads). t.named) is
+    ∙ named_is
+    ∙ ap (λ (x : Ends). with_all_named x.names structures no_named) same_ends
+    ∙ ap (λ (xs : List Structure). with_all_named (ends_of program).names xs no_named) same_structures
+    ∙ ap (with_all_named (ends_of program).names program.structures) no_name in
+    let readings : from ≡ all_readings program =
+    from_is
+    ∙ ap (λ q. seek_all q index no_from) same_program
+    ∙ ap (λ i. seek_all program i no_from) same_index
+    ∙ ap (seek_all program (names_of_all program.structures)) none_from in
+    let ends_at : table.ended ≡ with_fields (all_readings program) [] =
+    ap (λ (t : Reads). t.ended) is ∙ ended_is ∙ ap (λ r. with_fields r no_ended) readings ∙ ap (with_fields (all_readings program)) none_ended in
+    let reads_from : table.from ≡ all_readings program = ap (λ (t : Reads). t.from) is ∙ readings in
+    let roots : table.roots ≡ (ends_of program).roots = ap (λ (t : Reads). t.roots) is ∙ ap (λ (x : Ends). x.roots) same_ends in
+    record {
+      named = λ node i. subst (λ places. Contains places (field_place node.0 i) ↔ ReadsByName program node i) (sym names) (names-there program node i);
+      ended = λ node i. subst (λ places. Contains places (field_place node.0 i) ↔ ((begin : TypeId) × ReadsFrom program begin node i)) (sym ends_at) (ended-there program node i);
+      from = λ begin node i. subst (λ places. Contains places (reading begin.0 (field_place node.0 i)) ↔ ReadsFrom program begin node i) (sym reads_from) (readings-there program begin node i);
+      roots = λ i. subst (λ places. Contains places i ↔ IsReadRoot program i) (sym roots) (roots-read program i);
+    }
 
 -- ---- what it says
 
@@ -133,37 +184,90 @@ not-true : (b : Bool) → IsTrue (not b) → ¬ (b ≡ true)
 not-true true h e = absurd (cc)
 not-true false h e = cc
 
-root-unread : (program : Program) (table : Reads) (place : ℕ) → IsTableOf program table → IsTrue (not (list_any (nat_eq place) table.roots)) ↔ IsUnread program (lies_in.Root place)
-root-unread program table place t = (there, back)
+same-self : (x : FieldPlace) → same_place x x ≡ true
+same-self x = ap (λ b. b && nat_eq x.place x.place) ((Decides-eqb x.structure x.structure).1 refl) ∙ (Decides-eqb x.place x.place).1 refl
+
+same-reading-self : (x : Reading) → same_reading x x ≡ true
+same-reading-self x = ap (λ b. b && same_place x.field x.field) ((Decides-eqb x.from x.from).1 refl) ∙ same-self x.field
+
+-- a place is found in a list where the list contains it
+in-places : (x : FieldPlace) (places : List FieldPlace) → (list_any (same_place x) places ≡ true) ↔ Contains places x
+in-places x places = (λ e. found-there (same_place x) places x (λ z h. sym (same-field x z h)) e, λ c. there-found (same_place x) places x (same-self x) c)
+
+in-readings : (x : Reading) (readings : List Reading) → (list_any (same_reading x) readings ≡ true) ↔ Contains readings x
+in-readings x readings = (λ e. found-there (same_reading x) readings x (λ z h. sym (same-read x z h)) e, λ c. there-found (same_reading x) readings x (same-reading-self x) c)
+
+root-unread : (program : Program) (table : Reads) (around : List TypeId) (active : Bool) (place : ℕ) → IsTableOf program table → IsTrue (not (list_any (nat_eq place) table.roots)) ↔ IsUnread program around active (lies_in.Root place)
+root-unread program table around active place t = (there, back)
   where
-    there : IsTrue (not (list_any (nat_eq place) table.roots)) → IsUnread program (lies_in.Root place)
+    there : IsTrue (not (list_any (nat_eq place) table.roots)) → IsUnread program around active (lies_in.Root place)
     there h = λ read. not-true (list_any (nat_eq place) table.roots) h (there-found (nat_eq place) table.roots place ((Decides-eqb place place).1 refl) ((t.roots place).1 read))
 
-    back : IsUnread program (lies_in.Root place) → IsTrue (not (list_any (nat_eq place) table.roots))
+    back : IsUnread program around active (lies_in.Root place) → IsTrue (not (list_any (nat_eq place) table.roots))
     back unread =
         true-or-not (list_any (nat_eq place) table.roots)
         (λ e. unread ((t.roots place).0 (found-there (nat_eq place) table.roots place (λ z h. sym ((Decides-eqb place z).0 h)) e)))
 
-same-self : (x : FieldPlace) → same_place x x ≡ true
-same-self x = ap (λ b. b && nat_eq x.place x.place) ((Decides-eqb x.structure x.structure).1 refl) ∙ (Decides-eqb x.place x.place).1 refl
+-- what the table says of a field inside these structures
+abbrev pub read_there : Reads → List TypeId → Bool → FieldPlace → Bool
+read_there table around active field =
+    cond (list_any (same_place field) table.named) true
+    (cond active (list_any (λ (node : TypeId). list_any (same_reading (reading node.0 field)) table.from) around) (list_any (same_place field) table.ended))
 
-field-unread : (program : Program) (table : Reads) (node : TypeId) (place : ℕ) → IsTableOf program table → IsTrue (not (list_any (same_place (field_place node.0 place)) table.fields)) ↔ IsUnread program (lies_in.Field node place)
-field-unread program table node place t = (there, back)
-  where
-    there : IsTrue (not (list_any (same_place (field_place node.0 place)) table.fields)) → IsUnread program (lies_in.Field node place)
-    there h = λ read. not-true (list_any (same_place (field_place node.0 place)) table.fields) h (there-found (same_place (field_place node.0 place)) table.fields (field_place node.0 place) (same-self (field_place node.0 place)) ((t.fields node place).1 read))
+module _ (program : Program) (table : Reads) (t : IsTableOf program table) (node : TypeId) (i : ℕ) where
+  abbrev field : FieldPlace
+  field = field_place node.0 i
 
-    back : IsUnread program (lies_in.Field node place) → IsTrue (not (list_any (same_place (field_place node.0 place)) table.fields))
-    back unread = true-or-not (list_any (same_place (field_place node.0 place)) table.fields) (λ e. unread ((t.fields node place).0 (found-there (same_place (field_place node.0 place)) table.fields (field_place node.0 place) (λ z h. sym (same-field (field_place node.0 place) z h)) e)))
+  abbrev from_there : TypeId → Bool
+  from_there begin = list_any (same_reading (reading begin.0 field)) table.from
+
+  inside : (around : List TypeId) (active : Bool) → (cond active (list_any from_there around) (list_any (same_place field) table.ended) ≡ true) ↔ ((begin : TypeId) × MayStandAround around active begin × ReadsFrom program begin node i)
+  inside around true = (there, back)
+    where
+      there : list_any from_there around ≡ true → (begin : TypeId) × MayStandAround around true begin × ReadsFrom program begin node i
+      there e =
+          let found = any-found from_there around e in
+          (found.0, inr found.1, (t.from found.0 node i).0 ((in-readings (reading found.0.0 field) table.from).0 found.2))
+
+      back : (begin : TypeId) × MayStandAround around true begin × ReadsFrom program begin node i → list_any from_there around ≡ true
+      back (begin, stands, read) = elim stands [
+        | inl e ↦ absurd (cc)
+        | inr c ↦ there-found from_there around begin ((in-readings (reading begin.0 field) table.from).1 ((t.from begin node i).1 read)) c
+      ]
+  inside around false = (λ e. let found = (t.ended node i).0 ((in-places field table.ended).0 e) in (found.0, inl refl, found.1), λ (begin, stands, read). (in-places field table.ended).1 ((t.ended node i).1 (begin, read)))
+
+  either : (around : List TypeId) (active b c : Bool) → (b ≡ true) ↔ ReadsByName program node i → (c ≡ true) ↔ ((begin : TypeId) × MayStandAround around active begin × ReadsFrom program begin node i) → (cond b true c ≡ true) ↔ IsReadField program around active node i
+  either around active true c p q = (λ e. inl (p.0 refl), λ read. refl)
+  either around active false c p q = (λ e. inr (q.0 e), λ read. elim read [ inl n ↦ let none = p.1 n in absurd (cc) | inr r ↦ q.1 r ])
+
+  read-iff : (around : List TypeId) (active : Bool) → (read_there table around active field ≡ true) ↔ IsReadField program around active node i
+  read-iff around active =
+      either around active (list_any (same_place field) table.named) (cond active (list_any from_there around) (list_any (same_place field) table.ended))
+      (λ e. (t.named node i).0 ((in-places field table.named).0 e), λ r. (in-places field table.named).1 ((t.named node i).1 r)) (inside around active)
+
+  pub field-unread : (around : List TypeId) (active : Bool) → IsTrue (not (read_there table around active field)) ↔ IsUnread program around active (lies_in.Field node i)
+  field-unread around active =
+      (λ h read. not-true (read_there table around active field) h ((read-iff around active).1 read), λ unread. true-or-not (read_there table around active field) (λ e. unread ((read-iff around active).0 e)))
 
 -- ---- the answers
 
-answer : (program : Program) (told b : Bool) (h holder : Holder) → told ≡ b → holder ≡ h → IsTrue (not b) ↔ IsUnread program h → IsTrue (not told) ↔ IsUnread program holder
-answer program told b h holder e is said = subst (λ x. IsTrue (not x) ↔ IsUnread program holder) (sym e) (subst (λ y. IsTrue (not b) ↔ IsUnread program y) (sym is) said)
+answer : (program : Program) (around : List TypeId) (active told b : Bool) (h holder : Holder) → told ≡ b → holder ≡ h → IsTrue (not b) ↔ IsUnread program around active h → IsTrue (not told) ↔ IsUnread program around active holder
+answer program around active told b h holder e is said =
+    subst (λ x. IsTrue (not x) ↔ IsUnread program around active holder) (sym e) (subst (λ y. IsTrue (not b) ↔ IsUnread program around active y) (sym is) said)
 
-pub root-answer : (program : Program) (table : Reads) (place : ℕ) (told : Bool) (holder : Holder) → told ≡ list_any (nat_eq place) table.roots → holder ≡ lies_in.Root place → IsTableOf program table → IsTrue (not told) ↔ IsUnread program holder
-root-answer program table place told holder e is t = answer program told (list_any (nat_eq place) table.roots) (lies_in.Root place) holder e is (root-unread program table place t)
+pub root-answer : (program : Program) (table : Reads) (around : List TypeId) (active : Bool) (place : ℕ) (told : Bool) (holder : Holder) → told ≡ list_any (nat_eq place) table.roots → holder ≡ lies_in.Root place → IsTableOf program table
+    → IsTrue (not told) ↔ IsUnread program around active holder
+root-answer program table around active place told holder e is t =
+    answer program around active told (list_any (nat_eq place) table.roots) (lies_in.Root place) holder e is (root-unread program table around active place t)
 
-pub field-answer : (program : Program) (table : Reads) (node : TypeId) (place : ℕ) (told : Bool) (holder : Holder) → told ≡ list_any (same_place (field_place node.0 place)) table.fields → holder ≡ lies_in.Field node place → IsTableOf program table
-    → IsTrue (not told) ↔ IsUnread program holder
-field-answer program table node place told holder e is t = answer program told (list_any (same_place (field_place node.0 place)) table.fields) (lies_in.Field node place) holder e is (field-unread program table node place t)
+pub field-answer : (program : Program) (table : Reads) (around : List TypeId) (active : Bool) (node : TypeId) (place : ℕ) (told : Bool) (holder : Holder) → told ≡ read_there table around active (field_place node.0 place)
+    → holder ≡ lies_in.Field node place → IsTableOf program table → IsTrue (not told) ↔ IsUnread program around active holder
+field-answer program table around active node place told holder e is t =
+    answer program around active told (read_there table around active (field_place node.0 place)) (lies_in.Field node place) holder e is (field-unread program table t node place around active)
+
+-- so in the static record, from a root on
+pub static-step : (program : Program) (table : Reads) (path : List ℕ) (i : ℕ) (rest : List ℕ) (type : Option Ty) (active : Bool) (holder : Holder) (b : Bool) → path ≡ i ∷ rest → type ≡ root_at program i
+    → (IsTableOf program table → IsTrue b ↔ IsUnread program (structures_on program type rest) active holder) → IsTableOf program table → IsTrue b ↔ IsUnread program (structures_in_statics program path) active holder
+static-step program table path i rest type active holder b e h said t =
+    subst (λ y. IsTrue b ↔ IsUnread program (structures_in_statics program y) active holder) (sym e)
+    (subst (λ o. IsTrue b ↔ IsUnread program (structures_on program o rest) active holder) h (said t))

@@ -1,7 +1,8 @@
 -- Where a leaf is replaced that no expression reads, the value with it fits.
-use Rattle.std.proofs.Common.{◌≡◌, ℕ, zero, suc, List, refl, ap, sym, subst, ◌∙◌}
+use Rattle.std.proofs.Common.{◌≡◌, ℕ, zero, suc, true, List, [], refl, ap, sym, subst, ◌∙◌, inr}
 use Rattle.std.specs.Prelude.{All, Contains}
 use Rattle.std.proofs.lemmas.List.Elements.{All-map, All-weaker, All-contains_itself}
+use Rattle.gt_types.specs.declared.types.TypeId.{TypeId}
 use Rattle.gt_types.specs.declared.types.Ty.{Ty}
 use Rattle.gt_types.specs.declared.program.Root.{Root}
 use Rattle.gt_types.specs.declared.program.Program.{Program}
@@ -15,7 +16,8 @@ use Rattle.gt_tree.specs.Fits.{StaticsFit, root_types}
 use Rattle.gt_tree.proofs.PathParts.{get-map}
 use Rattle.gt_value.specs.declared.places.Holder.{Holder}
 use Rattle.gt_value.specs.declared.places.Holder.TheVariants as lies_in
-use Rattle.gt_leaf.specs.Unread.{IsUnread, UnreadElementsFit, UnreadStaticsFit}
+use Rattle.gt_leaf.specs.Unread.{structures_in_statics, IsUnread, UnreadElementsFit, UnreadStaticsFit}
+use Rattle.gt_leaf.proofs.Arounds.{static-covers}
 use Rattle.gt_leaf.proofs.Swaps.{OneSwaps, put-swaps}
 use Rattle.gt_leaf.proofs.SwapReads.{number-swap}
 use Rattle.gt_leaf.proofs.Alongs.{Along, Contains-get}
@@ -25,11 +27,11 @@ use Rattle.gt_leaf.proofs.Refits.{Replaces, swap-of, put-fits, changes}
 pub unread-elements : (program : Program) (planes : List Plane) → Settled program → UnreadElementsFit program planes
 unread-elements program planes settled blocks statics kind capacity value leaf path p hold fits lies unread may leaf_fits =
     let along : Along program statics (outside statics) (element_type program kind) = Along.at_block kind hold in
-    changes settled lies fits (outside statics) along (outside-same statics statics (λ i read. refl)) leaf (record { unread = unread; may = may; fits = leaf_fits })
+    changes settled lies fits (outside statics) along (outside-same statics statics (λ i read. refl)) leaf (record { unread = unread; may = may; fits = leaf_fits }) (record { each = λ b c. inr c })
 
 -- ---- the static record
 
-pub root-swap : {program : Program} {at : ℕ → Holder} {types : List Ty} {olds news : Trees} → OneSwaps program at types olds news → (i : ℕ) → ¬ IsUnread program (at i) → (tree_at olds i then number_at) ≡ (tree_at news i then number_at)
+pub root-swap : {program : Program} {around : List TypeId} {at : ℕ → Holder} {types : List Ty} {olds news : Trees} → OneSwaps program around at types olds news → (i : ℕ) → ¬ IsUnread program around true (at i) → (tree_at olds i then number_at) ≡ (tree_at news i then number_at)
 root-swap (OneSwaps.at_first swap) zero read = number-swap swap read
 root-swap (OneSwaps.at_first swap) (suc i) read = refl
 root-swap (OneSwaps.at_later one) zero read = refl
@@ -45,11 +47,12 @@ unread-statics program planes spots settled blocks old new leaf path p fits l un
     let w = with_part_of old l.i l.rest leaf in
     let same_rec : Rec w ≡ Rec new = ap (λ y. with_part (Rec old) y leaf) (sym l.path_is) ∙ e in
     let is : w ≡ new = cc in
-    let r : Replaces program blocks 0 p leaf = record { unread = unread; may = may; fits = leaf_fits } in
+    let covers = static-covers program p.active l in
+    let r : Replaces program blocks 0 (structures_in_statics program path) p leaf = record { unread = unread; may = may; fits = leaf_fits } in
     let get = get-map (λ (x : Root). x.ty) program.roots l.i l.r l.root in
-    let one = put-swaps program lies_in.Root (root_types program) old l.i l.r.ty l.tree l.rest leaf get l.there (swap-of l.lies leaf r) in
+    let one = put-swaps program [] lies_in.Root (root_types program) old l.i l.r.ty l.tree l.rest leaf get l.there (swap-of l.lies leaf r covers) in
     let same = outside-same old w (λ i read. root-swap one i (λ unread. unread read)) in
     let along : Along program old (outside old) l.r.ty = Along.at_root l.r (Contains-get program.roots l.i l.r l.root) in
     subst (StaticsFit program blocks) is
     (put-fits settled fits (outside w) l.i l.r.ty l.tree l.rest leaf get l.there
-    (λ inner. changes settled l.lies inner (outside w) along same leaf r) (roots-along program old) same)
+    (λ inner. changes settled l.lies inner (outside w) along same leaf r covers) (roots-along program old) same)

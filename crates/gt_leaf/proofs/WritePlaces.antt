@@ -1,5 +1,7 @@
 -- What the write of a leaf at its place makes of an element, and of the static record.
-use Rattle.std.proofs.Common.{◌≡◌, ℕ, true, IsTrue, List, ap, sym, subst, ◌∙◌, ◌⊎◌, inl, inr, Option, Some, None}
+use Rattle.std.proofs.Common.{◌≡◌, ℕ, Bool, true, IsTrue, List, ap, sym, subst, ◌∙◌, ◌⊎◌, inl, inr, Option, Some, None}
+use Rattle.std.specs.Prelude.{◌↔◌}
+use Rattle.gt_types.specs.declared.types.TypeId.{TypeId}
 use Rattle.gt_types.specs.declared.types.Ty.{Ty}
 use Rattle.gt_types.specs.declared.program.Program.{Program}
 use Rattle.gt_types.specs.Settled.{Settled}
@@ -20,7 +22,7 @@ use Rattle.gt_store.specs.Leaf.{IsNewLeaf, IsLeafWritten}
 use Rattle.gt_store.proofs.LeafStored.{leaf-stored, static-leaf-stored}
 use Rattle.gt_assign.proofs.Selves.{in-place, all-in-place}
 use Rattle.gt_leaf.specs.HeldTypes.{IsOfPart, held_type}
-use Rattle.gt_leaf.specs.Unread.{MayReplace}
+use Rattle.gt_leaf.specs.Unread.{structures_on, structures_in_statics, IsUnread, MayReplace}
 use Rattle.gt_leaf.specs.Writing.{StandsBeside, StaticsStandBeside, MayWrite, IsWrittenInPlace, IsStaticWrittenInPlace}
 use Rattle.gt_leaf.proofs.LeafTrees.{LeafTree, leaf-tree, content-leaf, content-word, may-be}
 use Rattle.gt_leaf.proofs.LeafTypes.{type-there, root-type-there}
@@ -40,6 +42,12 @@ statics-stand {blocks} s = record { blocks = blocks; addresses = s.addresses; ar
 of-part : {program : Program} {range : Range} {address : ℕ} {p : Part} {place : Place} (type : Option Ty) → IsPlaceOfPart program range address p place → type ≡ Some p.type → IsOfPart program p place type
 of-part type at e = record { active_is = at.active_is; kind_is = at.kind_is; holder_is = at.holder_is; length_is = at.length_is; type_is = e }
 
+-- what is said of a leaf by its place holds of the part there
+pub part-unread : {program : Program} {range : Range} {address : ℕ} {p : Part} {place : Place} (around : List TypeId) (b : Bool) → IsPlaceOfPart program range address p place
+    → IsTrue b ↔ IsUnread program around place.active place.holder → IsTrue b ↔ IsUnread program around p.active p.holder
+part-unread {program} {p} {place} around b at said =
+    subst (λ h. IsTrue b ↔ IsUnread program around p.active h) at.holder_is (subst (λ a. IsTrue b ↔ IsUnread program around a place.holder) at.active_is said)
+
 pub place-part : (program : Program) (layouts : Layouts) (scope : Scope) (type : Ty) (range : Range) (address : ℕ) (value : Tree) (path : List ℕ) (place : Place) (known : Option Ty) → known ≡ held_type program (Some type) place.holder
     → (at : IsPlaceOf program layouts.structures scope lies_in.Element type range address value path place) → IsOfPart program at.p place known
 place-part program layouts scope type range address value path place known same at =
@@ -52,8 +60,8 @@ static-place-part program layouts range values path place known same at =
 
 -- ---- the leaf that is written
 
-module _ {program : Program} {blocks : Blocks} {range : Range} {address : ℕ} (p : Part) (place : Place) (leaf : LeafContent) (capacity : ℕ)
-    (at : IsPlaceOfPart program range address p place) (may : MayWrite program blocks p leaf) where
+module _ {program : Program} {blocks : Blocks} {around : List TypeId} {range : Range} {address : ℕ} (p : Part) (place : Place) (leaf : LeafContent) (capacity : ℕ)
+    (at : IsPlaceOfPart program range address p place) (may : MayWrite program blocks around p leaf) where
   pub tree-of : LeafTree program blocks capacity p.scope p.type leaf
   tree-of = leaf-tree p.type leaf may.fits
 
@@ -77,12 +85,13 @@ module _ (program : Program) (layouts : Layouts) (settled : Settled program) (la
 
   pub written-in-place : (blocks : Blocks) (statics : Trees) (capacity : ℕ) (type : Ty) (address : ℕ) (value : Tree) (path : List ℕ) (leaf : LeafContent) (old new : Range) (place : Place) → IsRoomFor program layouts capacity type old address
       → StandsBeside program layouts blocks statics capacity type old address value
-      → (at : IsPlaceOf program layouts.structures (outside statics) lies_in.Element type old address value path place) → MayWrite program blocks at.p leaf → IsLeafWritten place leaf old new
+      → (at : IsPlaceOf program layouts.structures (outside statics) lies_in.Element type old address value path place) → MayWrite program blocks (structures_on program (Some type) path) at.p leaf → IsLeafWritten place leaf old new
       → IsWrittenInPlace program layouts blocks statics capacity type address value path leaf old new
   written-in-place blocks statics capacity type address value path leaf old new place room s at may written =
       let tree = tree-of at.p place leaf capacity at.is may in
       let fresh = new-leaf at.p place leaf capacity at.is may s.addresses in
-      let fits = unread-elements program layouts.structures settled blocks statics s.kind capacity value tree.tree path at.p s.held s.is.fits (subst (λ t. PartLies program layouts.structures (outside statics) lies_in.Element true 0 t value path at.p) s.of_kind at.lies) may.unread (replaces at.p place leaf capacity at.is may) tree.fits in
+      let fits = unread-elements program layouts.structures settled blocks statics s.kind capacity value tree.tree path at.p s.held s.is.fits (subst (λ t. PartLies program layouts.structures (outside statics) lies_in.Element true 0 t value path at.p) s.of_kind at.lies)
+      (subst (λ t. IsUnread program (structures_on program (Some t) path) at.p.active at.p.holder) s.of_kind may.unread) (replaces at.p place leaf capacity at.is may) tree.fits in
       let stored = leaf-stored program layouts settled laid blocks statics s.kind capacity s.size address old new value tree.tree path at.p place leaf s.held
       (subst (λ t. Takes program layouts capacity t s.size) s.of_kind s.takes) (room s.size s.takes) s.is
       (subst (λ t. PartLies program layouts.structures (outside statics) lies_in.Element true 0 t value path at.p) s.of_kind at.lies) at.is fresh fits written in
@@ -102,7 +111,7 @@ module _ (program : Program) (layouts : Layouts) (settled : Settled program) (la
   -- ---- the static record
 
   pub static-written-in-place : (blocks : Blocks) (values : Trees) (path : List ℕ) (leaf : LeafContent) (old new : Range) (place : Place) → IsInside old old.start layouts.statics.size
-      → StaticsStandBeside program layouts blocks old values → (at : IsStaticPlaceOf program layouts old values path place) → MayWrite program blocks at.p leaf → IsLeafWritten place leaf old new
+      → StaticsStandBeside program layouts blocks old values → (at : IsStaticPlaceOf program layouts old values path place) → MayWrite program blocks (structures_in_statics program path) at.p leaf → IsLeafWritten place leaf old new
       → IsStaticWrittenInPlace program layouts blocks values path leaf old new
   static-written-in-place blocks values path leaf old new place inside s at may written =
       let tree = tree-of at.p place leaf 0 at.is may in

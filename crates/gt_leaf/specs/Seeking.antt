@@ -19,9 +19,10 @@ use Rattle.gt_types.specs.Shapes.{innermost, count_of, is_number}
 use Rattle.gt_types.specs.Contains.{held_by, itself}
 use Rattle.gt_tree.specs.Scopes.{◌then◌}
 use Rattle.gt_leaf.specs.declared.fields.FieldPlace.{FieldPlace}
+use Rattle.gt_leaf.specs.declared.readings.Reading.{Reading}
 use Rattle.gt_leaf.specs.declared.seeking.Start.{Start}
 use Rattle.gt_leaf.specs.Collecting.{with_place}
-use Rattle.gt_leaf.specs.Tables.{field_place}
+use Rattle.gt_leaf.specs.Tables.{field_place, reading}
 
 -- what is made step by step of the items of a list, each with its place
 abbrev pub with_each : {X S : Type 0} → (ℕ → X → S → S) → ℕ → List X → S → S
@@ -64,9 +65,22 @@ same_place a b = (a.structure == b.structure) && (a.place == b.place)
 abbrev pub with_field : FieldPlace → List FieldPlace → List FieldPlace
 with_field x places = if list_any (same_place x) places then places else places ++ x ∷ []
 
-abbrev pub with_end : Option FieldPlace → List FieldPlace → List FieldPlace
-with_end (Some x) places = with_field x places
-with_end None places = places
+-- two readings are one
+abbrev pub same_reading : Reading → Reading → Bool
+same_reading a b = (a.from == b.from) && same_place a.field b.field
+
+-- distinct readings with one more, where it is new
+abbrev pub with_reading : Reading → List Reading → List Reading
+with_reading x readings = if list_any (same_reading x) readings then readings else readings ++ x ∷ []
+
+-- with that of a number from a structure
+abbrev pub with_end : ℕ → Option FieldPlace → List Reading → List Reading
+with_end begin (Some x) readings = with_reading (reading begin x) readings
+with_end begin None readings = readings
+
+-- with the places of the fields of readings
+abbrev pub with_fields : List Reading → List FieldPlace → List FieldPlace
+with_fields readings places = fold (λ k r. with_field r.field k) places readings
 
 -- ---- numbers of the names that are read
 
@@ -121,49 +135,49 @@ same_base a b = false
 abbrev pub starting : Base → ℕ → Start
 starting base node = record { base = base; structure = node }
 
-abbrev pub seek_step : Program → List Names → Start → Expr-F (List FieldPlace → List FieldPlace) → List FieldPlace → List FieldPlace
+abbrev pub seek_step : Program → List Names → Start → Expr-F (List Reading → List Reading) → List Reading → List Reading
 seek_step program index at (Int n) old = old
-seek_step program index at (Path base steps) old = if same_base base at.base then with_end (end_of program index at.structure steps) old else old
+seek_step program index at (Path base steps) old = if same_base base at.base then with_end at.structure (end_of program index at.structure steps) old else old
 seek_step program index at (Root i) old = old
 seek_step program index at (One op a) old = a old
 seek_step program index at (Two op a b) old = b (a old)
 seek_step program index at (Cond test a b) old = b (a (test old))
 
 -- with the ends of the paths of an expression from one base, which begin at this structure
-abbrev pub seek_expr : Program → List Names → Start → Expr → List FieldPlace → List FieldPlace
-seek_expr program index at = fold-Expr (List FieldPlace → List FieldPlace) (seek_step program index at)
+abbrev pub seek_expr : Program → List Names → Start → Expr → List Reading → List Reading
+seek_expr program index at = fold-Expr (List Reading → List Reading) (seek_step program index at)
 
-abbrev pub seek_option : Program → List Names → Start → Option Expr → List FieldPlace → List FieldPlace
+abbrev pub seek_option : Program → List Names → Start → Option Expr → List Reading → List Reading
 seek_option program index at (Some e) old = seek_expr program index at e old
 seek_option program index at None old = old
 
 -- with those of the lengths of fields
-abbrev pub seek_counts : Program → List Names → Start → List Field → List FieldPlace → List FieldPlace
+abbrev pub seek_counts : Program → List Names → Start → List Field → List Reading → List Reading
 seek_counts program index at fields old = fold (λ k f. seek_option program index at (count_of f.ty) k) old fields
 
 -- with those of the expressions that speak of a structure as `%h`
-abbrev pub seek_own : Program → List Names → Start → Structure → List FieldPlace → List FieldPlace
+abbrev pub seek_own : Program → List Names → Start → Structure → List Reading → List Reading
 seek_own program index at s old = seek_option program index at s.desc (seek_counts program index at s.fields old)
 
-abbrev pub seek_own_of : Program → List Names → Start → Option Structure → List FieldPlace → List FieldPlace
-seek_own_of program index at (Some s) old = seek_own program index at s old
-seek_own_of program index at None old = old
+abbrev pub seek_counts_of : Program → List Names → Start → Option Structure → List Reading → List Reading
+seek_counts_of program index at (Some s) old = seek_counts program index at s.fields old
+seek_counts_of program index at None old = old
 
 -- ---- the `desc` of a field or root
 
-abbrev pub seek_union : Program → List Names → Ty → List FieldPlace → List FieldPlace
+abbrev pub seek_union : Program → List Names → Ty → List Reading → List Reading
 seek_union program index (ty.Node union desc) old = seek_option program index (starting Here union.0) desc old
 seek_union program index type old = old
 
-abbrev pub seek_outside : Program → List Names → ℕ → Ty → List FieldPlace → List FieldPlace
+abbrev pub seek_outside : Program → List Names → ℕ → Ty → List Reading → List Reading
 seek_outside program index node (ty.Node union desc) old = seek_option program index (starting Outer node) desc old
 seek_outside program index node type old = old
 
 -- with the ends of the paths of the `desc` of a field of a structure, where it holds a union
-abbrev pub seek_desc : Program → List Names → ℕ → Ty → List FieldPlace → List FieldPlace
+abbrev pub seek_desc : Program → List Names → ℕ → Ty → List Reading → List Reading
 seek_desc program index node type old = seek_outside program index node (innermost type) (seek_union program index (innermost type) old)
 
-abbrev pub seek_descs : Program → List Names → ℕ → List Field → List FieldPlace → List FieldPlace
+abbrev pub seek_descs : Program → List Names → ℕ → List Field → List Reading → List Reading
 seek_descs program index node fields old = fold (λ k f. seek_desc program index node f.ty k) old fields
 
 -- ---- what a structure contains
@@ -176,23 +190,23 @@ with_inner inners None = inners
 abbrev pub with_inners : List Field → List ℕ → List ℕ
 with_inners fields old = fold (λ k f. with_inner k (held_by f.ty)) old fields
 
--- with the ends of the paths from `%1` of the expressions of structures that a structure contains
-abbrev pub seek_inners : Program → List Names → ℕ → List ℕ → List FieldPlace → List FieldPlace
-seek_inners program index node inners old = fold (λ k inner. seek_own_of program index (starting Outer node) (slice_get program.structures inner) k) old inners
+-- with the ends of the paths from `%1` of the lengths of structures that a structure contains
+abbrev pub seek_inners : Program → List Names → ℕ → List ℕ → List Reading → List Reading
+seek_inners program index node inners old = fold (λ k inner. seek_counts_of program index (starting Outer node) (slice_get program.structures inner) k) old inners
 
 -- ---- a program
 
 -- with the ends of the paths that begin at a structure, and of those of its fields
-abbrev pub seek_structure : Program → List Names → ℕ → Structure → List FieldPlace → List FieldPlace
+abbrev pub seek_structure : Program → List Names → ℕ → Structure → List Reading → List Reading
 seek_structure program index node s old =
     seek_inners program index node (with_inners s.fields []) (seek_descs program index node s.fields (seek_own program index (starting Here node) s old))
 
-abbrev pub seek_structures : Program → List Names → List FieldPlace → List FieldPlace
+abbrev pub seek_structures : Program → List Names → List Reading → List Reading
 seek_structures program index old = with_each (seek_structure program index) 0 program.structures old
 
-abbrev pub seek_roots : Program → List Names → List FieldPlace → List FieldPlace
+abbrev pub seek_roots : Program → List Names → List Reading → List Reading
 seek_roots program index old = fold (λ k (r : RootOf). seek_union program index (innermost r.ty) k) old program.roots
 
--- with the numbers in which the paths of all expressions from `%h` and `%1` end
-abbrev pub seek_all : Program → List Names → List FieldPlace → List FieldPlace
+-- with the numbers in which the paths of all expressions from `%h` and `%1` end, and where those begin
+abbrev pub seek_all : Program → List Names → List Reading → List Reading
 seek_all program index old = seek_roots program index (seek_structures program index old)

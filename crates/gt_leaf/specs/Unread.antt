@@ -1,12 +1,12 @@
 -- Which leaves no expression reads, and what follows for writing them.
-use Rattle.std.specs.Prelude.{◌≡◌, ◌⊎◌, ℕ, ◌∷◌, List, [], ◌++◌, Option, Some, true, IsTrue, Contains, option_to_list, slice_get, Any}
+use Rattle.std.specs.Prelude.{◌≡◌, ◌⊎◌, ℕ, Bool, ◌∷◌, List, [], ◌++◌, Option, Some, None, true, false, IsTrue, Contains, option_to_list, slice_get, Any}
 use Rattle.std.specs.List.{position_from}
 use Rattle.std.specs.Str.{bytes_eq}
 use Rattle.gt_types.specs.declared.expressions.Base.{Base}
 use Rattle.gt_types.specs.declared.expressions.Base.TheVariants.{Here, Outer, Outermost}
 use Rattle.gt_types.specs.declared.expressions.Expr.{Expr}
 use Rattle.gt_types.specs.declared.types.TypeId.{TypeId}
-use Rattle.gt_types.specs.declared.types.Ty.{Ty}
+use Rattle.gt_types.specs.declared.types.Ty.{Ty, out-Ty}
 use Rattle.gt_types.specs.declared.types.Ty.TheOpen as part
 use Rattle.gt_types.specs.declared.types.Ty.TheVariants as ty
 use Rattle.gt_types.specs.declared.types.Ty.TheOpen.{Ty-F}
@@ -17,14 +17,14 @@ use Rattle.gt_types.specs.declared.program.Structure.{Structure}
 use Rattle.gt_types.specs.declared.program.Field.{Field}
 use Rattle.gt_types.specs.declared.program.Root.{Root as RootOf}
 use Rattle.gt_types.specs.declared.program.Program.{Program}
-use Rattle.gt_types.specs.Shapes.{innermost, is_number}
-use Rattle.gt_types.specs.Contains.{HasStructure, ContainsStructure}
+use Rattle.gt_types.specs.Shapes.{innermost, is_number, count_of}
+use Rattle.gt_types.specs.Contains.{HasStructure, ContainsStructure, itself}
 use Rattle.gt_types.specs.Paths.{Way, paths_of, roots_of, own_expressions}
 use Rattle.gt_layout.specs.declared.planes.Plane.{Plane}
 use Rattle.gt_layout.specs.declared.planes.Spot.{Spot}
 use Rattle.gt_tree.specs.Trees.{Tree, Rec, Trees, is_leaf, with_part, without_pointers}
 use Rattle.gt_tree.specs.Blocks.{Kind, Blocks, element_type}
-use Rattle.gt_tree.specs.Scopes.{outside}
+use Rattle.gt_tree.specs.Scopes.{outside, ◌then◌}
 use Rattle.gt_tree.specs.Fits.{Fits, StaticsFit}
 use Rattle.gt_tree.specs.FixedLaws.{MayHold}
 use Rattle.gt_value.specs.declared.places.Holder.{Holder}
@@ -55,13 +55,13 @@ pub data IsExpressionOf (program : Program) (e : Expr) : Type 0 where
   of_desc : (s : Structure) → Contains program.structures s → s.desc ≡ Some e → IsExpressionOf program e
   of_root : (r : RootOf) → Contains program.roots r → Contains (expressions_of r.ty) e → IsExpressionOf program e
 
--- The structures at which the paths of an expression begin. For a length of a field of a structure, and for the `desc` of a union
--- itself, `%h` is this structure, and `%1` each that contains it. For the `desc` of a field that holds a union, `%h` is the union, and
+-- The structures at which the paths of an expression begin. For the length of a field, `%h` is the field's structure, and `%1` each that
+-- contains it. For the `desc` of a union itself, `%h` is the union. For the `desc` of a field that holds a union, `%h` is the union, and
 -- `%1` the field's structure. For the `desc` of a root, `%h` is the union.
 pub data BeginsAt (program : Program) (e : Expr) : Base → TypeId → Type 0 where
   own_here : {node : TypeId} {s : Structure} → HasStructure program node s → Contains (own_expressions s) e → BeginsAt program e Here node
-  own_outer : (node : TypeId) {outer : TypeId} {s : Structure} → HasStructure program node s → Contains (own_expressions s) e → ContainsStructure program outer node
-      → BeginsAt program e Outer outer
+  length_outer : (node : TypeId) {outer : TypeId} {s : Structure} {f : Field} → HasStructure program node s → Contains s.fields f → count_of f.ty ≡ Some e
+      → ContainsStructure program outer node → BeginsAt program e Outer outer
   desc_here : (node : TypeId) {union : TypeId} {s : Structure} {f : Field} → HasStructure program node s → Contains s.fields f → innermost f.ty ≡ ty.Node union (Some e)
       → BeginsAt program e Here union
   desc_outer : {node union : TypeId} {s : Structure} {f : Field} → HasStructure program node s → Contains s.fields f → innermost f.ty ≡ ty.Node union (Some e)
@@ -80,10 +80,19 @@ pub data EndsAt (program : Program) : TypeId → List (List ℕ) → TypeId → 
   at_next : {node next end : TypeId} {name : List ℕ} {names : List (List ℕ)} {i j : ℕ} {f : Field} {desc : Option Expr} → Picks program node name j f → f.ty ≡ ty.Node next desc
       → EndsAt program next names end i → EndsAt program node (name ∷ names) end i
 
--- some path from `%h` or `%1` ends in the field at a place of a structure
-abbrev pub IsEnd : Program → TypeId → ℕ → Type 0
-IsEnd program node i =
-    (e : Expr) × (base : Base) × (begin : TypeId) × (names : List (List ℕ)) × BeginsAt program e base begin × Contains (paths_of e) (base, names) × EndsAt program begin names node i
+-- some path from `%h` or `%1` that begins at a structure ends in the number at a place of a structure
+pub record ReadsFrom (program : Program) (begin node : TypeId) (i : ℕ) : Type 0 where
+  pub s : Structure
+  pub f : Field
+  pub has : HasStructure program node s
+  pub get : slice_get s.fields i ≡ Some f
+  pub number : is_number f.ty ≡ true
+  pub e : Expr
+  pub base : Base
+  pub names : List (List ℕ)
+  pub begins : BeginsAt program e base begin
+  pub there : Contains (paths_of e) (base, names)
+  pub ends : EndsAt program begin names node i
 
 -- a path from `%0` ends in a name
 abbrev pub EndsIn : List ℕ → Way → Type 0
@@ -93,22 +102,67 @@ EndsIn name way = (way.0 ≡ Outermost) × (names : List (List ℕ)) × (way.1 �
 abbrev pub IsReadName : Program → List ℕ → Type 0
 IsReadName program name = (e : Expr) × IsExpressionOf program e × Any (EndsIn name) (paths_of e)
 
--- Expressions read the field at a place of a structure: it is a number, and some path from `%h` or `%1` ends there, or some path from
--- `%0` in its name. A path from `%0` begins at whatever structure is outermost, so its last name counts in each structure.
-abbrev pub IsReadField : Program → TypeId → ℕ → Type 0
-IsReadField program node i =
-    (s : Structure) × (f : Field) × HasStructure program node s × (slice_get s.fields i ≡ Some f) × (is_number f.ty ≡ true) × (IsEnd program node i ⊎ IsReadName program f.name)
+-- The name of the number at a place of a structure is one in which some path from `%0` ends. Such a path begins at whatever structure is
+-- outermost, so its last name counts in each structure.
+pub record ReadsByName (program : Program) (node : TypeId) (i : ℕ) : Type 0 where
+  pub s : Structure
+  pub f : Field
+  pub has : HasStructure program node s
+  pub get : slice_get s.fields i ≡ Some f
+  pub number : is_number f.ty ≡ true
+  pub read : IsReadName program f.name
+
+-- ---- the structures around a leaf
+
+abbrev pub elem_of : Ty-F Ty → Option Ty
+elem_of (part.Arr n elem) = Some elem
+elem_of (part.Tail length elem) = Some elem
+elem_of type = None
+
+-- the type of the field at a place of a structure
+abbrev pub field_at : Program → TypeId → ℕ → Option Ty
+field_at program node i = slice_get program.structures node.0 then λ s. slice_get s.fields i then λ f. Some f.ty
+
+-- the type of the root at a place
+abbrev pub root_at : Program → ℕ → Option Ty
+root_at program i = slice_get program.roots i then λ r. Some r.ty
+
+-- the type of the part at a place of a value: of a field, a member or an element
+abbrev pub part_at : Program → Ty → ℕ → Option Ty
+part_at program (ty.Node node desc) i = field_at program node i
+part_at program type i = elem_of (out-Ty type)
+
+-- the structures around the part at a path, from the outside in, where each union on the way has an active member
+abbrev pub structures_on : Program → Option Ty → List ℕ → List TypeId
+structures_on program (Some type) (i ∷ path) = option_to_list (itself type) ++ structures_on program (part_at program type i) path
+structures_on program type path = []
+
+-- so in the static record, of which the first place of a path is that of a root
+abbrev pub structures_in_statics : Program → List ℕ → List TypeId
+structures_in_statics program [] = []
+structures_in_statics program (i ∷ path) = structures_on program (root_at program i) path
+
+-- A structure may stand around a leaf: it is one of those around it, or some union around it has no active member, which hides what is
+-- inside it.
+abbrev pub MayStandAround : List TypeId → Bool → TypeId → Type 0
+MayStandAround around active node = (active ≡ false) ⊎ Contains around node
+
+-- ---- what is read
+
+-- Expressions read the number at a place of a structure, inside these: by its name from `%0`, or from a structure around it.
+abbrev pub IsReadField : Program → List TypeId → Bool → TypeId → ℕ → Type 0
+IsReadField program around active node i = ReadsByName program node i ⊎ ((begin : TypeId) × MayStandAround around active begin × ReadsFrom program begin node i)
 
 -- some expression of the program names this root
 abbrev pub IsReadRoot : Program → ℕ → Type 0
 IsReadRoot program i = (e : Expr) × IsExpressionOf program e × Contains (roots_of e) i
 
--- No expression of the program reads a leaf that lies in this. What is no number is never read. An element of a block lies in neither a
--- field nor a root.
-abbrev pub IsUnread : Program → Holder → Type 0
-IsUnread program lies_in.Element = Unit {0}
-IsUnread program (lies_in.Root i) = ¬ IsReadRoot program i
-IsUnread program (lies_in.Field node i) = ¬ IsReadField program node i
+-- No expression reads a leaf that lies in this, inside these structures. What is no number is never read. An element of a block lies in
+-- neither a field nor a root.
+abbrev pub IsUnread : Program → List TypeId → Bool → Holder → Type 0
+IsUnread program around active lies_in.Element = Unit {0}
+IsUnread program around active (lies_in.Root i) = ¬ IsReadRoot program i
+IsUnread program around active (lies_in.Field node i) = ¬ IsReadField program around active node i
 
 -- ---- laws
 
@@ -121,12 +175,12 @@ abbrev pub UnreadElementsFit : Program → List Plane → Type 0
 UnreadElementsFit program planes = (blocks : Blocks) (statics : Trees) (kind : Kind) (capacity : ℕ) (value leaf : Tree) (path : List ℕ) (p : Part) → MayHold program kind
     → Fits program blocks capacity (outside statics) (element_type program kind) value
     → PartLies program planes (outside statics) lies_in.Element true 0 (element_type program kind) value path p
-    → IsUnread program p.holder → MayReplace p leaf → Fits program blocks capacity p.scope p.type leaf
+    → IsUnread program (structures_on program (Some (element_type program kind)) path) p.active p.holder → MayReplace p leaf → Fits program blocks capacity p.scope p.type leaf
     → Fits program blocks capacity (outside statics) (element_type program kind) (with_part value path leaf)
 
 -- so it is for the static record
 abbrev pub UnreadStaticsFit : Program → List Plane → List Spot → Type 0
 UnreadStaticsFit program planes spots = (blocks : Blocks) (old new : Trees) (leaf : Tree) (path : List ℕ) (p : Part)
     → StaticsFit program blocks old → StaticPartLies program planes spots old path p
-    → IsUnread program p.holder → MayReplace p leaf → Fits program blocks 0 p.scope p.type leaf
+    → IsUnread program (structures_in_statics program path) p.active p.holder → MayReplace p leaf → Fits program blocks 0 p.scope p.type leaf
     → with_part (Rec old) path leaf ≡ Rec new → StaticsFit program blocks new

@@ -1,6 +1,7 @@
 -- What the write of one leaf in place does, and when it is done.
-use Rattle.std.specs.Prelude.{◌≡◌, ◌⊎◌, ℕ, ◌==◌, Bool, true, false, ◌&&◌, IsTrue, ℤ, List, Option}
+use Rattle.std.specs.Prelude.{◌≡◌, ◌⊎◌, ℕ, ◌==◌, Bool, true, false, ◌&&◌, IsTrue, ℤ, List, Option, Some}
 use Rattle.gt_types.specs.declared.expressions.Expr.{Expr}
+use Rattle.gt_types.specs.declared.types.TypeId.{TypeId}
 use Rattle.gt_types.specs.declared.types.Ty.{Ty}
 use Rattle.gt_types.specs.declared.types.Ty.TheVariants as ty
 use Rattle.gt_types.specs.declared.program.Program.{Program}
@@ -21,7 +22,7 @@ use Rattle.gt_value.specs.Bytes.{itself, Takes}
 use Rattle.gt_value.specs.Places.{Part, PartLies, StaticPartLies, IsContentOf, IsPlaceOf, IsStaticPlaceOf}
 use Rattle.gt_store.specs.Leaf.{IsLeafWritten, IsSameBut}
 use Rattle.gt_tree.specs.PathLaws.{has_room_in}
-use Rattle.gt_leaf.specs.Unread.{IsUnread}
+use Rattle.gt_leaf.specs.Unread.{structures_on, structures_in_statics, IsUnread}
 
 -- ---- values beside given blocks
 
@@ -63,24 +64,24 @@ abbrev pub has_word : Ty → LeafContent → Bool
 has_word (ty.Opaque size align) (content.Num n) = has_room true 64 n
 has_word type leaf = true
 
--- a leaf may be written in place: each union around it has an active member or it is a number, no expression reads it, and the new
--- one fits
-pub record MayWrite (program : Program) (blocks : Blocks) (p : Part) (leaf : LeafContent) : Type 0 where
+-- a leaf inside these structures may be written in place: each union around it has an active member or it is a number, no expression
+-- reads it, and the new one fits
+pub record MayWrite (program : Program) (blocks : Blocks) (around : List TypeId) (p : Part) (leaf : LeafContent) : Type 0 where
   pub active : (p.active ≡ true) ⊎ (is_number_leaf leaf ≡ true)
-  pub unread : IsUnread program p.holder
+  pub unread : IsUnread program around p.active p.holder
   pub fits : LeafFits blocks (eval_in program p.scope) p.type leaf
 
--- A leaf can be looked at alone: each union around it has an active member or it is a number, no expression reads it, and it is no
--- number without room in eight bytes that are never scanned.
-pub record IsAlone (program : Program) (p : Part) (leaf : LeafContent) : Type 0 where
+-- A leaf inside these structures can be looked at alone: each union around it has an active member or it is a number, no expression
+-- reads it, and it is no number without room in eight bytes that are never scanned.
+pub record IsAlone (program : Program) (around : List TypeId) (p : Part) (leaf : LeafContent) : Type 0 where
   pub active : (p.active ≡ true) ⊎ (is_number_leaf leaf ≡ true)
-  pub unread : IsUnread program p.holder
+  pub unread : IsUnread program around p.active p.holder
   pub word : IsTrue (has_word p.type leaf)
 
 -- a leaf is not written in place: the path leads to no number and no pointer, or what lies there cannot be looked at alone
-pub data IsLeft (program : Program) (Lies : Part → Type 0) (value : Tree) (path : List ℕ) (leaf : LeafContent) : Type 0 where
-  nowhere : ¬ LeadsToLeaf value path → IsLeft program Lies value path leaf
-  not_alone : (p : Part) → Lies p → ¬ IsAlone program p leaf → IsLeft program Lies value path leaf
+pub data IsLeft (program : Program) (around : List TypeId) (Lies : Part → Type 0) (value : Tree) (path : List ℕ) (leaf : LeafContent) : Type 0 where
+  nowhere : ¬ LeadsToLeaf value path → IsLeft program around Lies value path leaf
+  not_alone : (p : Part) → Lies p → ¬ IsAlone program around p leaf → IsLeft program around Lies value path leaf
 
 -- ---- what the write does
 
@@ -89,7 +90,7 @@ pub data IsLeft (program : Program) (Lies : Part → Type 0) (value : Tree) (pat
 pub record IsWrittenInPlace (program : Program) (layouts : Layouts) (blocks : Blocks) (statics : Trees) (capacity : ℕ) (type : Ty) (address : ℕ) (value : Tree) (path : List ℕ) (leaf : LeafContent) (old new : Range) : Type 0 where
   pub place : Place
   pub at : IsPlaceOf program layouts.structures (outside statics) lies_in.Element type old address value path place
-  pub may : MayWrite program blocks at.p leaf
+  pub may : MayWrite program blocks (structures_on program (Some type) path) at.p leaf
   pub tree : Tree
   pub means : IsContentOf leaf tree
   pub assigns : Assigns program blocks statics capacity type value path tree (with_part value path tree)
@@ -101,7 +102,7 @@ pub record IsWrittenInPlace (program : Program) (layouts : Layouts) (blocks : Bl
 pub record IsStaticWrittenInPlace (program : Program) (layouts : Layouts) (blocks : Blocks) (values : Trees) (path : List ℕ) (leaf : LeafContent) (old new : Range) : Type 0 where
   pub place : Place
   pub at : IsStaticPlaceOf program layouts old values path place
-  pub may : MayWrite program blocks at.p leaf
+  pub may : MayWrite program blocks (structures_in_statics program path) at.p leaf
   pub tree : Tree
   pub means : IsContentOf leaf tree
   pub others : Trees
@@ -121,7 +122,7 @@ WritesElement program layouts blocks capacity type address path leaf old new = (
 -- whatever value the bytes of an element stand for, the leaf there cannot be looked at alone
 abbrev pub LeavesElement : Program → Layouts → Blocks → ℕ → Ty → ℕ → List ℕ → LeafContent → Range → Type 0
 LeavesElement program layouts blocks capacity type address path leaf range = (statics : Trees) (value : Tree) → StandsBeside program layouts blocks statics capacity type range address value
-    → IsLeft program (PartLies program layouts.structures (outside statics) lies_in.Element true 0 type value path) value path leaf
+    → IsLeft program (structures_on program (Some type) path) (PartLies program layouts.structures (outside statics) lies_in.Element true 0 type value path) value path leaf
 
 -- whatever value the bytes of an element stand for, no value fits with this leaf
 abbrev pub MisfitsElement : Program → Layouts → Blocks → ℕ → Ty → ℕ → List ℕ → LeafContent → Range → Type 0
@@ -134,7 +135,7 @@ WritesStatics program layouts blocks path leaf old new = (values : Trees) → St
 
 abbrev pub LeavesStatics : Program → Layouts → Blocks → List ℕ → LeafContent → Range → Type 0
 LeavesStatics program layouts blocks path leaf range = (values : Trees) → StaticsStandBeside program layouts blocks range values
-    → IsLeft program (StaticPartLies program layouts.structures layouts.statics.fields values path) (Rec values) path leaf
+    → IsLeft program (structures_in_statics program path) (StaticPartLies program layouts.structures layouts.statics.fields values path) (Rec values) path leaf
 
 abbrev pub MisfitsStatics : Program → Layouts → Blocks → List ℕ → LeafContent → Range → Type 0
 MisfitsStatics program layouts blocks path leaf range = (values : Trees) (tree : Tree) (new : Trees) → StaticsStandBeside program layouts blocks range values → IsContentOf leaf tree → ¬ AssignsStatics program blocks values path tree new

@@ -8,6 +8,7 @@ mod index;
 pub mod laws;
 mod names;
 mod places;
+mod readings;
 mod reads;
 mod seeking;
 mod types;

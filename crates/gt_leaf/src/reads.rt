@@ -1,24 +1,29 @@
 // Which fields and roots the expressions of a program read.
-ghost use Rattle.gt_leaf.specs.Seeking.{with_named, with_named_fields, with_all_named};
-ghost use Rattle.gt_leaf.specs.Tables.{IsTableOf};
-ghost use Rattle.gt_leaf.specs.Unread.{IsUnread};
-ghost use Rattle.gt_types.specs.declared.program.Program.{Program};
-ghost use Rattle.std.specs.Prelude.{◌≡◌, ◌↔◌, IsTrue, IfOk, OnOk};
+ghost use Rattle.gt_leaf.specs.Seeking.{same_place, same_reading, with_named, with_named_fields, with_all_named};
+ghost use Rattle.gt_leaf.specs.Tables.{reading, IsTableOf};
+ghost use Rattle.gt_leaf.specs.Unread.{structures_on, structures_in_statics, IsUnread};
+ghost use Rattle.std.specs.List.{list_any};
+ghost use Rattle.std.specs.Prelude.{◌≡◌, ◌↔◌, true, IsTrue, IfOk, OnOk, cond, option_copied, option_to_list};
 
 use crate::ends::Ends;
 use crate::fields::{FieldPlace, FieldSet};
 use crate::index::Index;
 use crate::names::NameSet;
 use crate::places::PlaceSet;
-use crate::types::is_number;
-use gt_types::{Field, Program, Structure};
-use gt_value::Holder;
+use crate::readings::{Reading, ReadingSet};
+use crate::types::{is_number, part_at, root_at, structure_of};
+use gt_types::{Field, Program, Structure, Ty, TypeId};
+use gt_value::{Holder, Place};
 use std::alloc::{AllocError, Global};
 
-/// Which fields and roots the expressions of a program read.
+/// Which fields and roots the expressions of a program read: the numbers in whose names paths from `%0` end, those in which other
+/// paths end, also with the structures at which these begin, and roots. It has an entry for each path of an expression and each
+/// structure at which the path begins, and one for each number of such a name.
 #[derive(Drop)]
 pub struct Reads {
-    fields: FieldSet,
+    named: FieldSet,
+    ended: FieldSet,
+    from: ReadingSet,
     roots: PlaceSet,
 }
 
@@ -30,23 +35,103 @@ impl Reads {
     {
         let Ends { names, roots } = Ends::of(alloc, program)?;
         let index = Index::of(alloc, program)?;
-        let mut fields = FieldSet::new(alloc);
-        fields.add_named(program.structures.as_slice(), &names)?;
-        fields.seek_all(alloc, &index)?;
-        Ok(Reads { fields, roots })
+        let mut named = FieldSet::new(alloc);
+        named.add_named(program.structures.as_slice(), &names)?;
+        let mut from = ReadingSet::new(alloc);
+        from.seek_all(alloc, &index)?;
+        let mut ended = FieldSet::new(alloc);
+        ended.add_fields(from.as_slice())?;
+        Ok(Reads {
+            named,
+            ended,
+            from,
+            roots,
+        })
     }
 
-    /// Whether no expression reads a leaf that lies in this. It takes no memory and no time that grows.
-    pub fn is_unread(&self, holder: Holder) -> bool
-        ensures unread { (program : Program) → IsTableOf program self.now → IsTrue result ↔ IsUnread program holder }
+    /// Whether no expression reads the leaf at a place, at a path from a value of the type `ty`. It takes no memory, and its time
+    /// grows with the path alone.
+    pub fn is_unread(&self, program: &Program, ty: Option<&Ty>, path: &[u32], place: Place) -> bool
+        ensures unread { IsTableOf program.now self.now → IsTrue result ↔ IsUnread program.now (structures_on program.now (option_copied ty.entry) path.now) place.active place.holder }
     {
-        match holder {
+        match place.holder {
             Holder::Element => true,
-            Holder::Root(place) => !self.roots.has(place),
-            Holder::Field { structure, place } => !self.fields.has(FieldPlace {
-                structure: structure.0 as usize,
-                place: place as usize,
+            Holder::Root(i) => !self.roots.has(i),
+            Holder::Field {
+                structure,
+                place: i,
+            } => {
+                let field = FieldPlace {
+                    structure: structure.0 as usize,
+                    place: i as usize,
+                };
+                !self.is_read(program, ty, path, place.active, field)
+            }
+        }
+    }
+
+    /// The same in the static record, of which the first place of a path is that of a root.
+    pub fn is_unread_static(&self, program: &Program, path: &[u32], place: Place) -> bool
+        ensures unread { IsTableOf program.now self.now → IsTrue result ↔ IsUnread program.now (structures_in_statics program.now path.now) place.active place.holder }
+    {
+        match path {
+            [] => self.is_unread(program, None, path, place),
+            [i, rest @ ..] => self.is_unread(program, root_at(program, *i), rest, place),
+        }
+    }
+
+    // Whether a field is read by name, or from a structure around it.
+    fn is_read(
+        &self,
+        program: &Program,
+        ty: Option<&Ty>,
+        path: &[u32],
+        active: bool,
+        field: FieldPlace,
+    ) -> bool
+        ensures { result ≡ cond (list_any (same_place field) self.now.named) true (cond active (list_any (λ node. list_any (same_reading (reading node.0 field)) self.now.from) (structures_on program.now (option_copied ty.entry) path.now)) (list_any (same_place field) self.now.ended)) }
+    {
+        if self.named.has(field) {
+            true
+        } else if active {
+            self.is_read_on(program, ty, path, field)
+        } else {
+            self.ended.has(field)
+        }
+    }
+
+    // Whether a field is read from a structure on a path.
+    fn is_read_on(
+        &self,
+        program: &Program,
+        ty: Option<&Ty>,
+        path: &[u32],
+        field: FieldPlace,
+    ) -> bool
+        ensures { result ≡ list_any (λ node. list_any (same_reading (reading node.0 field)) self.now.from) (structures_on program.now (option_copied ty.entry) path.now) }
+    {
+        let Some(ty) = ty else {
+            return false;
+        };
+        let [i, rest @ ..] = path else {
+            return false;
+        };
+        if self.is_read_from(structure_of(ty), field) {
+            return true;
+        }
+        self.is_read_on(program, part_at(program, ty, *i), rest, field)
+    }
+
+    // Whether a field is read from a structure.
+    fn is_read_from(&self, node: Option<TypeId>, field: FieldPlace) -> bool
+        ensures { result ≡ list_any (λ node. list_any (same_reading (reading node.0 field)) self.now.from) (option_to_list node) }
+    {
+        match node {
+            Some(id) => self.from.has(Reading {
+                from: id.0 as usize,
+                field,
             }),
+            None => false,
         }
     }
 }

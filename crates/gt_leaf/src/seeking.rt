@@ -1,13 +1,14 @@
-// The numbers in which the paths of expressions from `%h` and `%1` end.
-ghost use Rattle.gt_leaf.specs.Seeking.{starting, with_end, same_base, seek_expr, seek_option, seek_counts, seek_own, seek_own_of, seek_union, seek_outside, seek_desc, seek_descs, with_inner, with_inners, seek_inners, seek_structure, seek_structures, seek_roots, seek_all};
+// The numbers in which the paths of expressions from `%h` and `%1` end, and the structures at which those begin.
+ghost use Rattle.gt_leaf.specs.Seeking.{starting, with_end, same_base, seek_expr, seek_option, seek_counts, seek_own, seek_counts_of, seek_union, seek_outside, seek_desc, seek_descs, with_inner, with_inners, seek_inners, seek_structure, seek_structures, seek_roots, seek_all};
 ghost use Rattle.std.specs.Prelude.{◌≡◌, [], IfOk, OnOk, slice_get};
 ghost use Rattle.gt_types.specs.declared.expressions.Base.TheVariants.{Here, Outer};
 ghost use Rattle.gt_types.specs.Contains.{held_by};
 ghost use Rattle.gt_types.specs.Shapes.{count_of, innermost};
 
-use crate::fields::{FieldPlace, FieldSet};
+use crate::fields::FieldPlace;
 use crate::index::Index;
 use crate::places::PlaceSet;
+use crate::readings::{Reading, ReadingSet};
 use crate::types::innermost;
 use gt_types::{Base, Expr, Field, PtrKind, Root, Structure, Ty, TypeId};
 use std::alloc::{AllocError, Global};
@@ -60,9 +61,9 @@ impl PlaceSet {
     }
 }
 
-impl FieldSet {
-    /// Adds the numbers in which the paths of all expressions from `%h` and `%1` end. Each expression is looked at once for its
-    /// structure and once for each that contains it. It answers want of memory alone.
+impl ReadingSet {
+    /// Adds the numbers in which the paths of all expressions from `%h` and `%1` end, and where those begin. Each expression is
+    /// looked at once for its structure and once for each that contains it. It answers want of memory alone.
     pub fn seek_all(&mut self, alloc: Global, index: &Index<'_>) -> Result<(), AllocError>
         ensures added { OnOk result (self.new ≡ seek_all index.now.program.now index.now.names self.old) }
     {
@@ -102,7 +103,7 @@ impl FieldSet {
         self.seek_inners(index, node, inners.as_slice())
     }
 
-    // The expressions of the structures that a structure contains, from `%1`.
+    // The lengths of the structures that a structure contains, from `%1`.
     fn seek_inners(
         &mut self,
         index: &Index<'_>,
@@ -118,16 +119,16 @@ impl FieldSet {
     }
 
     fn seek_inner(&mut self, index: &Index<'_>, node: usize, inner: usize) -> Result<(), AllocError>
-        ensures added { OnOk result (self.new ≡ seek_own_of index.now.program.now index.now.names (starting Outer node) (slice_get index.now.program.now.structures inner) self.old) }
+        ensures added { OnOk result (self.new ≡ seek_counts_of index.now.program.now index.now.names (starting Outer node) (slice_get index.now.program.now.structures inner) self.old) }
     {
         match index.program.structures.get(inner) {
-            Some(s) => self.seek_own(
+            Some(s) => self.seek_counts(
                 index,
                 Start {
                     base: Base::Outer,
                     structure: node,
                 },
-                s,
+                s.fields.as_slice(),
             ),
             None => Ok(()),
         }
@@ -261,7 +262,10 @@ impl FieldSet {
             Expr::Int(_) | Expr::Root(_) => Ok(()),
             Expr::Path { base, steps } => {
                 if is_same(*base, start.base) {
-                    self.add_end(index.end_of(start.structure, steps.as_slice()))
+                    self.add_end(
+                        start.structure,
+                        index.end_of(start.structure, steps.as_slice()),
+                    )
                 } else {
                     Ok(())
                 }
@@ -279,11 +283,11 @@ impl FieldSet {
         }
     }
 
-    fn add_end(&mut self, end: Option<FieldPlace>) -> Result<(), AllocError>
-        ensures added { OnOk result (self.new ≡ with_end end self.old) }
+    fn add_end(&mut self, from: usize, end: Option<FieldPlace>) -> Result<(), AllocError>
+        ensures added { OnOk result (self.new ≡ with_end from end self.old) }
     {
         match end {
-            Some(field) => self.add(field),
+            Some(field) => self.add(Reading { from, field }),
             None => Ok(()),
         }
     }

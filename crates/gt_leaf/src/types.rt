@@ -1,7 +1,9 @@
-// The type of a leaf, by what it lies in.
+// The type of a leaf, by what it lies in, and of parts on the way to it.
 ghost use Rattle.std.specs.Prelude.{◌≡◌, option_copied};
 ghost use Rattle.gt_types.specs.Shapes.{innermost, is_number};
+ghost use Rattle.gt_types.specs.Contains.{itself};
 ghost use Rattle.gt_leaf.specs.HeldTypes.{field_type, root_type, held_type};
+ghost use Rattle.gt_leaf.specs.Unread.{field_at, root_at, part_at};
 
 use gt_types::{Program, Ty, TypeId};
 use gt_value::Holder;
@@ -52,5 +54,43 @@ pub fn held_type<'a>(
         Holder::Element => Some(innermost(element?)),
         Holder::Root(i) => root_type(program, i),
         Holder::Field { structure, place } => field_type(program, structure, place),
+    }
+}
+
+/// The structure that a type is.
+pub fn structure_of(ty: &Ty) -> Option<TypeId>
+    ensures { result ≡ itself ty.now }
+{
+    match ty {
+        Ty::Node { id, .. } => Some(*id),
+        _ => None,
+    }
+}
+
+// The type of the field at a place of a structure, of an array too.
+fn field_at<'a>(program: &'a Program, id: TypeId, i: u32) -> Option<&'a Ty>
+    ensures { option_copied result ≡ field_at program.now id i }
+{
+    let structure = program.structures.get(id.0 as usize)?;
+    let field = structure.fields.get(i as usize)?;
+    Some(&field.ty)
+}
+
+/// The type of the root at a place, of an array too.
+pub fn root_at<'a>(program: &'a Program, i: u32) -> Option<&'a Ty>
+    ensures { option_copied result ≡ root_at program.now i }
+{
+    let root = program.roots.get(i as usize)?;
+    Some(&root.ty)
+}
+
+/// The type of the part at a place of a value: of a field, a member or an element. It takes no memory.
+pub fn part_at<'a>(program: &'a Program, ty: &'a Ty, i: u32) -> Option<&'a Ty>
+    ensures { option_copied result ≡ part_at program.now ty.now i }
+{
+    match ty {
+        Ty::Node { id, .. } => field_at(program, *id, i),
+        Ty::Arr { elem, .. } | Ty::Tail { elem, .. } => Some(elem.get()),
+        _ => None,
     }
 }

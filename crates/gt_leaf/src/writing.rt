@@ -1,6 +1,7 @@
 // One leaf written where it lies.
-ghost use Rattle.std.specs.Prelude.{◌≡◌, ◌≢◌, ◌≤◌, ◌-◌, ◌↔◌, ℤ, IsTrue, Option, option_copied};
+ghost use Rattle.std.specs.Prelude.{◌≡◌, ◌≢◌, ◌≤◌, ◌-◌, ◌↔◌, ℤ, IsTrue, List, Option, option_copied};
 ghost use Rattle.gt_types.specs.declared.expressions.Expr.{Expr};
+ghost use Rattle.gt_types.specs.declared.types.TypeId.{TypeId};
 ghost use Rattle.gt_types.specs.declared.program.Program.{Program};
 ghost use Rattle.gt_types.specs.Shapes.{count_of, is_pointer};
 ghost use Rattle.gt_types.specs.Settled.{Settled};
@@ -14,6 +15,7 @@ ghost use Rattle.gt_value.specs.Bytes.{itself, IsElement, IsRoomFor};
 ghost use Rattle.gt_value.specs.Places.{Part, HasBits};
 ghost use Rattle.gt_store.specs.Leaf.{IsLeafWritten};
 ghost use Rattle.gt_leaf.specs.Tables.{IsTableOf};
+ghost use Rattle.gt_leaf.specs.Unread.{IsUnread};
 ghost use Rattle.gt_leaf.specs.HeldTypes.{IsOfPart};
 ghost use Rattle.gt_leaf.specs.Verdicts.{IsMisfit};
 ghost use Rattle.gt_leaf.specs.Writing.{StandsBeside, StaticsStandBeside, is_number_leaf, takes_number, has_word, LeafFits, MayWrite, IsAlone, WritesElement, LeavesElement, MisfitsElement, WritesStatics, LeavesStatics, MisfitsStatics};
@@ -88,15 +90,13 @@ fn has_word(ty: &Ty, leaf: LeafContent) -> bool
     }
 }
 
-// Whether a leaf can be looked at alone at a place, of a part of this type.
-fn is_alone(reads: &Reads, ty: Option<&Ty>, place: Place, leaf: LeafContent) -> bool
-    ensures { (program : Program) (p : Part) → IsTableOf program reads.now → IsOfPart program p place (option_copied ty.entry) → IsTrue result ↔ IsAlone program p leaf }
+// Whether a leaf can be looked at alone at a place, of a part of this type, which expressions read or not.
+fn is_alone(unread: bool, ty: Option<&Ty>, place: Place, leaf: LeafContent) -> bool
+    ensures { (program : Program) (around : List TypeId) (p : Part) → IsTrue unread ↔ IsUnread program around p.active p.holder → IsOfPart program p place (option_copied ty.entry) → IsTrue result ↔ IsAlone program around p leaf }
 {
     match ty {
         None => false,
-        Some(ty) => {
-            (place.active || is_number(leaf)) && reads.is_unread(place.holder) && has_word(ty, leaf)
-        }
+        Some(ty) => { (place.active || is_number(leaf)) && unread && has_word(ty, leaf) }
     }
 }
 
@@ -110,9 +110,9 @@ fn fits_at<N: BlockNames>(names: &N, ty: Option<&Ty>, place: Place, leaf: LeafCo
     }
 }
 
-// Writes a leaf at its place, of a part of this type, where it may be written.
+// Writes a leaf at its place, of a part of this type, which expressions read or not, where it may be written.
 fn write_at<N: BlockNames>(
-    reads: &Reads,
+    unread: bool,
     names: &N,
     space: &mut Space,
     ty: Option<&Ty>,
@@ -122,15 +122,15 @@ fn write_at<N: BlockNames>(
     requires from_start { space.old.start ≤ place.addr }
     requires bits { HasBits space.old (place.addr - space.old.start) place.bit place.kind }
     requires addresses { AreAddresses (N.blocks names.now) itself }
-    requires part { (program : Program) × (p : Part) × IsTableOf program reads.now × IsOfPart program p place (option_copied ty) }
+    requires part { (program : Program) × (around : List TypeId) × (p : Part) × (IsTrue unread ↔ IsUnread program around p.active p.holder) × IsOfPart program p place (option_copied ty) }
     ensures addresses { KeepsAddresses space.old space.new }
     ensures bytes { result ≡ Written → IsLeafWritten place leaf space.old space.new }
-    ensures may { result ≡ Written → (program : Program) (p : Part) → IsTableOf program reads.now → IsOfPart program p place (option_copied ty.entry) → MayWrite program (N.blocks names.now) p leaf }
+    ensures may { result ≡ Written → (program : Program) (around : List TypeId) (p : Part) → IsTrue unread ↔ IsUnread program around p.active p.holder → IsOfPart program p place (option_copied ty.entry) → MayWrite program (N.blocks names.now) around p leaf }
     ensures elsewhere { result ≢ Written → space.new ≡ space.old }
-    ensures not_alone { result ≡ NotInPlace → (program : Program) (p : Part) → IsTableOf program reads.now → IsOfPart program p place (option_copied ty.entry) → ¬ IsAlone program p leaf }
-    ensures misfit { result ≡ Misfit → (program : Program) (p : Part) → IsTableOf program reads.now → IsOfPart program p place (option_copied ty.entry) → IsMisfit program (N.blocks names.now) p leaf }
+    ensures not_alone { result ≡ NotInPlace → (program : Program) (around : List TypeId) (p : Part) → IsTrue unread ↔ IsUnread program around p.active p.holder → IsOfPart program p place (option_copied ty.entry) → ¬ IsAlone program around p leaf }
+    ensures misfit { result ≡ Misfit → (program : Program) (around : List TypeId) (p : Part) → IsTrue unread ↔ IsUnread program around p.active p.holder → IsOfPart program p place (option_copied ty.entry) → IsMisfit program (N.blocks names.now) around p leaf }
 {
-    if !is_alone(reads, ty, place, leaf) {
+    if !is_alone(unread, ty, place, leaf) {
         return LeafWrite::NotInPlace;
     }
     if !fits_at(names, ty, place, leaf) {
@@ -172,7 +172,7 @@ pub fn write_leaf<N: BlockNames>(
     match leaf_at(program, layouts, space, ty, addr, capacity, path) {
         None => LeafWrite::NotInPlace,
         Some(place) => write_at(
-            reads,
+            reads.is_unread(program, Some(ty), path, place),
             names,
             space,
             held_type(program, Some(ty), place.holder),
@@ -207,7 +207,7 @@ pub fn write_static_leaf<N: BlockNames>(
     match leaf_in_statics(program, layouts, space, path) {
         None => LeafWrite::NotInPlace,
         Some(place) => write_at(
-            reads,
+            reads.is_unread_static(program, path, place),
             names,
             space,
             held_type(program, None, place.holder),

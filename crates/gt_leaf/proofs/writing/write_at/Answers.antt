@@ -4,10 +4,10 @@ use Rattle.gt_leaf.proofs.LeafTrees.{may-be}
 use Rattle.gt_leaf.proofs.writing.write_at.Goals as goal
 
 pub returns-then-not-fits_at-clause-misfit : goal.returns-then-not-fits_at-clause-misfit
-returns-then-not-fits_at-clause-misfit g c = λ e program p table part.
+returns-then-not-fits_at-clause-misfit g c = λ e program around p said part.
     let alone_is : IsTrue c.is_alone.result = let h = c.if-not-is_alone.false in cc in
     record {
-      alone = (c.is_alone.ensures program p table part).0 alone_is;
+      alone = (c.is_alone.ensures program around p said part).0 alone_is;
       misfit = λ fits.
           let yes_is = (c.fits_at.ensures program p part).1 fits in
           let no_is = c.if-not-fits_at.true in
@@ -18,12 +18,18 @@ pub store_leaf-requires-clause-may : goal.store_leaf-requires-clause-may
 store_leaf-requires-clause-may g c =
     let part = c.requires.part in
     let fits_is : IsTrue c.fits_at.result = let h = c.if-not-fits_at.false in cc in
-    let fits = (c.fits_at.ensures part.0 part.1 part.3).0 fits_is in
-    may-be part.1.type c.args.place.kind c.args.leaf (g.N.BlockNames.blocks c.args.names.now) (eval_in part.0 part.1.scope) c.requires.addresses part.3.kind_is fits
+    let fits = (c.fits_at.ensures part.0 part.2 part.4).0 fits_is in
+    may-be part.2.type c.args.place.kind c.args.leaf (g.N.BlockNames.blocks c.args.names.now) (eval_in part.0 part.2.scope) c.requires.addresses part.4.kind_is fits
 
 pub returns-clause-may : goal.returns-clause-may
-returns-clause-may g c = λ e program p table part.
+returns-clause-may g c = λ e program around p said part.
     let alone_is : IsTrue c.is_alone.result = let h = c.if-not-is_alone.false in cc in
     let fits_is : IsTrue c.fits_at.result = let h = c.if-not-fits_at.false in cc in
-    let alone = (c.is_alone.ensures program p table part).0 alone_is in
+    let alone = (c.is_alone.ensures program around p said part).0 alone_is in
     record { active = alone.active; unread = alone.unread; fits = (c.fits_at.ensures program p part).0 fits_is }
+
+pub returns-then-not-is_alone-clause-not_alone : goal.returns-then-not-is_alone-clause-not_alone
+returns-then-not-is_alone-clause-not_alone g c = λ e program around p said part alone.
+    let yes_is = (c.is_alone.ensures program around p said part).1 alone in
+    let no_is = c.if-not-is_alone.true in
+    cc

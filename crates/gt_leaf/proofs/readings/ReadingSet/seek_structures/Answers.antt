@@ -1,7 +1,7 @@
 use Rattle.std.proofs.Common.{◌≡◌, ◌<◌, ◌∙◌, length, get_or, ap, sym, subst}
 use Rattle.gt_leaf.specs.Seeking.{seek_structure}
 use Rattle.gt_leaf.proofs.Eaches.{each-next}
-use Rattle.gt_leaf.proofs.fields.FieldSet.seek_structures.Goals as goal
+use Rattle.gt_leaf.proofs.readings.ReadingSet.seek_structures.Goals as goal
 
 pub loop-node-preserved : goal.loop-node-preserved
 loop-node-preserved c =
