@@ -13,7 +13,7 @@ use Rattle.gt_types.specs.declared.program.Field.{Field}
 use Rattle.gt_types.specs.declared.program.Structure.{Structure}
 use Rattle.gt_types.specs.Contains.{itself, held_by}
 use Rattle.gt_types.specs.Tails.{tail_of}
-use Rattle.sample_program.specs.Sample.{structures, item, base, wide, form, pay, cell, vec, hold, duo, two, vecb, any, node, path, own_kind, own_len}
+use Rattle.sample_program.specs.Sample.{structures, item, base, wide, form, pay, cell, vec, hold, duo, two, vecb, any, rest, big, bigv, node, path, own_kind, own_len, own_n, outer_n}
 use Rattle.gt_types.specs.declared.expressions.Base.TheVariants.{Here, Outer}
 use Rattle.sample_program.proofs.Lists.{AllFrom}
 use Rattle.sample_program.proofs.Types.{IsFlat, flat-num, flat-bits, flat-opaque, flat-str, flat-ptr, flat-node, inner-arr, inner-tail, tail-tail}
@@ -30,7 +30,7 @@ held-flat : (type : Ty) → IsFlat type → held_by type ≡ itself type
 held-flat type flat = ap itself flat.inner
 
 abbrev pub ends_in_tail : ℕ → Bool
-ends_in_tail i = (i == 6) || (i == 10)
+ends_in_tail i = (i == 6) || (i == 10) || (i == 14)
 
 pub record IsTold (i : ℕ) (s : Structure) : Type 0 where
   pub held : All HoldsAsTold s.fields
@@ -178,5 +178,23 @@ told-any = record {
   tail = ap is_some (flat-node (node 10) None).no_tail;
 }
 
+told-rest : IsTold 12 rest
+told-rest = record {
+  held = All-from_recursion HoldsAsTold rest.fields (held-flat (ty.Num (scalar.Int W8 true)) (flat-num (scalar.Int W8 true)), (held-flat (ty.Num (scalar.Int W4 true)) (flat-num (scalar.Int W4 true)), (held-flat (ty.Ptr (Some (target.Node (node 0))) kind.Plain false) (flat-ptr (Some (target.Node (node 0))) kind.Plain false), tt)));
+  tail = ap is_some (flat-ptr (Some (target.Node (node 0))) kind.Plain false).no_tail;
+}
+
+told-big : IsTold 13 big
+told-big = record {
+  held = All-from_recursion HoldsAsTold big.fields (held-flat (ty.Num (scalar.Int W8 false)) (flat-num (scalar.Int W8 false)), (held-flat (ty.Node (node 4) (Some outer_n)) (flat-node (node 4) (Some outer_n)), (held-flat (ty.Node (node 12) (Some outer_n)) (flat-node (node 12) (Some outer_n)), (held-flat (ty.Ptr (Some (target.Node (node 0))) (kind.Length own_n) false) (flat-ptr (Some (target.Node (node 0))) (kind.Length own_n) false), (held-flat (ty.Num (scalar.Int W1 true)) (flat-num (scalar.Int W1 true)), (held-flat (ty.Num (scalar.Int W2 false)) (flat-num (scalar.Int W2 false)), (held-flat (ty.Num (scalar.Int W4 false)) (flat-num (scalar.Int W4 false)), (held-flat (ty.Bits (scalar.Int W4 false) 12) (flat-bits (scalar.Int W4 false) 12), (held-flat (ty.Bits (scalar.Int W4 true) 15) (flat-bits (scalar.Int W4 true) 15), (held-flat (ty.Ptr None kind.Undef false) (flat-ptr None kind.Undef false), tt))))))))));
+  tail = ap is_some (flat-ptr None kind.Undef false).no_tail;
+}
+
+told-bigv : IsTold 14 bigv
+told-bigv = record {
+  held = All-from_recursion HoldsAsTold bigv.fields (held-flat (ty.Num (scalar.Int W8 false)) (flat-num (scalar.Int W8 false)), ((ap itself (inner-tail own_n (ty.Num (scalar.Int W2 true))) ∙ held-flat (ty.Num (scalar.Int W2 true)) (flat-num (scalar.Int W2 true))), tt));
+  tail = ap is_some (tail-tail own_n (ty.Num (scalar.Int W2 true)));
+}
+
 pub all_told : AllFrom IsTold 0 structures
-all_told = (told-item, (told-base, (told-wide, (told-form, (told-pay, (told-cell, (told-vec, (told-hold, (told-duo, (told-two, (told-vecb, (told-any, tt))))))))))))
+all_told = (told-item, (told-base, (told-wide, (told-form, (told-pay, (told-cell, (told-vec, (told-hold, (told-duo, (told-two, (told-vecb, (told-any, (told-rest, (told-big, (told-bigv, tt)))))))))))))))

@@ -10,14 +10,14 @@ use Rattle.gt_types.specs.declared.types.Scalar.TheVariants as scalar
 use Rattle.gt_types.specs.declared.types.Target.TheVariants as target
 use Rattle.gt_types.specs.declared.types.PtrKind.TheVariants as kind
 use Rattle.gt_types.specs.declared.types.Ty.TheVariants as ty
-use Rattle.gt_types.specs.declared.program.Active.TheVariants.{Always}
+use Rattle.gt_types.specs.declared.program.Active.TheVariants.{Always, Other, Never}
 use Rattle.gt_types.specs.declared.program.Field.{Field}
 use Rattle.gt_types.specs.Shapes.{field_type_at}
 use Rattle.gt_types.specs.Unions.{is_it, by_first, IsCommon, IsMember, AreApart}
 use Rattle.gt_types.specs.Settled.{IsField, IsStructure}
 use Rattle.gt_types.specs.Paths.{LeadsToOwnPointer, IsFieldDesc}
-use Rattle.sample_program.specs.Sample.{sample, structures, item, base, wide, form, pay, cell, vec, hold, duo, two, vecb, any, int, node, path, own_kind, own_len, held, member, field}
-use Rattle.sample_program.proofs.Lists.{AllFrom, differ, pair}
+use Rattle.sample_program.specs.Sample.{sample, structures, item, base, wide, form, pay, cell, vec, hold, duo, two, vecb, any, rest, big, bigv, int, node, path, own_kind, own_len, own_n, outer_n, held, member, field}
+use Rattle.sample_program.proofs.Lists.{AllFrom, differ, pair, three}
 use Rattle.sample_program.proofs.Types.{flat-num, flat-bits, flat-opaque, flat-str, flat-ptr, flat-node, inner-arr, inner-tail}
 use Rattle.sample_program.proofs.Structures.{item_stands, common_base}
 use Rattle.sample_program.proofs.Fields.{names, grid-type, pointers-type, shorts-type, a_field, to_int, to_kind, an_option, a_desc, one_name, two_names}
@@ -421,6 +421,61 @@ any-keeps = record {
   kinds = λ i j d lt within. absurd (omega (arith, within));
 }
 
+rest-fields : All (IsField sample (node 12) rest) rest.fields
+rest-fields = All-from_recursion (IsField sample (node 12) rest) rest.fields (a_field 12 rest (member (codes "num") (ty.Num (scalar.Int W8 true)) 0) refl (0, omega arith, refl) refl (ap field_type_at (ty.outs-Num (scalar.Int W8 true))) (names (λ union u e. IsFieldDesc sample (node 12) union e) (ty.Num (scalar.Int W8 true)) (ty.Num (scalar.Int W8 true)) (flat-num (scalar.Int W8 true)).inner tt tt tt) tt, (a_field 12 rest (record { name = codes "old"; ty = (ty.Num (scalar.Int W4 true)); active = Never }) refl (1, omega arith, refl) refl (ap field_type_at (ty.outs-Num (scalar.Int W4 true))) (names (λ union u e. IsFieldDesc sample (node 12) union e) (ty.Num (scalar.Int W4 true)) (ty.Num (scalar.Int W4 true)) (flat-num (scalar.Int W4 true)).inner tt tt tt) tt, (a_field 12 rest (record { name = codes "ref"; ty = (ty.Ptr (Some (target.Node (node 0))) kind.Plain false); active = Other }) refl (2, omega arith, refl) refl (ap field_type_at (ty.outs-Ptr (Some (target.Node (node 0))) kind.Plain false)) (names (λ union u e. IsFieldDesc sample (node 12) union e) (ty.Ptr (Some (target.Node (node 0))) kind.Plain false) (ty.Ptr (Some (target.Node (node 0))) kind.Plain false) (flat-ptr (Some (target.Node (node 0))) kind.Plain false).inner item_stands tt tt) tt, tt)))
+
+rest-apart : AllPairs (λ f g. AreApart f.active g.active) rest.fields
+rest-apart = three (λ f g. AreApart f.active g.active) _ _ _ tt tt tt
+
+rest-keeps : IsStructure sample (node 12) rest
+rest-keeps = record {
+  name = refl;
+  some_fields = omega arith;
+  few_fields = omega arith;
+  distinct = differ (λ f g. bytes_eq f.name g.name) (λ f g. f.name ≢ g.name) names_differ rest.fields refl;
+  fields = rest-fields;
+  sort = record {
+    desc = tt;
+    members = record {
+      each = All-from_recursion IsMember rest.fields ((λ e. absurd (cc), λ e. absurd (cc)), ((λ e. absurd (cc), λ e. refl), ((λ e. absurd (cc), λ e. absurd (cc)), tt)));
+      apart = rest-apart;
+    };
+    tails = refl;
+  };
+  chains = All-from_recursion (λ c. LeadsToOwnPointer sample (node 12) c.path) [] tt;
+  kinds = λ i j d lt within. absurd (omega (arith, within));
+}
+
+big-fields : All (IsField sample (node 13) big) big.fields
+big-fields = All-from_recursion (IsField sample (node 13) big) big.fields (a_field 13 big (field (codes "n") (ty.Num (scalar.Int W8 false))) refl (0, omega arith, refl) refl (ap field_type_at (ty.outs-Num (scalar.Int W8 false))) (names (λ union u e. IsFieldDesc sample (node 13) union e) (ty.Num (scalar.Int W8 false)) (ty.Num (scalar.Int W8 false)) (flat-num (scalar.Int W8 false)).inner tt tt tt) tt, (a_field 13 big (field (codes "u") (ty.Node (node 4) (Some outer_n))) refl (1, omega arith, refl) refl (ap field_type_at (ty.outs-Node (node 4) (Some outer_n))) (names (λ union u e. IsFieldDesc sample (node 13) union e) (ty.Node (node 4) (Some outer_n)) (ty.Node (node 4) (Some outer_n)) (flat-node (node 4) (Some outer_n)).inner tt tt (pay, refl, (refl, (a_desc 13 4 Outer ((codes "n") ∷ []) (one_name (codes "n") refl) (to_int 13 big (codes "n") 0 (ty.Num (scalar.Int W8 false)) refl refl refl (0, omega arith, refl) refl))))) tt, (a_field 13 big (field (codes "v") (ty.Node (node 12) (Some outer_n))) refl (2, omega arith, refl) refl (ap field_type_at (ty.outs-Node (node 12) (Some outer_n))) (names (λ union u e. IsFieldDesc sample (node 13) union e) (ty.Node (node 12) (Some outer_n)) (ty.Node (node 12) (Some outer_n)) (flat-node (node 12) (Some outer_n)).inner tt tt (rest, refl, (refl, (a_desc 13 12 Outer ((codes "n") ∷ []) (one_name (codes "n") refl) (to_int 13 big (codes "n") 0 (ty.Num (scalar.Int W8 false)) refl refl refl (0, omega arith, refl) refl))))) tt, (a_field 13 big (field (codes "list") (ty.Ptr (Some (target.Node (node 0))) (kind.Length own_n) false)) refl (3, omega arith, refl) refl (ap field_type_at (ty.outs-Ptr (Some (target.Node (node 0))) (kind.Length own_n) false)) (names (λ union u e. IsFieldDesc sample (node 13) union e) (ty.Ptr (Some (target.Node (node 0))) (kind.Length own_n) false) (ty.Ptr (Some (target.Node (node 0))) (kind.Length own_n) false) (flat-ptr (Some (target.Node (node 0))) (kind.Length own_n) false).inner item_stands tt tt) (an_option 13 Here (codes "n" ∷ []) (one_name (codes "n") refl) (to_int 13 big (codes "n") 0 (ty.Num (scalar.Int W8 false)) refl refl refl (0, omega arith, refl) refl)), (a_field 13 big (field (codes "a") (ty.Num (scalar.Int W1 true))) refl (4, omega arith, refl) refl (ap field_type_at (ty.outs-Num (scalar.Int W1 true))) (names (λ union u e. IsFieldDesc sample (node 13) union e) (ty.Num (scalar.Int W1 true)) (ty.Num (scalar.Int W1 true)) (flat-num (scalar.Int W1 true)).inner tt tt tt) tt, (a_field 13 big (field (codes "c") (ty.Num (scalar.Int W2 false))) refl (5, omega arith, refl) refl (ap field_type_at (ty.outs-Num (scalar.Int W2 false))) (names (λ union u e. IsFieldDesc sample (node 13) union e) (ty.Num (scalar.Int W2 false)) (ty.Num (scalar.Int W2 false)) (flat-num (scalar.Int W2 false)).inner tt tt tt) tt, (a_field 13 big (field (codes "e") (ty.Num (scalar.Int W4 false))) refl (6, omega arith, refl) refl (ap field_type_at (ty.outs-Num (scalar.Int W4 false))) (names (λ union u e. IsFieldDesc sample (node 13) union e) (ty.Num (scalar.Int W4 false)) (ty.Num (scalar.Int W4 false)) (flat-num (scalar.Int W4 false)).inner tt tt tt) tt, (a_field 13 big (field (codes "x") (ty.Bits (scalar.Int W4 false) 12)) refl (7, omega arith, refl) refl (ap field_type_at (ty.outs-Bits (scalar.Int W4 false) 12)) (names (λ union u e. IsFieldDesc sample (node 13) union e) (ty.Bits (scalar.Int W4 false) 12) (ty.Bits (scalar.Int W4 false) 12) (flat-bits (scalar.Int W4 false) 12).inner tt tt tt) tt, (a_field 13 big (field (codes "y") (ty.Bits (scalar.Int W4 true) 15)) refl (8, omega arith, refl) refl (ap field_type_at (ty.outs-Bits (scalar.Int W4 true) 15)) (names (λ union u e. IsFieldDesc sample (node 13) union e) (ty.Bits (scalar.Int W4 true) 15) (ty.Bits (scalar.Int W4 true) 15) (flat-bits (scalar.Int W4 true) 15).inner tt tt tt) tt, (a_field 13 big (field (codes "und") (ty.Ptr None kind.Undef false)) refl (9, omega arith, refl) refl (ap field_type_at (ty.outs-Ptr None kind.Undef false)) (names (λ union u e. IsFieldDesc sample (node 13) union e) (ty.Ptr None kind.Undef false) (ty.Ptr None kind.Undef false) (flat-ptr None kind.Undef false).inner tt tt tt) tt, tt))))))))))
+
+big-keeps : IsStructure sample (node 13) big
+big-keeps = record {
+  name = refl;
+  some_fields = omega arith;
+  few_fields = omega arith;
+  distinct = differ (λ f g. bytes_eq f.name g.name) (λ f g. f.name ≢ g.name) names_differ big.fields refl;
+  fields = big-fields;
+  sort = record { no_desc = refl; active = All-from_recursion (λ f. f.active ≡ Always) big.fields (refl, (refl, (refl, (refl, (refl, (refl, (refl, (refl, (refl, (refl, tt)))))))))); last_tail = refl };
+  chains = All-from_recursion (λ c. LeadsToOwnPointer sample (node 13) c.path) [] tt;
+  kinds = λ i j d lt within. absurd (omega (arith, within));
+}
+
+bigv-fields : All (IsField sample (node 14) bigv) bigv.fields
+bigv-fields = All-from_recursion (IsField sample (node 14) bigv) bigv.fields (a_field 14 bigv (field (codes "n") (ty.Num (scalar.Int W8 false))) refl (0, omega arith, refl) refl (ap field_type_at (ty.outs-Num (scalar.Int W8 false))) (names (λ union u e. IsFieldDesc sample (node 14) union e) (ty.Num (scalar.Int W8 false)) (ty.Num (scalar.Int W8 false)) (flat-num (scalar.Int W8 false)).inner tt tt tt) tt, (a_field 14 bigv (field (codes "elem") (ty.Tail own_n (ty.Num (scalar.Int W2 true)))) refl (1, omega arith, refl) refl (shorts-type own_n) (names (λ union u e. IsFieldDesc sample (node 14) union e) (ty.Tail own_n (ty.Num (scalar.Int W2 true))) (ty.Num (scalar.Int W2 true)) (inner-tail own_n (ty.Num (scalar.Int W2 true)) ∙ (flat-num (scalar.Int W2 true)).inner) tt tt tt) (an_option 14 Here (codes "n" ∷ []) (one_name (codes "n") refl) (to_int 14 bigv (codes "n") 0 (ty.Num (scalar.Int W8 false)) refl refl refl (0, omega arith, refl) refl)), tt))
+
+bigv-keeps : IsStructure sample (node 14) bigv
+bigv-keeps = record {
+  name = refl;
+  some_fields = omega arith;
+  few_fields = omega arith;
+  distinct = differ (λ f g. bytes_eq f.name g.name) (λ f g. f.name ≢ g.name) names_differ bigv.fields refl;
+  fields = bigv-fields;
+  sort = record { no_desc = refl; active = All-from_recursion (λ f. f.active ≡ Always) bigv.fields (refl, (refl, tt)); last_tail = refl };
+  chains = All-from_recursion (λ c. LeadsToOwnPointer sample (node 14) c.path) [] tt;
+  kinds = λ i j d lt within. absurd (omega (arith, within));
+}
+
 pub all_keep : AllFrom (λ i s. IsStructure sample (node i) s) 0 structures
 all_keep = (
   item-keeps,
@@ -444,7 +499,7 @@ all_keep = (
                     two-keeps,
                     (
                       vecb-keeps,
-                      (any-keeps, tt),
+                      (any-keeps, (rest-keeps, (big-keeps, (bigv-keeps, tt)))),
                     ),
                   ),
                 ),

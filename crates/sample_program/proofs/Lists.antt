@@ -42,6 +42,10 @@ pub pair : {X : Type 0} (R : X → X → Type 0) (a b : X) → R a b → AllPair
 pair R a b r =
     AllPairs-cons R a (b ∷ []) (All-from_recursion (R a) (b ∷ []) (r, tt)) (AllPairs-cons R b [] (All-from_recursion (R b) [] tt) (λ i j d lt within. absurd (omega (arith, within))))
 
+-- three elements
+pub three : {X : Type 0} (R : X → X → Type 0) (a b c : X) → R a b → R a c → R b c → AllPairs R (a ∷ b ∷ c ∷ [])
+three R a b c ab ac bc = AllPairs-cons R a (b ∷ c ∷ []) (All-from_recursion (R a) (b ∷ c ∷ []) (ab, (ac, tt))) (pair R b c bc)
+
 -- no two elements agree, by a test that finds two that are the same
 abbrev pub all_differ : {X : Type 0} → (X → X → Bool) → List X → Bool
 all_differ same [] = true

@@ -12,7 +12,7 @@ use Rattle.gt_types.specs.declared.types.Target.TheVariants as target
 use Rattle.gt_types.specs.declared.types.PtrKind.TheVariants as kind
 use Rattle.gt_types.specs.declared.types.Ty.{Ty}
 use Rattle.gt_types.specs.declared.types.Ty.TheVariants as ty
-use Rattle.gt_types.specs.declared.program.Active.TheVariants.{Always, Tag}
+use Rattle.gt_types.specs.declared.program.Active.TheVariants.{Always, Tag, Other, Never}
 use Rattle.gt_types.specs.declared.program.Field.{Field}
 use Rattle.gt_types.specs.declared.program.Structure.{Structure}
 use Rattle.gt_types.specs.declared.program.Root.{Root}
@@ -116,8 +116,35 @@ vecb =
 abbrev pub any : Structure
 any = union (codes "any") (Some own_kind) (member (codes "b") (held 1) 1 ∷ member (codes "v") (held 10) 2 ∷ [])
 
+-- union rest { long num; (tag 0)  int old; (never active)  struct item *ref; (default) }
+abbrev pub rest : Structure
+rest =
+    union (codes "rest") None
+    (member (codes "num") (ty.Num (scalar.Int W8 true)) 0 ∷ record { name = codes "old"; ty = int; active = Never }
+    ∷ record { name = codes "ref"; ty = pointer_to 0; active = Other } ∷ [])
+
+abbrev pub own_n : Expr
+own_n = path Here (codes "n" ∷ [])
+
+abbrev pub outer_n : Expr
+outer_n = path Outer (codes "n" ∷ [])
+
+-- struct big { unsigned long n; union pay u; (%1.n)  union rest v; (%1.n)  struct item *list; (n of them)  signed char a; unsigned short c; unsigned e;
+-- unsigned x : 12; int y : 15; a pointer und to what is not defined }
+abbrev pub big : Structure
+big =
+    struct (codes "big")
+    (field (codes "n") (ty.Num (scalar.Int W8 false)) ∷ field (codes "u") (described 4 outer_n) ∷ field (codes "v") (described 12 outer_n)
+    ∷ field (codes "list") (ty.Ptr (Some (target.Node (node 0))) (kind.Length own_n) false) ∷ field (codes "a") (ty.Num (scalar.Int W1 true))
+    ∷ field (codes "c") (ty.Num (scalar.Int W2 false)) ∷ field (codes "e") (ty.Num (scalar.Int W4 false)) ∷ field (codes "x") (ty.Bits (scalar.Int W4 false) 12)
+    ∷ field (codes "y") (ty.Bits (scalar.Int W4 true) 15) ∷ field (codes "und") (ty.Ptr None kind.Undef false) ∷ [])
+
+-- struct bigv { unsigned long n; short elem[n]; }
+abbrev pub bigv : Structure
+bigv = struct (codes "bigv") (field (codes "n") (ty.Num (scalar.Int W8 false)) ∷ field (codes "elem") (ty.Tail own_n (ty.Num (scalar.Int W2 true))) ∷ [])
+
 abbrev pub structures : List Structure
-structures = item ∷ base ∷ wide ∷ form ∷ pay ∷ cell ∷ vec ∷ hold ∷ duo ∷ two ∷ vecb ∷ any ∷ []
+structures = item ∷ base ∷ wide ∷ form ∷ pay ∷ cell ∷ vec ∷ hold ∷ duo ∷ two ∷ vecb ∷ any ∷ rest ∷ big ∷ bigv ∷ []
 
 abbrev pub root : List ℕ → Ty → Root
 root name type = record { name = name; ty = type; deletable = false }

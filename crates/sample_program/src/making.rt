@@ -34,6 +34,21 @@ const UNSIGNED: Scalar = Scalar::Int {
     signed: false,
 };
 
+const CHAR: Scalar = Scalar::Int {
+    width: Width::W1,
+    signed: true,
+};
+
+const UNSIGNED_SHORT: Scalar = Scalar::Int {
+    width: Width::W2,
+    signed: false,
+};
+
+const UNSIGNED_LONG: Scalar = Scalar::Int {
+    width: Width::W8,
+    signed: false,
+};
+
 const LONG: Scalar = Scalar::Int {
     width: Width::W8,
     signed: true,
@@ -410,6 +425,128 @@ fn any(alloc: Global) -> Result<Structure, AllocError>
     structure(alloc, "any", true, Some(own_kind(alloc)?), fields)
 }
 
+fn rest(alloc: Global) -> Result<Structure, AllocError>
+    ensures { IfOk result (λ s. s ≡ sample.rest) }
+{
+    let mut fields = Vec::new(alloc);
+    add(alloc, &mut fields, "num", Ty::Num(LONG), Active::Tag(0))?;
+    add(alloc, &mut fields, "old", Ty::Num(INT), Active::Never)?;
+    add(alloc, &mut fields, "ref", pointer(), Active::Other)?;
+    structure(alloc, "rest", true, None, fields)
+}
+
+// The first fields of `big`.
+fn first_of_big(alloc: Global, fields: &mut Vec<Field>) -> Result<(), AllocError>
+    ensures { OnOk result (fields.new.items ≡ fields.old.items ++ take 4 (drop 0 sample.big.fields)) }
+{
+    add(alloc, fields, "n", Ty::Num(UNSIGNED_LONG), Active::Always)?;
+    add(
+        alloc,
+        fields,
+        "u",
+        held(4, Some(path(alloc, Base::Outer, "n")?)),
+        Active::Always,
+    )?;
+    add(
+        alloc,
+        fields,
+        "v",
+        held(12, Some(path(alloc, Base::Outer, "n")?)),
+        Active::Always,
+    )?;
+    add(
+        alloc,
+        fields,
+        "list",
+        Ty::Ptr {
+            target: Some(Target::Node(TypeId(0))),
+            kind: PtrKind::Length(path(alloc, Base::Here, "n")?),
+            reorder: false,
+        },
+        Active::Always,
+    )?;
+    Ok(())
+}
+
+// The middle fields of `big`.
+fn middle_of_big(alloc: Global, fields: &mut Vec<Field>) -> Result<(), AllocError>
+    ensures { OnOk result (fields.new.items ≡ fields.old.items ++ take 3 (drop 4 sample.big.fields)) }
+{
+    add(alloc, fields, "a", Ty::Num(CHAR), Active::Always)?;
+    add(alloc, fields, "c", Ty::Num(UNSIGNED_SHORT), Active::Always)?;
+    add(alloc, fields, "e", Ty::Num(UNSIGNED), Active::Always)?;
+    Ok(())
+}
+
+// The last fields of `big`.
+fn last_of_big(alloc: Global, fields: &mut Vec<Field>) -> Result<(), AllocError>
+    ensures { OnOk result (fields.new.items ≡ fields.old.items ++ take 3 (drop 7 sample.big.fields)) }
+{
+    add(
+        alloc,
+        fields,
+        "x",
+        Ty::Bits {
+            unit: UNSIGNED,
+            count: 12,
+        },
+        Active::Always,
+    )?;
+    add(
+        alloc,
+        fields,
+        "y",
+        Ty::Bits {
+            unit: INT,
+            count: 15,
+        },
+        Active::Always,
+    )?;
+    add(
+        alloc,
+        fields,
+        "und",
+        Ty::Ptr {
+            target: None,
+            kind: PtrKind::Undef,
+            reorder: false,
+        },
+        Active::Always,
+    )?;
+    Ok(())
+}
+
+fn big(alloc: Global) -> Result<Structure, AllocError>
+    ensures { IfOk result (λ s. s ≡ sample.big) }
+{
+    let mut fields = Vec::new(alloc);
+    first_of_big(alloc, &mut fields)?;
+    middle_of_big(alloc, &mut fields)?;
+    last_of_big(alloc, &mut fields)?;
+    structure(alloc, "big", false, None, fields)
+}
+
+fn bigv(alloc: Global) -> Result<Structure, AllocError>
+    ensures { IfOk result (λ s. s ≡ sample.bigv) }
+{
+    let mut fields = Vec::new(alloc);
+    add(
+        alloc,
+        &mut fields,
+        "n",
+        Ty::Num(UNSIGNED_LONG),
+        Active::Always,
+    )?;
+    add(
+        alloc,
+        &mut fields,
+        "elem",
+        tail(alloc, path(alloc, Base::Here, "n")?, Ty::Num(SHORT))?,
+        Active::Always,
+    )?;
+    structure(alloc, "bigv", false, None, fields)
+}
+
 fn root(alloc: Global, name: &str, ty: Ty) -> Result<Root, AllocError>
     requires ascii { IsTrue (list_all (λ b. nat_lt b 128) name.now) }
     ensures { IfOk result (λ r. r ≡ sample.root name.now ty) }
@@ -460,6 +597,9 @@ fn structures(alloc: Global) -> Result<Vec<Structure>, AllocError>
     all.push(two(alloc)?)?;
     all.push(vecb(alloc)?)?;
     all.push(any(alloc)?)?;
+    all.push(rest(alloc)?)?;
+    all.push(big(alloc)?)?;
+    all.push(bigv(alloc)?)?;
     Ok(all)
 }
 

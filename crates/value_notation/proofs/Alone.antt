@@ -8,7 +8,7 @@ use Rattle.gt_types.specs.declared.types.TypeId.{TypeId}
 use Rattle.gt_types.specs.declared.program.Structure.{Structure}
 use Rattle.gt_types.specs.Contains.{HasStructure}
 use Rattle.gt_types.specs.Paths.{Way, own_expressions, NamesOuter, IsInner, MayStand}
-use Rattle.sample_program.specs.Sample.{sample, item, base, wide, form, cell, vec, hold, two, vecb, any, node, own_len}
+use Rattle.sample_program.specs.Sample.{sample, item, base, wide, form, cell, vec, hold, two, vecb, any, big, bigv, node, own_len}
 use Rattle.sample_program.proofs.Structures.{path-paths}
 
 from-here : (steps : List (List ℕ)) → ¬ NamesOuter (expr.Path Here steps)
@@ -58,3 +58,9 @@ vecb_stands = (vecb, refl, not_inner (node 10) vecb refl (one (codes "num" ∷ [
 
 pub any_stands : MayStand sample (node 11)
 any_stands = (any, refl, not_inner (node 11) any refl (one (codes "b" ∷ codes "kind" ∷ [])), λ u. refl)
+
+pub big_stands : MayStand sample (node 13)
+big_stands = (big, refl, not_inner (node 13) big refl (one (codes "n" ∷ [])), λ u. absurd (cc))
+
+pub bigv_stands : MayStand sample (node 14)
+bigv_stands = (bigv, refl, not_inner (node 14) bigv refl (one (codes "n" ∷ [])), λ u. absurd (cc))

@@ -22,6 +22,8 @@ pub enum Kind {
     Two,
     Vecb,
     Any,
+    Big,
+    Bigv,
 }
 
 impl Kind {
@@ -38,6 +40,8 @@ impl Kind {
             "two" => Some(Kind::Two),
             "vecb" => Some(Kind::Vecb),
             "any" => Some(Kind::Any),
+            "big" => Some(Kind::Big),
+            "bigv" => Some(Kind::Bigv),
             _ => None,
         }
     }
@@ -57,6 +61,8 @@ impl Kind {
             Kind::Two => TypeId(9),
             Kind::Vecb => TypeId(10),
             Kind::Any => TypeId(11),
+            Kind::Big => TypeId(13),
+            Kind::Bigv => TypeId(14),
         }
     }
 }

@@ -1,4 +1,4 @@
-use Rattle.value_notation.proofs.Alone.{item_stands, base_stands, wide_stands, form_stands, cell_stands, vec_stands, hold_stands, two_stands, vecb_stands, any_stands}
+use Rattle.value_notation.proofs.Alone.{item_stands, base_stands, wide_stands, form_stands, cell_stands, vec_stands, hold_stands, two_stands, vecb_stands, any_stands, big_stands, bigv_stands}
 use Rattle.value_notation.proofs.structures.Kind.id.Goals as goal
 
 pub returns-in-Item : goal.returns-in-Item
@@ -30,3 +30,9 @@ returns-in-Vecb c = vecb_stands
 
 pub returns-in-Any : goal.returns-in-Any
 returns-in-Any c = any_stands
+
+pub returns-in-Big : goal.returns-in-Big
+returns-in-Big c = big_stands
+
+pub returns-in-Bigv : goal.returns-in-Bigv
+returns-in-Bigv c = bigv_stands

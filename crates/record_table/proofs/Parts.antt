@@ -1,0 +1,60 @@
+-- Values one after another: those of roots and of the elements of a block.
+use Rattle.std.proofs.Common.{◌≡◌, ℕ, pos, zero, suc, false, List, [], ◌∷◌, ◌++◌, map, refl, sym, subst, Some}
+use Rattle.std.specs.Prelude.{slice_get}
+use Rattle.gt_types.specs.declared.types.Ty.{Ty}
+use Rattle.gt_types.specs.declared.types.Ty.TheVariants as ty
+use Rattle.gt_types.specs.declared.types.Width.TheVariants.{W1}
+use Rattle.gt_types.specs.declared.types.Scalar.TheVariants as scalar
+use Rattle.gt_types.specs.declared.program.Program.{Program}
+use Rattle.gt_tree.specs.Trees.{Tree, Trees, Num, Row, End, And, count}
+use Rattle.gt_tree.specs.Blocks.{Kind, Blocks, element_type}
+use Rattle.gt_tree.specs.Scopes.{Scope, outside}
+use Rattle.gt_tree.specs.Fits.{Fits, AllFit, more, EachFits, no_more, one_more, number, EndsInZero, EndsAs}
+use Rattle.gt_value.specs.declared.values.Value.{Value, Num as NumOf}
+use Rattle.gt_value.specs.declared.names.BlockKind.{BlockKind}
+use Rattle.gt_value.specs.declared.names.BlockKind.TheVariants as told
+use Rattle.gt_value.specs.Names.{kind_of}
+use Rattle.gt_value.specs.Values.{trees, tree_of}
+use Rattle.gt_show.specs.BlockTexts.{ElementsFit}
+use Rattle.gt_assign.proofs.Values.{num-tree}
+
+module _ {program : Program} {blocks : Blocks} {scope : Scope} where
+  -- a value of a root fits its type
+  pub root-fits : (types : List Ty) (xs : List Tree) (i : ℕ) (type : Ty) (x : Tree) → AllFit program blocks 0 scope types (trees xs) → slice_get types i ≡ Some type → slice_get xs i ≡ Some x
+      → Fits program blocks 0 scope type x
+  root-fits [] xs i type x all e f = absurd (cc)
+  root-fits (t ∷ types) [] i type x all e f = absurd (cc)
+  root-fits (t ∷ types) (y ∷ xs) zero type x (more one all) e f =
+      let is_t : t ≡ type = cc in
+      let is_y : y ≡ x = cc in
+      subst (λ u. Fits program blocks 0 scope u x) is_t (subst (λ z. Fits program blocks 0 scope t z) is_y one)
+  root-fits (t ∷ types) (y ∷ xs) (suc i) type x (more one all) e f = root-fits types xs i type x all e f
+
+  pub each-none : (type : Ty) (values : List Value) → values ≡ [] → EachFits program blocks 0 scope type (trees (map tree_of values))
+  each-none type values is = subst (λ (vs : List Value). EachFits program blocks 0 scope type (trees (map tree_of vs))) (sym is) no_more
+
+  pub each-pushed : (type : Ty) (values : List Value) (v : Value) → EachFits program blocks 0 scope type (trees (map tree_of values)) → Fits program blocks 0 scope type (tree_of v)
+      → EachFits program blocks 0 scope type (trees (map tree_of (values ++ v ∷ [])))
+  each-pushed type [] v each fits = one_more fits no_more
+  each-pushed type (x ∷ values) v (one_more one each) fits = one_more one (each-pushed type values v each fits)
+
+-- the zero behind characters is the last of them
+pub ends-pushed : (values : List Value) → EndsInZero (trees (map tree_of (values ++ NumOf (pos 0) ∷ [])))
+ends-pushed [] = num-tree (pos 0)
+ends-pushed (x ∷ []) = num-tree (pos 0)
+ends-pushed (x ∷ y ∷ values) = ends-pushed (y ∷ values)
+
+pub zero-fits : (program : Program) (blocks : Blocks) (scope : Scope) → Fits program blocks 0 scope (ty.Num (scalar.Int W1 false)) (tree_of (NumOf (pos 0)))
+zero-fits program blocks scope = subst (λ t. Fits program blocks 0 scope (ty.Num (scalar.Int W1 false)) t) (sym (num-tree (pos 0))) (number refl)
+
+-- blocks of other things have no end
+pub ends-other : (kind : BlockKind) (elements : Trees) → ¬ (kind ≡ told.Chars) → EndsAs (kind_of kind) elements
+ends-other (told.Nodes node) elements off = tt
+ends-other (told.Pointers node) elements off = tt
+ends-other told.Strings elements off = tt
+ends-other told.Chars elements off = absurd (off refl)
+ends-other told.Raw elements off = tt
+
+pub block-fits : (program : Program) (blocks : Blocks) (kind : Kind) (elements : Trees) → EachFits program blocks 0 (outside End) (element_type program kind) elements → EndsAs kind elements
+    → ElementsFit program blocks kind elements
+block-fits program blocks kind elements each ends = (End, count elements, 0, record { trees = elements; row = refl; as_many = refl; each = each; ends = ends })

@@ -1,0 +1,50 @@
+//! A table of the static record and of whole blocks. Rows of the static record begin with zero, write leaves one after another, some
+//! of which have to fit nowhere, and say what text the record then has root by root, or what bytes stand for it. Rows of blocks make
+//! each element by writes from zero on, and say what text the whole block has.
+//!
+//! A line is printed for each row that comes out otherwise, and at the end how many rows there were. The head of the input says
+//! how a row is written.
+#![tactic(auto)]
+
+ghost use Rattle.value_notation.specs.Trials.{IsReady};
+
+mod blocks;
+mod kinds;
+mod records;
+mod table;
+mod texts;
+mod writes;
+
+use crate::table::difference;
+use gt_layout::layout;
+use sample_program::sample;
+use std::io;
+use value_notation::{Sample, Tally, is_row};
+
+fn main(rt: HostRuntime) -> io::Result<()> {
+    let alloc = rt.alloc();
+    let program = sample(alloc)?;
+    let Ok(layouts) = layout(alloc, &program) else {
+        return println!(rt; "the sample is not laid out");
+    };
+    let on = Sample {
+        alloc,
+        program,
+        layouts,
+    };
+    try_rows(&rt, &on)
+}
+
+// Tries the rows of the input.
+fn try_rows(rt: &HostRuntime, on: &Sample) -> io::Result<()>
+    requires ready { IsReady on.now.program on.now.layouts }
+{
+    let mut tally = Tally::new();
+    for line in rt.lines(on.alloc) {
+        let line = line?;
+        if is_row(line.as_str()) {
+            tally.count(rt, line.as_str(), difference(on, line.as_str())?)?;
+        }
+    }
+    tally.finish(rt)
+}
