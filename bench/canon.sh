@@ -1,7 +1,6 @@
 #!/usr/bin/env bash
-# Writes the canonical text of a program of 4,096 structures of 1,024 fields and of one of 409 such structures, and compares the
-# times. Run by hand, from any folder; the ratio should stay under 12. The program that does it is written and built in a copy of
-# the crates that it needs.
+# Writes the canonical text of a program of 4,090 structures of 1,024 fields, and of a tenth of them. Run by hand, from any folder. The program that does
+# it is written and built in a copy of the crates that it needs.
 . "$(dirname "$0")/shared.sh"
 mkdir -p "$work/crates/write_canon/src"
 copy_crates gt_types gt_digits gt_canon
@@ -94,19 +93,14 @@ printf '1\n1\n' >"$work/crates/write_canon/stdin"
 (cd "$work/crates/write_canon" && quiet rt run)
 program=$work/crates/write_canon/out/write_canon
 
-# The processor time of the best of five runs: so many structures, and so many texts. All texts are kept, so that both sizes
+# The seconds of so many texts of so many structures, each, without those that the program of structures takes. All texts are kept, so that both sizes
 # take as much new memory.
-seconds() {
-  local best=999999 took
-  for _ in 1 2 3 4 5; do
-    TIMEFORMAT='%U %S'
-    took=$({ time printf '%s\n%s\n' "$1" "$2" | "$program" >"$work/bytes"; } 2>&1 | awk '{ print $1 + $2 }')
-    best=$(awk -v a="$best" -v b="$took" 'BEGIN { print (b < a) ? b : a }')
-  done
-  echo "$best"
+text() {
+  local all none
+  printf '%s\n0\n' "$1" >"$work/input"
+  none=$(seconds 5 "$program")
+  printf '%s\n%s\n' "$1" "$2" >"$work/input"
+  all=$(seconds 5 "$program")
+  awk -v a="$all" -v b="$none" -v n="$2" 'BEGIN { printf "%.6f\n", (a - b) / n }'
 }
-# The seconds that a text of each size takes, without those that its program takes.
-small=$(awk -v a="$(seconds 409 20)" -v b="$(seconds 409 0)" 'BEGIN { print (a - b) / 20 }')
-large=$(awk -v a="$(seconds 4096 2)" -v b="$(seconds 4096 0)" 'BEGIN { print (a - b) / 2 }')
-awk -v s="$small" -v l="$large" \
-  'BEGIN { printf "409 structures in %.4f s, 4096 structures in %.4f s, ratio %.1f\n", s, l, l / s }'
+row 'canonical text, structures' 4090 "$(text 4090 2)" 'a tenth' "$(text 409 20)" 12

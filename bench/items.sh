@@ -1,6 +1,6 @@
 #!/usr/bin/env bash
-# Reads headers of 1 MB and of a tenth of that up to their items, and compares the times. Run by hand, from any folder; each
-# ratio should stay under 12. The program that reads them is written and built in a copy of the crates that it needs.
+# Reads headers of about 1 MB and of a tenth of that up to their items. Run by hand, from any folder. The program that reads them is written and
+# built in a copy of the crates that it needs.
 . "$(dirname "$0")/shared.sh"
 mkdir -p "$work/crates/read_items/src"
 copy_crates gt_types gt_text gt_io gt_lex gt_expr gt_items gt_parse
@@ -48,40 +48,28 @@ program=$work/crates/read_items/out/read_items
 
 # So many times the text, in which N is the number of the turn.
 turns() { awk -v n="$1" -v text="$2" 'BEGIN { for (i = 1; i <= n; i++) { line = text; gsub(/N/, i, line); print line } }'; }
-functions() { turns "$(($1 * 25000))" 'int fN (int x) { return x; }'; }
-skipped() { turns "$(($1 * 62500))" 'x = y + z;'; }
-deep() { awk -v n="$(($1 * 500000))" 'BEGIN { for (i = 0; i < n; i++) printf "("; for (i = 0; i < n; i++) printf ")"; print ";" }'; }
-one_item() { turns "$(($1 * 62500))" 'x = (y + z),'; echo 'x;'; }
-structure() { echo 'struct GTY(()) s {'; turns "$(($1 * 32000))" '  struct s *a, *bN[3];'; echo '};'; }
-few_fields() { echo 'struct GTY(()) s {'; turns "$(($1 * 1024))" '  struct s *GTY((length ("%h.n + %h.m"), skip)) fN;'; echo '};'; }
-options() { echo 'struct GTY(()) s { int GTY((a'; turns "$(($1 * 62500))" ', b ("x" "y")'; echo ')) f; };'; }
-structures() { turns "$(($1 * 20000))" 'struct GTY(()) sN { struct sN *next; };'; }
-roots() { turns "$(($1 * 20000))" 'static GTY(()) struct s *rN[4] = { 0 };'; }
-typedefs() { turns "$(($1 * 100000))" 'typedef int tN;'; }
-opaque() { turns "$(($1 * 50000))" 'typedef int tN (int x);'; }
-enumeration() { echo 'enum e {'; turns "$(($1 * 62500))" 'eN = 1 + 2,'; echo '};'; }
-wrappers() { turns "$(($1 * 50000))" 'namespace n {'; turns "$(($1 * 50000))" '}'; }
+functions() { turns "$(($1 * 2500))" 'int fN (int x) { return x; }'; }
+skipped() { turns "$(($1 * 6250))" 'x = y + z;'; }
+deep() { awk -v n="$(($1 * 50000))" 'BEGIN { for (i = 0; i < n; i++) printf "("; for (i = 0; i < n; i++) printf ")"; print ";" }'; }
+one_item() { turns "$(($1 * 6250))" 'x = (y + z),'; echo 'x;'; }
+structure() { echo 'struct GTY(()) s {'; turns "$(($1 * 3200))" '  struct s *a, *bN[3];'; echo '};'; }
+few_fields() { echo 'struct GTY(()) s {'; turns "$(($1 * 102))" '  struct s *GTY((length ("%h.n + %h.m"), skip)) fN;'; echo '};'; }
+options() { echo 'struct GTY(()) s { int GTY((a'; turns "$(($1 * 6250))" ', b ("x" "y")'; echo ')) f; };'; }
+structures() { turns "$(($1 * 2000))" 'struct GTY(()) sN { struct sN *next; };'; }
+roots() { turns "$(($1 * 2000))" 'static GTY(()) struct s *rN[4] = { 0 };'; }
+typedefs() { turns "$(($1 * 10000))" 'typedef int tN;'; }
+opaque() { turns "$(($1 * 5000))" 'typedef int tN (int x);'; }
+enumeration() { echo 'enum e {'; turns "$(($1 * 6250))" 'eN = 1 + 2,'; echo '};'; }
+wrappers() { turns "$(($1 * 5000))" 'namespace n {'; turns "$(($1 * 5000))" '}'; }
 
-# Seconds of the processor that five runs take.
-seconds() {
-  local TIMEFORMAT='%U %S'
-  cd "$work"
-  { time for _ in 1 2 3 4 5; do "$program"; done; } 2>&1 | awk '{ print $1 + $2 }'
-}
+cd "$work"
+: >header.h
+idle=$(seconds 9 "$program")
 for kind in functions skipped deep one_item structure few_fields options structures roots typedefs opaque enumeration wrappers; do
-  $kind 1 >"$work/whole"
-  head -c 0 "$work/whole" >"$work/header.h"
-  # A tenth: the same with a tenth of the turns.
-  (
-    turns() { awk -v n="$1" -v text="$2" 'BEGIN { n = int(n / 10); for (i = 1; i <= n; i++) { line = text; gsub(/N/, i, line); print line } }'; }
-    deep() { awk 'BEGIN { n = 50000; for (i = 0; i < n; i++) printf "("; for (i = 0; i < n; i++) printf ")"; print ";" }'; }
-    $kind 1
-  ) >"$work/header.h"
-  small=$(seconds)
-  small_bytes=$(wc -c <"$work/header.h")
-  cp "$work/whole" "$work/header.h"
-  large=$(seconds)
-  large_bytes=$(wc -c <"$work/header.h")
-  awk -v k="$kind" -v a="$small" -v b="$large" -v m="$small_bytes" -v n="$large_bytes" \
-    'BEGIN { printf "%-12s %8d bytes: %.4f s, %8d bytes: %.4f s, ratio %.1f\n", k, m, a / 5, n, b / 5, b / a }'
+  $kind 1 >header.h
+  small=$(minus "$(seconds 9 "$program")" "$idle")
+  $kind 10 >header.h
+  "$program"
+  large=$(minus "$(seconds 9 "$program")" "$idle")
+  row "bytes of $kind" "$(wc -c <header.h)" "$large" 'a tenth' "$small" 12
 done

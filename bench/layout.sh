@@ -1,8 +1,8 @@
 #!/usr/bin/env bash
-# Lays out 4,096 structures of 1,024 fields, a quarter of them, and a chain of 32 structures one inside another, and compares
-# the times, reading included. Run by hand, from any folder, after `rt run` in crates/layout_table, whose program it takes. The
-# ratio should stay under 5.
+# Lays out 4,090 structures of 1,024 fields, and a tenth of them; and a chain of 32 structures one inside another beside 32 of which none contains
+# another. Reading the program is a part of each time. Run by hand, from any folder; the program is crates/layout_table, which is built first.
 . "$(dirname "$0")/shared.sh"
+(cd "$root/crates/layout_table" && quiet rt run </dev/null)
 table=$root/crates/layout_table/out/layout_table
 
 rows() { # structures fields
@@ -14,7 +14,7 @@ rows() { # structures fields
     }
     print "layout 0 0"
     print ""
-  }' >"$work/rows"
+  }' >"$work/input"
 }
 
 chain() { # depth fields
@@ -26,23 +26,15 @@ chain() { # depth fields
     }
     print "layout 0 0"
     print ""
-  }' >"$work/rows"
+  }' >"$work/input"
 }
 
-measure() {
-  local start end
-  start=$(date +%s%N)
-  "$table" <"$work/rows" | tail -n 1 >/dev/null
-  end=$(date +%s%N)
-  echo $(((end - start) / 1000000))
-}
-
-rows 1024 1024
-part=$(measure)
-rows 4096 1024
-whole=$(measure)
+rows 409 1024
+small=$(seconds 5 "$table")
+rows 4090 1024
+large=$(seconds 5 "$table")
+row 'structures of 1,024 fields' 4090 "$large" 'a tenth' "$small" 12
+rows 32 1024
+apart=$(seconds 9 "$table")
 chain 32 1024
-deep=$(measure)
-echo "1,024 structures of 1,024 fields: $part ms"
-echo "4,096 structures of 1,024 fields: $whole ms, $((whole * 10 / (part + 1))) tenths of that"
-echo "a chain of 32 structures of 1,024 fields: $deep ms"
+row 'structures of 1,024 fields in a chain' 32 "$(seconds 9 "$table")" 'apart' "$apart"

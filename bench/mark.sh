@@ -1,10 +1,9 @@
 #!/usr/bin/env bash
 # Marks and sweeps a list, a tree, eight arrays that name 1,000,000 blocks, levels of 67 blocks of which each leads to the next by its
-# last pointer, and 2,000,000 links off the chain field; each once with a tenth as many. What is timed is the difference of two runs: the
-# one makes the heap and tests that it can be marked, the other clears, marks and sweeps it besides. The larger of each two should take
-# about ten times the smaller. The list is timed beside a small allocator in C, which walks by an explicit stack and keeps a bit for each
-# place: at 100,000 nodes it should take at most three times as long. The links run with a stack of 16 MiB. Run by hand, from any folder;
-# the program around gt_mark is written and built in a copy of the crates that it needs.
+# last pointer, and 2,000,000 links off the chain field; each beside a tenth of it. What is timed is the difference of two runs: the
+# one makes the heap and tests that it can be marked, the other clears, marks and sweeps it besides. The list is timed beside a small allocator in
+# C too, which walks by an explicit stack and keeps a bit for each place. All runs have a stack of 16 MiB. Run by hand, from any folder; the
+# program around gt_mark is written and built in a copy of the crates that it needs.
 . "$(dirname "$0")/shared.sh"
 crates="gt_types gt_layout gt_space gt_tree gt_unions gt_value gt_walk gt_links gt_bits gt_entries gt_pages gt_mark sample_heap"
 copy_crates $crates
@@ -175,26 +174,20 @@ fn main(rt: HostRuntime) -> io::Result<()> {
 }
 RT
 build_small
-build_spent
 : >"$program/stdin"
 build_copied $crates
 (cd "$program" && quiet rt run -- check list 1)
 ours=$program/out/time_mark
 ulimit -s 16384
 
-# The seconds of the best of seven runs.
-seconds() { for _ in 1 2 3 4 5 6 7; do "$work/spent" /dev/null "$@" 2>&1 >"$work/out"; done | sort -n | head -n 1 | awk '{ print $1 }'; }
-# The milliseconds of marking and sweeping a shape.
-collects() { awk -v a="$(seconds "$ours" collect "$@")" -v b="$(seconds "$ours" check "$@")" 'BEGIN { printf "%.2f", 1000 * (a - b) }'; }
+# The seconds of marking and sweeping a shape.
+collects() { minus "$(seconds 7 "$ours" collect "$@")" "$(seconds 7 "$ours" check "$@")"; }
 for shape in list tree arrays levels links; do
   most=1000000
   [ $shape != links ] || most=2000000
-  less=$(collects $shape $((most / 10)))
-  more=$(collects $shape $most)
-  awk -v s=$shape -v n=$most -v l="$less" -v m="$more" -v t="$("$ours" collect $shape $most)" 'BEGIN {
-    printf "%s of %d: %.2f ms, of a tenth %.2f ms, ratio %.1f (%s)\n", s, n, m, l, m / l, t }'
+  "$ours" collect $shape $most | grep -q '^freed' || { echo "$shape: cannot be marked" >&2; exit 2; }
+  row "marked and swept: $shape" $most "$(collects $shape $most)" 'a tenth' "$(collects $shape $((most / 10)))" 12
 done
 for n in 100000 1000000; do
-  awk -v n=$n -v o="$(collects list $n)" -v a="$(seconds "$work/small" collect $n)" -v b="$(seconds "$work/small" make $n)" 'BEGIN {
-    printf "list of %d: %.2f ms, in C %.2f ms, ratio %.1f\n", n, o, 1000 * (a - b), o / (1000 * (a - b)) }'
+  row 'marked and swept: list' $n "$(collects list $n)" 'in C' "$(minus "$(seconds 7 "$work/small" collect $n)" "$(seconds 7 "$work/small" make $n)")" 3
 done

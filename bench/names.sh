@@ -1,9 +1,7 @@
 #!/usr/bin/env bash
-# Runs an empty script under headers that declare much, and under half as much, and compares the times. Run by hand, from any
-# folder, once ./gtyheap has built the program, which is taken as it is; each ratio should be about 2.0.
+# Runs an empty script under headers that declare much, and under a tenth of that. Run by hand, from any folder, after ./gtyheap.
 . "$(dirname "$0")/shared.sh"
 take_program
-: >"$work/empty.gty"
 
 # So many structures of 30 pointers to the next ones, 1,024 of them in a header.
 structures() {
@@ -57,26 +55,22 @@ deep() {
   }'
 }
 
-# The status with which the program ends under a kind.
-status_of() { if [ "$1" = deep ]; then echo 2; else echo 0; fi; }
-# Seconds of the processor that five runs under so many of a kind take.
-seconds() {
-  local TIMEFORMAT='%U %S' folder=$work/$1$2 status=0
+# The seconds under so many of a kind, which end with this status and so many lines.
+took() {
+  local folder=$work/$1$2
   mkdir "$folder"
   "$1" "$2" "$folder"
-  "$program" "$work/empty.gty" "$folder"/*.h >"$work/answers" || status=$?
-  [ "$status" = "$(status_of "$1")" ] || { echo "names.sh: $2 $1: status $status" >&2; cat "$work/answers" >&2; return 2; }
-  { time for _ in 1 2 3 4 5; do "$program" "$work/empty.gty" "$folder"/*.h >"$work/answers" || true; done; } 2>&1 | awk '{ print $1 + $2 }'
+  wants "$3" "$4" "$work/empty.gty" "$folder"/*.h
+  minus "$(seconds 5 "$program" "$work/empty.gty" "$folder"/*.h)" "$idle"
   rm -r "$folder"
 }
 compare() {
   local small large
-  small=$(seconds "$1" "$2")
-  large=$(seconds "$1" "$((2 * $2))")
-  awk -v k="$1" -v n="$2" -v a="$small" -v b="$large" \
-    'BEGIN { printf "%-10s %6d: %.3f s, %6d: %.3f s, ratio %.1f\n", k, n, a / 5, 2 * n, b / 5, b / a }'
+  small=$(took "$1" $(($2 / 10)) "$4" "$5")
+  large=$(took "$1" "$2" "$4" "$5")
+  row "$3" "$2" "$large" 'a tenth' "$small" 12
 }
-compare structures 2048
-compare chain 50000
-compare deep 50000
-compare headers 32
+compare structures 4090 'structures of 30 pointers' 0 0
+compare chain 100000 'typedefs in a chain' 0 0
+compare deep 100000 'structures one inside another, refused' 2 1
+compare headers 60 'headers of 1 MB' 0 0

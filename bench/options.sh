@@ -1,10 +1,8 @@
 #!/usr/bin/env bash
-# Runs an empty script under headers with many options, and under a tenth of them, and compares the times. The headers have no fault and
-# are not built, so the program reads all of them, settles what they declare, and refuses them. Run by hand, from any folder, once
-# ./gtyheap has built the program, which is taken as it is; each ratio should be at most 12.
+# Runs an empty script under headers with many options, and under a tenth of them. The headers have no fault and are not built, so the program
+# reads all of them, settles what they declare, and refuses them. Run by hand, from any folder, after ./gtyheap.
 . "$(dirname "$0")/shared.sh"
 take_program
-: >"$work/empty.gty"
 
 # So many structures with 29 pointers, each with a path to a length; 256 in a header.
 paths() {
@@ -43,25 +41,23 @@ contain() {
 containers() { contain "$1" "$2" "%1"; }
 outermost() { contain "$1" "$2" "%0"; }
 
-# Seconds of the processor that five runs under so many of a kind take.
-seconds() {
-  local TIMEFORMAT='%U %S' folder=$work/$1$2 status=0
+# The seconds under so many of a kind.
+took() {
+  local folder=$work/$1$2
   mkdir "$folder"
   "$1" "$2" "$folder"
-  "$program" "$work/empty.gty" "$folder"/*.h >"$work/answers" || status=$?
-  [ "$status" = 2 ] && grep -q ': not built$' "$work/answers" || { echo "options.sh: $2 $1: status $status" >&2; cat "$work/answers" >&2; return 2; }
-  { time for _ in 1 2 3 4 5; do "$program" "$work/empty.gty" "$folder"/*.h >"$work/answers" || true; done; } 2>&1 | awk '{ print $1 + $2 }'
+  wants 2 1 "$work/empty.gty" "$folder"/*.h
+  grep -q ': not built$' "$work/out" || { cat "$work/out" >&2; exit 2; }
+  minus "$(seconds 5 "$program" "$work/empty.gty" "$folder"/*.h)" "$idle"
+  rm -r "$folder"
 }
-
-# Compares one kind at a size and at a tenth of it.
 compare() {
   local small large
-  small=$(seconds "$1" $(($2 / 10)))
-  large=$(seconds "$1" "$2")
-  awk -v kind="$1" -v n="$2" -v small="$small" -v large="$large" 'BEGIN { printf "%-12s %8d: %.3f s, a tenth %.3f s, ratio %.1f\n", kind, n, large / 5, small / 5, large / small }'
+  small=$(took "$1" $(($2 / 10)))
+  large=$(took "$1" "$2")
+  row "$3" "$2" "$large" 'a tenth' "$small" 12
 }
-
-compare paths 4090
-compare parts 24000
-compare containers 4000
-compare outermost 4000
+compare paths 4090 'structures of 29 paths'
+compare parts 24000 'options of 255 parts'
+compare containers 4000 'containers, a path from %1'
+compare outermost 4000 'containers, a path from %0'

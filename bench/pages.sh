@@ -1,10 +1,9 @@
 #!/usr/bin/env bash
 # Makes blocks in pages and collects them, beside a small allocator in C with the same sizes, which keeps a bit for each place: a list of
-# so many nodes of 24 bytes, and for each third node one more that names it and that nothing names. Making and collecting should each
-# take at most three times as long as in C. The program asks for the owner of each address before it marks it, since `mark` wants the
-# start of a block; that is one search more for each edge than a marker needs. Then it says how many bytes the pages take, beyond those of
-# the space, with a block of a page in each, and with blocks of 8 bytes. Run by hand, from any folder; the program around gt_pages is
-# written and built in a copy of the crates that it needs.
+# so many nodes of 24 bytes, and for each third node one more that names it and that nothing names. A collection is the mean of fifty, after a first
+# one. The program asks for the owner of each address before it marks it, since `mark` wants the start of a block; that is one search more for each edge
+# than a marker needs. Then it says how many bytes the pages take, beyond those of the space, with a block of a page in each, and with blocks of 8 bytes.
+# Run by hand, from any folder; the program around gt_pages is written and built in a copy of the crates that it needs.
 . "$(dirname "$0")/shared.sh"
 copy_crates gt_space gt_links gt_bits gt_entries gt_pages
 program=$work/crates/time_pages
@@ -43,7 +42,7 @@ ghost use Rattle.gt_pages.specs.Slots.{StartsSome};
 
 use gt_pages::{Pages, SlotFail, rounded_size};
 use gt_space::Space;
-use std::alloc::Global;
+use std::alloc::{AllocError, Global};
 use std::env;
 use std::io;
 
@@ -108,27 +107,54 @@ fn starts(pages: &Pages, addr: u64) -> bool
     }
 }
 
-fn reach(pages: &mut Pages, addr: u64, stack: &mut Vec<u64>) -> io::Result<()> {
-    if addr != 0 && starts(pages, addr) && pages.mark(addr, 0, 1) {
+// Puts an address on the stack, unless it is null.
+#[inline(always)]
+fn push(stack: &mut Vec<u64>, addr: u64) -> Result<(), AllocError> {
+    if addr != 0 {
         stack.push(addr)?;
     }
     Ok(())
 }
 
-fn collect(alloc: Global, pages: &mut Pages, space: &Space, head: u64, most: u64) -> io::Result<u64> {
-    let mut stack = Vec::new(alloc);
+// Marks what the list reaches, and frees the rest. A block is marked when it comes from the stack, to which then go its two pointers.
+fn collect(
+    alloc: Global,
+    pages: &mut Pages,
+    space: &Space,
+    head: u64,
+    most: u64,
+) -> Result<u64, AllocError> {
+    let mut stack = Vec::with_capacity(alloc, 64)?;
     let mut kept = 0u64;
     pages.clear_marks();
-    reach(pages, head, &mut stack)?;
-    for _ in 0..most {
+    push(&mut stack, head)?;
+    for _ in 0..most.wrapping_mul(2) {
         let Some(addr) = stack.pop() else {
             break;
         };
-        kept = kept.wrapping_add(1);
-        reach(pages, get(space, addr % 4294967296), &mut stack)?;
-        reach(pages, get(space, addr.wrapping_add(8) % 4294967296), &mut stack)?;
+        if starts(pages, addr) && pages.mark(addr, 0, 1) {
+            kept = kept.wrapping_add(1);
+            push(&mut stack, get(space, addr % 4294967296))?;
+            push(&mut stack, get(space, addr.wrapping_add(8) % 4294967296))?;
+        }
     }
     pages.sweep();
+    Ok(kept)
+}
+
+// So many collections, one after another.
+fn collect_often(
+    alloc: Global,
+    pages: &mut Pages,
+    space: &Space,
+    head: u64,
+    most: u64,
+    times: u64,
+) -> Result<u64, AllocError> {
+    let mut kept = 0;
+    for _ in 0..times {
+        kept = collect(alloc, pages, space, head, most)?;
+    }
     Ok(kept)
 }
 
@@ -156,6 +182,10 @@ fn main(rt: HostRuntime) -> io::Result<()> {
         Some(word) => word.as_str().parse::<u64>().unwrap_or(0),
         None => 0,
     };
+    let times = match words.next() {
+        Some(word) => word.as_str().parse::<u64>().unwrap_or(1),
+        None => 1,
+    };
     if what.as_str() == "none" {
         return println!(rt; "0");
     }
@@ -171,30 +201,27 @@ fn main(rt: HostRuntime) -> io::Result<()> {
     if what.as_str() != "collect" {
         return println!(rt; "{n}");
     }
-    println!(rt; "{}", collect(alloc, &mut pages, &space, head, n)?)
+    println!(rt; "{}", collect_often(alloc, &mut pages, &space, head, n, times)?)
 }
 RT
 build_small
-build_spent
 : >"$program/stdin"
 build_copied gt_space gt_links gt_bits gt_entries gt_pages
 (cd "$program" && quiet rt run -- make 1)
 ours=$program/out/time_pages
 
-# The seconds of the best of nine runs.
-seconds() { for _ in 1 2 3 4 5 6 7 8 9; do "$work/spent" /dev/null "$@" 2>&1 >"$work/out"; done | sort -n | head -n 1 | awk '{ print $1 }'; }
+# The seconds of making so many nodes, and of one collection of them.
+makes() { minus "$(seconds 9 "$1" make "$2")" "$(seconds 9 "$1" make 0)"; }
+collects() { awk -v a="$(seconds 9 "$1" collect "$2" 51)" -v b="$(seconds 9 "$1" collect "$2" 1)" 'BEGIN { printf "%.9f\n", (a - b) / 50 }'; }
 for n in 100000 1000000; do
   for what in make collect; do
     [ "$("$ours" $what $n)" = "$("$work/small" $what $n)" ] || { echo "$what $n: other answers" >&2; exit 2; }
   done
-  awk -v n=$n -v om="$(seconds "$ours" make $n)" -v oc="$(seconds "$ours" collect $n)" -v on="$(seconds "$ours" make 0)" \
-    -v cm="$(seconds "$work/small" make $n)" -v cc="$(seconds "$work/small" collect $n)" -v cn="$(seconds "$work/small" make 0)" 'BEGIN {
-    printf "%7d nodes made: %.2f ms, in C %.2f ms, ratio %.1f; collected: %.2f ms, in C %.2f ms, ratio %.1f\n",
-      n, 1000 * (om - on), 1000 * (cm - cn), (om - on) / (cm - cn), 1000 * (oc - om), 1000 * (cc - cm), (oc - om) / (cc - cm) }'
+  row 'nodes made' $n "$(makes "$ours" $n)" 'in C' "$(makes "$work/small" $n)" 3
+  row 'nodes in pages that are collected' $n "$(collects "$ours" $n)" 'in C' "$(collects "$work/small" $n)" 3
 done
-# The KiB that a run has at the most.
-most() { "$work/spent" /dev/null "$@" 2>&1 >"$work/out" | awk '{ print $2 }'; }
-none=$(most "$ours" none 0)
-awk -v p="$(most "$ours" pages 16384)" -v b="$(most "$ours" bytes 8388608)" -v z="$none" 'BEGIN {
-  printf "16,384 pages: %.0f bytes a page with one block in each; %.0f bytes a page and %.1f a place with 512 of 8 bytes\n",
-    (p - z) / 16, (b - z) / 16, (b - z) / 16 / 512 }'
+# The bytes that each of 16,384 pages takes, beyond what a run has that does nothing.
+none=$(most_memory "$ours" none 0)
+a_page() { awk -v a="$(most_memory "$ours" "$@")" -v b="$none" 'BEGIN { print (a - b) / 16 }'; }
+amount 'a page with one block' 16384 "$(a_page pages 16384)" bytes
+amount 'a page with 512 blocks' 16384 "$(a_page bytes 8388608)" bytes

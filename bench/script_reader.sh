@@ -1,8 +1,7 @@
 #!/usr/bin/env bash
-# Reads scripts of 100,000 and 1,000,000 lines `set $a.f $b` with the reader of gt_script and with a small one in C, which cuts lines into
-# words and interns the names, and compares the times: the ratio should stay under 2. Neither program frees the commands that it has read.
-# Then it reads scripts that are made to take memory, and says how much of what is allowed, eight times the bytes of the script and 64 MiB,
-# each takes at the most: all should stay under 1. Run by hand, from any folder. The program around gt_script is written and built in a
+# Reads scripts of 1,000,000 lines `set $a.f $b` and of a tenth with the reader of gt_script and with a small one in C, which cuts lines into
+# words and interns the names. Neither program frees the commands that it has read. Then it reads scripts that are made to take memory, beside what is
+# allowed: eight times the bytes of the script and 64 MiB. Run by hand, from any folder. The program around gt_script is written and built in a
 # copy of the crates that it needs.
 . "$(dirname "$0")/shared.sh"
 mkdir -p "$work/crates/read_script/src"
@@ -163,36 +162,32 @@ int main (void)
 }
 C
 cc -O2 -o "$work/reader" "$work/reader.c"
-build_spent
 build_copied gt_types gt_text gt_script
 printf 'heap\n' >"$work/crates/read_script/stdin"
 (cd "$work/crates/read_script" && quiet rt run)
 program=$work/crates/read_script/out/read_script
 
-# Seconds of the processor that a reader takes for a script, at the best of five runs, beyond those for one whose first line is refused.
-seconds() {
-  { echo x; cat "$2"; } >"$work/refused"
-  for _ in 1 2 3 4 5; do echo "$("$work/spent" "$2" "$1" 2>&1 >/dev/null) $("$work/spent" "$work/refused" "$1" 2>&1 >/dev/null)"; done |
-    awk 'NR == 1 || $1 < a { a = $1 } NR == 1 || $3 < b { b = $3 } END { print a - b }'
+# So many lines.
+sets() { yes 'set $a.f $b' | head -n "$1" || true; }
+# The seconds that a reader takes for so many lines, without those for a script of which the first line is refused.
+read_lines() {
+  local none
+  { echo x; sets "$2"; } >"$work/input"
+  none=$(seconds 5 "$1")
+  sets "$2" >"$work/input"
+  minus "$(seconds 5 "$1")" "$none"
 }
-for count in 100000 1000000; do
-  yes 'set $a.f $b' | head -n $count >"$work/script" || true
-  ours=$(seconds "$program" "$work/script")
-  c=$(seconds "$work/reader" "$work/script")
-  awk -v n=$count -v a="$ours" -v c="$c" 'BEGIN { printf "%7d lines: %.4f s, in C %.4f s, ratio %.2f\n", n, a, c, a / c }'
-done
+ours=$(read_lines "$program" 1000000)
+row 'lines of a script read' 1000000 "$ours" 'a tenth' "$(read_lines "$program" 100000)" 12
+row 'lines of a script read' 1000000 "$ours" 'in C' "$(read_lines "$work/reader" 1000000)" 2
 
-# What a script takes, of what is allowed.
-memory() {
-  "$work/spent" "$work/script" "$program" 2>"$work/took" >"$work/answer"
-  awk -v n="$(wc -c <"$work/script")" -v k="$1" -v w="$(cat "$work/answer")" \
-    '{ a = 8 * n / 1024 + 65536; printf "%-10s %9d bytes: %7d KiB of %7d, %.3f (%s)\n", k, n, $2, a, $2 / a, w }' "$work/took"
-}
-yes 'set $a.f $b' | head -n 1000000 >"$work/script" || true
-memory sets
-{ printf '@print $a'; yes .f | head -n 16777190 | tr -d '\n'; echo; } >"$work/script" || true
-memory long_path
-yes '@print $a.f.f.f.f.f.f.f.f.f.f.f' | head -n 1000000 >"$work/script" || true
-memory many_hops
-{ yes 'a ' | head -n 16777200 | tr -d '\n'; echo; } >"$work/script" || true
-memory many_words
+# The KiB that the script in `input` takes, beside what is allowed.
+memory() { amount "memory: $1" "$(wc -c <"$work/input")" "$(most_memory "$program")" KiB allowed "$(awk -v n="$(wc -c <"$work/input")" 'BEGIN { print 8 * n / 1024 + 65536 }')" 1; }
+sets 1000000 >"$work/input"
+memory 'set lines'
+{ printf '@print $a'; yes .f | head -n 16777190 | tr -d '\n'; echo; } >"$work/input" || true
+memory 'one long path'
+yes '@print $a.f.f.f.f.f.f.f.f.f.f.f' | head -n 1000000 >"$work/input" || true
+memory 'paths of eleven steps'
+{ yes 'a ' | head -n 16777200 | tr -d '\n'; echo; } >"$work/input" || true
+memory 'one line of many words'

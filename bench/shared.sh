@@ -1,5 +1,5 @@
 # What the benches share, each of which reads this file first: `root` is the folder of the repository, `work` a folder for this run, which
-# is gone at its end.
+# is gone at its end. Each bench prints rows of one table (`row`, `amount`), whose head all.sh prints.
 set -eu
 root=$(cd "$(dirname "${BASH_SOURCE[0]}")/.." && pwd)
 work=$(mktemp -d)
@@ -8,11 +8,72 @@ trap 'rm -rf "$work"' EXIT
 # Runs a command, and shows what it prints only where it fails.
 quiet() { "$@" >"$work/log" 2>&1 || { cat "$work/log" >&2; exit 2; }; }
 
-# Takes the program that ./gtyheap has built as `program`; where there is none the bench ends.
+# Takes as `program` the one that GTYHEAP names, or the one that ./gtyheap has built; where there is none the bench ends. `idle` is the time
+# of a run that does nothing: it is a part of the time of every run.
 take_program() {
-  program=$root/crates/gtyheap/out/gtyheap
+  program=${GTYHEAP:-$root/crates/gtyheap/out/gtyheap}
   [ -x "$program" ] || { echo "$(basename "$0"): no program: run ./gtyheap first" >&2; exit 2; }
+  cp "$root/examples/node.h" "$work/node.h"
+  : >"$work/empty.gty"
+  idle=$(seconds 9 "$program" "$work/empty.gty" "$work/node.h")
 }
+
+# Runs the program under the arguments after the first two, and ends the bench where its status or the number of its lines is not as these say.
+wants() {
+  local status=$1 lines=$2 ended=0
+  shift 2
+  "$program" "$@" >"$work/out" || ended=$?
+  if [ "$ended" != "$status" ] || [ "$(wc -l <"$work/out")" != "$lines" ]; then
+    echo "$(basename "$0"): status $ended, and $(head -n 1 "$work/out")" >&2
+    exit 2
+  fi
+}
+
+# The fewest seconds of the processor that a command takes in so many runs, over the file `input` of `work` as its input. What it prints is in `out`.
+seconds() {
+  local runs=$1 run
+  shift
+  for ((run = 0; run < runs; run++)); do "$work/spent" "$work/input" "$@" 2>&1 >"$work/out"; done | sort -n | head -n 1 | awk '{ print $1 }'
+}
+# The KiB that a command has at the most.
+most_memory() { "$work/spent" "$work/input" "$@" 2>&1 >"$work/out" | awk '{ print $2 }'; }
+# A number minus another one.
+minus() { awk -v a="$1" -v b="$2" 'BEGIN { printf "%.6f\n", a - b }'; }
+
+# Prints one row: what was measured, its size, the amount and its unit; what stands beside it, and its amount; the ratio of the two, and the
+# most that it should be. The last three may be missing.
+amount() {
+  awk -v what="$1" -v size="$2" -v a="$3" -v unit="$4" -v beside="${5--}" -v b="${6-}" -v most="${7-}" 'BEGIN {
+    other = b == "" ? "-" : sprintf("%.3f", b)
+    ratio = b + 0 > 0 ? sprintf("%.2f", a / b) : "-"
+    mark = (most != "" && ratio != "-" && ratio + 0 > most + 0) ? "  above" : ""
+    printf("%-40s %10s %12.3f %-5s %-26s %12s %7s %5s%s\n", what, size, a, unit, beside, other, ratio, most == "" ? "-" : most, mark) }'
+}
+# The same for times in seconds, which are shown in milliseconds.
+row() { amount "$1" "$2" "$(awk -v s="$3" 'BEGIN { print s * 1000 }')" ms "${4--}" "${5+$(awk -v s="$5" 'BEGIN { print s * 1000 }')}" "${6-}"; }
+
+# Builds `spent`, which runs a program over a file as its input, and says on the standard error how many seconds of the processor it took, and how
+# many KiB it had at the most.
+cat >"$work/spent.c" <<'C'
+#include <stdio.h>
+#include <stdlib.h>
+#include <sys/resource.h>
+#include <sys/wait.h>
+#include <unistd.h>
+
+int main (int argc, char **argv)
+{
+  if (argc < 3 || !freopen (argv[1], "r", stdin)) return 2;
+  pid_t child = fork ();
+  if (!child) { execv (argv[2], argv + 2); _exit (127); }
+  int status; struct rusage used;
+  if (wait4 (child, &status, 0, &used) < 0 || !WIFEXITED (status) || WEXITSTATUS (status) == 127) return 3;
+  fprintf (stderr, "%.6f %ld\n", used.ru_utime.tv_sec + used.ru_stime.tv_sec + (used.ru_utime.tv_usec + used.ru_stime.tv_usec) / 1e6, used.ru_maxrss);
+  return 0;
+}
+C
+cc -O2 -o "$work/spent" "$work/spent.c"
+: >"$work/input"
 
 # Copies these crates into `work`, each with its line of crates.txt.
 copy_crates() {
@@ -30,32 +91,7 @@ build_copied() {
   for name; do (cd "$work/crates/$name" && quiet rt lib); done
 }
 
-# Builds `spent`, which runs a program over a file as its input, and says on standard error how many seconds of the processor it took, and
-# how many KiB it had at the most.
-build_spent() {
-  cat >"$work/spent.c" <<'C'
-/* Runs a program over a file as its input, and says how many seconds of the processor it took, and how many KiB it had at the most. */
-#include <stdio.h>
-#include <stdlib.h>
-#include <sys/resource.h>
-#include <sys/wait.h>
-#include <unistd.h>
-
-int main (int argc, char **argv)
-{
-  if (argc < 3 || !freopen (argv[1], "r", stdin)) return 2;
-  pid_t child = fork ();
-  if (!child) { execv (argv[2], argv + 2); _exit (127); }
-  int status; struct rusage used;
-  if (wait4 (child, &status, 0, &used) < 0 || !WIFEXITED (status) || WEXITSTATUS (status)) return 3;
-  fprintf (stderr, "%.4f %ld\n", used.ru_utime.tv_sec + used.ru_stime.tv_sec + (used.ru_utime.tv_usec + used.ru_stime.tv_usec) / 1e6, used.ru_maxrss);
-  return 0;
-}
-C
-  cc -O2 -o "$work/spent" "$work/spent.c"
-}
-
-# Builds `small`, a list of nodes in a small allocator in C, which is made (`make N`), or made and collected (`collect N`).
+# Builds `small`, a list of nodes in a small allocator in C, which is made (`make N`), or made and collected so many times (`collect N TIMES`).
 build_small() {
   cat >"$work/small.c" <<'C'
 /* A small allocator and its collection: pages of 4096 bytes, each of one size, with a bit for each place, a list of pages with a free place for each size,
@@ -93,7 +129,7 @@ static int mark (void *block)
 }
 int main (int argc, char **argv)
 {
-  long n = argc > 2 ? atol (argv[2]) : 0, kept = 0; node *head = 0, **stack = malloc ((2 * n + 16) * sizeof *stack); size_t depth = 0;
+  long n = argc > 2 ? atol (argv[2]) : 0, times = argc > 3 ? atol (argv[3]) : 1, kept = 0; node *head = 0, **stack = malloc ((2 * n + 16) * sizeof *stack); size_t depth = 0;
   base = mmap (0, (size_t) PAGES * PAGE, PROT_READ | PROT_WRITE, MAP_PRIVATE | MAP_ANONYMOUS, -1, 0);
   table = calloc (PAGES, sizeof *table);
   for (int i = 0; i < 32; i++) first[i] = ~0u;
@@ -102,18 +138,22 @@ int main (int argc, char **argv)
     if (i % 3 == 2) { node *y = take (5); y->other = x; }
   }
   if (strcmp (argv[1], "collect")) { printf ("%ld\n", n); return 0; }
-  for (uint32_t p = 0; p < top; p++) { page *e = &table[p]; memset (e->bits, 0, sizeof e->bits); e->free = e->count; }
-  if (head && mark (head)) stack[depth++] = head;
-  while (depth) {
-    node *x = stack[--depth]; kept++;
-    if (x->next && mark (x->next)) stack[depth++] = x->next;
-    if (x->other && mark (x->other)) stack[depth++] = x->other;
-  }
-  for (int i = 0; i < 32; i++) first[i] = ~0u;
-  for (uint32_t p = top; p-- > 0;) {
-    page *e = &table[p]; e->hint = 0;
-    if (e->free == e->count) { e->next = empty; empty = p; }
-    else if (e->free) { e->next = first[e->shift]; first[e->shift] = p; }
+  for (long t = 0; t < times; t++) {
+    kept = 0;
+    for (uint32_t p = 0; p < top; p++) { page *e = &table[p]; memset (e->bits, 0, sizeof e->bits); e->free = e->count; }
+    if (head && mark (head)) stack[depth++] = head;
+    while (depth) {
+      node *x = stack[--depth]; kept++;
+      if (x->next && mark (x->next)) stack[depth++] = x->next;
+      if (x->other && mark (x->other)) stack[depth++] = x->other;
+    }
+    for (int i = 0; i < 32; i++) first[i] = ~0u;
+    empty = ~0u;
+    for (uint32_t p = top; p-- > 0;) {
+      page *e = &table[p]; e->hint = 0;
+      if (e->free == e->count) { e->next = empty; empty = p; }
+      else if (e->free) { e->next = first[e->shift]; first[e->shift] = p; }
+    }
   }
   printf ("%ld\n", kept); return 0;
 }

@@ -1,7 +1,7 @@
 #!/usr/bin/env bash
-# Times the calls of a space on its block of raw memory and on the vector that stood in its place before, and moves of 64 MiB
-# beside the memmove of the C library. Run by hand, from any folder; no call should be slower on the block, and a move should
-# take about as long as memmove. Both bodies, with the one program that times them, are proved and built in a temporary folder.
+# Times the calls of a space on its block of raw memory beside the vector that stood in its place before, and moves of 64 MiB beside the vector and
+# beside the memmove of the C library. Run by hand, from any folder. Both bodies, with the one program that times them, are proved and built in a
+# temporary folder. Where valgrind is there, the instructions of a million calls are counted too, which are the same each time.
 . "$(dirname "$0")/shared.sh"
 for body in block vector; do
   mkdir -p "$work/$body/crates/time_space/src"
@@ -277,36 +277,26 @@ int main(int words, char **word) {
   return bytes[by];
 }
 END
-gcc -O2 -fno-builtin -o "$work/memmove" "$work/memmove.c"
+cc -O2 -fno-builtin -o "$work/memmove" "$work/memmove.c"
 
-# The seconds of the processor that a run takes.
-seconds() {
-  local TIMEFORMAT='%U %S'
-  { time "$@" >/dev/null; } 2>&1 | awk '{ print $1 + $2 }'
+# The seconds of so many calls of each body in twenty runs by turns, so that both meet the same machine, without those of a run that makes none:
+# first the block, then the vector.
+both() {
+  for _ in {1..20}; do
+    echo "$(seconds 1 "$work/time_block" "$@") $(seconds 1 "$work/time_block" none 0 0) $(seconds 1 "$work/time_vector" "$@") $(seconds 1 "$work/time_vector" none 0 0)"
+  done | awk '{ for (i = 1; i <= 4; i++) if (NR == 1 || $i < least[i]) least[i] = $i } END { printf "%.6f %.6f\n", least[1] - least[2], least[3] - least[4] }'
 }
-# The fewest seconds of so many calls in twenty runs of each body, by turns, so that both meet the same machine.
-fewest() {
-  for _ in $(seq 20); do echo "$(seconds "$work/time_vector" "$@") $(seconds "$work/time_block" "$@")"; done |
-    awk 'NR == 1 || $1 < a { a = $1 } NR == 1 || $2 < b { b = $2 } END { print a, b }'
-}
-# The instructions of a run, where valgrind is there: the same each time, whatever else the machine does.
 instructions() { valgrind --tool=callgrind --callgrind-out-file=/dev/null "$@" 2>&1 >/dev/null | awk '/Collected/ { print $4 }'; }
-count=100000000
-none=$(fewest none 0 0)
 for call in read_u64 write_u64 fill copy_in copy_out move_within; do
-  echo "$call $count $none $(fewest $call $count 0)" |
-    awk '{ printf "%-12s vector: %5.2f ns, block: %5.2f ns a call\n", $1, ($5 - $3) * 1e9 / $2, ($6 - $4) * 1e9 / $2 }'
+  read -r block vector < <(both $call 100000000 0)
+  row "calls of $call" 100000000 "$block" 'on the vector' "$vector" 1.1
   if command -v valgrind >/dev/null; then
-    echo "  instructions of 1,000,000 calls: vector $(instructions "$work/time_vector" $call 1000000 0), block $(instructions "$work/time_block" $call 1000000 0)"
+    amount "calls of $call" 1000000 "$(instructions "$work/time_block" $call 1000000 0)" instr 'on the vector' "$(instructions "$work/time_vector" $call 1000000 0)"
   fi
 done
-# The seconds of so many moves, without those of a run that makes none, the fewest of five.
-moves() {
-  for _ in 1 2 3 4 5; do echo "$(seconds "$1" none 0 0) $(seconds "$1" move_all "$2" "$3")"; done |
-    awk 'NR == 1 || $1 < a { a = $1 } NR == 1 || $2 < b { b = $2 } END { print b - a }'
-}
 # Up by so many bytes and down again, 64 MiB each time.
 for by in 1 8 4096; do
-  awk -v d=$by -v a="$(moves "$work/time_vector" 10 $by)" -v b="$(moves "$work/time_block" 10 $by)" -v m="$(moves "$work/memmove" 10 $by)" \
-    'BEGIN { printf "64 MiB by %-4d vector: %.4f s, block: %.4f s, memmove: %.4f s a move\n", d, a / 20, b / 20, m / 20 }'
+  read -r block vector < <(both move_all 10 $by)
+  row "20 moves of 64 MiB by $by" 67108864 "$block" 'on the vector' "$vector"
+  row "20 moves of 64 MiB by $by" 67108864 "$block" memmove "$(minus "$(seconds 5 "$work/memmove" move_all 10 $by)" "$(seconds 5 "$work/memmove" move_all 0 $by)")" 1.5
 done

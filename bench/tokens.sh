@@ -1,6 +1,6 @@
 #!/usr/bin/env bash
-# Cuts headers of 1 MB and of a tenth of that into tokens, and compares the times. Run by hand, from any folder; each
-# ratio should stay under 12. The program that reads them is written and built in a copy of the crates that it needs.
+# Cuts headers of 1 MB and of a tenth of that into tokens. Run by hand, from any folder. The program that reads them is written and built in a
+# copy of the crates that it needs.
 . "$(dirname "$0")/shared.sh"
 mkdir -p "$work/crates/read_tokens/src"
 copy_crates gt_types gt_text gt_io gt_lex
@@ -45,17 +45,14 @@ hashes() { header "$1" '#'; }
 lines_of_hashes() { yes '#' | head -c "$1"; }
 defines() { yes '#define N -5' | head -c "$1"; }
 
-# Seconds of the processor that twenty runs take.
-seconds() {
-  local TIMEFORMAT='%U %S'
-  cd "$work"
-  { time for _ in {1..20}; do "$program"; done; } 2>&1 | awk '{ print $1 + $2 }'
-}
+cd "$work"
+: >header.h
+idle=$(seconds 20 "$program")
 for kind in tokens comment line_comment literal identifier hashes lines_of_hashes defines; do
-  $kind 100000 >"$work/header.h"
-  small=$(seconds)
-  $kind 1000000 >"$work/header.h"
-  large=$(seconds)
-  awk -v k="$kind" -v a="$small" -v b="$large" \
-    'BEGIN { printf "%-16s 100 KB: %.4f s, 1 MB: %.4f s, ratio %.1f\n", k, a / 20, b / 20, b / a }'
+  $kind 100000 >header.h
+  small=$(minus "$(seconds 20 "$program")" "$idle")
+  $kind 1000000 >header.h
+  "$program"
+  large=$(minus "$(seconds 20 "$program")" "$idle")
+  row "bytes of $kind" 1000000 "$large" 'a tenth' "$small" 12
 done

@@ -1,11 +1,10 @@
 #!/usr/bin/env bash
-# Binds 50,000 variables and then answers `set` and `get` lines over them, 475,000 and twice as many, and compares the times
-# behind those of the bindings alone. All fills the 1,000,000 commands that a script may have. Run by hand, from any folder; the
-# ratio should stay under 2.5.
+# Binds 50,000 variables, and then answers 950,000 lines `set` and `get` over them, and a tenth of these. The time of the bindings alone is taken off.
+# All together are as many commands as a script may have. Run by hand, from any folder, after ./gtyheap.
 . "$(dirname "$0")/shared.sh"
-cp "$root/examples/node.h" "$work/node.h"
+take_program
 
-# 50,000 new variables, and so many lines by turns `set` and `get`, over variables that are far apart.
+# 50,000 new variables, and so many lines, `set` and `get` by turns, over variables that are far apart.
 lines() {
   awk -v n="$1" 'BEGIN {
     count = 50000
@@ -17,19 +16,11 @@ lines() {
     }
   }'
 }
-lines 0 >"$work/none.gty"
-lines 475000 >"$work/small.gty"
-lines 950000 >"$work/large.gty"
-# No line is refused: the status is 0.
-for name in none small large; do "$root/gtyheap" "$work/$name.gty" "$work/node.h"; done
-program=$root/crates/gtyheap/out/gtyheap
-# Seconds of the processor that three runs take.
-seconds() {
-  local TIMEFORMAT='%U %S'
-  { time for _ in 1 2 3; do "$program" "$work/$1.gty" "$work/node.h" >/dev/null; done; } 2>&1 | awk '{ print $1 + $2 }'
-}
-none=$(seconds none)
-small=$(seconds small)
-large=$(seconds large)
-awk -v o="$none" -v a="$small" -v b="$large" \
-  'BEGIN { printf "50000 new: %.3f s, 475000 lines more: %.3f s, 950000: %.3f s, ratio %.1f\n", o / 3, (a - o) / 3, (b - o) / 3, (b - o) / (a - o) }'
+for n in 0 95000 950000; do
+  lines $n >"$work/$n.gty"
+  wants 0 0 "$work/$n.gty" "$work/node.h"
+done
+none=$(seconds 5 "$program" "$work/0.gty" "$work/node.h")
+small=$(minus "$(seconds 5 "$program" "$work/95000.gty" "$work/node.h")" "$none")
+large=$(minus "$(seconds 5 "$program" "$work/950000.gty" "$work/node.h")" "$none")
+row 'lines `set` and `get` over variables' 950000 "$large" 'a tenth' "$small" 12

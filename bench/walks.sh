@@ -1,13 +1,13 @@
 #!/usr/bin/env bash
-# Times visits of 1,000,000 nodes of two pointers beside two C loops over the same bytes: the second calls a function through a
-# pointer for each edge, as a sink is called, and the first adds each edge up in place, so that gcc keeps the sum in a register. And
-# visits of tails of 6,554 and of 65,536 pointers. Run by hand, from any folder. The nodes should take at most four times the loop
-# that calls: they took 1.1 to 1.4 times that one, and 5 to 7 times the other. The second tail should take about ten times the first.
-# The program that visits is proved and built in a copy of the crates that it needs.
+# Times visits of 1,000,000 nodes of two pointers beside two C loops over the same bytes: one calls a function through a
+# pointer for each edge, as a sink is called, and the other adds each edge up in place, so that the compiler keeps the sum in a register. And
+# visits of tails of 65,536 pointers, and of a tenth. Run by hand, from any folder. The nodes took 1.1 to 1.4 times the loop that calls, and 5 to 7 times
+# the other. The program that visits is proved and built in a copy of the crates that it needs.
 . "$(dirname "$0")/shared.sh"
 program=$work/crates/time_walks
 mkdir -p "$program/src" "$program/proofs/visit_times"
-copy_crates gt_types gt_layout gt_space gt_tree gt_unions gt_value gt_walk
+crates="gt_types gt_layout gt_space gt_tree gt_unions gt_value gt_walk"
+copy_crates $crates
 echo 'time_walks: gt_types gt_space gt_walk' >>"$work/crates.txt"
 cat >"$program/proofs/visit_times/Answers.antt" <<'END'
 use Rattle.gt_space.specs.declared.TheConstants.{HEAP_START}
@@ -225,22 +225,23 @@ int main(int argc, char **argv) {
   return 0;
 }
 END
-gcc -O2 -o "$work/walks" "$work/walks.c"
+cc -O2 -o "$work/walks" "$work/walks.c"
 : >"$program/stdin"
+build_copied $crates
 (cd "$program" && quiet rt run -- nodes 1 1)
-
-# The processor time of the best of nine runs, for one visit.
-seconds() {
-  local times=$1 TIMEFORMAT='%U'
-  shift
-  for _ in 1 2 3 4 5 6 7 8 9; do { time "$@" >"$work/sum"; } 2>&1; done | sort -n | head -n 1 | awk -v times="$times" '{ print $1 / times }'
-}
 visit=$program/out/time_walks
 for words in 'nodes 1000000 3' 'tail 65536 3'; do
   # shellcheck disable=SC2086
   [ "$("$visit" $words)" = "$("$work/walks" $words)" ] || { echo "$words: the sums differ" >&2; exit 2; }
 done
-awk -v v="$(seconds 100 "$visit" nodes 1000000 100)" -v i="$(seconds 100 "$work/walks" nodes 1000000 100)" -v c="$(seconds 100 "$work/walks" nodes 1000000 100 call)" 'BEGIN {
-  printf "1,000,000 nodes: %.2f ms; in C %.2f ms, ratio %.1f; in C with a call for each edge %.2f ms, ratio %.1f\n", 1000 * v, 1000 * i, v / i, 1000 * c, v / c }'
-awk -v s="$(seconds 5000 "$visit" tail 6554 5000)" -v l="$(seconds 5000 "$visit" tail 65536 5000)" 'BEGIN {
-  printf "a tail of 6,554 pointers: %.4f ms, of 65,536: %.4f ms, ratio %.1f\n", 1000 * s, 1000 * l, l / s }'
+
+# The seconds of one of so many visits, without those of a run that visits nothing.
+one() {
+  local visits=$1
+  shift
+  awk -v a="$(seconds 9 "$@" "$visits" ${called-})" -v b="$(seconds 9 "$@" 0 ${called-})" -v n="$visits" 'BEGIN { printf "%.9f\n", (a - b) / n }'
+}
+nodes=$(one 100 "$visit" nodes 1000000)
+row 'nodes visited' 1000000 "$nodes" 'in C, a call for each edge' "$(called=call one 100 "$work/walks" nodes 1000000)" 4
+row 'nodes visited' 1000000 "$nodes" 'in C' "$(one 100 "$work/walks" nodes 1000000)"
+row 'pointers of a tail visited' 65536 "$(one 5000 "$visit" tail 65536)" 'a tenth' "$(one 5000 "$visit" tail 6554)" 12
