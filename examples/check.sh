@@ -1,0 +1,34 @@
+#!/usr/bin/env bash
+# Runs each example under its headers, and compares what it prints with NAME.out beside it, and its status; and compares the picture of
+# the first one with tree.dot. The status of this script is 0 where all are as they should be. Run by hand, from any folder; the gate has the
+# first example as its own stored run. GTYHEAP may name another program, by a whole path, than ./gtyheap, which proves and builds what it
+# needs first.
+set -u
+cd "$(dirname "$0")" || exit 2
+export GTYHEAP=${GTYHEAP:-$PWD/../gtyheap}
+answers=$(mktemp)
+trap 'rm -f "$answers"' EXIT
+failed=0
+
+# Runs NAME.gty under headers, and wants this status.
+example() {
+  local name=$1 wanted=$2 status
+  shift 2
+  "$GTYHEAP" "$name.gty" "$@" >"$answers"
+  status=$?
+  if diff "$name.out" "$answers" && [ "$status" = "$wanted" ]; then
+    echo "$name: as it should be"
+  else
+    echo "$name: differs, status $status where $wanted was wanted"
+    failed=1
+  fi
+}
+
+example tree 1 tree.h scope.h
+example expr 1 expr.h
+example chain 1 chain.h expr.h
+example cycle 1 cycle.h
+example list 1 node.h
+example collect 1 node.h
+./picture.sh tree.gty tree.h scope.h | diff tree.dot - && echo 'the picture of tree: as it should be' || failed=1
+exit "$failed"
