@@ -124,9 +124,7 @@ impl Space {
         requires { IsInside self.now addr 2 }
         ensures { result ≡ u16_at self.now addr }
     {
-        let mut bytes = [0; 2];
-        self.copy_out(addr, &mut bytes);
-        u16::from_le_bytes(bytes)
+        u16::from_le_bytes(*self.array_at::<2>(addr))
     }
 
     /// The number in the four bytes at the address, the low byte first.
@@ -135,9 +133,7 @@ impl Space {
         requires { IsInside self.now addr 4 }
         ensures { result ≡ u32_at self.now addr }
     {
-        let mut bytes = [0; 4];
-        self.copy_out(addr, &mut bytes);
-        u32::from_le_bytes(bytes)
+        u32::from_le_bytes(*self.array_at::<4>(addr))
     }
 
     /// The number in the eight bytes at the address, the low byte first.
@@ -146,9 +142,20 @@ impl Space {
         requires { IsInside self.now addr 8 }
         ensures { result ≡ u64_at self.now addr }
     {
-        let mut bytes = [0; 8];
-        self.copy_out(addr, &mut bytes);
-        u64::from_le_bytes(bytes)
+        u64::from_le_bytes(*self.array_at::<8>(addr))
+    }
+
+    // The `N` bytes at the address.
+    fn array_at<const N: usize>(&self, addr: u64) -> &[u8; N]
+        requires { IsInside self.now addr N }
+        ensures { result.now ≡ bytes_at self.now addr N }
+    {
+        let at = (addr - self.start) as usize;
+        let bytes = &self.bytes.as_slice(self.ptr, self.len)[at..at + N];
+        match bytes.as_array::<N>() {
+            Some(array) => array,
+            None => unreachable!(),
+        }
     }
 
     /// Writes the byte at the address.
