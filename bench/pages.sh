@@ -1,15 +1,15 @@
 #!/usr/bin/env bash
 # Makes blocks in pages and collects them, beside a small allocator in C with the same sizes, which keeps a bit for each place: a list of
 # so many nodes of 24 bytes, and for each third node one more that names it and that nothing names. A collection is the mean of fifty, after a first
-# one. The program asks for the owner of each address before it marks it, since `mark` wants the start of a block; that is one search more for each edge
-# than a marker needs. Then it says how many bytes the pages take, beyond those of the space, with a block of a page in each, and with blocks of 8 bytes.
+# one. The program does not know that a block starts at an address that it reads, so it marks the block that has the byte there. Then it says how many
+# bytes the pages take, beyond those of the space, with a block of a page in each, and with blocks of 8 bytes.
 # Run by hand, from any folder; the program around gt_pages is written and built in a copy of the crates that it needs.
 . "$(dirname "$0")/shared.sh"
 copy_crates gt_space gt_links gt_bits gt_entries gt_pages
 program=$work/crates/time_pages
 mkdir -p "$program/src"
 echo 'time_pages: gt_space gt_pages' >>"$work/crates.txt"
-mkdir -p "$program/proofs/starts" "$program/proofs/make_block"
+mkdir -p "$program/proofs/make_block"
 cp "$root/crates/pages_table/proofs/Found.antt" "$program/proofs"
 echo 'mod Found' >"$program/proofs/Lib.antt"
 cat >"$program/proofs/make_block/Answers.antt" <<'END'
@@ -20,25 +20,10 @@ use Rattle.time_pages.proofs.make_block.Goals as goal
 pub alloc_slot-requires : goal.alloc_slot-requires
 alloc_slot-requires c = record { listed = rounded_listed c.args.bytes c.in-Some.size (sym c.rounded_size.ensures.least ∙ c.in-Some.is) }
 END
-cat >"$program/proofs/starts/Answers.antt" <<'END'
-use Rattle.std.proofs.Common.{sym, subst, ◌∙◌}
-use Rattle.std.proofs.lemmas.Bool.{eqb-true}
-use Rattle.gt_pages.specs.Slots.{StartsSome}
-use Rattle.time_pages.proofs.Found.{owner_starts}
-use Rattle.time_pages.proofs.starts.Goals as goal
-
-pub returns-in-Some : goal.returns-in-Some
-returns-in-Some c = λ same.
-    subst (λ a. StartsSome c.args.pages.now.slots a) (eqb-true c.in-Some.start c.args.addr same)
-    (owner_starts c.args.pages.now.slots c.args.addr c.in-Some.start c.in-Some._size (sym c.owner.ensures.owner ∙ c.in-Some.is))
-END
 cat >"$program/src/main.rt" <<'RT'
 //! Makes nodes in pages and collects them. The words are `make`, `collect`, `pages`, `bytes` or `none`, and how many there are; what is
 //! printed is how many blocks a collection keeps, or how many were made.
 #![tactic(auto)]
-
-ghost use Rattle.std.specs.Prelude.{◌≡◌, IsTrue};
-ghost use Rattle.gt_pages.specs.Slots.{StartsSome};
 
 use gt_pages::{Pages, SlotFail, rounded_size};
 use gt_space::Space;
@@ -97,16 +82,6 @@ fn make(pages: &mut Pages, space: &mut Space, n: u64) -> u64 {
     last
 }
 
-// Whether a block starts at an address.
-fn starts(pages: &Pages, addr: u64) -> bool
-    ensures { IsTrue result → StartsSome pages.now.slots addr }
-{
-    match pages.owner(addr) {
-        Some((start, _size)) => start == addr,
-        None => false,
-    }
-}
-
 // Puts an address on the stack, unless it is null.
 #[inline(always)]
 fn push(stack: &mut Vec<u64>, addr: u64) -> Result<(), AllocError> {
@@ -132,7 +107,7 @@ fn collect(
         let Some(addr) = stack.pop() else {
             break;
         };
-        if starts(pages, addr) && pages.mark(addr, 0, 1) {
+        if pages.mark_owner(addr, 0, 1) == Some(true) {
             kept = kept.wrapping_add(1);
             push(&mut stack, get(space, addr % 4294967296))?;
             push(&mut stack, get(space, addr.wrapping_add(8) % 4294967296))?;
@@ -220,8 +195,8 @@ for n in 100000 1000000; do
   row 'nodes made' $n "$(makes "$ours" $n)" 'in C' "$(makes "$work/small" $n)" 3
   row 'nodes in pages that are collected' $n "$(collects "$ours" $n)" 'in C' "$(collects "$work/small" $n)" 3
 done
-# The bytes that each of 16,384 pages takes, beyond what a run has that does nothing.
+# The bytes that each of 16,384 pages takes, beyond what a run has that does nothing: at most 256 a page, and 16 for each of its places.
 none=$(most_memory "$ours" none 0)
 a_page() { awk -v a="$(most_memory "$ours" "$@")" -v b="$none" 'BEGIN { print (a - b) / 16 }'; }
-amount 'a page with one block' 16384 "$(a_page pages 16384)" bytes
-amount 'a page with 512 blocks' 16384 "$(a_page bytes 8388608)" bytes
+amount 'a page with one block' 16384 "$(a_page pages 16384)" bytes 'at most' 272 1
+amount 'a page with 512 blocks' 16384 "$(a_page bytes 8388608)" bytes 'at most' 8448 1

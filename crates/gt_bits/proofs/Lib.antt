@@ -1,4 +1,6 @@
 pub mod WordLemmas
+pub mod OnesLemmas
 pub mod SetLemmas
 pub mod CountLemmas
 pub mod RunLemmas
+pub mod LowestLemmas

@@ -1,7 +1,7 @@
--- Runs, found one after another.
-use Rattle.std.proofs.Common.{◌≡◌, ℕ, ◌+◌, ◌-◌, ◌<◌, ◌≤◌, max, List, Some, None, inl, inr, arith}
+-- The longest run, of those found one after another.
+use Rattle.std.proofs.Common.{◌≡◌, ℕ, ◌+◌, ◌-◌, ◌<◌, ◌≤◌, max, List, inl, inr, arith}
 use Rattle.std.proofs.lemmas.Bool.{cases_lt, both_ways}
-use Rattle.gt_bits.specs.Sets.{has, HoldsNone, HasRun, IsLowestRun, IsLongestRun}
+use Rattle.gt_bits.specs.Sets.{has, HoldsNone, HasRun, IsLongestRun}
 use Rattle.gt_bits.specs.Runs.{IsRun}
 use Rattle.gt_bits.specs.declared.runs.Run.{Run}
 
@@ -32,37 +32,6 @@ module _ (words : List ℕ) (end : ℕ) where
       let some : run.start < run.stop = is.some in
       let stop : run.stop ≤ end = is.stop in
       (omega arith, λ j low high. is.all j low (omega arith))
-
-  module _ (n : ℕ) where
-    -- no run of n numbers begins below `from`
-    abbrev pub NoneBefore : ℕ → Type 0
-    NoneBefore from = (start : ℕ) → start < from → ¬ (HasRun words n end start)
-
-    pub lowest_none : (from : ℕ) → 1 ≤ n → NoneBefore from → HoldsNone words from end → IsLowestRun words n end None
-    lowest_none from some before none = record {
-      run = tt;
-      lowest = tt;
-      none = λ start held. elim (cases_lt start from) [
-        | inl low ↦ before start low held
-        | inr high ↦ run_is_nowhere from none n start some high held
-      ];
-    }
-
-    pub lowest_found : (from : ℕ) (run : Run) → 1 ≤ n → NoneBefore from → IsRun words from end run → n ≤ run.stop - run.start → IsLowestRun words n end (Some run.start)
-    lowest_found from run some before is long = record {
-      run = whole_run from run is n long;
-      lowest = λ start low held. elim (cases_lt start from) [
-        | inl early ↦ before start early held
-        | inr late ↦ both_ways (has words start) (is.before start late low) (held.1 start (omega arith) (omega arith))
-      ];
-      none = tt;
-    }
-
-    pub lowest_step : (from : ℕ) (run : Run) → 1 ≤ n → NoneBefore from → IsRun words from end run → run.stop - run.start < n → NoneBefore run.stop
-    lowest_step from run some before is short start low held = elim (cases_lt start from) [
-      | inl early ↦ before start early held
-      | inr late ↦ let most = run_is_short from run is n start some late held low in omega arith
-    ]
 
   -- there is a run of so many numbers, and none that begins below `from` has more
   pub record LongestBefore (from longest : ℕ) : Type 0 where

@@ -6,7 +6,7 @@ use Rattle.std.proofs.lemmas.Nat.Bits.{bit_at-zero, bit_at-trailing_zeros, bit_a
 use Rattle.std.specs.Int.{bit_at, bit_not, trailing_zeros}
 use Rattle.gt_bits.specs.Places.{IsNextBit, IsNextClearBit}
 
-bit_shifted : (word from k : ℕ) → bit_at (word / 2 ^ from) k ≡ bit_at word (from + k)
+pub bit_shifted : (word from k : ℕ) → bit_at (word / 2 ^ from) k ≡ bit_at word (from + k)
 bit_shifted word from k = ap (λ x. x % 2) (shr-shr word from k)
 
 bit_from : (word from j : ℕ) → from ≤ j → bit_at word j ≡ bit_at (word / 2 ^ from) (j - from)

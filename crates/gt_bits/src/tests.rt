@@ -1,4 +1,4 @@
-//! The first and the last bit of a word, a run across two words, and numbers after the last word.
+//! The first and the last bit of a word, runs within a word and across words, and numbers after the last word.
 use crate::{clear, count, first_run, has, insert, longest_run, next, next_gap, remove};
 use std::process::Abort;
 use std::test::Fail;
@@ -24,4 +24,28 @@ fn numbers_at_the_ends_of_words(rt: HostRuntime) {
     assert_eq!(rt; (count(&words), longest_run(&words, 128)), (5, 3));
     clear(&mut words);
     assert_eq!(rt; count(&words), 0);
+}
+
+#[test]
+fn runs_over_words(rt: HostRuntime) {
+    // 60 to 129, and 131.
+    let long = [0xf000_0000_0000_0000u64, u64::MAX, 0b1011];
+    assert_eq!(rt;
+        (first_run(&long, 4, 64), first_run(&long, 5, 64)),
+        (Some(60), None)
+    );
+    assert_eq!(rt;
+        (first_run(&long, 70, 192), first_run(&long, 71, 192)),
+        (Some(60), None)
+    );
+    // Every second number up to 62, then 64, and 100 to 103.
+    let sparse = [0x5555_5555_5555_5555u64, 0xf0_0000_0001];
+    assert_eq!(rt;
+        (first_run(&sparse, 2, 128), first_run(&sparse, 4, 128)),
+        (Some(100), Some(100))
+    );
+    assert_eq!(rt;
+        (first_run(&sparse, 4, 103), first_run(&sparse, 5, 128)),
+        (None, None)
+    );
 }

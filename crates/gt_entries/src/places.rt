@@ -1,5 +1,5 @@
 //! The places of one entry: bits for those in use, marked and still to be walked, and a tag for each.
-ghost use Rattle.std.specs.Prelude.{◌≡◌, ℕ, ◌*◌, ◌<◌, ◌≤◌, ◌↔◌, true, false, not, [], length, map, replicate, count_by, slice_set, IfOk, IfSome, IfNone, IsTrue, Some, None};
+ghost use Rattle.std.specs.Prelude.{◌≡◌, ◌≢◌, ℕ, ◌*◌, ◌<◌, ◌≤◌, ◌↔◌, true, false, not, [], length, map, replicate, count_by, slice_set, IfOk, IfSome, IfNone, IsTrue, Some, None};
 ghost use Rattle.gt_bits.specs.Sets as bits;
 ghost use Rattle.gt_entries.specs.Cells.{Free, Used, IsFirstFrom, cell_at, is_free, is_lost, is_marked, is_pending, mark_in, swept, unmarked, walked};
 
@@ -52,8 +52,8 @@ impl Places {
         }
     }
 
-    /// So many free places, in the memory of these, which is given back where it does not suffice. It fails only for
-    /// want of memory.
+    /// So many free places, in the memory of these, which is given back where it does not suffice. It fails only if
+    /// memory runs out.
     pub fn renew(self, count: u32) -> Result<Places, AllocError>
         requires { count ≤ MAX_PLACES }
         ensures free { IfOk result (λ places. places ≡ replicate count Free) }
@@ -145,6 +145,22 @@ impl Places {
         self.sets.set_pending(k);
         self.tags[k as usize] = Tag { walk, count };
         true
+    }
+
+    /// Marks the block at a place as `mark` does, and says whether it was not marked before; `None` where the place is free.
+    #[inline(always)]
+    pub fn mark_used(&mut self, k: u32, walk: u32, count: u32) -> Option<bool>
+        ensures free { IfNone result (is_free (cell_at self.old k) ≡ true) }
+        ensures used { IfSome result (λ _. is_free (cell_at self.old k) ≡ false) }
+        ensures fresh { IfSome result (λ fresh. fresh ≡ not (is_marked (cell_at self.old k))) }
+        ensures marked { result ≡ Some true → self.new
+            ≡ slice_set self.old k (Used (Some (record { walk = walk; count = count; pending = true }))) }
+        ensures unchanged { result ≢ Some true → self.new ≡ self.old }
+    {
+        if !self.is_used(k) {
+            return None;
+        }
+        Some(self.mark(k, walk, count))
     }
 
     /// The block at a place is no more to be walked.

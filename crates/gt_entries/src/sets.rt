@@ -37,7 +37,7 @@ impl Sets {
     }
 
     /// Empty sets of so many words each, in the memory of these, which is given back where it does not suffice. It fails
-    /// only for want of memory.
+    /// only if memory runs out.
     pub(crate) fn renew(self, len: usize) -> Result<Sets, AllocError>
         requires { len < 2 ^ 32 }
         ensures { IfOk result (λ s. s ≡ record { used = replicate len 0; marked = replicate len 0; pending = replicate len 0 }) }

@@ -3,7 +3,7 @@
 #![tactic(auto)]
 
 mod chains;
-mod laws;
+pub mod laws;
 mod marker;
 mod marking;
 mod spans;

@@ -7,6 +7,7 @@ pub mod SizeLemmas
 pub mod WhereLemmas
 pub mod MarkLemmas
 pub mod SetLemmas
+pub mod OwnerLemmas
 pub mod FreeLemmas
 pub mod CachedLemmas
 pub mod ClearLemmas

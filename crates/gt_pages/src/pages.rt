@@ -1,5 +1,5 @@
 //! The blocks of a space, their marks, and the places that are free for more of them.
-ghost use Rattle.std.specs.Prelude.{◌≡◌, ◌≢◌, ℕ, ◌≤◌, ◌<◌, ◌↔◌, [], false, map, filter, count_by, length, Contains, IfErr, IfOk, IsTrue, MatchResult, OnErr, OnOk, None};
+ghost use Rattle.std.specs.Prelude.{◌≡◌, ◌≢◌, ℕ, ◌≤◌, ◌<◌, ◌↔◌, [], false, map, filter, count_by, length, Contains, IfErr, IfOk, IsTrue, MatchResult, OnErr, OnOk, Some, None, is_none, true};
 ghost use Rattle.gt_space.specs.declared.TheConstants.{MIN_PAGES, MAX_PAGES};
 ghost use Rattle.gt_links.specs.Lists.{Holds, nodes_of, with_nodes};
 ghost use Rattle.gt_pages.specs.Ledger.{AreFree, Base, IsTooLong, Place, Room, sizes};
@@ -19,7 +19,7 @@ pub const LISTS: u32 = 30;
 /// The list of cached entries.
 pub const CACHED: u32 = 29;
 
-/// Why a block got no place: no place is left for its size, or memory is wanting.
+/// Why a block got no place: no place is left for its size, or memory ran out.
 #[derive(Clone, Copy, Debug, PartialEq, Eq)]
 pub enum SlotFail {
     Full,
@@ -61,7 +61,7 @@ impl Model for Pages {
 }
 
 impl Pages {
-    /// A space of so many pages without blocks. It fails only for want of memory.
+    /// A space of so many pages without blocks. It fails only if memory runs out.
     pub fn new(alloc: Global, pages: u32) -> Result<Pages, AllocError>
         requires at_least { MIN_PAGES ≤ pages }
         requires at_most { pages ≤ MAX_PAGES }
@@ -73,8 +73,7 @@ impl Pages {
     }
 
     /// Makes an unmarked block of a listed size, in bytes, and gives its address. `Full` says that there is no room for this
-    /// size, and the cached entries are released before it is answered. `Memory` says that memory is wanting, and nothing
-    /// changes.
+    /// size, and the cached entries are released before it is answered. `Memory` says that memory ran out, and nothing changes.
     pub fn alloc_slot(&mut self, size: u32) -> Result<u64, SlotFail>
         requires listed { Contains sizes size }
         ensures placed { IfOk result (λ addr. Place (ledger_of self.old) (block_of (slot_at addr size))) }
@@ -125,6 +124,19 @@ impl Pages {
         ensures unchanged { result ≡ false → self.new ≡ self.old }
     {
         self.store.mark(addr, walk, count)
+    }
+
+    /// Marks the block that has the byte at an address as `mark` does, and says whether it was not marked before; `None` where
+    /// no block has it.
+    pub fn mark_owner(&mut self, addr: u64, walk: u32, count: u32) -> Option<bool>
+        ensures none { owner_of self.old.slots addr ≡ None → result ≡ None }
+        ensures fresh { (start size : ℕ) → owner_of self.old.slots addr ≡ Some (start, size)
+            → result ≡ Some (is_none (mark_at self.old.slots start)) }
+        ensures marked { (start size : ℕ) → owner_of self.old.slots addr ≡ Some (start, size) → result ≡ Some true
+            → self.new ≡ with_slots self.old (with_mark_at self.old.slots start (Some (new_mark walk count))) }
+        ensures unchanged { result ≢ Some true → self.new ≡ self.old }
+    {
+        self.store.mark_owner(addr, walk, count)
     }
 
     /// Whether the block that starts at an address is marked.

@@ -1,5 +1,5 @@
 //! The parts of the pages: the entries, the sets of pages, the table and the lists, and how they change together.
-ghost use Rattle.std.specs.Prelude.{◌≡◌, ◌≢◌, ℕ, ◌+◌, ◌-◌, ◌*◌, ◌/◌, ◌^◌, ◌<◌, ◌≤◌, ◌↔◌, true, false, not, length, replicate, slice_set, Contains, IsTrue, Some, None, IfErr, IfOk, IfSome, IfNone, OnErr, OnOk, [], ◌∷◌, ◌++◌, map, filter, count_by};
+ghost use Rattle.std.specs.Prelude.{◌≡◌, ◌≢◌, ℕ, ◌+◌, ◌-◌, ◌*◌, ◌/◌, ◌^◌, ◌<◌, ◌≤◌, ◌↔◌, true, false, not, length, replicate, slice_set, Contains, IsTrue, Some, None, is_none, IfErr, IfOk, IfSome, IfNone, OnErr, OnOk, [], ◌∷◌, ◌++◌, map, filter, count_by};
 ghost use Rattle.gt_space.specs.declared.TheConstants.{MIN_PAGES, MAX_PAGES};
 ghost use Rattle.gt_bits.specs.Sets.{has, HasRun};
 ghost use Rattle.gt_pages.specs.Ledger.{AreFree, Base, HasSharedPage, IsTooLong, Place, Room, page_address as ledger_page_address, pages_of as ledger_pages_of, sizes};
@@ -251,6 +251,36 @@ impl Store {
     {
         let entry = &mut self.entries[spot.page as usize];
         entry.places.mark(spot.place, walk, count)
+    }
+
+    pub(crate) fn mark_owner(&mut self, addr: u64, walk: u32, count: u32) -> Option<bool>
+        requires { IsKept (parts_of self.old) }
+        ensures kept { IsKept (parts_of self.new) }
+        ensures none { owner_of (contents_of (parts_of self.old)).slots addr ≡ None → result ≡ None }
+        ensures fresh { (start size : ℕ) → owner_of (contents_of (parts_of self.old)).slots addr ≡ Some (start, size)
+            → result ≡ Some (is_none (mark_at (contents_of (parts_of self.old)).slots start)) }
+        ensures marked { (start size : ℕ) → owner_of (contents_of (parts_of self.old)).slots addr ≡ Some (start, size)
+            → result ≡ Some true → contents_of (parts_of self.new)
+            ≡ with_slots (contents_of (parts_of self.old)) (with_mark_at (contents_of (parts_of self.old)).slots start (Some (new_mark walk count))) }
+        ensures unchanged { result ≢ Some true → contents_of (parts_of self.new) ≡ contents_of (parts_of self.old) }
+    {
+        match self.spot(addr) {
+            None => None,
+            Some(spot) => self.mark_used(spot, walk, count),
+        }
+    }
+
+    // Marks the block at a place; `None` where there is none.
+    fn mark_used(&mut self, spot: Spot, walk: u32, count: u32) -> Option<bool>
+        requires { spot.page < length (parts_of self.old).entries }
+        ensures free { IfNone result (is_free (cell_at (entry_at (parts_of self.old).entries spot.page).places spot.place) ≡ true) }
+        ensures used { IfSome result (λ _. is_free (cell_at (entry_at (parts_of self.old).entries spot.page).places spot.place) ≡ false) }
+        ensures fresh { IfSome result (λ fresh. fresh ≡ not (is_marked (cell_at (entry_at (parts_of self.old).entries spot.page).places spot.place))) }
+        ensures marked { result ≡ Some true → parts_of self.new ≡ with_mark_spot (parts_of self.old) spot (Some (new_mark walk count)) }
+        ensures unchanged { result ≢ Some true → parts_of self.new ≡ parts_of self.old }
+    {
+        let entry = &mut self.entries[spot.page as usize];
+        entry.places.mark_used(spot.place, walk, count)
     }
 
     pub(crate) fn marked_as(&self, addr: u64) -> Option<Mark>

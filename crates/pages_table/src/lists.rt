@@ -20,16 +20,16 @@ pub fn entries(alloc: Global, pages: &Pages, i: u32) -> Result<Vec<PageEntry>, A
     Ok(entries)
 }
 
-/// How many entries are cached.
-pub fn cached_count(pages: &Pages) -> u32 {
-    let mut count = 0u32;
+/// The pages of the cached entries, from the first one on.
+pub fn cached_pages(alloc: Global, pages: &Pages) -> Result<Vec<u64>, AllocError> {
+    let mut cached = Vec::new(alloc);
     let mut node = pages.lists().first(CACHED);
     for _ in 0..MAX_PAGES {
         let Some(at) = node else {
             break;
         };
-        count = count.saturating_add(1);
+        cached.push(at as u64)?;
         node = pages.lists().next(at);
     }
-    count
+    Ok(cached)
 }

@@ -7,6 +7,7 @@
 //!     room BYTES = yes | no | too large        whether there is room for so many bytes
 //!     owner ADDRESS = ADDRESS SIZE | none
 //!     mark ADDRESS WALK COUNT = new | old | no block
+//!     byte ADDRESS WALK COUNT = new | old | no block     marks the block that has the byte there
 //!     walked ADDRESS = ok | no block      the block there is no more to be walked
 //!     marked, pending ADDRESS = ADDRESS WALK COUNT | none     the next one above
 //!     clear = ok, sweep = N

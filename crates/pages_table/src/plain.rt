@@ -1,4 +1,5 @@
 //! A plain list of blocks, to compare with: each call looks at all of them.
+use gt_entries::Mark;
 use gt_pages::{PageEntry, Run, SIZES};
 use gt_space::{HEAP_START, PAGE_BYTES};
 use std::alloc::{AllocError, Global};
@@ -19,10 +20,11 @@ struct PageUse {
     blocks: u64,
 }
 
-/// The blocks by rising address, and the pages of the image.
+/// The blocks by rising address, the pages whose entries are cached, and the pages of the image.
 #[derive(Drop)]
 pub struct Plain {
     pub blocks: Vec<Block>,
+    pub cached: Vec<u64>,
     pub pages: u64,
     pub image_first: u64,
     pub image_count: u64,
@@ -42,8 +44,30 @@ fn pages_for(bytes: u64) -> u64 {
     bytes.saturating_add(PAGE_BYTES.saturating_sub(1)) / PAGE_BYTES
 }
 
+// How often a page stands in a list.
+fn times_in(list: &[u64], page: u64) -> usize {
+    list.iter().filter(|other| **other == page).count()
+}
+
+// Whether each page of a list stands in it once, and in another one once.
+fn is_part_of(list: &[u64], whole: &[u64]) -> bool {
+    list.iter().all(|page| times_in(list, *page) == 1 && times_in(whole, *page) == 1)
+}
+
 fn are_apart(a: u64, m: u64, b: u64, n: u64) -> bool {
     a.saturating_add(m) <= b || b.saturating_add(n) <= a
+}
+
+impl Block {
+    /// Its mark, as it is to be told.
+    pub fn told_mark(&self) -> Option<Mark> {
+        let (walk, count) = self.mark?;
+        Some(Mark {
+            walk,
+            count,
+            pending: self.pending,
+        })
+    }
 }
 
 impl Plain {
@@ -51,6 +75,7 @@ impl Plain {
     pub fn new(alloc: Global, pages: u64) -> Plain {
         Plain {
             blocks: Vec::new(alloc),
+            cached: Vec::new(alloc),
             pages,
             image_first: 0,
             image_count: 0,
@@ -186,18 +211,59 @@ impl Plain {
         }
     }
 
+    /// Takes all marks away, and caches no entry any more.
     pub fn clear(&mut self) {
         for b in &mut self.blocks {
             b.mark = None;
             b.pending = false;
         }
+        self.cached.clear();
     }
 
-    /// Takes the unmarked blocks away, and says how many these were.
-    pub fn sweep(&mut self) -> usize {
+    /// Takes the unmarked blocks away, and says how many these were. The entry of a page outside the image that has lost
+    /// its last block is cached.
+    pub fn sweep(&mut self) -> Result<usize, AllocError> {
+        self.cache_emptied()?;
         let before = self.blocks.len();
         self.blocks.retain(|b| b.mark.is_some());
-        before.saturating_sub(self.blocks.len())
+        Ok(before.saturating_sub(self.blocks.len()))
+    }
+
+    // Caches the entries of the pages outside the image in which no marked block starts.
+    fn cache_emptied(&mut self) -> Result<(), AllocError> {
+        for i in 0..self.blocks.len() {
+            let Some(block) = self.blocks.get(i) else {
+                break;
+            };
+            let page = page_of(block.addr);
+            let kept = self.is_image_page(page) || self.has_marked(page);
+            if !kept && times_in(&self.cached, page) == 0 {
+                self.cached.push(page)?;
+            }
+        }
+        Ok(())
+    }
+
+    // Whether a marked block starts in a page.
+    fn has_marked(&self, page: u64) -> bool {
+        self.blocks
+            .iter()
+            .any(|b| page_of(b.addr) == page && b.mark.is_some())
+    }
+
+    /// Whether the entries of these pages are cached, each once.
+    pub fn has_cached(&self, cached: &[u64]) -> bool {
+        cached.len() == self.cached.len() && is_part_of(cached, &self.cached)
+    }
+
+    /// Whether these may be the pages of the cached entries after a block is made in a page: the same ones where it
+    /// shares the page, else one fewer, where there is one. They are from now on.
+    pub fn take_cached(&mut self, cached: Vec<u64>, page: u64, shares: bool) -> bool {
+        let left = self.cached.len().saturating_sub(if shares { 0 } else { 1 });
+        let fits = cached.len() == left && is_part_of(&cached, &self.cached);
+        let apart = times_in(&cached, page) == 0;
+        self.cached = cached;
+        fits && apart
     }
 
     /// The first marked block above an address.
@@ -209,6 +275,7 @@ impl Plain {
         let (walk, count) = found.mark?;
         Some((found.addr, walk, count))
     }
+
     /// The first block above an address that is still to be walked.
     pub fn next_pending(&self, after: u64) -> Option<(u64, u32, u32)> {
         let found = self.blocks.iter().find(|b| b.addr > after && b.pending)?;
@@ -245,6 +312,7 @@ impl Plain {
     /// The blocks are those of the runs of an image from now on.
     pub fn take_image(&mut self, page: u64, runs: &[Run]) -> Result<(), AllocError> {
         self.blocks.clear();
+        self.cached.clear();
         self.image_first = page;
         let mut next = page;
         for run in runs {

@@ -2,8 +2,8 @@
 ghost use Rattle.std.specs.Prelude.{◌^◌, ◌<◌};
 
 use crate::images::{are_runs, pages_for};
-use crate::lists::entries;
-use crate::plain::{Plain, page_of};
+use crate::lists::{cached_pages, entries};
+use crate::plain::{Block, Plain, page_of};
 use crate::sizes::size_for;
 use gt_pages::{PageEntry, Pages, Run, SIZES, SlotFail};
 use std::alloc::{AllocError, Global};
@@ -57,7 +57,7 @@ fn one_call(
             same_contents(alloc, pages, plain)
         }
         4..=8 => {
-            let swept = pages.sweep() as usize == plain.sweep();
+            let swept = pages.sweep() as usize == plain.sweep()?;
             Ok(swept && same_contents(alloc, pages, plain)?)
         }
         9 => image_one(alloc, generator, pages, plain),
@@ -85,12 +85,30 @@ fn alloc_one(
     match pages.alloc_slot(size) {
         Ok(addr) => {
             let allowed = has_room && plain.allows(size as u64, Some(addr));
+            let cached = takes_cached(alloc, pages, plain, addr, size)?;
             plain.add(addr, size as u64)?;
-            Ok(allowed && is_in_first(first, addr))
+            Ok(allowed && cached && is_in_first(first, addr))
         }
-        Err(SlotFail::Full) => Ok(!has_room && plain.allows(size as u64, None)),
+        Err(SlotFail::Full) => {
+            plain.cached.clear();
+            let full = !has_room && plain.allows(size as u64, None);
+            Ok(full && same_cached(alloc, pages, plain)?)
+        }
         Err(SlotFail::Memory) => Err(AllocError),
     }
+}
+
+// Whether the cached entries may be these after a block is made, which the plain list has not yet. The plain list takes
+// them.
+fn takes_cached(
+    alloc: Global,
+    pages: &Pages,
+    plain: &mut Plain,
+    addr: u64,
+    size: u32,
+) -> Result<bool, AllocError> {
+    let shares = plain.some_free_place(size as u64).is_some();
+    Ok(plain.take_cached(cached_pages(alloc, pages)?, page_of(addr), shares))
 }
 
 // The number of a random size, mostly of one of which few blocks fill a page.
@@ -211,8 +229,8 @@ fn mark_one(generator: &mut Generator, pages: &mut Pages, plain: &mut Plain) -> 
 
 // Whether both have the same blocks, marks and entries.
 fn same_contents(alloc: Global, pages: &Pages, plain: &Plain) -> Result<bool, AllocError> {
-    let same = same_marks(pages, plain) && same_pending(pages, plain) && same_owners(pages, plain);
-    Ok(same && same_entries(alloc, pages, plain)?)
+    let same = same_marks(pages, plain) && same_pending(pages, plain) && same_blocks(pages, plain);
+    Ok(same && same_entries(alloc, pages, plain)? && same_cached(alloc, pages, plain)?)
 }
 
 // Whether both tell the same marked blocks.
@@ -247,15 +265,28 @@ fn same_pending(pages: &Pages, plain: &Plain) -> bool {
     true
 }
 
-// Whether both tell the same owners of the first byte of each block, and of the byte after it.
-fn same_owners(pages: &Pages, plain: &Plain) -> bool {
+// Whether both tell the same owners of the first byte of each block, and of the byte after it, and the same mark of each.
+fn same_blocks(pages: &Pages, plain: &Plain) -> bool {
     for block in &plain.blocks {
         let next = block.addr.saturating_add(block.size);
         if !same_owner(pages, plain, block.addr) || !same_owner(pages, plain, next) {
             return false;
         }
+        if !same_mark(pages, *block) {
+            return false;
+        }
     }
     true
+}
+
+// Whether the pages tell the mark of a block.
+fn same_mark(pages: &Pages, block: Block) -> bool {
+    let Some((start, _size)) = pages.owner(block.addr) else {
+        return false;
+    };
+    let marked = pages.marked(start);
+    let mark = pages.marked_as(start);
+    start == block.addr && marked == block.mark.is_some() && mark == block.told_mark()
 }
 
 // Whether the lists have the entries of the plain list.
@@ -265,6 +296,11 @@ fn same_entries(alloc: Global, pages: &Pages, plain: &Plain) -> Result<bool, All
         lists.push(entries(alloc, pages, kind)?)?;
     }
     plain.has_entries(alloc, &lists)
+}
+
+// Whether both have the same cached entries.
+fn same_cached(alloc: Global, pages: &Pages, plain: &Plain) -> Result<bool, AllocError> {
+    Ok(plain.has_cached(&cached_pages(alloc, pages)?))
 }
 
 // Whether both tell the same owner of an address.

@@ -3,7 +3,7 @@ ghost use Rattle.std.specs.Prelude.{◌≡◌, IsTrue};
 ghost use Rattle.gt_pages.specs.Slots.{StartsSome};
 
 use crate::images::{are_runs, pages_for};
-use crate::lists::{cached_count, entries};
+use crate::lists::{cached_pages, entries};
 use crate::random::random_calls;
 use crate::sizes::size_for;
 use gt_pages::{CACHED, Pages, Run, SlotFail};
@@ -31,6 +31,7 @@ pub fn answer(
         Some(("room", bytes)) => room(alloc, pages, number(bytes)),
         Some(("owner", at)) => owner(alloc, pages, at),
         Some(("mark", rest)) => mark(alloc, pages, rest),
+        Some(("byte", rest)) => mark_owner(alloc, pages, rest),
         Some(("walked", at)) => walked(alloc, pages, at),
         Some(("marked", at)) => marked(alloc, pages, at),
         Some(("pending", at)) => pending(alloc, pages, at),
@@ -129,6 +130,21 @@ fn mark(alloc: Global, pages: &mut Pages, rest: &str) -> Result<String, AllocErr
     }
     let fresh = pages.mark(addr, walk, count);
     String::from_str(alloc, if fresh { "new" } else { "old" })
+}
+
+// Marks the block that has the byte at an address.
+fn mark_owner(alloc: Global, pages: &mut Pages, rest: &str) -> Result<String, AllocError> {
+    let mut words = rest.split(' ');
+    let Some(addr) = address(words.next().unwrap_or("")) else {
+        return no_address(alloc);
+    };
+    let walk = number(words.next().unwrap_or(""));
+    let count = number(words.next().unwrap_or(""));
+    match pages.mark_owner(addr, walk, count) {
+        Some(true) => String::from_str(alloc, "new"),
+        Some(false) => String::from_str(alloc, "old"),
+        None => String::from_str(alloc, "no block"),
+    }
 }
 
 fn walked(alloc: Global, pages: &mut Pages, at: &str) -> Result<String, AllocError> {
@@ -238,7 +254,7 @@ fn list(alloc: Global, pages: &Pages, i: u32) -> Result<String, AllocError> {
 }
 
 fn cached(alloc: Global, pages: &Pages) -> Result<String, AllocError> {
-    let count = cached_count(pages);
+    let count = cached_pages(alloc, pages)?.len();
     format!(in alloc; "{count}")
 }
 

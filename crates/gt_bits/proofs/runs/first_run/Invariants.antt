@@ -1,9 +1,6 @@
-use Rattle.std.proofs.Common.{◌-◌}
-use Rattle.gt_bits.proofs.RunLemmas.{NoneBefore}
+use Rattle.std.proofs.Common.{◌≡◌, ◌*◌, ◌^◌, ◌<◌}
+use Rattle.gt_bits.proofs.LowestLemmas.{SoFar}
 use Rattle.gt_bits.proofs.runs.first_run.Given as goal
 
-abbrev pub invariant-runs : goal.invariant-runs
-invariant-runs l = NoneBefore l.words l.end l.n l.from
-
-abbrev pub decreases-runs : goal.decreases-runs
-decreases-runs l = l.end - l.from
+abbrev pub invariant-words : goal.invariant-words
+invariant-words l = (l.at ≡ 64 * l.word-index) × (l.at < 2 ^ 33) × SoFar l.words l.n l.at l.first
