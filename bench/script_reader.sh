@@ -1,8 +1,8 @@
 #!/usr/bin/env bash
-# Reads scripts of 1,000,000 lines `set $a.f $b` and of a tenth with the reader of gt_script and with a small one in C, which cuts lines into
-# words and interns the names. Neither program frees the commands that it has read. Then it reads scripts that are made to take memory, beside what is
-# allowed: eight times the bytes of the script and 64 MiB. Run by hand, from any folder. The program around gt_script is written and built in a
-# copy of the crates that it needs.
+# Reads scripts of 1,000,000 lines `set $a.f $b` and of a tenth, and of lines with 30,000 names in turn, with the reader of gt_script and with a small
+# one in C, which cuts lines into words and interns the names. Neither program frees the commands that it has read. Then it reads scripts that are made
+# to take memory, beside what is allowed: eight times the bytes of the script and 64 MiB. Run by hand, from any folder. The program around gt_script is
+# written and built in a copy of the crates that it needs.
 . "$(dirname "$0")/shared.sh"
 mkdir -p "$work/crates/read_script/src"
 copy_crates gt_types gt_text gt_script
@@ -169,17 +169,34 @@ program=$work/crates/read_script/out/read_script
 
 # So many lines.
 sets() { yes 'set $a.f $b' | head -n "$1" || true; }
-# The seconds that a reader takes for so many lines, without those for a script of which the first line is refused.
-read_lines() {
+# A form so many times, with the next name of three letters for each `N`, and after so many names the first again. All of them are 210,357.
+named() {
+  awk -v form="$1" -v times="$2" -v names="$3" '
+    function name(n) { n = at++ % names; return substr(all, int(n / 3969) + 1, 1) substr(all, int(n / 63) % 63 + 1, 1) substr(all, n % 63 + 1, 1) }
+    BEGIN {
+      all = "abcdefghijklmnopqrstuvwxyzABCDEFGHIJKLMNOPQRSTUVWXYZ_0123456789"
+      count = split(form, part, "N")
+      for (; times > 0; times--) { printf "%s", part[1]; for (i = 2; i <= count; i++) printf "%s%s", name(), part[i] }
+    }'
+}
+# The seconds that a reader takes for the file `script`, without those for a script of which the first line is refused.
+read_script() {
   local none
-  { echo x; sets "$2"; } >"$work/input"
+  { echo x; cat "$work/script"; } >"$work/input"
   none=$(seconds 5 "$1")
-  sets "$2" >"$work/input"
+  cp "$work/script" "$work/input"
   minus "$(seconds 5 "$1")" "$none"
+}
+# The same for so many lines.
+read_lines() {
+  sets "$2" >"$work/script"
+  read_script "$1"
 }
 ours=$(read_lines "$program" 1000000)
 row 'lines of a script read' 1000000 "$ours" 'a tenth' "$(read_lines "$program" 100000)" 12
 row 'lines of a script read' 1000000 "$ours" 'in C' "$(read_lines "$work/reader" 1000000)" 2
+named 'set $N.N $N\n' 1000000 30000 >"$work/script"
+row 'lines of 30,000 names in turn read' 1000000 "$(read_script "$program")" 'in C' "$(read_script "$work/reader")" 2
 
 # The KiB that the script in `input` takes, beside what is allowed.
 memory() { amount "memory: $1" "$(wc -c <"$work/input")" "$(most_memory "$program")" KiB allowed "$(awk -v n="$(wc -c <"$work/input")" 'BEGIN { print 8 * n / 1024 + 65536 }')" 1; }
@@ -191,3 +208,11 @@ yes '@print $a.f.f.f.f.f.f.f.f.f.f.f' | head -n 1000000 >"$work/input" || true
 memory 'paths of eleven steps'
 { yes 'a ' | head -n 16777200 | tr -d '\n'; echo; } >"$work/input" || true
 memory 'one line of many words'
+{ printf '@print $a'; named .N 8388600 210357; echo; } >"$work/input"
+memory 'one path over all names of three letters'
+named '@print $N.N.N.N.N.N\n' 1000000 210357 >"$work/input"
+memory 'paths over all names of three letters'
+named 'set $N.N $N\n' 1000000 210357 >"$work/input"
+memory 'set lines over all of them'
+named 'load "N"\n' 1000000 210357 >"$work/input"
+memory 'load lines over all of them'

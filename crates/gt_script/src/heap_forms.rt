@@ -10,7 +10,7 @@ use crate::pieces::Piece;
 use crate::place_forms::place_command;
 use std::alloc::AllocError;
 
-/// The command that a first word and the words behind it are.
+/// The command that a first word and the words after it are.
 #[tactic(auto, unfolding(crate::specs::Commands::command_at))]
 #[inline(always)]
 pub fn command(

@@ -12,13 +12,14 @@ use crate::stop::{MAX_COMMANDS, ScriptStop};
 use gt_types::List;
 use std::alloc::Global;
 
-/// The lines of a script of fewer than 2 to the 32 bytes, without its blank lines and comments. Otherwise want of memory;
-/// or `ScriptSyntax` with the number of the first line that is refused, from 1 and with all lines counted; or
-/// `ScriptTooLong` where more than 1,000,000 commands stand and no line up to the 1,000,001st command is refused.
+/// The lines of a script of fewer than 2 to the 32 bytes, without its blank lines and comments. It fails with
+/// `Memory` only if memory runs out; with `ScriptSyntax` and the number of the first line that is refused, from 1 and with
+/// all lines counted; or with `ScriptTooLong` where there are more than 1,000,000 commands and no line up to the
+/// 1,000,001st command is refused.
 ///
 /// Lines end with a newline, which the last line may lack; one carriage return at a line's end is dropped. A line of
-/// spaces and tabs, and one that is `#` behind spaces alone and anything else, is passed over. Any other line is one of
-/// these commands, with `@` directly in front of its first word where it is quiet. Spaces and tabs part its words, and
+/// spaces and tabs, and one that is `#` after spaces alone and anything else, is passed over. Any other line is one of
+/// these commands, with `@` directly before its first word where it is quiet. Spaces and tabs separate its words, and
 /// may stand at both ends:
 ///
 /// ```text
@@ -41,7 +42,7 @@ pub fn parse_script(alloc: Global, text: &[u8]) -> Result<List<Line>, ScriptStop
     ensures lines { IfOk result (λ lines. Parsed text.now lines) }
     ensures fault { IfErr result (IsScriptStop text.now) }
 {
-    let mut names = Names::new(alloc, text.len())?;
+    let mut names = Names::new(alloc)?;
     let mut words = Vec::new(alloc);
     match read_script(&mut names, &mut words, text) {
         Ok(lines) => Ok(lines),

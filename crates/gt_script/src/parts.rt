@@ -2,7 +2,7 @@ ghost use Rattle.std.specs.Prelude.{◌≡◌, ◌<◌, ◌==◌, ◌∷◌, len
 ghost use Rattle.std.specs.Option.{option_map};
 ghost use Rattle.gt_script.specs.Texts.{parts_at, lines_of};
 
-/// What stands before and behind the first of a byte.
+/// What stands before and after the first of a byte.
 #[inline(always)]
 pub fn split_once(text: &[u8], byte: u8) -> Option<(&[u8], &[u8])>
     ensures { option_map (λ parts. (parts.0.now, parts.1.now)) result ≡ parts_at byte text.now }

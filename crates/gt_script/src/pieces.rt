@@ -67,7 +67,7 @@ fn without_blanks(text: &[u8]) -> &[u8]
     }
 }
 
-// The word at the front and what stands behind it.
+// The first word and what stands after it.
 #[tactic(auto, unfolding(crate::specs::Cutting::word_at))]
 #[inline(always)]
 fn word_at<'a>(alloc: Global, text: &'a [u8]) -> Result<Option<(Piece<'a>, &'a [u8])>, AllocError>
@@ -92,7 +92,7 @@ fn plain_len(text: &[u8]) -> usize
     text.iter().take_while(|byte| !is_blank(**byte)).count()
 }
 
-// The quoted word behind an opening quote, and what stands behind it.
+// The quoted word after an opening quote, and what stands after it.
 #[tactic(auto, unfolding(crate::specs::Cutting::quoted_word_at))]
 fn quoted_word<'a>(
     alloc: Global,

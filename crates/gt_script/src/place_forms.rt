@@ -10,7 +10,7 @@ use crate::routes::{given, path};
 use crate::variable_forms::variable_command;
 use std::alloc::AllocError;
 
-/// The command that a first word and the words behind it are, where it is none of the whole heap.
+/// The command that a first word and the words after it are, where it is none of the whole heap.
 #[tactic(auto, unfolding(crate::specs::Commands::place_command_at))]
 #[inline(always)]
 pub fn place_command(

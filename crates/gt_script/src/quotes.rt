@@ -7,7 +7,7 @@ use crate::front::front;
 use gt_types::Bytes;
 use std::alloc::{AllocError, Global};
 
-// What a character behind a backslash means, if anything.
+// What a character after a backslash means, if anything.
 #[tactic(auto, unfolding(crate::specs::Cutting::escape_of))]
 fn escape(letter: u8) -> Option<u8>
     ensures { result ≡ escape_of letter }
@@ -21,7 +21,7 @@ fn escape(letter: u8) -> Option<u8>
     }
 }
 
-// Behind an opening quote: the bytes up to the closing one, and what stands behind it.
+// After an opening quote: the bytes up to the closing one, and what stands after it.
 pub fn quoted(alloc: Global, text: &[u8]) -> Result<Option<(Bytes, &[u8])>, AllocError>
     ensures { IfOk result (λ found. option_map (λ r. (r.0, r.1.now)) found ≡ quoted_at false text.now) }
 {

@@ -3,7 +3,7 @@ use std::alloc::{AllocError, AllocFailed};
 /// How many commands a script may have.
 pub const MAX_COMMANDS: usize = 1_000_000;
 
-/// Why a script is not read: want of memory, the number from 1 of the first line that is refused, or more than
+/// Why a script is not read: memory ran out, or a line is refused, the first by its number from 1, or there are more than
 /// 1,000,000 commands.
 #[derive(Clone, Copy, Debug, PartialEq, Eq)]
 pub enum ScriptStop {

@@ -12,7 +12,7 @@ use crate::slices::Slice;
 use gt_types::Copied;
 use std::alloc::AllocError;
 
-/// The command that a first word and the words behind it are, where it begins with a variable.
+/// The command that a first word and the words after it are, where it begins with a variable.
 #[tactic(auto, unfolding(crate::specs::Commands::variable_command_at))]
 pub fn variable_command(
     names: &mut Names,
