@@ -1,6 +1,6 @@
 #!/usr/bin/env bash
 # Runs an empty script under headers with many options, and under a tenth of them. The headers have no fault and are not built, so the program
-# reads all of them, settles what they declare, and refuses them. Run by hand, from any folder, after ./gtyheap.
+# reads all of them, settles what they declare, and refuses them; `again` alone has a fault. Run by hand, from any folder, after ./gtyheap.
 . "$(dirname "$0")/shared.sh"
 take_program
 
@@ -41,23 +41,37 @@ contain() {
 containers() { contain "$1" "$2" "%1"; }
 outermost() { contain "$1" "$2" "%0"; }
 
-# The seconds under so many of a kind.
+# One field with so many options. The last of them is `skip`, which passes over those before it.
+one_field() {
+  awk -v n="$1" -v header="$2/0.h" -v last="$3" 'BEGIN {
+    printf "struct GTY(()) s { struct s *GTY((" >header
+    for (i = 1; i < n; i++) printf "maybe_undef, " >header
+    print last ")) p; };" >header
+  }'
+}
+skipped() { one_field "$1" "$2" skip; }
+# The same without `skip`: each but the first stands there again, which is 17.
+again() { one_field "$1" "$2" maybe_undef; }
+
+# The seconds under so many of a kind, where the program ends with these words.
 took() {
   local folder=$work/$1$2
   mkdir "$folder"
   "$1" "$2" "$folder"
   wants 2 1 "$work/empty.gty" "$folder"/*.h
-  grep -q ': not built$' "$work/out" || { cat "$work/out" >&2; exit 2; }
+  grep -q ": $3\$" "$work/out" || { cat "$work/out" >&2; exit 2; }
   minus "$(seconds 5 "$program" "$work/empty.gty" "$folder"/*.h)" "$idle"
   rm -r "$folder"
 }
 compare() {
-  local small large
-  small=$(took "$1" $(($2 / 10)))
-  large=$(took "$1" "$2")
+  local small large words=${4-not built}
+  small=$(took "$1" $(($2 / 10)) "$words")
+  large=$(took "$1" "$2" "$words")
   row "$3" "$2" "$large" 'a tenth' "$small" 12
 }
 compare paths 4090 'structures of 29 paths'
 compare parts 24000 'options of 255 parts'
 compare containers 4000 'containers, a path from %1'
 compare outermost 4000 'containers, a path from %0'
+compare skipped 100000 'options of one field, passed over'
+compare again 100000 'options of one field, each again' 'fault 17 WrongPlace'

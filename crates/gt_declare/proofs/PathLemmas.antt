@@ -61,7 +61,7 @@ append_cons before i (Some places) = ap (λ (all : List ℕ). Some all) (sym (ap
 
 -- ---- a path of which the first name and the rest are read
 
--- the names behind the first
+-- the names after the first
 abbrev pub rest_of : List (List ℕ) → List (List ℕ)
 rest_of path = take (length path - 1) (drop 1 path)
 

@@ -37,7 +37,7 @@ fn or_first(structure: Option<TypeId>) -> TypeId
     }
 }
 
-/// A cache, as the program has it. It answers want of memory alone.
+/// A cache, as the program has it. It fails only if memory runs out.
 pub fn cache_of(alloc: Global, cache: &DraftCache) -> Result<Cache, AllocError>
     requires key { HasSmallId cache.now.key.base }
     requires value { HasSmallId cache.now.value.base }

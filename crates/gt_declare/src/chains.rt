@@ -129,7 +129,7 @@ fn joined(
     Ok(List::of(made))
 }
 
-/// Structures with their chains, as the options of the draft's say. It answers want of memory alone.
+/// Structures with their chains, as the options of the draft's say. It fails only if memory runs out.
 pub fn with_chains(
     alloc: Global,
     drafts: &[DraftStructure],

@@ -56,8 +56,8 @@ fn words_of(alloc: Global, draft: &Draft) -> Result<List<TypeWord>, AllocError>
 }
 
 /// The program that a draft declares, with faults or without: a type that is a fault counts as bytes that are never scanned, and a chain
-/// that leads nowhere is left out. Its time is linear in the draft, but for the options of one marker, which are searched by name. It answers
-/// want of memory alone.
+/// that leads nowhere is left out. Its time is linear in the draft, but for the options of one marker, which are searched by name. It fails only
+/// if memory runs out.
 pub fn declare(alloc: Global, draft: &Draft, lookup: &Lookup) -> Result<Program, AllocError>
     requires sound { IsSound draft.now }
     requires lookup { IsLookupOf draft.now lookup.now }

@@ -40,8 +40,8 @@ fn field_of(
     })
 }
 
-/// The fields of a union or of a struct, as the program has them. `planes` are those of the structures of the draft, by place. It
-/// answers want of memory alone.
+/// The fields of a union or of a struct, as the program has them. `planes` are those of the structures of the draft, by place. It fails
+/// only if memory runs out.
 pub fn fields_of(
     alloc: Global,
     draft: &Draft,

@@ -87,8 +87,8 @@ fn own_path(parameter: &Parameter) -> Option<&List<Word>>
     }
 }
 
-/// The places of the fields on the path of an option, or None where it is no path from its own structure or leads nowhere. It answers
-/// want of memory alone.
+/// The places of the fields on the path of an option, or None where it is no path from its own structure or leads nowhere. It fails only
+/// if memory runs out.
 pub fn path_places(
     alloc: Global,
     structures: &[Structure],

@@ -115,7 +115,7 @@ fn lay_out_held(
 }
 
 /// The planes of the structures of a draft, by place, each as it is held within the limit of sizes. Each structure is laid out once, after
-/// those that it contains. It answers want of memory alone.
+/// those that it contains. It fails only if memory runs out.
 pub fn planes_of(alloc: Global, draft: &Draft, lookup: &Lookup) -> Result<Vec<Plane>, AllocError>
     requires sound { IsSound draft.now }
     requires lookup { IsLookupOf draft.now lookup.now }

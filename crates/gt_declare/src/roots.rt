@@ -11,7 +11,7 @@ use gt_types::{Copied, Root};
 use gt_typing::field_type;
 use std::alloc::{AllocError, Global};
 
-/// A root, as the program has it. `planes` are those of the structures of the draft, by place. It answers want of memory alone.
+/// A root, as the program has it. `planes` are those of the structures of the draft, by place. It fails only if memory runs out.
 pub fn root_of(
     alloc: Global,
     draft: &Draft,

@@ -14,7 +14,7 @@ use gt_typing::own_desc;
 use std::alloc::{AllocError, Global};
 
 /// A structure without its chains, as the program has it. `planes` are those of the structures of the draft, by place, of which it reads
-/// no more than those of the structures that this one holds by value. It answers want of memory alone.
+/// no more than those of the structures that this one holds by value. It fails only if memory runs out.
 pub fn unchained(
     alloc: Global,
     draft: &Draft,
@@ -37,7 +37,7 @@ pub fn unchained(
     })
 }
 
-/// All structures of a draft without their chains. It answers want of memory alone.
+/// All structures of a draft without their chains. It fails only if memory runs out.
 pub fn all_unchained(
     alloc: Global,
     draft: &Draft,

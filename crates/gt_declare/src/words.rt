@@ -7,7 +7,7 @@ use gt_types::{Copied, TypeWord};
 use gt_typing::node;
 use std::alloc::{AllocError, Global};
 
-/// A name of a typedef, as the program has it. It answers want of memory alone.
+/// A name of a typedef, as the program has it. It fails only if memory runs out.
 pub fn word_of(alloc: Global, word: &DraftWord) -> Result<TypeWord, AllocError>
     requires small { word.now.id < 2 ^ 32 }
     ensures made { IfOk result (λ made. made ≡ word_of word.now) }

@@ -1,6 +1,7 @@
 mod LookupLemmas
-mod Firsts
+pub mod Firsts
 mod WalkingLemmas
+mod KindLemmas
 mod MarkerLemmas
 mod MemberLemmas
 mod FieldLemmas

@@ -1,5 +1,5 @@
 -- The faults of an option.
-use Rattle.std.proofs.Common.{◌≡◌, ◌∙◌, ℕ, ◌+◌, ◌<◌, ◌≤◌, Bool, true, false, List, [], ◌∷◌, ◌++◌, length, get_or, take, drop, Option, Some, refl, sym, ap}
+use Rattle.std.proofs.Common.{◌≡◌, ◌∙◌, ℕ, ◌+◌, ◌<◌, ◌≤◌, Bool, true, false, List, [], ◌∷◌, ◌++◌, length, get_or, take, drop, Option, Some, None, refl, sym, ap}
 use Rattle.std.specs.Prelude.{◌&&◌, not, is_none, if◌then◌else◌}
 use Rattle.std.specs.Option.{option_map_or}
 use Rattle.std.proofs.lemmas.List.{take_more, drop_more, drop_all}
@@ -13,6 +13,10 @@ use Rattle.gt_markers.specs.Expressions.{constant_value}
 use Rattle.gt_markers.specs.FirstFaults.{first_from}
 use Rattle.gt_markers.specs.Sites.{Site, is_tag, stands_among, is_unknown_hook, is_ill_formed, is_passed_over, known_faults, option_faults, faults_after, may_stand, wrong_number}
 use Rattle.gt_markers.proofs.Firsts.{first_from_both, first_from_nil}
+
+-- one more option
+pub options_taken_more : (i : ℕ) (options : List RawOption) (o : RawOption) → i < length options → o ≡ get_or options i o → take (i + 1) options ≡ take i options ++ o ∷ []
+options_taken_more i options o l is = take_more options i o l ∙ ap (λ (x : RawOption). take i options ++ x ∷ []) (sym is)
 
 -- the faults of an option that is not passed over
 abbrev pub counted_faults : Draft → Site → List RawOption → ℕ → List RawOption → RawOption → OptionKind → List Fault
@@ -31,6 +35,17 @@ pub known_passed : (draft : Draft) (site : Site) (options : List RawOption) (fil
     → is_passed_over site options kind ≡ true → known_faults draft site options file before o kind ≡ []
 known_passed draft site options file before o kind h = ap (λ (b : Bool). if b then [] else counted_faults draft site options file before o kind) h
 
+-- the faults of an option by what its name is
+pub known_too : (draft : Draft) (site : Site) (options : List RawOption) (file : ℕ) (before : List RawOption) (o : RawOption) (kind : OptionKind) (found : Option OptionKind) → found ≡ Some kind
+    → known_faults draft site options file before o kind ≡ option_map_or (known_faults draft site options file before o) found (fault_if true UNKNOWN_OPTION file o.name.at)
+known_too draft site options file before o kind found is =
+    ap (λ (k : Option OptionKind). option_map_or (known_faults draft site options file before o) k (fault_if true UNKNOWN_OPTION file o.name.at)) (sym is)
+
+pub unknown_too : (draft : Draft) (site : Site) (options : List RawOption) (file : ℕ) (before : List RawOption) (o : RawOption) (found : Option OptionKind) → found ≡ None
+    → fault_if true UNKNOWN_OPTION file o.name.at ≡ option_map_or (known_faults draft site options file before o) found (fault_if true UNKNOWN_OPTION file o.name.at)
+unknown_too draft site options file before o found is =
+    ap (λ (k : Option OptionKind). option_map_or (known_faults draft site options file before o) k (fault_if true UNKNOWN_OPTION file o.name.at)) (sym is)
+
 -- an option that is passed over has no faults
 pub passed : (draft : Draft) (site : Site) (options : List RawOption) (file : ℕ) (before : List RawOption) (o : RawOption) (kind : OptionKind) (found : Option OptionKind) (e : Option Fault)
     → found ≡ Some kind → is_passed_over site options kind ≡ true
@@ -45,16 +60,15 @@ module _ (draft : Draft) (site : Site) (file : ℕ) where
   rest_faults i options = faults_after draft site options file (take i options) (drop i options)
 
   -- one more option
-  pub first_from_option : (e e1 : Option Fault) (i : ℕ) (options before : List RawOption) (o : RawOption) → i < length options → o ≡ get_or options i o → before ≡ take i options
-      → e1 ≡ first_from e (option_faults draft site options file before o) → first_from e1 (rest_faults (i + 1) options) ≡ first_from e (rest_faults i options)
+  pub first_from_option : (e e1 : Option Fault) (i : ℕ) (options : List RawOption) (o : RawOption) → i < length options → o ≡ get_or options i o
+      → e1 ≡ first_from e (option_faults draft site options file (take i options) o) → first_from e1 (rest_faults (i + 1) options) ≡ first_from e (rest_faults i options)
   unfolding faults_after
-  first_from_option e e1 i options before o l is head h =
+  first_from_option e e1 i options o l is h =
       let rest = drop (i + 1) options in
       let item : drop i options ≡ o ∷ rest = drop_more options i o l ∙ ap (λ (x : RawOption). x ∷ rest) (sym is) in
-      let grown : take (i + 1) options ≡ take i options ++ o ∷ [] = take_more options i o l ∙ ap (λ (x : RawOption). take i options ++ x ∷ []) (sym is) in
-      ap (λ (os : List RawOption). first_from e1 (faults_after draft site options file os rest)) grown
+      ap (λ (os : List RawOption). first_from e1 (faults_after draft site options file os rest)) (options_taken_more i options o l is)
       ∙ first_from_both e e1 (first_from e1 (faults_after draft site options file (take i options ++ o ∷ []) rest)) (option_faults draft site options file (take i options) o)
-      (faults_after draft site options file (take i options ++ o ∷ []) rest) (h ∙ ap (λ (os : List RawOption). first_from e (option_faults draft site options file os o)) head) refl
+      (faults_after draft site options file (take i options ++ o ∷ []) rest) h refl
       ∙ ap (λ (os : List RawOption). first_from e (faults_after draft site options file (take i options) os)) (sym item)
 
   -- after the last option

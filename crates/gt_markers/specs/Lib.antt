@@ -6,6 +6,7 @@ pub mod Sites
 pub mod MarkerFaults
 pub mod Sound
 pub mod SiteViews
+pub mod KindSets
 pub mod Lookups
 pub mod NameScopes
 pub mod FirstFaults

@@ -63,8 +63,7 @@ fn of_caches(
 }
 
 /// The first fault of a draft that needs no program: at the earliest place, and of those at one place the lowest number. `None`
-/// says that there is none. Its time is linear in the draft but for the order of tags, and for the options of one marker, each of
-/// which is compared with those before it. It answers want of memory alone.
+/// says that there is none. Its time is linear in the draft but for the order of tags. It answers want of memory alone.
 pub fn first_draft_fault(
     alloc: Global,
     draft: &Draft,

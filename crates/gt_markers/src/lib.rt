@@ -7,6 +7,7 @@ mod draft_faults;
 mod earliest;
 mod expressions;
 mod field_faults;
+mod kind_sets;
 mod kinds;
 mod lookups;
 mod marker_faults;

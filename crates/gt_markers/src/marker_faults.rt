@@ -1,18 +1,20 @@
 // The faults of one marker's options.
-ghost use Rattle.std.specs.Prelude.{◌≡◌, ◌&&◌, IfOk, [], is_none, take, length, ◌≤◌, false};
-ghost use Rattle.std.specs.Option.{option_map_or};
+ghost use Rattle.std.specs.Prelude.{◌≡◌, ◌&&◌, ◌||◌, not, IfOk, List, Some, is_none, false};
+ghost use Rattle.gt_items.specs.declared.items.RawOption.{RawOption};
 ghost use Rattle.gt_resolve.specs.declared.draft.Draft.{Draft};
 ghost use Rattle.gt_resolve.specs.Faults.{same_bool};
-ghost use Rattle.gt_markers.specs.Options.{has_parameter, needs_parameter, kind_of, exclude};
+ghost use Rattle.gt_markers.specs.Options.{has_parameter, needs_parameter, kind_of};
 ghost use Rattle.gt_markers.specs.Expressions.{constant_value};
 ghost use Rattle.gt_markers.specs.FirstFaults.{first_from};
 ghost use Rattle.gt_markers.specs.Lookups.{IsLookupOf};
-ghost use Rattle.gt_markers.specs.Sites.{is_tag, stands_among, is_excluded, is_unknown_hook, is_ill_formed, is_passed_over, known_faults, option_faults, marker_faults};
+ghost use Rattle.gt_markers.specs.Sites.{is_tag, is_unknown_hook, is_passed_over, known_faults, option_faults, marker_faults};
 ghost use Rattle.gt_markers.specs.SiteViews.{site_of};
+ghost use Rattle.gt_markers.specs.KindSets.{AreKindsOf};
 
 use crate::constants::constant_value;
 use crate::earliest::with_fault;
-use crate::kinds::{OptionKind, is_word};
+use crate::kind_sets::Kinds;
+use crate::kinds::OptionKind;
 use crate::lookups::Lookup;
 use crate::sites::Site;
 use crate::{BAD_PATH, DUPLICATE_TAG, UNKNOWN_HOOK, UNKNOWN_OPTION, WRONG_PLACE};
@@ -29,34 +31,17 @@ pub struct Marker<'a> {
     pub options: &'a [RawOption],
 }
 
+// The kinds of a marker's options: of all of them, and of those before one.
+#[derive(Clone, Copy)]
+struct Standing {
+    all: Kinds,
+    before: Kinds,
+}
+
 fn has_parameter(parameter: &Parameter) -> bool
     ensures { result ≡ has_parameter parameter.now }
 {
     !matches!(parameter, Parameter::Absent)
-}
-
-// Whether an option of this name stands among those.
-fn stands_among(options: &[RawOption], option: &RawOption) -> bool
-    ensures { result ≡ stands_among options.now option.now }
-{
-    options.iter().any(|e| e.name.word == option.name.word)
-}
-
-// Whether an option of that name may not stand beside this kind.
-fn is_excluded_by(option: &RawOption, kind: OptionKind) -> bool
-    ensures { result ≡ option_map_or (exclude kind) (kind_of option.now.name.word) false }
-{
-    match OptionKind::of(&option.name.word) {
-        Some(other) => kind.excludes(other),
-        None => false,
-    }
-}
-
-// Whether an option stands among those that may not stand beside this kind.
-fn is_excluded(options: &[RawOption], kind: OptionKind) -> bool
-    ensures { result ≡ is_excluded options.now kind }
-{
-    options.iter().any(|e| is_excluded_by(e, kind))
 }
 
 // Whether it is a hook that is not known.
@@ -71,12 +56,10 @@ fn is_unknown_hook(kind: OptionKind, parameter: &Parameter) -> bool
 }
 
 // Whether a parameter is missing or one is too many, whether the option stands twice, or whether it may not stand beside one before it.
-fn is_ill_formed(before: &[RawOption], option: &RawOption, kind: OptionKind) -> bool
-    ensures ill { result ≡ is_ill_formed before.now option.now kind }
+fn is_ill_formed(kind: OptionKind, parameter: &Parameter, repeated: bool, excluded: bool) -> bool
+    ensures ill { result ≡ (not (same_bool (needs_parameter kind) (has_parameter parameter.now)) || (not (is_tag kind) && repeated) || excluded) }
 {
-    kind.needs_parameter() != has_parameter(&option.parameter)
-        || (!kind.is_tag() && stands_among(before, option))
-        || is_excluded(before, kind)
+    kind.needs_parameter() != has_parameter(parameter) || (!kind.is_tag() && repeated) || excluded
 }
 
 // Whether it is a tag that is no constant.
@@ -96,10 +79,10 @@ fn is_bad_tag(
 }
 
 // Whether it is a tag after another one.
-fn is_second_tag(before: &[RawOption], option: &RawOption, kind: OptionKind) -> bool
-    ensures second { result ≡ (is_tag kind && stands_among before.now option.now) }
+fn is_second_tag(kind: OptionKind, repeated: bool) -> bool
+    ensures second { result ≡ (is_tag kind && repeated) }
 {
-    kind.is_tag() && stands_among(before, option)
+    kind.is_tag() && repeated
 }
 
 // The earliest fault with those of an option of this kind that is not passed over.
@@ -109,24 +92,28 @@ fn of_known(
     draft: &Draft,
     lookup: &Lookup,
     marker: Marker,
-    before: &[RawOption],
+    standing: Standing,
     option: &RawOption,
     kind: OptionKind,
 ) -> Result<Option<Fault>, AllocError>
     requires lookup { IsLookupOf draft.now lookup.now }
+    requires all { AreKindsOf marker.options.now standing.all }
+    requires kind { kind_of option.now.name.word ≡ Some kind }
     requires counted { is_passed_over (site_of marker.site) marker.options.now kind ≡ false }
-    ensures earliest { IfOk result (λ r. r ≡ first_from earliest (known_faults draft.now (site_of marker.entry.site) marker.entry.options.now marker.entry.file before.now option.now kind)) }
+    ensures earliest { IfOk result (λ r. (before : List RawOption) → AreKindsOf before standing.before → r ≡ first_from earliest (known_faults draft.now (site_of marker.entry.site) marker.entry.options.now marker.entry.file before option.now kind)) }
 {
     let file = marker.file;
     let at = option.name.at;
-    let ill = is_ill_formed(before, option, kind);
+    let repeated = standing.before.has(kind);
+    let excluded = standing.before.exclude(kind);
+    let ill = is_ill_formed(kind, &option.parameter, repeated, excluded);
     let earliest = with_fault(earliest, ill, WRONG_PLACE, file, at);
     let misplaced = !marker
         .site
-        .may_hold(draft.structures.as_slice(), marker.options, kind);
+        .may_hold(draft.structures.as_slice(), standing.all, kind);
     let number = marker.site.wrong_number(kind);
     let earliest = with_fault(earliest, misplaced, number, file, at);
-    let second = is_second_tag(before, option, kind);
+    let second = is_second_tag(kind, repeated);
     let earliest = with_fault(earliest, second, DUPLICATE_TAG, file, at);
     let bad = is_bad_tag(alloc, lookup, kind, &option.parameter)?;
     let earliest = with_fault(earliest, bad, BAD_PATH, file, at);
@@ -141,31 +128,26 @@ fn of_option(
     draft: &Draft,
     lookup: &Lookup,
     marker: Marker,
-    before: &[RawOption],
+    standing: Standing,
     option: &RawOption,
 ) -> Result<Option<Fault>, AllocError>
     requires lookup { IsLookupOf draft.now lookup.now }
-    ensures earliest { IfOk result (λ r. r ≡ first_from earliest (option_faults draft.now (site_of marker.entry.site) marker.entry.options.now marker.entry.file before.now option.now)) }
+    requires all { AreKindsOf marker.options.now standing.all }
+    ensures earliest { IfOk result (λ r. (before : List RawOption) → AreKindsOf before standing.before → r ≡ first_from earliest (option_faults draft.now (site_of marker.entry.site) marker.entry.options.now marker.entry.file before option.now)) }
 {
     let Some(kind) = OptionKind::of(&option.name.word) else {
         let at = option.name.at;
         return Ok(with_fault(earliest, true, UNKNOWN_OPTION, marker.file, at));
     };
-    if marker.site.passes_over(marker.options, kind) {
+    if marker.site.passes_over(standing.all, kind) {
         return Ok(earliest);
     }
-    of_known(alloc, earliest, draft, lookup, marker, before, option, kind)
+    of_known(
+        alloc, earliest, draft, lookup, marker, standing, option, kind,
+    )
 }
 
-// So many options at the head.
-fn first_options(options: &[RawOption], count: usize) -> &[RawOption]
-    requires within { count ≤ length options.now }
-    ensures head { result.now ≡ take count options.now }
-{
-    &options[..count]
-}
-
-/// The earliest fault with those of a marker's options. It answers want of memory alone.
+/// The earliest fault with those of a marker's options. Its time is linear in them. It answers want of memory alone.
 pub fn of_marker(
     alloc: Global,
     earliest: Option<Fault>,
@@ -176,10 +158,13 @@ pub fn of_marker(
     requires lookup { IsLookupOf draft.now lookup.now }
     ensures earliest { IfOk result (λ r. r ≡ first_from earliest (marker_faults draft.now (site_of marker.entry.site) marker.entry.file marker.entry.options.now)) }
 {
+    let all = Kinds::of(marker.options);
+    let mut before = Kinds::none();
     let mut earliest = earliest;
-    for (place, option) in marker.options.iter().enumerate() {
-        let before = first_options(marker.options, place);
-        earliest = of_option(alloc, earliest, draft, lookup, marker, before, option)?;
+    for option in marker.options {
+        let standing = Standing { all, before };
+        earliest = of_option(alloc, earliest, draft, lookup, marker, standing, option)?;
+        before = before.with(option);
     }
     Ok(earliest)
 }

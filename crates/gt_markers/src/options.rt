@@ -1,5 +1,5 @@
 // The options of a marker, by their names.
-ghost use Rattle.std.specs.Prelude.{◌≡◌, IsTrue, codes};
+ghost use Rattle.std.specs.Prelude.{◌≡◌, IsTrue};
 ghost use Rattle.std.specs.Option.{option_copied};
 ghost use Rattle.std.specs.List.{list_all};
 ghost use Rattle.std.specs.Char.{is_ascii};
@@ -34,18 +34,4 @@ pub fn has_skip(options: &[RawOption]) -> bool
     ensures there { result ≡ has_skip options.now }
 {
     has_option(options, "skip")
-}
-
-/// Whether `length` stands there.
-pub fn has_length_option(options: &[RawOption]) -> bool
-    ensures there { result ≡ has_option (codes "length") options.now }
-{
-    has_option(options, "length")
-}
-
-/// Whether `atomic` stands there.
-pub fn has_atomic_option(options: &[RawOption]) -> bool
-    ensures there { result ≡ has_option (codes "atomic") options.now }
-{
-    has_option(options, "atomic")
 }

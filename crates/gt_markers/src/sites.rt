@@ -1,17 +1,19 @@
 // Where options may stand.
-ghost use Rattle.std.specs.Prelude.{◌≡◌, List};
-ghost use Rattle.gt_markers.specs.Sites.{is_single, are_pointers, is_pointer, is_string, is_counted, is_last_array, holds_unions, is_sorted, may_stand, at_field, at_structure, at_root, wrong_number, is_passed_over, points_to_characters, points_to_many, is_sorted_base, is_union_at};
+ghost use Rattle.std.specs.Prelude.{◌≡◌, ◌&&◌, not, List};
+ghost use Rattle.gt_markers.specs.Sites.{is_single, are_pointers, is_pointer, is_string, is_counted, is_last_array, holds_unions, is_sorted, may_stand, at_field, at_structure, at_root, at_cache, wrong_number, is_passed_over, points_to_characters, points_to_many, is_sorted_base, is_union_at};
 ghost use Rattle.gt_items.specs.declared.items.RawOption.{RawOption};
 ghost use Rattle.gt_resolve.specs.declared.draft.DraftStructure.{DraftStructure};
 ghost use Rattle.gt_markers.specs.SiteViews.{site_of};
-ghost use Rattle.gt_resolve.specs.Drafts.{has_skip};
+ghost use Rattle.gt_markers.specs.KindSets.{has_kind, AreKindsOf};
+ghost use Rattle.gt_markers.specs.Options.{stands_beside_skip};
+ghost use Rattle.gt_markers.specs.declared.kinds.OptionKind.TheVariants.{Skip};
 ghost use Rattle.gt_resolve.specs.Faults.{is_zero};
 ghost use Rattle.gt_resolve.specs.Shapes.{held_type};
 
+use crate::kind_sets::Kinds;
 use crate::kinds::OptionKind;
-use crate::options::{has_atomic_option, has_length_option, has_skip};
 use crate::{CACHE_SHAPE, WRONG_PLACE};
-use gt_items::{RawOption, Stars};
+use gt_items::Stars;
 use gt_resolve::{BaseType, DeclaredType, DraftStructure};
 
 /// Where a marker stands: at a field, which is one of a union or not, and the last or not; at a structure; at a root; at a cache.
@@ -137,28 +139,34 @@ fn is_sorted_base(counted: bool, base: &BaseType, stars: Stars) -> bool
     }
 }
 
-// What may be sorted in an image: a pointer to one structure, or to pointers with `length`; none whose block is never scanned.
-fn is_sorted(options: &[RawOption], ty: &DeclaredType) -> bool
-    ensures { result ≡ is_sorted options.now ty.now }
+// Whether what has `length` and `atomic` or not may be sorted in an image.
+fn is_sortable(counted: bool, atomic: bool, ty: &DeclaredType) -> bool
+    ensures { result ≡ (is_single ty.now && is_sorted_base counted ty.now.resolved.base ty.now.resolved.stars && not atomic) }
 {
-    let counted = has_length_option(options);
-    is_single(ty)
-        && is_sorted_base(counted, &ty.resolved.base, ty.resolved.stars)
-        && !has_atomic_option(options)
+    is_single(ty) && is_sorted_base(counted, &ty.resolved.base, ty.resolved.stars) && !atomic
+}
+
+// What may be sorted in an image: a pointer to one structure, or to pointers with `length`; none whose block is never scanned.
+fn is_sorted(all: Kinds, ty: &DeclaredType) -> bool
+    ensures { (options : List RawOption) → AreKindsOf options all → result ≡ is_sorted options ty.now }
+{
+    let counted = all.has(OptionKind::Length);
+    let atomic = all.has(OptionKind::Atomic);
+    is_sortable(counted, atomic, ty)
 }
 
 // ---- where options may stand
 
-// Whether an option may stand at a field, beside these.
+// Whether an option may stand at a field, beside those of these kinds.
 fn may_stand_at_field(
     structures: &[DraftStructure],
     in_union: bool,
     last: bool,
     ty: &DeclaredType,
-    options: &[RawOption],
+    all: Kinds,
     kind: OptionKind,
 ) -> bool
-    ensures { result ≡ may_stand structures.now (at_field in_union last ty.now) options.now kind }
+    ensures { (options : List RawOption) → AreKindsOf options all → result ≡ may_stand structures.now (at_field in_union last ty.now) options kind }
 {
     match kind {
         OptionKind::Skip => true,
@@ -167,7 +175,7 @@ fn may_stand_at_field(
         OptionKind::Tag | OptionKind::Default => in_union,
         OptionKind::MaybeUndef | OptionKind::Atomic => is_pointer(ty),
         OptionKind::StringLength => is_string(ty),
-        OptionKind::Reorder => is_sorted(options, ty),
+        OptionKind::Reorder => is_sorted(all, ty),
         _ => false,
     }
 }
@@ -187,42 +195,55 @@ fn may_stand_at_structure(is_union: bool, kind: OptionKind) -> bool
     }
 }
 
-// Whether an option may stand at a root, beside these.
+fn may_stand_at_cache(kind: OptionKind) -> bool
+    ensures { (structures : List DraftStructure) (options : List RawOption) → result ≡ may_stand structures at_cache options kind }
+{
+    matches!(kind, OptionKind::Cache)
+}
+
+// Whether an option may stand at a root, beside those of these kinds.
 fn may_stand_at_root(
     structures: &[DraftStructure],
     ty: &DeclaredType,
-    options: &[RawOption],
+    all: Kinds,
     kind: OptionKind,
 ) -> bool
-    ensures { result ≡ may_stand structures.now (at_root ty.now) options.now kind }
+    ensures { (options : List RawOption) → AreKindsOf options all → result ≡ may_stand structures.now (at_root ty.now) options kind }
 {
     match kind {
         OptionKind::Length => is_counted(ty),
         OptionKind::Desc => holds_unions(structures, ty),
         OptionKind::Deletable => are_pointers(ty),
         OptionKind::Atomic => is_pointer(ty),
-        OptionKind::Reorder => is_sorted(options, ty),
+        OptionKind::Reorder => is_sorted(all, ty),
         _ => false,
     }
 }
 
+// Whether `skip` stands there, and passes over an option.
+fn is_skipped(all: Kinds, kind: OptionKind) -> bool
+    ensures skipped { result ≡ (has_kind all Skip && not (stands_beside_skip kind)) }
+{
+    all.has(OptionKind::Skip) && !kind.stands_beside_skip()
+}
+
 impl<'a> Site<'a> {
-    /// Whether an option may stand there, beside these.
-    pub fn may_hold(
+    /// Whether an option may stand there, beside those of these kinds.
+    pub(crate) fn may_hold(
         self,
         structures: &[DraftStructure],
-        options: &[RawOption],
+        all: Kinds,
         kind: OptionKind,
     ) -> bool
-        ensures may { result ≡ may_stand structures.now (site_of self.entry) options.now kind }
+        ensures may { (options : List RawOption) → AreKindsOf options all → result ≡ may_stand structures.now (site_of self.entry) options kind }
     {
         match self {
             Site::Field { in_union, last, ty } => {
-                may_stand_at_field(structures, in_union, last, ty, options, kind)
+                may_stand_at_field(structures, in_union, last, ty, all, kind)
             }
             Site::Structure { is_union } => may_stand_at_structure(is_union, kind),
-            Site::Root { ty } => may_stand_at_root(structures, ty, options, kind),
-            Site::Cache => matches!(kind, OptionKind::Cache),
+            Site::Root { ty } => may_stand_at_root(structures, ty, all, kind),
+            Site::Cache => may_stand_at_cache(kind),
         }
     }
 
@@ -236,12 +257,12 @@ impl<'a> Site<'a> {
         }
     }
 
-    /// Whether `skip` passes over an option there, beside these.
-    pub fn passes_over(self, options: &[RawOption], kind: OptionKind) -> bool
-        ensures passes { result ≡ is_passed_over (site_of self.entry) options.now kind }
+    /// Whether `skip` passes over an option there, beside those of these kinds.
+    pub(crate) fn passes_over(self, all: Kinds, kind: OptionKind) -> bool
+        ensures passes { (options : List RawOption) → AreKindsOf options all → result ≡ is_passed_over (site_of self.entry) options kind }
     {
         match self {
-            Site::Field { .. } => has_skip(options) && !kind.stands_beside_skip(),
+            Site::Field { .. } => is_skipped(all, kind),
             _ => false,
         }
     }

@@ -31,7 +31,7 @@ fn earlier(first: Option<Fault>, second: Option<Fault>) -> Option<Fault>
 }
 
 /// The program that a sound draft declares, or the first fault of its options: at the earliest place, and of those at one place the lowest
-/// number. It answers want of memory alone.
+/// number. It fails only if memory runs out.
 pub fn settle(alloc: Global, draft: &Draft) -> Result<Settlement, AllocError>
     requires sound { IsSound draft.now }
     ensures settled { IfOk result (IsSettlement draft.now) }

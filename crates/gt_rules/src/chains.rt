@@ -66,7 +66,7 @@ fn of_chain(
     ))
 }
 
-/// The earliest fault with those of the chains of a structure. It answers want of memory alone.
+/// The earliest fault with those of the chains of a structure. It fails only if memory runs out.
 pub fn of_chains(
     earliest: Option<Fault>,
     known: Known,

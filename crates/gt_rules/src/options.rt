@@ -28,7 +28,7 @@ fn read_option<'a>(of_field: bool, options: &'a [RawOption], name: &str) -> Opti
     option_named(options, name)
 }
 
-/// The earliest fault with that of an expression which is not good for its purpose. It answers want of memory alone.
+/// The earliest fault with that of an expression which is not good for its purpose. It fails only if memory runs out.
 pub fn of_expression(
     earliest: Option<Fault>,
     known: Known,

@@ -17,8 +17,8 @@ use gt_types::{Fault, Program};
 use std::alloc::{AllocError, Global};
 
 /// The first fault of a draft that only the program tells which it declares: at the earliest place, and of those at one place the lowest
-/// number. `None` says that there is none. Its time is linear in the draft, but for what paths of options need: see [`PathIndex`]. It
-/// answers want of memory alone.
+/// number. `None` says that there is none. Its time is linear in the draft, but for what paths of options need: see [`PathIndex`]. It fails
+/// only if memory runs out.
 pub fn first_program_fault(
     alloc: Global,
     draft: &Draft,

@@ -88,7 +88,7 @@ fn of_root(
     Ok(of_reorder(earliest, known.program, options, &root.ty))
 }
 
-/// The earliest fault with those of all roots. It answers want of memory alone.
+/// The earliest fault with those of all roots. It fails only if memory runs out.
 pub fn of_roots(earliest: Option<Fault>, known: Known) -> Result<Option<Fault>, AllocError>
     requires sound { IsSound known.draft.now }
     requires made { IsMadeOf known.draft.now known.program.now }

@@ -68,7 +68,7 @@ fn of_structure(
     )
 }
 
-/// The earliest fault with those of all structures. It answers want of memory alone.
+/// The earliest fault with those of all structures. It fails only if memory runs out.
 pub fn of_structures(earliest: Option<Fault>, known: Known) -> Result<Option<Fault>, AllocError>
     requires sound { IsSound known.draft.now }
     requires made { IsMadeOf known.draft.now known.program.now }

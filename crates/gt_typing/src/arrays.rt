@@ -58,8 +58,8 @@ fn array_type(
     }
 }
 
-/// An array of elements of a type, of which `length` replaces the outermost dimension; None where there are no elements. It answers
-/// want of memory alone.
+/// An array of elements of a type, of which `length` replaces the outermost dimension; None where there are no elements. It fails only
+/// if memory runs out.
 pub fn array_of(
     alloc: Global,
     length: Option<Expr>,

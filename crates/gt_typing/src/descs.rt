@@ -10,7 +10,7 @@ use gt_resolve::{Draft, DraftStructure};
 use gt_types::Expr;
 use std::alloc::{AllocError, Global};
 
-/// The `desc` of a union's own marker; a struct has none. It answers want of memory alone.
+/// The `desc` of a union's own marker; a struct has none. It fails only if memory runs out.
 pub fn own_desc(
     alloc: Global,
     lookup: &Lookup,
@@ -44,7 +44,7 @@ fn used_desc(
     }
 }
 
-/// The `desc` with which the structure at a place is read, where its field or root has this one. It answers want of memory alone.
+/// The `desc` with which the structure at a place is read, where its field or root has this one. It fails only if memory runs out.
 pub fn desc_at(
     alloc: Global,
     lookup: &Lookup,

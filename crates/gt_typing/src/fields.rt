@@ -16,7 +16,7 @@ use gt_types::Ty;
 use std::alloc::{AllocError, Global};
 
 /// The type that options give; None where neither `skip` stands there nor the type can be walked. `planes` are those of the structures
-/// of the draft, by place. It answers want of memory alone.
+/// of the draft, by place. It fails only if memory runs out.
 pub fn type_by(
     alloc: Global,
     draft: &Draft,
@@ -38,7 +38,7 @@ pub fn type_by(
 }
 
 /// The type that options give, where one that is a fault counts as bytes that are never scanned. `planes` are those of the structures
-/// of the draft, by place. It answers want of memory alone.
+/// of the draft, by place. It fails only if memory runs out.
 pub fn field_type(
     alloc: Global,
     draft: &Draft,

@@ -29,7 +29,7 @@ fn expression_of(
     }
 }
 
-/// The expression of an option of a name of ASCII characters, where it stands there. It answers want of memory alone.
+/// The expression of an option of a name of ASCII characters, where it stands there. It fails only if memory runs out.
 pub fn expression_named(
     alloc: Global,
     lookup: &Lookup,
@@ -46,7 +46,7 @@ pub fn expression_named(
     }
 }
 
-/// What the options of a field or a root say of its type. It answers want of memory alone.
+/// What the options of a field or a root say of its type. It fails only if memory runs out.
 pub fn type_options(
     alloc: Global,
     lookup: &Lookup,

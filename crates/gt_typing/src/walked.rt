@@ -77,7 +77,7 @@ fn walked_array(
     array_of(alloc, length, bound, bounds, elem)
 }
 
-/// The type that options give what has no `skip`; None where it can be no part of a walked value. It answers want of memory alone.
+/// The type that options give what has no `skip`; None where it can be no part of a walked value. It fails only if memory runs out.
 pub fn walked_type(
     alloc: Global,
     lookup: &Lookup,

@@ -1,0 +1,6 @@
+mod NotNot
+mod FirstPlaces
+mod Readings
+mod Meanings
+mod Flags
+mod Resolutions
