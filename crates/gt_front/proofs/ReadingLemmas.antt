@@ -5,7 +5,7 @@ use Rattle.std.specs.List.{AllByRecursion}
 use Rattle.gt_io.specs.Held.{Held}
 use Rattle.gt_front.specs.declared.TheConstants.{MAX_HEADER_BYTES}
 use Rattle.gt_front.specs.Texts.{File, headers_from, IsTextOf, AreTextsOf}
-use Rattle.gt_front.specs.Comes.{IsRead}
+use Rattle.gt_front.specs.Comes.{IsThere}
 use Rattle.gt_front.specs.Reading.{IsStopAt, IsStopIn, AreHeadersRead}
 use Rattle.gt_front.specs.declared.reading.ReadStop.{ReadStop}
 use Rattle.gt_front.specs.declared.reading.ReadStop.TheVariants.{Memory, Refused}
@@ -14,7 +14,7 @@ use Rattle.gt_front.specs.declared.reading.ReadStop.TheVariants.{Memory, Refused
 abbrev pub header_file : ℕ → List ℕ → File
 header_file word name = record { word = word; name = name; limit = MAX_HEADER_BYTES }
 
--- the files of names, and then those of the names behind them
+-- the files of names, and then those of the names after them
 headers-append : (word at : ℕ) (front back : List (List ℕ)) → at ≡ word + length front → headers_from word (front ++ back) ≡ headers_from word front ++ headers_from at back
 headers-append word at [] back is = let same : at ≡ word = omega arith in ap (λ w. headers_from w back) (sym same)
 headers-append word at (name ∷ front) back is =
@@ -45,12 +45,12 @@ AreTextsOf-push told [] (t ∷ texts) file text all one = absurd all
 AreTextsOf-push told (f ∷ files) [] file text all one = absurd all
 AreTextsOf-push told (f ∷ files) (t ∷ texts) file text all one = (all.0, AreTextsOf-push told files texts file text all.1 one)
 
--- files with texts were read
-pub were_read : (told : Option Held) (files : List File) (texts : List (List ℕ)) → AreTextsOf told files texts → AllByRecursion (IsRead told) files
-were_read told [] [] all = tt
-were_read told [] (t ∷ texts) all = absurd all
-were_read told (f ∷ files) [] all = absurd all
-were_read told (f ∷ files) (t ∷ texts) all = ((t, all.0), were_read told files texts all.1)
+-- files with texts are there
+pub are_there : (told : Option Held) (files : List File) (texts : List (List ℕ)) → AreTextsOf told files texts → AllByRecursion (IsThere told) files
+are_there told [] [] all = tt
+are_there told [] (t ∷ texts) all = absurd all
+are_there told (f ∷ files) [] all = absurd all
+are_there told (f ∷ files) (t ∷ texts) all = ((t, all.0), are_there told files texts all.1)
 
 -- one header more was read
 pub read_more : (told : Option Held) (names texts : List (List ℕ)) (k word : ℕ) (name text : List ℕ) → k < length names → name ≡ get_or names k name → word ≡ k + 1
@@ -70,7 +70,7 @@ stop_in told names texts k word name (Refused place why) l is at all stops = (
     file = header_file word name;
     after = headers_from (word + 1) (drop (k + 1) names);
     split = headers-split k word names name l is at;
-    were_read = were_read told (headers_from 1 (take k names)) texts all;
+    are_there = are_there told (headers_from 1 (take k names)) texts all;
     word_is = sym stops.0;
     refused = stops.1;
   },

@@ -16,13 +16,13 @@ use Rattle.gt_front.specs.Stages.{AreWithin}
 use Rattle.gt_front.specs.declared.reading.ReadStop.{ReadStop}
 use Rattle.gt_front.specs.declared.reading.ReadStop.TheVariants.{Memory, Refused}
 use Rattle.gt_front.specs.declared.refusal.FileWhy.{FileWhy}
-use Rattle.gt_front.proofs.ReadingLemmas.{AreTextsOf-push, were_read}
+use Rattle.gt_front.proofs.ReadingLemmas.{AreTextsOf-push, are_there}
 
 -- no texts, where a refusal needs none
 abbrev pub no_texts : Texts
 no_texts = record { headers = []; script = [] }
 
--- a file that is refused is so also where more files stand behind
+-- a file that is refused is so also where more files follow
 IsRefusedFile-append : (told : Option Held) (files more : List File) (word : ℕ) (why : FileWhy) → IsRefusedFile told files word why → IsRefusedFile told (files ++ more) word why
 IsRefusedFile-append told files more word why r =
     record {
@@ -30,7 +30,7 @@ IsRefusedFile-append told files more word why r =
       file = r.file;
       after = r.after ++ more;
       split = ap (λ fs. fs ++ more) r.split ∙ append_assoc r.before (r.file ∷ r.after) more;
-      were_read = r.were_read;
+      are_there = r.are_there;
       word_is = r.word_is;
       refused = r.refused;
     }
@@ -40,7 +40,7 @@ pub IsStopOf-headers : (told : Option Held) (script : List ℕ) (headers : List 
 IsStopOf-headers told script headers Memory stops = tt
 IsStopOf-headers told script headers (Refused word why) stops = IsRefusedFile-append told (headers_from 1 headers) (script_file script ∷ []) word why stops.1
 
--- and so did what stopped the reading of the script, behind the headers
+-- and so did what stopped the reading of the script, after the headers
 pub IsStopOf-script : (told : Option Held) (script : List ℕ) (headers texts : List (List ℕ)) (stop : ReadStop) → AreHeadersRead told headers texts → IsStopAt told (script_file script) stop
     → IsStopOf told script headers stop
 IsStopOf-script told script headers texts Memory all stops = tt
@@ -50,7 +50,7 @@ IsStopOf-script told script headers texts (Refused word why) all stops =
       file = script_file script;
       after = [];
       split = refl;
-      were_read = were_read told (headers_from 1 headers) texts all;
+      are_there = are_there told (headers_from 1 headers) texts all;
       word_is = sym stops.0;
       refused = stops.1;
     }

@@ -18,9 +18,9 @@ use Rattle.gt_front.specs.declared.refusal.FileWhy.TheVariants.{Missing, TooLong
 use Rattle.gt_front.specs.declared.refusal.Refusal.{Refusal}
 use Rattle.gt_front.specs.declared.refusal.Refusal.TheVariants.{Words, Header, Script, NotBuilt, File as InFile}
 
--- a file was read
-abbrev pub IsRead : Option Held → File → Type 0
-IsRead told file = (bytes : List ℕ) × IsTextOf told file bytes
+-- a file is there with bytes within its limit, as far as the store tells
+abbrev pub IsThere : Option Held → File → Type 0
+IsThere told file = (bytes : List ℕ) × IsTextOf told file bytes
 
 -- a file is refused: it is told absent, or told longer than its limit; that a read failed is said by the count of faults
 abbrev pub IsRefusedFor : Option Held → File → FileWhy → Type 0
@@ -28,13 +28,13 @@ IsRefusedFor told file Missing = Tells told file.name None
 IsRefusedFor told file TooLong = TellsLonger told file.name file.limit
 IsRefusedFor told file Fault = Unit {0}
 
--- the file of the word at this place is refused, and each one before it in order was read
+-- the file of the word at this place is refused, and each one before it in order is there
 pub record IsRefusedFile (told : Option Held) (files : List File) (word : ℕ) (why : FileWhy) : Type 0 where
   pub before : List File
   pub file : File
   pub after : List File
   pub split : files ≡ before ++ file ∷ after
-  pub were_read : AllByRecursion (IsRead told) before
+  pub are_there : AllByRecursion (IsThere told) before
   pub word_is : file.word ≡ word
   pub refused : IsRefusedFor told file why
 

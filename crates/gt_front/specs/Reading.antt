@@ -1,4 +1,5 @@
--- What the reading of files comes to: their texts, or why the first file that is refused was not read.
+-- No promise: what the reading of files comes to, their texts, or why the first file that is refused was not read. Only the functions
+-- inside the crate cite this.
 use Rattle.std.specs.Prelude.{◌≡◌, ◌≤◌, ℕ, List, length, Option}
 use Rattle.gt_io.specs.Held.{Held}
 use Rattle.gt_words.specs.declared.call.Call.{Call}

@@ -1,4 +1,4 @@
--- What one stage hands to the next.
+-- No promise: what one stage hands to the next. Only the functions inside the crate cite this.
 use Rattle.std.specs.Prelude.{◌≡◌, ◌≤◌, ℕ, List, All, length}
 use Rattle.gt_words.specs.declared.call.Call.{Call}
 use Rattle.gt_front.specs.Texts.{Texts}

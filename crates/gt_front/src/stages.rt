@@ -81,7 +81,7 @@ pub fn program_of(alloc: Global, call: &Call, texts: &[Bytes]) -> Result<Program
     ensures no_file { (word : ℕ) (line : List ℕ) → IsErrOf result (Halt.Refused (Refusal.File word FileWhy.Fault) line) → ⊥ }
 {
     match declare(alloc, texts) {
-        Ok(program) => Ok(program),
+        Ok(declared) => Ok(declared.program),
         Err(HeaderStop::Memory) => Err(Halt::Memory),
         Err(HeaderStop::Faulty(fault)) => Err(refused(
             Refusal::Header(fault),

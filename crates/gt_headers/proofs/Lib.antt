@@ -1,14 +1,14 @@
-mod Zipped
-mod Programs
-mod PointerLemmas
+mod TakingLemmas
+mod LeastLemmas
+mod TakenPrograms
 mod ReadingLemmas
-mod DecidingLemmas
-mod ProgramLemmas
-mod MadeLemmas
 mod ItemOutcomes
 mod ReadOutcomes
-mod ProgramOutcomes
+mod SizeLemmas
+mod SizePlaces
+mod SettlingLemmas
 mod SoundLemmas
 mod Outcomes
+mod SomeOutcomes
 mod OptionFiles
 pub mod FaultPlaces

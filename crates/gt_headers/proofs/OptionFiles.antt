@@ -28,7 +28,7 @@ use Rattle.gt_markers.specs.MarkerFaults.{cache_faults, draft_faults, field_faul
 use Rattle.gt_rules.specs.Faults.{HasFault, HasProgramFault, IsFieldAt, IsRootAt, field_without_desc, field_to_bare_union, field_to_inner, root_without_desc, root_to_bare_union, root_to_inner, root_of_inner, field_length, field_desc, union_desc, root_length, root_desc, field_reorder, root_reorder, chain, cache_shape}
 
 -- what a place of a list has
-at_place : {A : Type 0} (Q : A → Type 0) (xs : List A) (place : ℕ) (x : A) → All Q xs → slice_get xs place ≡ Some x → Q x
+pub at_place : {A : Type 0} (Q : A → Type 0) (xs : List A) (place : ℕ) (x : A) → All Q xs → slice_get xs place ≡ Some x → Q x
 at_place Q [] place x all is = cc
 at_place Q (y ∷ ys) zero x all is = let same : y ≡ x = cc in subst Q same (All-head Q y ys all)
 at_place Q (y ∷ ys) (suc place) x all is = at_place Q ys place x (All-tail Q y ys all) is

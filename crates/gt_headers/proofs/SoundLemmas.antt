@@ -1,8 +1,7 @@
 -- What texts resolve to is sound.
-use Rattle.std.proofs.Common.{ℕ, List, [], ◌∷◌, Result, Ok, Err}
-use Rattle.std.specs.Prelude.{All, IfOk}
+use Rattle.std.proofs.Common.{◌≡◌, ℕ, List, [], ◌∷◌, subst}
+use Rattle.std.specs.Prelude.{All}
 use Rattle.std.proofs.lemmas.List.Elements.{All-nil, All-cons}
-use Rattle.gt_types.specs.declared.faults.Stop.{Stop}
 use Rattle.gt_items.specs.declared.items.Items.{Items}
 use Rattle.gt_lex.specs.declared.tokens.Token.{Token}
 use Rattle.gt_lex.specs.declared.tokens.Define.{Define}
@@ -27,6 +26,5 @@ module _ (well_made : (text : List ℕ) (tokens : List Token) (defines : List De
   pub sound_by : (texts : List (List ℕ)) (draft : Draft) → AreResolved texts draft → IsSound draft
   sound_by texts draft a = sound a.files draft (all_made texts a.files a.are_read) a.resolved
 
-  pub sound_if : (texts : List (List ℕ)) (files : List Items) (result : Result Draft Stop) → AreRead texts files → IfOk result (Resolves files) → IfOk result IsSound
-  sound_if texts files (Ok draft) read resolved = sound files draft (all_made texts files read) resolved
-  sound_if texts files (Err stop) read resolved = tt
+  pub sound_of : (texts : List (List ℕ)) (files seen : List Items) (draft : Draft) → seen ≡ files → AreRead texts files → Resolves seen draft → IsSound draft
+  sound_of texts files seen draft same read resolved = sound files draft (all_made texts files read) (subst (λ (fs : List Items). Resolves fs draft) same resolved)

@@ -1,7 +1,8 @@
 pub mod Reading
-pub mod Built
+pub mod Takes
+pub mod Untaken
+pub mod Sizes
 pub mod Headers
-pub mod Pointers
 pub mod Stops
 pub mod Deciding
 pub mod Halting

@@ -1,22 +1,36 @@
 // The program that headers declare.
 ghost use Rattle.std.specs.Prelude.{◌≡◌, ◌≤◌, ◌<◌, ◌^◌, All, IfErr, IfOk, length};
 ghost use Rattle.std.specs.Bool.{Decides};
+ghost use Rattle.gt_layout.specs.Planes.{IsLaidOut};
+ghost use Rattle.gt_layout.specs.Excess.{IsWithin};
 ghost use Rattle.gt_markers.specs.Sound.{IsSound};
-ghost use Rattle.gt_rules.specs.Faults.{Declares as DeclaresProgram};
-ghost use Rattle.gt_headers.specs.Headers.{AreResolved, Declares, IsHeaderStop, Settles};
+ghost use Rattle.gt_resolve.specs.Resolution.{Resolves};
 ghost use Rattle.gt_headers.specs.Halting.{stop_of};
+ghost use Rattle.gt_headers.specs.Headers.{Declares, IsHeaderStop, Settles, SettlesBy};
+ghost use Rattle.gt_headers.specs.Reading.{AreRead};
 
 use crate::MAX_HEADERS;
-use crate::built::unbuilt_file;
 use crate::reading::read_all;
+use crate::sizes::lay_out;
+use crate::taking::untaken_file;
+use gt_items::Items;
+use gt_layout::Layouts;
 use gt_options::{Settlement, settle};
 use gt_resolve::{Draft, few, resolve};
+use gt_settled::declared_is_settled;
 use gt_sound::{read_is_well_made, resolved_is_sound};
 use gt_types::{Bytes, Fault, Program, Stop};
 use std::alloc::{AllocError, Global};
 
+/// What headers declare: a program, and how its structures and its static record lie.
+#[derive(Debug, Drop)]
+pub struct Declared {
+    pub program: Program,
+    pub layouts: Layouts,
+}
+
 /// Why headers give no program: out of memory; their first fault; or, where there is none, the place from 1 of the first
-/// header with something that is not built so far.
+/// header with something that the heap does not take so far.
 #[derive(Clone, Copy, Debug, PartialEq, Eq)]
 pub enum HeaderStop {
     Memory,
@@ -42,23 +56,25 @@ pub fn are_within_limits(texts: &[Bytes]) -> bool
     texts.len() <= MAX_HEADERS && texts.iter().all(|text| text.len() < 1 << 32)
 }
 
-/// The program that the headers with these texts declare, in their order. Each text is read by itself, and its faults
-/// (1 to 10) come first, in the order of the texts; then come those of names and types over all of them (11 to 15), and then
-/// those of options (16 to 23). What is not built so far is every option of a marker, a marked union, a cache, and a field or a root
-/// whose type is not a pointer to a struct.
-pub fn declare(alloc: Global, texts: &[Bytes]) -> Result<Program, HeaderStop>
+/// The program that the headers with these texts declare, in their order, and its layouts. Each text is read by itself, and its
+/// faults (1 to 10) come first, in the order of the texts; then come those of names and types over all of them (11 to 15), then
+/// those of options (16 to 23), and then that of a program that is too large (24). The heap takes structs of plain pointers to one
+/// another and roots that are such pointers so far; the first header with something else is not built.
+pub fn declare(alloc: Global, texts: &[Bytes]) -> Result<Declared, HeaderStop>
     requires few { length texts.now ≤ MAX_HEADERS }
     requires short { All (λ text. length text < 2 ^ 32) texts.now }
-    ensures declared { IfOk result (Declares texts.now) }
+    ensures declared { IfOk result (λ declared. Declares texts.now declared.program) }
+    ensures laid_out { IfOk result (λ declared. IsLaidOut declared.program declared.layouts) }
+    ensures within { IfOk result (λ declared. IsWithin declared.program declared.layouts) }
     ensures stopped { IfErr result (IsHeaderStop texts.now) }
 {
-    let (draft, program) = match settle_all(alloc, texts) {
+    let (draft, declared) = match settle_all(alloc, texts) {
         Ok(settled) => settled,
         Err(stop) => return Err(stopped(stop)),
     };
-    match unbuilt_file(&draft) {
+    match untaken_file(&draft, &declared.program) {
         Some(file) => Err(HeaderStop::NotBuilt { file }),
-        None => Ok(program),
+        None => Ok(declared),
     }
 }
 
@@ -70,35 +86,49 @@ pub fn program_of(alloc: Global, texts: &[Bytes]) -> Result<Program, Stop>
     ensures stopped { IfErr result (λ stop. IsHeaderStop texts.now (stop_of stop)) }
 {
     match settle_all(alloc, texts) {
-        Ok((_, program)) => Ok(program),
+        Ok((_, declared)) => Ok(declared.program),
         Err(stop) => Err(stop),
     }
 }
 
-// The draft of all texts with the program that it declares, or their first fault.
-fn settle_all(alloc: Global, texts: &[Bytes]) -> Result<(Draft, Program), Stop>
+// The draft of all texts with what it declares, or their first fault.
+fn settle_all(alloc: Global, texts: &[Bytes]) -> Result<(Draft, Declared), Stop>
     requires few { length texts.now ≤ MAX_HEADERS }
     requires short { All (λ text. length text < 2 ^ 32) texts.now }
-    ensures resolved { IfOk result (λ both. AreResolved texts.now both.0) }
-    ensures declares { IfOk result (λ both. DeclaresProgram both.0 both.1) }
+    ensures settles { IfOk result (λ both. SettlesBy texts.now both.0 both.1.program) }
+    ensures laid_out { IfOk result (λ both. IsLaidOut both.1.program both.1.layouts) }
+    ensures within { IfOk result (λ both. IsWithin both.1.program both.1.layouts) }
     ensures stopped { IfErr result (λ stop. IsHeaderStop texts.now (stop_of stop)) }
 {
-    let draft = match resolve_all(alloc, texts) {
-        Ok(draft) => draft,
+    declared_is_settled();
+    let Resolution { files, draft } = match resolve_all(alloc, texts) {
+        Ok(resolution) => resolution,
         Err(stop) => return Err(stop),
     };
-    match settle(alloc, &draft)? {
-        Settlement::Program(program) => Ok((draft, program)),
-        Settlement::Fault(fault) => Err(Stop::At(fault)),
+    let program = match settle(alloc, &draft)? {
+        Settlement::Program(program) => program,
+        Settlement::Fault(fault) => return Err(Stop::At(fault)),
+    };
+    match lay_out(alloc, &files, &program) {
+        Ok(layouts) => Ok((draft, Declared { program, layouts })),
+        Err(stop) => Err(stop),
     }
 }
 
+// The items of all texts, and what their names and types mean.
+#[derive(Drop)]
+struct Resolution {
+    files: Vec<Items>,
+    draft: Draft,
+}
+
 // The names and types of all texts, or their first fault.
-fn resolve_all(alloc: Global, texts: &[Bytes]) -> Result<Draft, Stop>
+fn resolve_all(alloc: Global, texts: &[Bytes]) -> Result<Resolution, Stop>
     requires few { length texts.now ≤ MAX_HEADERS }
     requires short { All (λ text. length text < 2 ^ 32) texts.now }
-    ensures resolved { IfOk result (AreResolved texts.now) }
-    ensures sound { IfOk result IsSound }
+    ensures read { IfOk result (λ r. AreRead texts.now r.files.items) }
+    ensures resolved { IfOk result (λ r. Resolves r.files.items r.draft) }
+    ensures sound { IfOk result (λ r. IsSound r.draft) }
     ensures stopped { IfErr result (λ stop. IsHeaderStop texts.now (stop_of stop)) }
 {
     few();
@@ -108,7 +138,10 @@ fn resolve_all(alloc: Global, texts: &[Bytes]) -> Result<Draft, Stop>
         Ok(files) => files,
         Err(stop) => return Err(stop),
     };
-    resolve(alloc, &files)
+    match resolve(alloc, &files) {
+        Ok(draft) => Ok(Resolution { files, draft }),
+        Err(stop) => Err(stop),
+    }
 }
 
 fn stopped(stop: Stop) -> HeaderStop

@@ -5,26 +5,27 @@ ghost use Rattle.gt_types.specs.declared.faults.Fault.{Fault};
 ghost use Rattle.gt_types.specs.declared.program.Program.{Program};
 ghost use Rattle.gt_types.specs.declared.limits.TheConstants.{MAX_STRUCTURES as most_structures, MAX_FIELDS as most_fields, MAX_ROOTS as most_roots, MAX_CACHES as most_caches, MAX_DEPTH as most_depth, MAX_DIMENSIONS as most_dimensions, MAX_BOUND as most_elements, TOO_LARGE};
 ghost use Rattle.gt_types.specs.Settled.{Settled};
+ghost use Rattle.gt_layout.specs.declared.planes.TheConstants.{MAX_SIZE};
 ghost use Rattle.gt_resolve.specs.declared.draft.Draft.{Draft};
 ghost use Rattle.gt_headers.specs.Headers.{AreResolved, Declares, IsFirstFault, IsNotBuilt, Settles};
-ghost use Rattle.gt_headers.specs.Pointers.{IsOfPointers};
 ghost use Rattle.gt_lex.specs.declared.faults.TheConstants.{BAD_UTF8, OPEN_COMMENT, OPEN_STRING, BAD_NUMBER};
 ghost use Rattle.gt_expr.specs.declared.TheConstants.{BAD_EXPR, EXPR_TOO_LARGE, MAX_PARTS};
 ghost use Rattle.gt_parse.specs.declared.faults.TheConstants.{UNCLOSED, UNEXPECTED, UNSUPPORTED, BAD_MARKER_PLACE};
 ghost use Rattle.gt_markers.specs.declared.TheConstants.{UNKNOWN_OPTION, WRONG_PLACE, MISSING_DESC, DUPLICATE_TAG, BAD_PATH, CHAIN_NOT_OWN_POINTER, UNKNOWN_HOOK, CACHE_SHAPE};
 ghost use Rattle.gt_resolve.specs.declared.TheConstants.{REDEFINED, UNDEFINED, BY_VALUE_CYCLE, BAD_BOUND, TOO_MANY, TYPE_TOO_LARGE, MAX_STRUCTURES, MAX_FIELDS, MAX_ROOTS, MAX_CACHES, MAX_DEPTH, MAX_DIMENSIONS, MAX_BOUND};
 
+use gt_exists::{each_resolution, each_text};
+use gt_layout::laws::one_layout;
 use gt_lex::one_answer;
 use gt_options::laws::one_settlement;
 use gt_parse::one_search;
-use gt_resolve::few;
 use gt_settled::declared_is_settled;
 use gt_sound::{read_is_well_made, resolved_is_sound};
 
 /// Headers declare at most one program, built or not, have at most one first fault, and at most one of them is the first with
-/// something that is not built. A program never stands beside a first fault, and what is not built stands neither beside one nor
-/// beside a program of which all is built. Where names and types are without a fault, it cannot be that there is neither a program nor a
-/// first fault.
+/// something that the heap does not take. A program never stands beside a first fault, and what is not taken stands neither beside one
+/// nor beside a program that the heap takes. Where names and types are without a fault, it cannot be that there is neither a program
+/// nor a first fault.
 pub fn one_outcome()
     ensures program { (texts : List (List ℕ)) (program other : Program) → Declares texts program → Declares texts other → program ≡ other }
     ensures settled { (texts : List (List ℕ)) (program other : Program) → Settles texts program → Settles texts other → program ≡ other }
@@ -42,6 +43,17 @@ pub fn one_outcome()
     read_is_well_made();
     resolved_is_sound();
     one_settlement();
+    declared_is_settled();
+    one_layout();
+}
+
+/// It cannot be that headers have neither a program, built or not, nor a first fault.
+pub fn some_outcome()
+    ensures outcome { (texts : List (List ℕ)) → ((program : Program) → ¬ Settles texts program) → ((fault : Fault) → ¬ IsFirstFault texts fault) → ⊥ }
+{
+    each_text();
+    each_resolution();
+    one_outcome();
 }
 
 /// The program to which headers settle, built or not, is settled.
@@ -53,14 +65,8 @@ pub fn settles_is_settled()
     declared_is_settled();
 }
 
-/// What headers declare so far is few structures of plain pointers to one another, and few such roots.
-pub fn is_of_pointers()
-    ensures { (texts : List (List ℕ)) (program : Program) → Declares texts program → IsOfPointers program }
-{
-    few();
-}
-
-/// The file of a first fault, and that of the first header with something that is not built, is one of the texts, counted from 1.
+/// The file of a first fault, and that of the first header with something that the heap does not take, is one of the texts, counted
+/// from 1.
 pub fn text_places()
     ensures fault { (texts : List (List ℕ)) (fault : Fault) → IsFirstFault texts fault → (1 ≤ fault.file) × (fault.file ≤ length texts) }
     ensures file { (texts : List (List ℕ)) (file : ℕ) → IsNotBuilt texts file → (1 ≤ file) × (file ≤ length texts) }
@@ -78,4 +84,5 @@ pub fn numbers()
     ensures shapes { (MAX_DEPTH ≡ 32) × (MAX_DIMENSIONS ≡ 4) × (MAX_BOUND ≡ pos 1048576) × (MAX_PARTS ≡ 256) }
     ensures settled_counts { (most_structures ≡ 4096) × (most_fields ≡ 1024) × (most_roots ≡ 4096) × (most_caches ≡ 64) }
     ensures settled_shapes { (most_depth ≡ 32) × (most_dimensions ≡ 4) × (most_elements ≡ 1048576) × (TOO_LARGE ≡ 1048577) }
+    ensures layout { MAX_SIZE ≡ 1048576 }
 {}

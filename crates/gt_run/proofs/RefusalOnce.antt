@@ -1,4 +1,4 @@
--- Where the files are told, one refusal comes first, and no command is run behind it.
+-- Where the files are told, one refusal comes first, and no command is run after it.
 use Rattle.std.proofs.Common.{◌≡◌, ℕ, ◌<◌, List, [], ◌∷◌, ◌++◌, length, All, refl, sym, ap, subst, ◌∙◌, Some, None, Option, Result, Ok, Err, inl, inr}
 use Rattle.std.specs.Prelude.{IsSomeAnd}
 use Rattle.std.specs.List.{AllByRecursion}
@@ -15,7 +15,7 @@ use Rattle.gt_words.specs.Calls.{call_of}
 use Rattle.gt_headers.specs.Headers.{Declares, IsFirstFault, IsNotBuilt}
 use Rattle.gt_front.specs.Texts.{File, Texts, AreTextsOf, files_in_order}
 use Rattle.gt_front.specs.Asks.{Asks, Calls, Reads}
-use Rattle.gt_front.specs.Comes.{Comes, IsGenerated, IsRead, IsRefusedFile, IsRefusedFor, IsScriptFault}
+use Rattle.gt_front.specs.Comes.{Comes, IsGenerated, IsThere, IsRefusedFile, IsRefusedFor, IsScriptFault}
 use Rattle.gt_front.specs.declared.refusal.FileWhy.{FileWhy}
 use Rattle.gt_front.specs.declared.refusal.FileWhy.TheVariants.{Missing, TooLong, Fault}
 use Rattle.gt_front.specs.declared.refusal.Refusal.{Refusal}
@@ -33,20 +33,20 @@ held_of_told held (file ∷ files) [] t = absurd t
 held_of_told held (file ∷ files) (text ∷ texts) t = (t.0.1 held refl, t.0.0, held_of_told held files texts t.1)
 
 -- a file that was read is refused only for a fault
-read_file : (held : Held) (file : File) (why : FileWhy) → IsRead (Some held) file → IsRefusedFor (Some held) file why → why ≡ Fault
+read_file : (held : Held) (file : File) (why : FileWhy) → IsThere (Some held) file → IsRefusedFor (Some held) file why → why ≡ Fault
 read_file held file why read r = no_refusal held (Some held) refl file read.0 (read.1.1 held refl) read.1.0 why r
 
 -- the first file that is refused is one
 first_file : (held : Held) (before befores : List File) (file other : File) (after afters : List File) → before ++ file ∷ after ≡ befores ++ other ∷ afters
-    → AllByRecursion (IsRead (Some held)) before → AllByRecursion (IsRead (Some held)) befores
+    → AllByRecursion (IsThere (Some held)) before → AllByRecursion (IsThere (Some held)) befores
     → (why reason : FileWhy) → IsRefusedFor (Some held) file why → IsRefusedFor (Some held) other reason → (why ≡ Fault → ⊥) → (reason ≡ Fault → ⊥) → file ≡ other
 first_file held [] [] file other after afters e r s why reason h k n m = cc
 first_file held [] (b ∷ befores) file other after afters e r s why reason h k n m =
     let same : b ≡ file = cc in
-    absurd (n (read_file held file why (subst (IsRead (Some held)) same s.0) h))
+    absurd (n (read_file held file why (subst (IsThere (Some held)) same s.0) h))
 first_file held (a ∷ before) [] file other after afters e r s why reason h k n m =
     let same : a ≡ other = cc in
-    absurd (m (read_file held other reason (subst (IsRead (Some held)) same r.0) k))
+    absurd (m (read_file held other reason (subst (IsThere (Some held)) same r.0) k))
 first_file held (a ∷ before) (b ∷ befores) file other after afters e r s why reason h k n m =
     let rest : before ++ file ∷ after ≡ befores ++ other ∷ afters = cc in
     first_file held before befores file other after afters rest r.1 s.1 why reason h k n m
@@ -75,7 +75,7 @@ same_refused word other why reason e f = cc
 one_file : (held : Held) (files : List File) (word other : ℕ) (why reason : FileWhy) → IsRefusedFile (Some held) files word why → IsRefusedFile (Some held) files other reason
     → (why ≡ Fault → ⊥) → (reason ≡ Fault → ⊥) → InFile word why ≡ InFile other reason
 one_file held files word other why reason r s n m =
-    let same : r.file ≡ s.file = first_file held r.before s.before r.file s.file r.after s.after (sym r.split ∙ s.split) r.were_read s.were_read why reason r.refused s.refused n m in
+    let same : r.file ≡ s.file = first_file held r.before s.before r.file s.file r.after s.after (sym r.split ∙ s.split) r.are_there s.are_there why reason r.refused s.refused n m in
     let R : File → Type 0 = λ file. IsRefusedFor (Some held) file why in
     same_refused word other why reason (sym r.word_is ∙ ap (λ (f : File). f.word) same ∙ s.word_is) (same_why held s.file why reason (subst R same r.refused) s.refused n m)
 
@@ -109,7 +109,7 @@ same_read words held call other texts others a b =
     let w = parts texts.headers others.headers texts.script others.script (held_texts held (Some held) refl (files_in_order b.name other.headers) _ _ there (subst F order a.texts_are)) in
     same_pair texts others w.0 w.1
 
--- what is refused behind the reading of the files
+-- what is refused after the files are read
 data Behind (texts : Texts) : Refusal → Type 0 where
   header : (fault : HeaderFault) → IsFirstFault texts.headers fault → Behind texts (Header fault)
   undone : (word : ℕ) → IsNotBuilt texts.headers word → Behind texts (NotBuilt word)

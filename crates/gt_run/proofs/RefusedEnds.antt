@@ -1,4 +1,4 @@
--- Where something is refused first, the program ends with that, or since the sink failed, or for want of memory.
+-- Where something is refused first, the program ends with that, or since the sink failed, or since memory ran out.
 use Rattle.std.proofs.Common.{◌≡◌, ℕ, ◌⊎◌, List, refl, ap, ◌∙◌, Some, Option, inl, inr}
 use Rattle.gt_space.specs.Range.{Range}
 use Rattle.gt_io.specs.Held.{Held}

@@ -183,7 +183,7 @@ one_or_none : (b : Bool) (n : ℕ) → n ≡ cond b 1 0 → (n ≡ 0) ⊎ (n ≡
 one_or_none true n e = inr (inl e)
 one_or_none false n e = inl e
 
--- where nothing is refused and nothing outside failed, the script is run to its end, or there is want of memory
+-- where nothing is refused and nothing outside failed, the script is run to its end, or memory runs out
 pub Ends-well : (words : List (List ℕ)) (told : Option Held) (old new : Option (List ℕ)) (outcome : Outcome) (range : Range) (FileRose SinkRose : Type 0)
     → ((texts : Texts) (refusal : Refusal) → IsRefusedFirst words told texts refusal → IsReadFault refusal) → (FileRose → ⊥) → (SinkRose → ⊥)
     → ((word : ℕ) → outcome.refusal ≡ Some (InFile word Fault) → FileRose) → (outcome.status ≡ 4 → SinkRose)

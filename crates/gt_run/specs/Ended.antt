@@ -27,7 +27,7 @@ AddsAllBut old lines answers Last new = (first : List Line) × (line : Line) × 
 abbrev pub IsNothing : List ℕ → List ℕ → Type 0
 IsNothing front text = front ≡ []
 
--- the refusal's line is written; or a front of it, where the sink failed; or nothing, for out of memory
+-- the refusal's line is written; or a prefix of it, where the sink failed; or nothing, for out of memory
 abbrev pub Refuses : Refusal → List ℕ → (taken takes : Option (List ℕ)) → Ending → Type 0
 Refuses refusal line taken takes (Refused told) = (told ≡ refusal) × Adds taken line takes
 Refuses refusal line taken takes SinkFailed = AddsFront taken line takes
@@ -41,7 +41,7 @@ IsUnused range = (range ≡ empty_range) ⊎ ((pages : ℕ) × (statics : ℕ) �
 -- how the program ends, with its answers, what the sink took, and the bytes of the space
 -- finished: a run of all lines, and the text of its answers
 -- refused: what comes first in the order of work, and its line; no command ran, and the space is empty, as it came
--- the sink failed: a front of a refusal's line, where no command ran and the space is empty, as it came; or of the text of the
+-- the sink failed: a prefix of a refusal's line, where no command ran and the space is empty, as it came; or of the text of the
 -- answers with all but the last whole
 -- out of memory: no answer, where no command ran; or the text of the answers, or of all but the last: the answers are those to
 -- the lines that were run

@@ -1,4 +1,4 @@
--- What one line, and several, leave.
+-- No promise: what one line, and several, leave. Only the functions inside the crate cite this.
 use Rattle.std.specs.Prelude.{◌≡◌, ℕ, ◌*◌, ◌⊎◌, List, [], ◌∷◌, ◌++◌, length, Option, Result, Ok, Err}
 use Rattle.gt_types.specs.declared.program.Program.{Program}
 use Rattle.gt_io.specs.Appends.{Adds, AddsFront, IsFrontOf}

@@ -9,6 +9,6 @@ pub enum Ending {
     Refused(Refusal),
     /// The sink failed.
     SinkFailed,
-    /// Want of memory.
+    /// Memory ran out.
     NoMemory,
 }

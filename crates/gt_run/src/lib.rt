@@ -12,8 +12,8 @@ mod running;
 
 pub use gt_front::{FileWhy, Refusal};
 pub use gt_machine::{
-    Answer, Cause, Session, Vars, Why, is_built, next_keeps_good, opening_is_good, refusals,
-    refusals_in_order, runs_stay_good, step, text,
+    Answer, Cause, Session, Vars, Why, good_state, is_built, next_keeps_good, opening,
+    opening_is_good, refusals, refusals_in_order, runs_stay_good, step, text,
 };
 pub use laws::{numbers, one_refusal};
 pub use outcome::Outcome;

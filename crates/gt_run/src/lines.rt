@@ -15,7 +15,7 @@ use std::alloc::Global;
 /// Why a line was not done.
 #[derive(Clone, Copy, Debug, PartialEq, Eq)]
 pub enum LineStop {
-    /// Want of memory before the answer.
+    /// Memory ran out before the answer.
     NoAnswer,
     /// Memory ran out after the answer.
     NoText,

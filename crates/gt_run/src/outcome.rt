@@ -7,7 +7,8 @@ ghost use Rattle.gt_run.specs.Ended.{refusal_status as refusal_status_of};
 use crate::ending::Ending;
 use gt_front::Refusal;
 use gt_machine::Answer;
-use gt_types::List;
+use gt_types::{Copied, List};
+use std::alloc::{AllocError, Global};
 
 /// How a call of the program ended: its status, the answers so far, and the refusal where there was one.
 /// The status is 0 where all lines were answered, 1 where one of the answers is a refusal, 2 or 3 where no line was run, 4
@@ -51,6 +52,16 @@ impl Outcome {
                 refusal: None,
             },
         }
+    }
+}
+
+impl Copied for Outcome {
+    fn copy(&self, alloc: Global) -> Result<Outcome, AllocError> {
+        Ok(Outcome {
+            status: self.status,
+            answers: self.answers.copy(alloc)?,
+            refusal: self.refusal,
+        })
     }
 }
 

@@ -22,7 +22,7 @@ use crate::lines::run_lines;
 use crate::outcome::Outcome;
 use crate::refuse::refuse;
 use gt_front::{FileWhy, Halt, Ready, Refusal, not_built_line, prepare};
-use gt_headers::{is_of_pointers, one_outcome as headers_outcome};
+use gt_headers::{one_outcome as headers_outcome, settles_is_settled};
 use gt_io::{Files, Sink};
 use gt_machine::{Answer, good_state, opening};
 use gt_script::Line;
@@ -55,17 +55,17 @@ pub fn top<F: Files, K: Sink>(
     ensures file_cause { (word : ℕ) → result.refusal ≡ Some (Refusal.File word FileWhy.Fault) → Rose (F.faults files.old) (F.faults files.new) }
     ensures sink_cause { result.status ≡ 4 → Rose (K.faults out.old) (K.faults out.new) }
 
-    // Where all is well, the script is run to its end, or memory runs out  .
+    // Where all is well, the script is run to its end, or memory runs out.
     ensures complete { (held : Held) → F.told files.old ≡ Some held → IsWell words.now held
         → (Rose (F.faults files.old) (F.faults files.new) → ⊥) → (Rose (K.faults out.old) (K.faults out.new) → ⊥)
         → (result.status ≡ 0) ⊎ (result.status ≡ 1) ⊎ (result.status ≡ 9) }
 
-    // Where something is refused first, it is refused, or the sink failed, or memory runs out  .
+    // Where something is refused first, it is refused, or the sink failed, or memory runs out.
     ensures refused { (held : Held) (texts : Texts) (refusal : Refusal) → F.told files.old ≡ Some held → IsRefusedFirst words.now (Some held) texts refusal → IsTold refusal
         → (Rose (F.faults files.old) (F.faults files.new) → ⊥)
         → ((result.refusal ≡ Some refusal) × (result.status ≡ refusal_status refusal)) ⊎ (result.status ≡ 4) ⊎ (result.status ≡ 9) }
 {
-    is_of_pointers();
+    settles_is_settled();
     well_is_not_refused();
     refused_is_told();
     match prepare(alloc, words, files) {
@@ -88,8 +88,8 @@ fn well_is_not_refused()
     headers_outcome();
 }
 
-// Where something is refused first, and no file's reading failed, it is what is told, or the sink failed, or memory runs out  . It
-// does nothing: its clause is a law.
+// Where something is refused first, and no file's reading failed, it is what is told, or the sink failed, or memory runs out.
+// It does nothing: its clause is a law.
 fn refused_is_told()
     ensures { (words : List (List ℕ)) (held : Held) (texts : Texts) (refusal : Refusal) (old new : Option (List ℕ)) (outcome : Outcome) (range : Range) → IsRefusedFirst words (Some held) texts refusal → IsTold refusal
         → Ends words (Some held) old new outcome range → ((word : ℕ) → outcome.refusal ≡ Some (Refusal.File word FileWhy.Fault) → ⊥)

@@ -10,7 +10,7 @@ pub fn answer(alloc: Global, texts: &[Bytes]) -> Result<String, AllocError> {
         return String::from_str(alloc, "more than headers may be");
     }
     match declare(alloc, texts) {
-        Ok(program) => program_text(alloc, &program),
+        Ok(declared) => program_text(alloc, &declared.program),
         Err(stop) => stop_text(alloc, stop),
     }
 }

@@ -1,4 +1,18 @@
+use Rattle.std.proofs.Common.{List, ℕ, sym, subst}
+use Rattle.gt_front.specs.Asks.{Reads}
 use Rattle.gt_front.proofs.preparing.prepare.Goals as goal
 
 pub returns-in-Err-clause-halted : goal.returns-in-Err-clause-halted
 returns-in-Err-clause-halted g c = c.in-Err.ensures.halted (g.F.Files.told c.args.files.now)
+
+pub returns-in-Err-lines_of-clause-halted : goal.returns-in-Err-lines_of-clause-halted
+returns-in-Err-lines_of-clause-halted g c =
+    let words = c.args.words.now in
+    let told = g.F.Files.told c.args.files.now in
+    let found = c.in-Ok-read_files.found in
+    let headers = c.as_slice.result.now in
+    let script = c.as_slice-2.result.now in
+    let read = c.in-Ok-read_files.ensures.read words c.in-Ok.ensures.called in
+    let with_script = subst (λ (s : List ℕ). Reads words told c.in-Ok.call (record { headers = found.headers.items; script = s })) (sym c.as_slice-2.ensures.bytes) read in
+    let reads = subst (λ (h : List (List ℕ)). Reads words told c.in-Ok.call (record { headers = h; script = script })) (sym c.as_slice.ensures.value) with_script in
+    c.in-Err-lines_of.ensures.halted words told headers c.in-Ok-program_of.program reads c.in-Ok-program_of.ensures.declared

@@ -1,6 +1,6 @@
 use Rattle.std.proofs.Common.{inr, subst, arith}
 use Rattle.gt_headers.specs.Headers.{IsHeaderStop, IsFirstFault, IsNotBuilt}
-use Rattle.gt_headers.proofs.FaultPlaces.{fault_within, unbuilt_within}
+use Rattle.gt_headers.proofs.FaultPlaces.{fault_within, untaken_within}
 use Rattle.gt_front.proofs.stages.program_of.Goals as goal
 
 pub fault_line-requires-clause-counted : goal.fault_line-requires-clause-counted
@@ -15,8 +15,8 @@ fault_line-requires-clause-there c =
 
 pub file_line-requires : goal.file_line-requires
 file_line-requires c =
-    let unbuilt : IsNotBuilt c.args.texts.now c.in-Err-NotBuilt.file = subst (IsHeaderStop c.args.texts.now) c.in-Err-NotBuilt.field-0-is c.in-Err-NotBuilt.ensures.stopped in
-    let within = unbuilt_within c.args.texts.now c.in-Err-NotBuilt.file unbuilt in
+    let untaken : IsNotBuilt c.args.texts.now c.in-Err-NotBuilt.file = subst (IsHeaderStop c.args.texts.now) c.in-Err-NotBuilt.field-0-is c.in-Err-NotBuilt.ensures.stopped in
+    let within = untaken_within c.args.texts.now c.in-Err-NotBuilt.file untaken in
     record { there = omega (arith, within.1, c.requires.within.each) }
 
 pub returns-in-Err-Faulty-clause-halted : goal.returns-in-Err-Faulty-clause-halted
@@ -29,6 +29,6 @@ returns-in-Err-Faulty-clause-halted c =
 pub returns-in-Err-NotBuilt-clause-halted : goal.returns-in-Err-NotBuilt-clause-halted
 returns-in-Err-NotBuilt-clause-halted c =
     λ words told script reads.
-    let unbuilt : IsNotBuilt c.args.texts.now c.in-Err-NotBuilt.file = subst (IsHeaderStop c.args.texts.now) c.in-Err-NotBuilt.field-0-is c.in-Err-NotBuilt.ensures.stopped in
-    c.refused-in-Err-NotBuilt.ensures.halted words told (record { headers = c.args.texts.now; script = script }) (inr (c.args.call.now, reads, unbuilt))
+    let untaken : IsNotBuilt c.args.texts.now c.in-Err-NotBuilt.file = subst (IsHeaderStop c.args.texts.now) c.in-Err-NotBuilt.field-0-is c.in-Err-NotBuilt.ensures.stopped in
+    c.refused-in-Err-NotBuilt.ensures.halted words told (record { headers = c.args.texts.now; script = script }) (inr (c.args.call.now, reads, untaken))
     (c.file_line.ensures.line words reads.calls.called)

@@ -14,7 +14,9 @@ use Rattle.gt_run.proofs.running.top.Given.{Over}
 use Rattle.gt_run.proofs.running.top.Goals as goal
 
 pub run_ready-requires-clause-linked : goal.run_ready-requires-clause-linked
-run_ready-requires-clause-linked g c = let asks = c.in-Ok.ensures.ready in linked c.in-Ok.ready.program (c.is_of_pointers.ensures asks.texts.headers c.in-Ok.ready.program asks.declares)
+run_ready-requires-clause-linked g c =
+    let asks = c.in-Ok.ensures.ready in
+    let settled = c.settles_is_settled.ensures.settled asks.texts.headers c.in-Ok.ready.program asks.declares.settles in linked c.in-Ok.ready.program settled asks.declares.takes
 
 pub returns-in-Ok-clause-complete : goal.returns-in-Ok-clause-complete
 returns-in-Ok-clause-complete g c = λ held told well no_file no_sink.
