@@ -1,8 +1,6 @@
--- The structures around a leaf: those on a path are those of its first step and those on the rest; and a leaf that is unread inside some is
--- so inside fewer.
-use Rattle.std.proofs.Common.{◌≡◌, ℕ, Bool, true, List, [], ◌∷◌, refl, ap, sym, subst, ◌∙◌, Option, Some, inl, inr}
-use Rattle.std.specs.Prelude.{Contains, option_to_list, slice_get}
-use Rattle.std.proofs.lemmas.List.Elements.{Contains-append_right}
+-- The structures around a leaf: those on a path have those on its rest among them; and a leaf that is unread inside some is so inside fewer.
+use Rattle.std.proofs.Common.{◌≡◌, ℕ, Bool, true, List, [], ◌∷◌, refl, ap, sym, subst, ◌∙◌, Option, Some, None, inl, inr}
+use Rattle.std.specs.Prelude.{Contains, slice_get}
 use Rattle.gt_types.specs.declared.expressions.Expr.{Expr}
 use Rattle.gt_types.specs.declared.types.TypeId.{TypeId}
 use Rattle.gt_types.specs.declared.types.Ty.{Ty, out-Ty}
@@ -12,7 +10,7 @@ use Rattle.gt_types.specs.declared.program.Field.{Field}
 use Rattle.gt_types.specs.declared.program.Root.{Root}
 use Rattle.gt_types.specs.declared.program.Structure.{Structure}
 use Rattle.gt_types.specs.declared.program.Program.{Program}
-use Rattle.gt_types.specs.Contains.{HasStructure, itself}
+use Rattle.gt_types.specs.Contains.{HasStructure}
 use Rattle.gt_layout.specs.declared.planes.Plane.{Plane}
 use Rattle.gt_layout.specs.declared.planes.Spot.{Spot}
 use Rattle.gt_tree.specs.Trees.{Trees}
@@ -21,18 +19,12 @@ use Rattle.gt_tree.proofs.FixedValues.{in-array, in-tail}
 use Rattle.gt_value.specs.declared.places.Holder.{Holder}
 use Rattle.gt_value.specs.declared.places.Holder.TheVariants as lies_in
 use Rattle.gt_value.specs.Places.{Part, StaticPartLies}
-use Rattle.gt_leaf.specs.Unread.{elem_of, part_at, root_at, structures_on, structures_in_statics, MayStandAround, IsUnread}
-use Rattle.gt_leaf.proofs.Members.{nothing, first, later, first-or-later}
+use Rattle.gt_leaf.specs.Unread.{elem_of, part_at, root_at, with_itself, structures_from, structures_on, structures_in_statics, MayStandAround, IsUnread}
+use Rattle.gt_leaf.proofs.Members.{first, later, first-or-later}
 
 -- each of these structures may stand around a leaf
 pub record Covers (around : List TypeId) (active : Bool) (inner : List TypeId) : Type 0 where
   pub each : (b : TypeId) → Contains inner b → MayStandAround around active b
-
-pub covers-none : (around : List TypeId) (active : Bool) → Covers around active []
-covers-none around active = record { each = λ b c. absurd (nothing b c) }
-
-pub covers-more : (around inner : List TypeId) (active : Bool) (node : TypeId) → MayStandAround around active node → Covers around active inner → Covers around active (node ∷ inner)
-covers-more around inner active node here rest = record { each = λ b c. elim (first-or-later node b inner c) [ inl is ↦ subst (MayStandAround around active) is here | inr d ↦ rest.each b d ] }
 
 -- what is unread inside some structures is so inside fewer
 pub unread-inside : (program : Program) (h : Holder) (around inner : List TypeId) (active : Bool) → Covers around active inner → IsUnread program around active h → IsUnread program inner true h
@@ -54,27 +46,49 @@ module _ (program : Program) where
   tail-at (ty.Node node desc) elem length i e = absurd (in-tail (ty.Node node desc) elem length refl e)
   tail-at type elem length i e = ap elem_of e
 
-  on-rest : (type inner : Ty) (i : ℕ) (path : List ℕ) (b : TypeId) → part_at program type i ≡ Some inner → Contains (structures_on program (Some inner) path) b → Contains (structures_on program (Some type) (i ∷ path)) b
-  on-rest type inner i path b e c =
-      Contains-append_right (option_to_list (itself type)) (structures_on program (part_at program type i) path) b (subst (λ o. Contains (structures_on program o path) b) (sym e) c)
+  -- more structures around the value are more around its parts
+  with-more : (type : Ty) (few many : List TypeId) → ((b : TypeId) → Contains few b → Contains many b) → (b : TypeId) → Contains (with_itself few type) b → Contains (with_itself many type) b
+  with-more (ty.Node node desc) few many more b c = elim (first-or-later node b few c) [ inl is ↦ subst (Contains (node ∷ many)) is (first node many) | inr d ↦ later node b many (more b d) ]
+  with-more type few many more b c = c
 
-  pub node-on : (node : TypeId) (desc : Option Expr) (i : ℕ) (path : List ℕ) → Contains (structures_on program (Some (ty.Node node desc)) (i ∷ path)) node
-  node-on node desc i path = first node (structures_on program (part_at program (ty.Node node desc) i) path)
+  from-more : (type : Option Ty) (path : List ℕ) (few many : List TypeId) → ((b : TypeId) → Contains few b → Contains many b) → (b : TypeId) → Contains (structures_from program few type path) b → Contains (structures_from program many type path) b
+  from-more None path few many more = more
+  from-more (Some type) [] few many more = more
+  from-more (Some type) (i ∷ path) few many more = from-more (part_at program type i) path (with_itself few type) (with_itself many type) (with-more type few many more)
 
   field-type : (node : TypeId) (desc : Option Expr) (s : Structure) (f : Field) (i : ℕ) → HasStructure program node s → slice_get s.fields i ≡ Some f → part_at program (ty.Node node desc) i ≡ Some f.ty
   field-type node desc s f i has get = ap (λ o. o then λ (x : Structure). slice_get x.fields i then λ (y : Field). Some y.ty) has ∙ ap (λ o. o then λ (y : Field). Some y.ty) get
 
+  array-alone : (type elem : Ty) (n : ℕ) (around : List TypeId) → out-Ty type ≡ part.Arr n elem → with_itself around type ≡ []
+  array-alone (ty.Node node desc) elem n around e = absurd (in-array (ty.Node node desc) elem n refl e)
+  array-alone type elem n around e = refl
+
+  tail-alone : (type elem : Ty) (length : Expr) (around : List TypeId) → out-Ty type ≡ part.Tail length elem → with_itself around type ≡ []
+  tail-alone (ty.Node node desc) elem length around e = absurd (in-tail (ty.Node node desc) elem length refl e)
+  tail-alone type elem length around e = refl
+
   -- where a leaf may stand inside those on a path, it may inside those on the rest
   module _ {around : List TypeId} {active : Bool} where
+    -- those around the rest have the structure among them
+    pub inside-covers : (inner : List TypeId) (node : TypeId) (desc : Option Expr) (s : Structure) (f : Field) (i : ℕ) (path : List ℕ) → HasStructure program node s → slice_get s.fields i ≡ Some f
+        → Covers around active (structures_from program inner (Some (ty.Node node desc)) (i ∷ path)) → Covers around active (structures_from program (node ∷ inner) (Some f.ty) path)
+    inside-covers inner node desc s f i path has get covers = subst (λ o. Covers around active (structures_from program (node ∷ inner) o path)) (field-type node desc s f i has get) covers
+
     pub field-covers : (node : TypeId) (desc : Option Expr) (s : Structure) (f : Field) (i : ℕ) (path : List ℕ) → HasStructure program node s → slice_get s.fields i ≡ Some f
         → Covers around active (structures_on program (Some (ty.Node node desc)) (i ∷ path)) → Covers around active (structures_on program (Some f.ty) path)
-    field-covers node desc s f i path has get covers = record { each = λ b c. covers.each b (on-rest (ty.Node node desc) f.ty i path b (field-type node desc s f i has get) c) }
+    field-covers node desc s f i path has get covers =
+        let inside = inside-covers [] node desc s f i path has get covers in
+        record { each = λ b c. inside.each b (from-more (Some f.ty) path [] (node ∷ []) (λ x d. later node x [] d) b c) }
 
     pub array-covers : (type elem : Ty) (n i : ℕ) (path : List ℕ) → out-Ty type ≡ part.Arr n elem → Covers around active (structures_on program (Some type) (i ∷ path)) → Covers around active (structures_on program (Some elem) path)
-    array-covers type elem n i path e covers = record { each = λ b c. covers.each b (on-rest type elem i path b (array-at type elem n i e) c) }
+    array-covers type elem n i path e covers =
+        subst (λ xs. Covers around active (structures_from program xs (Some elem) path)) (array-alone type elem n [] e)
+        (subst (λ o. Covers around active (structures_from program (with_itself [] type) o path)) (array-at type elem n i e) covers)
 
     pub tail-covers : (type elem : Ty) (length : Expr) (i : ℕ) (path : List ℕ) → out-Ty type ≡ part.Tail length elem → Covers around active (structures_on program (Some type) (i ∷ path)) → Covers around active (structures_on program (Some elem) path)
-    tail-covers type elem length i path e covers = record { each = λ b c. covers.each b (on-rest type elem i path b (tail-at type elem length i e) c) }
+    tail-covers type elem length i path e covers =
+        subst (λ xs. Covers around active (structures_from program xs (Some elem) path)) (tail-alone type elem length [] e)
+        (subst (λ o. Covers around active (structures_from program (with_itself [] type) o path)) (tail-at type elem length i e) covers)
 
   -- those on a path from a root are those in the static record
   pub static-covers : {planes : List Plane} {spots : List Spot} {statics : Trees} {path : List ℕ} {p : Part} (active : Bool) (l : StaticPartLies program planes spots statics path p)

@@ -34,7 +34,7 @@ use Rattle.gt_value.specs.declared.places.LeafKind.{LeafKind}
 use Rattle.gt_value.specs.Places.{Part, PartLies, IsContentOf, leaf_kind}
 use Rattle.gt_leaf.specs.Unread.{structures_on, IsUnread, MayReplace}
 use Rattle.gt_leaf.specs.Writing.{LeafFits, has_word}
-use Rattle.gt_leaf.proofs.Arounds.{Covers, covers-none, field-covers, array-covers, tail-covers}
+use Rattle.gt_leaf.proofs.Arounds.{Covers, field-covers, array-covers, tail-covers}
 use Rattle.gt_leaf.proofs.Members.{first}
 use Rattle.gt_leaf.proofs.Swaps.{Swap, swapped, with-member}
 use Rattle.gt_leaf.proofs.SwapReads.{reads-swapped}
@@ -169,7 +169,7 @@ module _ {program : Program} (settled : Settled program) where
 
   pub alone-swap : {planes : List Plane} {around : List TypeId} {s : Scope} {h : Holder} {active : Bool} {bit : ℕ} {type : Ty} {tree : Tree} {path : List ℕ} {p : Part} → PartLies program planes s h active bit type tree path p → (leaf : Tree) → StandsAlone program around p leaf
       → Covers around p.active (structures_on program (Some type) path) → Swap program [] h type tree (with_part tree path leaf)
-  alone-swap {around} {p} lies leaf alone covers = swapped lies [] leaf alone.unread (covers-none around p.active) covers alone.may.0 alone.may.1 alone.plain
+  alone-swap lies leaf alone covers = swapped lies [] leaf alone.unread covers alone.may.0 alone.may.1 alone.plain
 
   -- the union has the member that it had
   member-kept : {a : Trees} {blocks : Blocks} {capacity : ℕ} {s : Scope} (t : Scope) (node : TypeId) (desc : Option Expr) (x : Structure) (member : Option ℕ) (o n : Tree) → HasStructure program node x → x.is_union ≡ true

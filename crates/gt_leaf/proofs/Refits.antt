@@ -25,7 +25,7 @@ use Rattle.gt_tree.proofs.PathParts.{get-map}
 use Rattle.gt_value.specs.declared.places.Holder.{Holder}
 use Rattle.gt_value.specs.Places.{Part, PartLies}
 use Rattle.gt_leaf.specs.Unread.{structures_on, IsUnread, MayReplace}
-use Rattle.gt_leaf.proofs.Arounds.{Covers, covers-none, field-covers, array-covers, tail-covers}
+use Rattle.gt_leaf.proofs.Arounds.{Covers, field-covers, array-covers, tail-covers}
 use Rattle.gt_leaf.proofs.Members.{first}
 use Rattle.gt_leaf.proofs.Swaps.{Swap, swapped, with-member}
 use Rattle.gt_leaf.proofs.SwapReads.{reads-swapped}
@@ -49,7 +49,7 @@ pub record Replaces (program : Program) (blocks : Blocks) (capacity : ℕ) (arou
 
 pub swap-of : {program : Program} {planes : List Plane} {blocks : Blocks} {capacity : ℕ} {around : List TypeId} {s : Scope} {h : Holder} {active : Bool} {bit : ℕ} {type : Ty} {tree : Tree} {path : List ℕ} {p : Part} → PartLies program planes s h active bit type tree path p
     → (leaf : Tree) → Replaces program blocks capacity around p leaf → Covers around p.active (structures_on program (Some type) path) → Swap program [] h type tree (with_part tree path leaf)
-swap-of {around} {p} lies leaf r covers = swapped lies [] leaf r.unread (covers-none around p.active) covers r.may.0 r.may.1 (leaf-type r.fits r.may.1)
+swap-of lies leaf r covers = swapped lies [] leaf r.unread covers r.may.0 r.may.1 (leaf-type r.fits r.may.1)
 
 pub plain-leaf : (p : Part) (leaf : Tree) → MayReplace p leaf → p.active ≡ false → without_pointers leaf ≡ leaf
 plain-leaf p leaf may e = elim may.2 [ inl active ↦ absurd (cc) | inr plain ↦ plain ]

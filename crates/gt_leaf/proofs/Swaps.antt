@@ -22,8 +22,8 @@ use Rattle.gt_tree.proofs.FixedValues.{in-array, in-tail}
 use Rattle.gt_value.specs.declared.places.Holder.{Holder}
 use Rattle.gt_value.specs.declared.places.Holder.TheVariants as lies_in
 use Rattle.gt_value.specs.Places.{Part, PartLies}
-use Rattle.gt_leaf.specs.Unread.{structures_on, IsUnread}
-use Rattle.gt_leaf.proofs.Arounds.{Covers, covers-more, unread-inside, node-on, field-covers}
+use Rattle.gt_leaf.specs.Unread.{structures_from, IsUnread}
+use Rattle.gt_leaf.proofs.Arounds.{Covers, unread-inside, inside-covers}
 use Rattle.gt_leaf.proofs.PlainParts.{inactive}
 
 mutual
@@ -73,20 +73,17 @@ with-member i tree path leaf = sym (subst (λ b. cond b (Alt (Some i) (with_part
 
 module _ {program : Program} {planes : List Plane} {around : List TypeId} where
   pub swapped : {scope : Scope} {h : Holder} {active : Bool} {bit : ℕ} {type : Ty} {tree : Tree} {path : List ℕ} {p : Part} → PartLies program planes scope h active bit type tree path p → (inner : List TypeId) (leaf : Tree)
-      → IsUnread program around p.active p.holder → Covers around p.active inner → Covers around p.active (structures_on program (Some type) path) → IsTrue (is_leaf p.tree) → IsTrue (is_leaf leaf) → is_structure p.type ≡ false
+      → IsUnread program around p.active p.holder → Covers around p.active (structures_from program inner (Some type) path) → IsTrue (is_leaf p.tree) → IsTrue (is_leaf leaf) → is_structure p.type ≡ false
       → Swap program inner h type tree (with_part tree path leaf)
-  swapped {p} PartLies.whole inner leaf unread outer covers a b plain = Swap.replaced (unread-inside program p.holder around inner p.active outer unread) a b plain
-  swapped {p} (PartLies.field {i} {node} {desc} {s} {f} {trees} {tree} {path} has struct laid get spot there lies) inner leaf unread outer covers a b plain =
-      let more = covers-more around inner p.active node (covers.each node (node-on program node desc i path)) outer in
+  swapped {p} PartLies.whole inner leaf unread covers a b plain = Swap.replaced (unread-inside program p.holder around inner p.active covers unread) a b plain
+  swapped (PartLies.field {i} {node} {desc} {s} {f} {trees} {tree} {path} has struct laid get spot there lies) inner leaf unread covers a b plain =
       Swap.in_struct has struct
       (put-swaps program (node ∷ inner) (lies_in.Field node) (types_of s.fields) trees i f.ty tree path leaf (get-map (λ g. g.ty) s.fields i f get) there
-      (swapped lies (node ∷ inner) leaf unread more (field-covers program node desc s f i path has get covers) a b plain))
-  swapped {h} {p} (PartLies.member {i} {node} {desc} {s} {f} {tree} {path} has union get lies) inner leaf unread outer covers a b plain =
-      let more = covers-more around inner p.active node (covers.each node (node-on program node desc i path)) outer in
+      (swapped lies (node ∷ inner) leaf unread (inside-covers program inner node desc s f i path has get covers) a b plain))
+  swapped {h} (PartLies.member {i} {node} {desc} {s} {f} {tree} {path} has union get lies) inner leaf unread covers a b plain =
       subst (λ y. Swap program inner h (ty.Node node desc) (Alt (Some i) tree) y) (with-member i tree path leaf)
-      (Swap.in_member has union get (swapped lies (node ∷ inner) leaf unread more (field-covers program node desc s f i path has get covers) a b plain))
-  swapped {p} (PartLies.common {i} {node} {desc} {path} has common lies) inner leaf unread outer covers a b plain =
-      let more = covers-more around inner p.active node (covers.each node (node-on program node desc i path)) outer in
-      Swap.in_common has common (swapped lies (node ∷ inner) leaf unread more (record { each = λ b c. inl (inactive lies refl) }) a b plain)
-  swapped (PartLies.array {n} {type} {elem} e there lies) inner leaf unread outer covers a b plain = Swap.in_row (array-type type elem n e)
-  swapped (PartLies.tail {length} {type} {elem} e there lies) inner leaf unread outer covers a b plain = Swap.in_row (tail-type type elem length e)
+      (Swap.in_member has union get (swapped lies (node ∷ inner) leaf unread (inside-covers program inner node desc s f i path has get covers) a b plain))
+  swapped (PartLies.common {node} has common lies) inner leaf unread covers a b plain =
+      Swap.in_common has common (swapped lies (node ∷ inner) leaf unread (record { each = λ b c. inl (inactive lies refl) }) a b plain)
+  swapped (PartLies.array {n} {type} {elem} e there lies) inner leaf unread covers a b plain = Swap.in_row (array-type type elem n e)
+  swapped (PartLies.tail {length} {type} {elem} e there lies) inner leaf unread covers a b plain = Swap.in_row (tail-type type elem length e)

@@ -1,5 +1,5 @@
 -- The places that are collected are the table of the program, and what the table says of a holder.
-use Rattle.std.proofs.Common.{◌≡◌, ℕ, Bool, true, false, not, cond, ◌&&◌, IsTrue, List, [], ◌∷◌, refl, ap, sym, subst, ◌∙◌, Option, Some, inl, inr, if◌then◌else◌}
+use Rattle.std.proofs.Common.{◌≡◌, ℕ, Bool, true, false, not, cond, ◌&&◌, IsTrue, List, [], ◌∷◌, refl, ap, sym, subst, ◌∙◌, Option, Some, None, inl, inr, if◌then◌else◌}
 use Rattle.std.specs.Prelude.{◌↔◌, Contains, nat_eq, slice_get}
 use Rattle.std.specs.List.{list_any}
 use Rattle.std.specs.Str.{bytes_eq}
@@ -7,6 +7,7 @@ use Rattle.std.proofs.lemmas.Slice.Eq.{bytes_eq-Decides}
 use Rattle.std.proofs.lemmas.Bool.Decides.{Decides-eqb}
 use Rattle.gt_types.specs.declared.types.TypeId.{TypeId}
 use Rattle.gt_types.specs.declared.types.Ty.{Ty}
+use Rattle.gt_types.specs.declared.types.Ty.TheVariants as ty
 use Rattle.gt_types.specs.declared.program.Field.{Field}
 use Rattle.gt_types.specs.declared.program.Structure.{Structure}
 use Rattle.gt_types.specs.declared.program.Program.{Program}
@@ -20,7 +21,8 @@ use Rattle.gt_leaf.specs.declared.reads.Reads.{Reads}
 use Rattle.gt_leaf.specs.Collecting.{ends_of}
 use Rattle.gt_leaf.specs.Seeking.{Names, same_place, same_reading, with_field, with_fields, with_named, with_named_fields, with_all_named, names_of_all, seek_all}
 use Rattle.gt_leaf.specs.Tables.{field_place, reading, IsTableOf}
-use Rattle.gt_leaf.specs.Unread.{root_at, structures_on, structures_in_statics, ReadsFrom, ReadsByName, MayStandAround, IsReadField, IsReadRoot, IsUnread}
+use Rattle.gt_leaf.specs.Around.{any_around}
+use Rattle.gt_leaf.specs.Unread.{root_at, part_at, structures_from, structures_on, structures_in_statics, ReadsFrom, ReadsByName, MayStandAround, IsReadField, IsReadRoot, IsUnread}
 use Rattle.gt_leaf.proofs.Adding.{Adds, adds-none, adds-same, adds-each}
 use Rattle.gt_leaf.proofs.EndLemmas.{names-read, roots-read}
 use Rattle.gt_leaf.proofs.Members.{nothing, any-found, found-there, there-found}
@@ -260,10 +262,23 @@ pub root-answer : (program : Program) (table : Reads) (around : List TypeId) (ac
 root-answer program table around active place told holder e is t =
     answer program around active told (list_any (nat_eq place) table.roots) (lies_in.Root place) holder e is (root-unread program table around active place t)
 
-pub field-answer : (program : Program) (table : Reads) (around : List TypeId) (active : Bool) (node : TypeId) (place : ℕ) (told : Bool) (holder : Holder) → told ≡ read_there table around active (field_place node.0 place)
-    → holder ≡ lies_in.Field node place → IsTableOf program table → IsTrue (not told) ↔ IsUnread program around active holder
-field-answer program table around active node place told holder e is t =
-    answer program around active told (read_there table around active (field_place node.0 place)) (lies_in.Field node place) holder e is (field-unread program table t node place around active)
+-- what the code finds from a structure around a leaf is what one of those around it says
+any-there : (test : TypeId → Bool) (program : Program) (around : List TypeId) (type : Option Ty) (path : List ℕ) → any_around test program (list_any test around) type path ≡ list_any test (structures_from program around type path)
+any-there test program around None path = refl
+any-there test program around (Some type) [] = refl
+any-there test program around (Some (ty.Node node desc)) (i ∷ path) = any-there test program (node ∷ around) (part_at program (ty.Node node desc) i) path
+any-there test program around (Some type) (i ∷ path) = any-there test program [] (part_at program type i) path
+
+pub field-answer : (program : Program) (table : Reads) (type : Option Ty) (path : List ℕ) (active : Bool) (node : TypeId) (place : ℕ) (told : Bool) (holder : Holder)
+    → told ≡ cond (list_any (same_place (field_place node.0 place)) table.named) true
+    (cond active (any_around (λ begin. list_any (same_reading (reading begin.0 (field_place node.0 place))) table.from) program false type path) (list_any (same_place (field_place node.0 place)) table.ended))
+    → holder ≡ lies_in.Field node place → IsTableOf program table → IsTrue (not told) ↔ IsUnread program (structures_on program type path) active holder
+field-answer program table type path active node place told holder e is t =
+    let field = field_place node.0 place in
+    let test : TypeId → Bool = λ begin. list_any (same_reading (reading begin.0 field)) table.from in
+    let around = structures_on program type path in
+    let says : told ≡ read_there table around active field = e ∙ ap (λ b. cond (list_any (same_place field) table.named) true (cond active b (list_any (same_place field) table.ended))) (any-there test program [] type path) in
+    answer program around active told (read_there table around active field) (lies_in.Field node place) holder says is (field-unread program table t node place around active)
 
 -- so in the static record, from a root on
 pub static-step : (program : Program) (table : Reads) (path : List ℕ) (i : ℕ) (rest : List ℕ) (type : Option Ty) (active : Bool) (holder : Holder) (b : Bool) → path ≡ i ∷ rest → type ≡ root_at program i

@@ -5,3 +5,4 @@ pub mod Seeking
 pub mod HeldTypes
 pub mod Writing
 pub mod Verdicts
+pub mod Around

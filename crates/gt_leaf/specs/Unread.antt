@@ -18,7 +18,7 @@ use Rattle.gt_types.specs.declared.program.Field.{Field}
 use Rattle.gt_types.specs.declared.program.Root.{Root as RootOf}
 use Rattle.gt_types.specs.declared.program.Program.{Program}
 use Rattle.gt_types.specs.Shapes.{innermost, is_number, count_of}
-use Rattle.gt_types.specs.Contains.{HasStructure, ContainsStructure, itself}
+use Rattle.gt_types.specs.Contains.{HasStructure, ContainsStructure}
 use Rattle.gt_types.specs.Paths.{Way, paths_of, roots_of, own_expressions}
 use Rattle.gt_layout.specs.declared.planes.Plane.{Plane}
 use Rattle.gt_layout.specs.declared.planes.Spot.{Spot}
@@ -132,10 +132,20 @@ abbrev pub part_at : Program → Ty → ℕ → Option Ty
 part_at program (ty.Node node desc) i = field_at program node i
 part_at program type i = elem_of (out-Ty type)
 
--- the structures around the part at a path, from the outside in, where each union on the way has an active member
+-- Those around a part of a value of this type, where these are around the value: with the structure itself, where it is one. An array has none
+-- around its elements, since no path of an expression leads into an array.
+abbrev pub with_itself : List TypeId → Ty → List TypeId
+with_itself around (ty.Node node desc) = node ∷ around
+with_itself around type = []
+
+-- the structures around the part at a path, where these are around the value and each union on the way has an active member
+abbrev pub structures_from : Program → List TypeId → Option Ty → List ℕ → List TypeId
+structures_from program around (Some type) (i ∷ path) = structures_from program (with_itself around type) (part_at program type i) path
+structures_from program around type path = around
+
+-- so where none is around the value: those from the innermost array on the way inwards, from the inside out
 abbrev pub structures_on : Program → Option Ty → List ℕ → List TypeId
-structures_on program (Some type) (i ∷ path) = option_to_list (itself type) ++ structures_on program (part_at program type i) path
-structures_on program type path = []
+structures_on program type path = structures_from program [] type path
 
 -- so in the static record, of which the first place of a path is that of a root
 abbrev pub structures_in_statics : Program → List ℕ → List TypeId

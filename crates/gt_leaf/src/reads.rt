@@ -1,9 +1,10 @@
 // Which fields and roots the expressions of a program read.
 ghost use Rattle.gt_leaf.specs.Seeking.{same_place, same_reading, with_named, with_named_fields, with_all_named};
 ghost use Rattle.gt_leaf.specs.Tables.{reading, IsTableOf};
+ghost use Rattle.gt_leaf.specs.Around.{any_around, any_with_itself};
 ghost use Rattle.gt_leaf.specs.Unread.{structures_on, structures_in_statics, IsUnread};
 ghost use Rattle.std.specs.List.{list_any};
-ghost use Rattle.std.specs.Prelude.{◌≡◌, ◌↔◌, true, IsTrue, IfOk, OnOk, cond, option_copied, option_to_list};
+ghost use Rattle.std.specs.Prelude.{◌≡◌, ◌↔◌, true, IsTrue, IfOk, OnOk, cond, false, option_copied};
 
 use crate::ends::Ends;
 use crate::fields::{FieldPlace, FieldSet};
@@ -11,8 +12,8 @@ use crate::index::Index;
 use crate::names::NameSet;
 use crate::places::PlaceSet;
 use crate::readings::{Reading, ReadingSet};
-use crate::types::{is_number, part_at, root_at, structure_of};
-use gt_types::{Field, Program, Structure, Ty, TypeId};
+use crate::types::{is_number, part_at, root_at};
+use gt_types::{Field, Program, Structure, Ty};
 use gt_value::{Holder, Place};
 use std::alloc::{AllocError, Global};
 
@@ -89,49 +90,48 @@ impl Reads {
         active: bool,
         field: FieldPlace,
     ) -> bool
-        ensures { result ≡ cond (list_any (same_place field) self.now.named) true (cond active (list_any (λ node. list_any (same_reading (reading node.0 field)) self.now.from) (structures_on program.now (option_copied ty.entry) path.now)) (list_any (same_place field) self.now.ended)) }
+        ensures { result ≡ cond (list_any (same_place field) self.now.named) true (cond active (any_around (λ node. list_any (same_reading (reading node.0 field)) self.now.from) program.now false (option_copied ty.entry) path.now) (list_any (same_place field) self.now.ended)) }
     {
         if self.named.has(field) {
             true
         } else if active {
-            self.is_read_on(program, ty, path, field)
+            self.is_read_around(program, ty, path, field, false)
         } else {
             self.ended.has(field)
         }
     }
 
-    // Whether a field is read from a structure on a path.
-    fn is_read_on(
+    // Whether a field is read from a structure around the part at a path, where it is read from one around the value or not.
+    fn is_read_around(
         &self,
         program: &Program,
         ty: Option<&Ty>,
         path: &[u32],
         field: FieldPlace,
+        is_read: bool,
     ) -> bool
-        ensures { result ≡ list_any (λ node. list_any (same_reading (reading node.0 field)) self.now.from) (structures_on program.now (option_copied ty.entry) path.now) }
+        ensures { result ≡ any_around (λ node. list_any (same_reading (reading node.0 field)) self.now.from) program.now is_read (option_copied ty.entry) path.now }
     {
         let Some(ty) = ty else {
-            return false;
+            return is_read;
         };
         let [i, rest @ ..] = path else {
-            return false;
+            return is_read;
         };
-        if self.is_read_from(structure_of(ty), field) {
-            return true;
-        }
-        self.is_read_on(program, part_at(program, ty, *i), rest, field)
+        let is_read = self.is_read_in(ty, field, is_read);
+        self.is_read_around(program, part_at(program, ty, *i), rest, field, is_read)
     }
 
-    // Whether a field is read from a structure.
-    fn is_read_from(&self, node: Option<TypeId>, field: FieldPlace) -> bool
-        ensures { result ≡ list_any (λ node. list_any (same_reading (reading node.0 field)) self.now.from) (option_to_list node) }
+    // Whether a field is read from a structure around a part of a value of a type. From outside an array none is read in its elements.
+    fn is_read_in(&self, ty: &Ty, field: FieldPlace, is_read: bool) -> bool
+        ensures { result ≡ any_with_itself (λ node. list_any (same_reading (reading node.0 field)) self.now.from) is_read ty.now }
     {
-        match node {
-            Some(id) => self.from.has(Reading {
-                from: id.0 as usize,
-                field,
-            }),
-            None => false,
+        match ty {
+            Ty::Node { id, .. } => {
+                let from = id.0 as usize;
+                self.from.has(Reading { from, field }) || is_read
+            }
+            _ => false,
         }
     }
 }

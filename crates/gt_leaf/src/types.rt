@@ -1,7 +1,6 @@
 // The type of a leaf, by what it lies in, and of parts on the way to it.
 ghost use Rattle.std.specs.Prelude.{◌≡◌, option_copied};
 ghost use Rattle.gt_types.specs.Shapes.{innermost, is_number};
-ghost use Rattle.gt_types.specs.Contains.{itself};
 ghost use Rattle.gt_leaf.specs.HeldTypes.{field_type, root_type, held_type};
 ghost use Rattle.gt_leaf.specs.Unread.{field_at, root_at, part_at};
 
@@ -54,16 +53,6 @@ pub fn held_type<'a>(
         Holder::Element => Some(innermost(element?)),
         Holder::Root(i) => root_type(program, i),
         Holder::Field { structure, place } => field_type(program, structure, place),
-    }
-}
-
-/// The structure that a type is.
-pub fn structure_of(ty: &Ty) -> Option<TypeId>
-    ensures { result ≡ itself ty.now }
-{
-    match ty {
-        Ty::Node { id, .. } => Some(*id),
-        _ => None,
     }
 }
 

@@ -7,3 +7,4 @@ mod Adding
 mod Showing
 mod OneBlock
 mod Elements
+mod RootTexts

@@ -111,7 +111,7 @@ module _ (program : Program) (blocks : Blocks) (settled : Settled program) where
         let found = inv-row type elem trees other (ap element_at o) d in
         ap (λ (xs : List (List ℕ)). codes "[" ++ joined xs ++ codes "]") (one-each found.0 each found.1) ∙ sym found.2
 
-    one-fields : {fields : List Field} {trees : Trees} {texts : List (List ℕ)} (other : List (List ℕ)) → ShowFields program blocks fields trees texts → ShowFields program blocks fields trees other → texts ≡ other
+    pub one-fields : {fields : List Field} {trees : Trees} {texts : List (List ℕ)} (other : List (List ℕ)) → ShowFields program blocks fields trees texts → ShowFields program blocks fields trees other → texts ≡ other
     one-fields other ShowFields.no_field d = sym (inv-none other d)
     one-fields other (ShowFields.next_field {f} {fs} {tree} {trees} {text} {texts} part rest) d =
         let found = inv-next f fs tree trees other d in

@@ -97,8 +97,8 @@ fn push_separator(text: &mut Bytes, place: usize) -> Result<(), AllocError>
     text.append(b", ")
 }
 
-// Adds what stands before the value of a field.
-fn push_label(text: &mut Bytes, place: usize, name: &Word) -> Result<(), AllocError>
+/// Adds what stands before the value of a field.
+pub fn push_label(text: &mut Bytes, place: usize, name: &Word) -> Result<(), AllocError>
     ensures added { OnOk result (text.new ≡ text.old ++ separator place ++ encode_utf8_all name.now ++ codes "=") }
 {
     push_separator(text, place)?;

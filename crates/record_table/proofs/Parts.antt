@@ -1,15 +1,14 @@
--- Values one after another: those of roots and of the elements of a block.
-use Rattle.std.proofs.Common.{◌≡◌, ℕ, pos, zero, suc, false, List, [], ◌∷◌, ◌++◌, map, refl, sym, subst, Some}
-use Rattle.std.specs.Prelude.{slice_get}
+-- The values of the elements of a block, one after another.
+use Rattle.std.proofs.Common.{◌≡◌, pos, false, List, [], ◌∷◌, ◌++◌, map, refl, sym, subst}
 use Rattle.gt_types.specs.declared.types.Ty.{Ty}
 use Rattle.gt_types.specs.declared.types.Ty.TheVariants as ty
 use Rattle.gt_types.specs.declared.types.Width.TheVariants.{W1}
 use Rattle.gt_types.specs.declared.types.Scalar.TheVariants as scalar
 use Rattle.gt_types.specs.declared.program.Program.{Program}
-use Rattle.gt_tree.specs.Trees.{Tree, Trees, Num, Row, End, And, count}
+use Rattle.gt_tree.specs.Trees.{Trees, Num, Row, End, And, count}
 use Rattle.gt_tree.specs.Blocks.{Kind, Blocks, element_type}
 use Rattle.gt_tree.specs.Scopes.{Scope, outside}
-use Rattle.gt_tree.specs.Fits.{Fits, AllFit, more, EachFits, no_more, one_more, number, EndsInZero, EndsAs}
+use Rattle.gt_tree.specs.Fits.{Fits, EachFits, no_more, one_more, number, EndsInZero, EndsAs}
 use Rattle.gt_value.specs.declared.values.Value.{Value, Num as NumOf}
 use Rattle.gt_value.specs.declared.names.BlockKind.{BlockKind}
 use Rattle.gt_value.specs.declared.names.BlockKind.TheVariants as told
@@ -19,17 +18,6 @@ use Rattle.gt_show.specs.BlockTexts.{ElementsFit}
 use Rattle.gt_assign.proofs.Values.{num-tree}
 
 module _ {program : Program} {blocks : Blocks} {scope : Scope} where
-  -- a value of a root fits its type
-  pub root-fits : (types : List Ty) (xs : List Tree) (i : ℕ) (type : Ty) (x : Tree) → AllFit program blocks 0 scope types (trees xs) → slice_get types i ≡ Some type → slice_get xs i ≡ Some x
-      → Fits program blocks 0 scope type x
-  root-fits [] xs i type x all e f = absurd (cc)
-  root-fits (t ∷ types) [] i type x all e f = absurd (cc)
-  root-fits (t ∷ types) (y ∷ xs) zero type x (more one all) e f =
-      let is_t : t ≡ type = cc in
-      let is_y : y ≡ x = cc in
-      subst (λ u. Fits program blocks 0 scope u x) is_t (subst (λ z. Fits program blocks 0 scope t z) is_y one)
-  root-fits (t ∷ types) (y ∷ xs) (suc i) type x (more one all) e f = root-fits types xs i type x all e f
-
   pub each-none : (type : Ty) (values : List Value) → values ≡ [] → EachFits program blocks 0 scope type (trees (map tree_of values))
   each-none type values is = subst (λ (vs : List Value). EachFits program blocks 0 scope type (trees (map tree_of vs))) (sym is) no_more
 

@@ -1,5 +1,5 @@
 //! A table of the static record and of whole blocks. Rows of the static record begin with zero, write leaves one after another, some
-//! of which have to fit nowhere, and say what text the record then has root by root, or what bytes stand for it. Rows of blocks make
+//! of which have to fit nowhere, and say what text the record then has, or what bytes stand for it. Rows of blocks make
 //! each element by writes from zero on, and say what text the whole block has.
 //!
 //! A line is printed for each row that comes out otherwise, and at the end how many rows there were. The head of the input says
