@@ -81,18 +81,21 @@ fn read_within(alloc: Global, file: &mut File, limit: u64) -> io::Result<Option<
     Ok(Some(bytes))
 }
 
-// Adds a file's bytes until it ends, or until there is one byte beyond the limit.
+// Adds a file's bytes until it ends, or until there is one byte beyond the limit. A read that is interrupted is tried again.
 fn read_to(bytes: &mut Bytes, file: &mut File, chunk: &mut [u8], limit: u64) -> io::Result<()> {
     for _ in 0..u64::MAX {
         let room = limit.saturating_sub(bytes.len() as u64).saturating_add(1);
         let ask = room.min(chunk.len() as u64) as usize;
-        let got = file.read(&mut chunk[..ask])?;
-        if got == 0 {
-            break;
-        }
-        bytes.append(&chunk[..got])?;
-        if bytes.len() as u64 > limit {
-            break;
+        match file.read(&mut chunk[..ask]) {
+            Ok(0) => break,
+            Ok(got) => {
+                bytes.append(&chunk[..got])?;
+                if bytes.len() as u64 > limit {
+                    break;
+                }
+            }
+            Err(error) if error.kind() == ErrorKind::Interrupted => {}
+            Err(error) => return Err(error),
         }
     }
     Ok(())

@@ -26,7 +26,7 @@ leaf_points (Some to) id (suc k, within, is) = absurd (omega arith)
 points_leaf : (pointer : Option ℕ) (id : ℕ) → pointer ≡ Some id → Contains (edges (leaf_of pointer)) id
 points_leaf pointer id e = subst (λ p. Contains (edges (leaf_of p)) id) (sym e) (0, omega arith, refl)
 
--- the word at the first place, and those behind it
+-- the word at the first place, and those after it
 first_among : (range : Range) (address count id : ℕ) → pointer_of (u64_at range address) ≡ Some id → PointsAmong range address (suc count) id
 first_among range address count id e =
     let at : address ≡ address + 8 * 0 = omega arith in (0, omega arith, subst (λ a. pointer_of (u64_at range a) ≡ Some id) at e)

@@ -1,5 +1,5 @@
--- A command is refused for the first cause in its row that is there.
-use Rattle.std.proofs.Common.{◌≡◌, ℕ, List, Some, None, inl, inr, refl}
+-- A command is refused for the first cause in its row that is there, and nothing changes.
+use Rattle.std.proofs.Common.{◌≡◌, ℕ, List, Some, None, inl, inr, refl, subst, sym}
 use Rattle.gt_types.specs.declared.program.Program.{Program}
 use Rattle.gt_script.specs.declared.command.Command.{Command}
 use Rattle.gt_script.specs.declared.command.Command.TheVariants.{New, Array, Text, Block, Set, Get, Drop, Print, Put, Find, Collect, CollectForce, Save, Load, Tables, Heap as TheHeap, Stats}
@@ -79,3 +79,104 @@ module _ (program : Program) (s t : State) where
 
 pub IsFirstOf-Next : (program : Program) (s t : State) (command : Command) (why : Why) → Next program s command (Refused why) t → IsFirstOf program s command (refusals_of command) why
 IsFirstOf-Next program s t command why next = first_of program s t command why next
+
+module _ (program : Program) (s : State) where
+  abbrev ComesFirst : Command → Why → Type 0
+  ComesFirst command why = IsFirstOf program s command (refusals_of command) why
+
+  abbrev Answers : Command → Why → Type 0
+  Answers command why = Next program s command (Refused why) s
+
+  answer_new : (var : List ℕ) (type : TypeName) (why : Why) → ComesFirst (New var type None) why → Answers (New var type None) why
+  answer_new var type why (inl (is, none)) = subst (Answers (New var type None)) (sym is) (none, refl)
+  answer_new var type why (inr (named, inl (is, full))) = subst (Answers (New var type None)) (sym is) (named, full, refl)
+  answer_new var type why (inr (named, inr (vacant, inl (need, node, is, means, (size, no_room))))) =
+      subst (Answers (New var type None)) (sym is) (node, means, vacant, size, no_room, refl)
+  answer_new var type why (inr (named, inr (vacant, inr (never, more)))) = absurd never
+
+  answer_set : (path : Route) (value : Given) (why : Why) → ComesFirst (Set path value) why → Answers (Set path value) why
+  answer_set path value why (inl unbound) = (inl unbound, refl)
+  answer_set path value why (inr (bound, inl refused)) = (inr (inl (bound, refused)), refl)
+  answer_set path value why (inr (bound, inr (leads, inl (because, spot, at, misfit)))) = (inr (inr (because, bound, spot, at, misfit)), refl)
+  answer_set path value why (inr (bound, inr (leads, inr (never, more)))) = absurd never
+
+  answer_get : (var : List ℕ) (path : Route) (why : Why) → ComesFirst (Get var path) why → Answers (Get var path) why
+  answer_get var path why (inl refused) = (inl refused, refl)
+  answer_get var path why (inr (leads, inl inside)) = (inr (inl inside), refl)
+  answer_get var path why (inr (leads, inr (outside, inl full))) = (inr (inr full), refl)
+  answer_get var path why (inr (leads, inr (outside, inr (never, more)))) = absurd never
+
+  answer_drop : (var : List ℕ) (why : Why) → ComesFirst (Drop var) why → Answers (Drop var) why
+  answer_drop var why (inl (is, free)) = subst (Answers (Drop var)) (sym is) (free, refl)
+  answer_drop var why (inr (never, more)) = absurd never
+
+  answer_print : (path : Route) (why : Why) → ComesFirst (Print path) why → Answers (Print path) why
+  answer_print path why (inl refused) = (refused, refl)
+  answer_print path why (inr (never, more)) = absurd never
+
+  answer_of : (command : Command) (why : Why) → ComesFirst command why → Answers command why
+  answer_of (New var type None) why first = answer_new var type why first
+  answer_of (New var type (Some n)) why never = absurd never
+  answer_of (Set path value) why first = answer_set path value why first
+  answer_of (Get var path) why first = answer_get var path why first
+  answer_of (Drop var) why first = answer_drop var why first
+  answer_of (Print path) why first = answer_print path why first
+  answer_of CollectForce why never = absurd never
+  answer_of TheHeap why never = absurd never
+  answer_of (Array var type n) why never = absurd never
+  answer_of (Text var text) why never = absurd never
+  answer_of (Block var n) why never = absurd never
+  answer_of (Put cache key value) why never = absurd never
+  answer_of (Find cache key) why never = absurd never
+  answer_of Collect why never = absurd never
+  answer_of (Save file page) why never = absurd never
+  answer_of (Load file) why never = absurd never
+  answer_of Tables why never = absurd never
+  answer_of Stats why never = absurd never
+
+pub Next-IsFirstOf : (program : Program) (s : State) (command : Command) (why : Why) → IsFirstOf program s command (refusals_of command) why → Next program s command (Refused why) s
+Next-IsFirstOf program s command why first = answer_of program s command why first
+
+module _ (program : Program) (s t : State) where
+  new_unchanged : (var : List ℕ) (type : TypeName) (why : Why) → NextNew program s var type (Refused why) t → t ≡ s
+  new_unchanged var type NoType (none, is) = is
+  new_unchanged var type TooManyVars (named, full, is) = is
+  new_unchanged var type (Full need) (node, named, vacant, size, no_room, is) = is
+  new_unchanged var type Unbound never = absurd never
+  new_unchanged var type NoField never = absurd never
+  new_unchanged var type WrongType never = absurd never
+  new_unchanged var type BadIndex never = absurd never
+  new_unchanged var type NullStep never = absurd never
+
+  drop_unchanged : (var : List ℕ) (why : Why) → NextDrop s var (Refused why) t → t ≡ s
+  drop_unchanged var Unbound (free, is) = is
+  drop_unchanged var NoType never = absurd never
+  drop_unchanged var NoField never = absurd never
+  drop_unchanged var WrongType never = absurd never
+  drop_unchanged var BadIndex never = absurd never
+  drop_unchanged var (Full need) never = absurd never
+  drop_unchanged var NullStep never = absurd never
+  drop_unchanged var TooManyVars never = absurd never
+
+  unchanged : (command : Command) (why : Why) → Next program s command (Refused why) t → t ≡ s
+  unchanged (New var type None) why next = new_unchanged var type why next
+  unchanged (New var type (Some n)) why never = absurd never
+  unchanged (Set path value) why (refused, is) = is
+  unchanged (Get var path) why (refused, is) = is
+  unchanged (Drop var) why next = drop_unchanged var why next
+  unchanged (Print path) why (refused, is) = is
+  unchanged CollectForce why never = absurd never
+  unchanged TheHeap why never = absurd never
+  unchanged (Array var type n) why never = absurd never
+  unchanged (Text var text) why never = absurd never
+  unchanged (Block var n) why never = absurd never
+  unchanged (Put cache key value) why never = absurd never
+  unchanged (Find cache key) why never = absurd never
+  unchanged Collect why never = absurd never
+  unchanged (Save file page) why never = absurd never
+  unchanged (Load file) why never = absurd never
+  unchanged Tables why never = absurd never
+  unchanged Stats why never = absurd never
+
+pub Next-unchanged : (program : Program) (s t : State) (command : Command) (why : Why) → Next program s command (Refused why) t → t ≡ s
+Next-unchanged program s t command why next = unchanged program s t command why next

@@ -21,7 +21,7 @@ gap_before-drop [] i h = absurd (omega arith)
 gap_before-drop (f ∷ fs) zero h = refl
 gap_before-drop (f ∷ fs) (suc i) h = gap_before-drop fs i (omega arith)
 
--- none stands behind the last
+-- none stands after the last
 pub gap_before-drop_all : (fields : List Field) (i : ℕ) → length fields ≤ i → gap_before (drop i fields) ≡ []
 gap_before-drop_all [] zero h = refl
 gap_before-drop_all [] (suc i) h = refl

@@ -48,7 +48,7 @@ with_variable_twice v s m n = same_variables _ _ (λ q.
     get-insert nat_list_cmp_total (with_variable v s m) s n q ∙ ap (cond b (Some n)) (get-insert nat_list_cmp_total v s m q)
     ∙ shadowed b m n (meaning v q) ∙ sym (get-insert nat_list_cmp_total v s n q))
 
--- what a name means behind the binding of one
+-- what a name means after the binding of one
 pub meaning-with_variable : (v : Variables) (s : List ℕ) (n : ℕ) (q : List ℕ) → meaning (with_variable v s n) q ≡ cond (is_at (slice_cmp nat_cmp q) s) (Some n) (meaning v q)
 meaning-with_variable v s n q = get-insert nat_list_cmp_total v s n q
 

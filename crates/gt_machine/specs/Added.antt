@@ -1,4 +1,4 @@
--- What the parts of a text add to it.
+-- No promise: what the parts of a text add to it. Only the functions inside the crate cite this.
 use Rattle.std.specs.Prelude.{◌≡◌, ℕ, ◌+◌, List, ◌++◌, Some, codes, drop, encode_utf8_all, length, slice_get}
 use Rattle.gt_types.specs.declared.types.TypeId.{TypeId}
 use Rattle.gt_types.specs.declared.types.Ty.{Ty}

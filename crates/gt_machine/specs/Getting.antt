@@ -1,4 +1,4 @@
--- What stands at the end of a path for `get`.
+-- No promise: what stands at the end of a path for `get`. Only the functions inside the crate cite this.
 use Rattle.std.specs.Prelude.{◌≡◌, ℕ, List, Option, Some, None, Result, Ok, Err}
 use Rattle.gt_heap.specs.Tree.{Null}
 use Rattle.gt_machine.specs.State.{State, with_variable, IsFullOfVariables}

@@ -1,4 +1,4 @@
--- Where the program's places stand for spots of the state.
+-- No promise: where the program's places stand for spots of the state. Only the functions inside the crate cite this.
 use Rattle.std.specs.Prelude.{◌<◌, length, Result, Ok, Err}
 use Rattle.gt_types.specs.declared.program.Program.{Program}
 use Rattle.gt_space.specs.Range.{Range}

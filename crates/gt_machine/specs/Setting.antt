@@ -1,4 +1,4 @@
--- How a pointer is set at the end of a path.
+-- No promise: how a pointer is set at the end of a path. Only the functions inside the crate cite this.
 use Rattle.std.specs.Prelude.{◌≡◌, ◌⊎◌, ℕ, Option, IfSome}
 use Rattle.gt_types.specs.declared.types.TypeId.{TypeId}
 use Rattle.gt_types.specs.declared.program.Program.{Program}

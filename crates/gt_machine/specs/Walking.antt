@@ -1,4 +1,4 @@
--- How a path is followed: what its parts lead to, or why they lead nowhere.
+-- No promise: how a path is followed, what its parts lead to, or why they lead nowhere. Only the functions inside the crate cite this.
 use Rattle.std.specs.Prelude.{◌≡◌, ℕ, List, Result, Ok, Err}
 use Rattle.gt_types.specs.declared.program.Program.{Program}
 use Rattle.gt_script.specs.declared.command.Route.{Route}

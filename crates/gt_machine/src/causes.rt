@@ -24,8 +24,8 @@ pub enum Cause {
     NoRoom,
 }
 
-/// The causes for which a command that is built is refused, from the one that is looked for first. It answers want of memory
-/// alone.
+/// The causes for which a command that is built is refused, from the one that is looked for first. It fails only if memory
+/// runs out.
 pub fn refusals(alloc: Global, command: &Command) -> Result<List<Cause>, AllocError>
     ensures row { IfOk result (λ row. row ≡ refusals_of command.now) }
 {

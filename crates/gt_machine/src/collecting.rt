@@ -10,7 +10,7 @@ use gt_heap::{after_flags, marks_are_closed};
 use gt_space::Space;
 use std::alloc::{AllocError, Global};
 
-/// Frees the objects that no root reaches, and unbinds their variables. For want of memory nothing changed.
+/// Frees the objects that no root reaches, and unbinds their variables. If memory runs out, nothing changed.
 pub fn collect(alloc: Global, s: &mut Session, space: &Space) -> Result<Answer, AllocError>
     requires session { IsSession s.old space.now }
     ensures next { (told : Option Held) → IfOk result (λ answer. NextCollect s.old.program (state_of s.old space.now told) answer (state_of s.new space.now told)) }

@@ -14,7 +14,7 @@ use gt_space::Space;
 use gt_types::Word;
 use std::alloc::AllocError;
 
-/// Binds a variable to the object at the end of a path, or to which the pointer there leads. For want of memory nothing
+/// Binds a variable to the object at the end of a path, or to which the pointer there leads. If memory runs out, nothing
 /// changed.
 pub fn get(s: &mut Session, space: &Space, var: &Word, path: &Route) -> Result<Answer, AllocError>
     requires session { IsSession s.old space.now }
@@ -49,7 +49,7 @@ fn object_at(s: &Session, space: &Space, place: Place) -> Result<Option<u64>, Wh
     }
 }
 
-// Binds a variable to an object, where it is not one too many. For want of memory nothing changed.
+// Binds a variable to an object, where it is not one too many. If memory runs out, nothing changed.
 fn bind(s: &mut Session, space: &Space, var: &Word, address: u64) -> Result<Answer, AllocError>
     requires session { IsSession s.old space.now }
     requires object { IsObject s.old.program s.old.heap space.now address }

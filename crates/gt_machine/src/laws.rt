@@ -43,7 +43,10 @@ pub fn runs_stay_good()
     ensures { (program : Program) (opening state : State) (lines : List Line) (answers : List Answer) → IsLinked program → IsGoodState program opening → Run program opening lines answers state → IsGoodState program state }
 {}
 
-/// A command is refused for the first cause in its row of `refusals` that is there.
+/// A command is refused for the first cause in its row of `refusals` that is there: the machine may answer this refusal, and no
+/// other, and it changes nothing.
 pub fn refusals_in_order()
     ensures first { (program : Program) (s t : State) (command : Command) (why : Why) → Next program s command (Refused why) t → IsFirstOf program s command (refusals_of command) why }
+    ensures answered { (program : Program) (s : State) (command : Command) (why : Why) → IsFirstOf program s command (refusals_of command) why → Next program s command (Refused why) s }
+    ensures unchanged { (program : Program) (s t : State) (command : Command) (why : Why) → Next program s command (Refused why) t → t ≡ s }
 {}

@@ -33,7 +33,7 @@ pub use stepping::step;
 pub use texts::text;
 pub use vars::Vars;
 
-/// The most hundredths by which a heap may grow before a collection.
+/// The largest percentage by which a heap may grow before a collection.
 pub const MAX_MIN_EXPAND: u32 = 1000;
 
 /// The most units of 1,024 bytes below which a heap counts as so large.

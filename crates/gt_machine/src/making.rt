@@ -25,7 +25,7 @@ use std::alloc::AllocError;
 /// The bytes of a pointer.
 const POINTER_BYTES: u32 = 8;
 
-/// Makes a zero object of the named type and binds the variable to it. For want of memory nothing changed.
+/// Makes a zero object of the named type and binds the variable to it. If memory runs out, nothing changed.
 pub fn make(
     s: &mut Session,
     space: &mut Space,

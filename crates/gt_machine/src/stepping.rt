@@ -19,7 +19,8 @@ use gt_script::{Command, Line};
 use gt_space::Space;
 use std::alloc::{AllocError, Global};
 
-/// Answers one command that is built, as `is_built` tells. For want of memory nothing changed.
+/// Answers one command that is built, as `is_built` tells. If memory runs out, nothing changed. The session and the space have to
+/// belong together: those of `opening` with the fresh space do, and each step leaves them so.
 pub fn step<F: Files>(
     alloc: Global,
     s: &mut Session,

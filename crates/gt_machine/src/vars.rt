@@ -56,7 +56,7 @@ impl Vars {
         self.addresses.len() >= MAX_VARIABLES && self.addresses.get(name).is_none()
     }
 
-    /// Binds a variable. For want of memory nothing changed.
+    /// Binds a variable. If memory runs out, nothing changed.
     pub fn bind(&mut self, name: &Word, address: u64) -> Result<(), AllocError>
         ensures bound { OnOk result (self.new ≡ with_variable self.old name.now address) }
         ensures unchanged { OnErr result (self.new ≡ self.old) }

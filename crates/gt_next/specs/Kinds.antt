@@ -19,7 +19,7 @@ pub data MeansNode (program : Program) (name : List ℕ) : TypeId → Type 0 whe
   by_tag : {node : TypeId} {s : Structure} → ((w : TypeWord) → ¬ IsWordOf program name w) → HasStructure program node s → s.name ≡ name → MeansNode program name node
 
 -- What elements of a type of a script are: structures; pointers to such, by a star after a name or by a typedef of a pointer; or strings,
--- which `char*` alone means. A structure, also behind a pointer, is one that may stand alone.
+-- which `char*` alone means. A structure, also one that is pointed to, is one that may stand alone.
 pub data IsKindOf (program : Program) : TypeName → Kind → Type 0 where
   structures : {type : TypeName} {node : TypeId} → type.star ≡ false → MeansNode program type.name node → MayStand program node → IsKindOf program type (Nodes node)
   pointers : {type : TypeName} {node : TypeId} → type.star ≡ true → type.name ≢ codes "char" → MeansNode program type.name node → MayStand program node → IsKindOf program type (Pointers node)

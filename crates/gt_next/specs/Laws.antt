@@ -10,7 +10,7 @@ use Rattle.gt_script.specs.declared.command.Command.TheVariants as command
 use Rattle.gt_script.specs.declared.command.Line.{Line}
 use Rattle.gt_script.specs.declared.command.Route.{Route}
 use Rattle.gt_io.specs.Held.{Held}
-use Rattle.gt_next.specs.declared.TheConstants.{MAX_BLOCK, MAX_VARIABLES, MAX_MIN_EXPAND, MAX_MIN_HEAPSIZE, MAX_ALLOCATED}
+use Rattle.gt_next.specs.declared.TheConstants.{MAX_MIN_EXPAND, MAX_MIN_HEAPSIZE}
 use Rattle.gt_next.specs.declared.answer.Answer.{Answer}
 use Rattle.gt_next.specs.declared.answer.Answer.TheVariants.{Made, Refused}
 use Rattle.gt_next.specs.declared.answer.Why.{Why}
@@ -104,13 +104,3 @@ OpeningIsGood program layouts = (pages min_expand min_heapsize : ℕ) (told : Op
 abbrev pub RunIsOne : Program → Layouts → Type 0
 RunIsOne program layouts = (s t u : State) (lines : List Line) (answers : List Answer) → IsGoodState program layouts s → All (λ line. IsOfBytes line.command) lines
     → Run program layouts s lines answers t → Run program layouts s lines answers u → AreOneState t u
-
--- ---- numbers
-
--- the numbers that the definitions cite
-pub record NumbersAre : Type 0 where
-  pub block : MAX_BLOCK ≡ 1048576
-  pub variables : MAX_VARIABLES ≡ 65536
-  pub min_expand : MAX_MIN_EXPAND ≡ 1000
-  pub min_heapsize : MAX_MIN_HEAPSIZE ≡ 1048576
-  pub allocated : MAX_ALLOCATED ≡ 67108864

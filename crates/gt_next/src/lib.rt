@@ -1,15 +1,17 @@
 //! The typed-object machine over values of every type: what a command answers and leaves. These are definitions alone, with the
-//! types of answers that they speak of; no contract cites them yet.
+//! types of answers that they speak of; no contract cites them yet but that of `numbers`, which pins the numbers in them.
 #![tactic(auto)]
 
 mod answer;
+pub mod laws;
 
 pub use answer::{Answer, Why};
+pub use laws::numbers;
 
 /// The most bytes of a block.
 pub const MAX_BLOCK: u32 = 1048576;
 
-/// The most hundredths by which a heap may grow before a collection.
+/// The largest percentage by which a heap may grow before a collection.
 pub const MAX_MIN_EXPAND: u32 = 1000;
 
 /// The most units of 1,024 bytes below which a heap counts as so large.

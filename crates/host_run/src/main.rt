@@ -1,9 +1,12 @@
 //! The machine's own files and output, tried: files that are absent, empty, as long as the limit and one byte longer, and a folder
 //! are read, and files are written and read back, one of them of more bytes than are read at a time. Each answer is a line of the
-//! standard output. No contract can say what a file of the machine holds; here a run shows it.
+//! standard output. Then the whole program runs over these files and this output, and its status is that of this one. No contract can
+//! say what a file of the machine holds; here a run shows it.
 #![tactic(auto)]
 
 use gt_io::{Files, HostFiles, HostOut, ReadFail, Sink, WriteFail};
+use gt_run::top;
+use gt_space::Space;
 use gt_types::{Bytes, Word};
 use std::alloc::{AllocError, Global};
 use std::process::ExitCode;
@@ -21,10 +24,35 @@ fn main(rt: HostRuntime) -> ExitCode {
     let alloc = rt.alloc();
     let mut out = HostOut::new(rt.stdout());
     let mut files = HostFiles::new(rt);
-    match try_all(alloc, &mut files, &mut out) {
-        Ok(()) => ExitCode::SUCCESS,
+    let Ok(()) = try_all(alloc, &mut files, &mut out) else {
+        return ExitCode::from(FAILED);
+    };
+    match run_script(alloc, &mut files, &mut out) {
+        Ok(status) => ExitCode::from(status),
         Err(_) => ExitCode::from(FAILED),
     }
+}
+
+// Runs the script under the header, writes the status with which the program ended, and gives it.
+fn run_script(alloc: Global, files: &mut HostFiles, out: &mut HostOut) -> Result<u8, WriteFail> {
+    let Ok(words) = words_of(alloc, &["script.gty", "node.h"]) else {
+        return Err(WriteFail::Memory);
+    };
+    let mut space = Space::empty(alloc);
+    let outcome = top(alloc, words.as_slice(), files, out, &mut space);
+    let Ok(line) = format!(in alloc; "status {}\n", outcome.status) else {
+        return Err(WriteFail::Memory);
+    };
+    out.write_all(line.as_str().as_bytes())?;
+    Ok(outcome.status)
+}
+
+fn words_of(alloc: Global, texts: &[&str]) -> Result<Vec<Word>, AllocError> {
+    let mut words = Vec::new(alloc);
+    for text in texts {
+        words.push(Word::of(alloc, text)?)?;
+    }
+    Ok(words)
 }
 
 // Reads and writes one file after another.

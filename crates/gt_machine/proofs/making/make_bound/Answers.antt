@@ -8,7 +8,7 @@ use Rattle.gt_machine.proofs.VarsCounts.{count-with_variable}
 use Rattle.gt_machine.proofs.MakingObjects.{made_name, same_session, still_objects}
 use Rattle.gt_machine.proofs.making.make_bound.Goals as goal
 
--- for want of memory no variable was bound
+-- where memory ran out no variable was bound
 pub returns-in_err-bind-clause-session : goal.returns-in_err-bind-clause-session
 returns-in_err-bind-clause-session c =
     subst (λ (v : Variables). IsSession (record c.args.s.now { vars = v }) c.args.space.now) (sym c.in_err-bind.ensures.unchanged) c.requires.session

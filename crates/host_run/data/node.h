@@ -1,0 +1,2 @@
+struct GTY(()) node { struct node *next; };
+static GTY(()) struct node *head;
