@@ -1,0 +1,16 @@
+pub mod Items
+pub mod Inserted
+pub mod Zeros
+pub mod Growing
+pub mod Leaves
+pub mod Listed
+pub mod Told
+pub mod Spaces
+pub mod Naming
+pub mod Standing
+pub mod Opening
+pub mod Before
+pub mod Added
+pub mod Finding
+pub mod Taking
+pub mod Widths

@@ -1,0 +1,75 @@
+//! The objects of a space.
+ghost use Rattle.std.specs.Prelude.{◌≡◌, ◌≤◌, [], IfOk};
+ghost use Rattle.gt_types.specs.declared.program.Program.{Program};
+ghost use Rattle.gt_types.specs.Settled.{Settled};
+ghost use Rattle.gt_layout.specs.declared.planes.Layouts.{Layouts};
+ghost use Rattle.gt_layout.specs.Planes.{IsLaidOut};
+ghost use Rattle.gt_space.specs.declared.TheConstants.{MIN_PAGES, MAX_PAGES, MAX_STATICS};
+ghost use Rattle.gt_tree.specs.Trees.{Trees};
+ghost use Rattle.gt_tree.specs.Fits.{IsZeroRecord};
+ghost use Rattle.gt_graph.specs.Objects.{blocks_of};
+ghost use Rattle.gt_graph.specs.Good.{Heap};
+ghost use Rattle.gt_objects.specs.Knowing.{IsKnownAt};
+ghost use Rattle.gt_objects.specs.Holding.{IsHeapOf, opening};
+
+use gt_directory::Directory;
+use gt_layout::Layouts;
+use gt_pages::Pages;
+use gt_space::Space;
+use gt_value::BlockKind;
+use std::alloc::{AllocError, Global};
+
+/// What is known of an object: what it holds, how many elements, and for how many there is room at its end.
+#[derive(Clone, Copy, Debug, PartialEq, Eq)]
+pub struct Known {
+    pub kind: BlockKind,
+    pub count: u32,
+    pub capacity: u32,
+}
+
+/// The objects of a space: the bytes of their values, their blocks, and what is known of each.
+#[derive(Drop)]
+pub struct Objects {
+    pub(crate) space: Space,
+    pub(crate) pages: Pages,
+    pub(crate) directory: Directory<Known>,
+}
+
+impl Objects {
+    /// A space of so many pages without objects, in which the values of the roots are zero. It fails only if memory runs out.
+    pub fn new(alloc: Global, layouts: &Layouts, pages: u32) -> Result<Objects, AllocError>
+        requires at_least { MIN_PAGES ≤ pages }
+        requires at_most { pages ≤ MAX_PAGES }
+        requires statics { layouts.now.statics.size ≤ MAX_STATICS }
+        ensures opening { IfOk result (λ objects. (program : Program) (statics : Trees) → Settled program → IsLaidOut program layouts.now
+            → IsZeroRecord program (blocks_of []) statics → IsHeapOf program layouts.now objects (opening program pages statics)) }
+    {
+        let mut space = Space::empty(alloc);
+        space.resize_fresh(pages, layouts.statics.size)?;
+        Ok(Objects {
+            space,
+            pages: Pages::new(alloc, pages)?,
+            directory: Directory::new(alloc, pages)?,
+        })
+    }
+
+    /// The bytes.
+    pub fn space(&self) -> &Space
+        ensures { result.now ≡ self.now.space }
+    {
+        &self.space
+    }
+
+    /// What is known of the object at an address; None where no object has this address.
+    pub fn known(&self, addr: u64) -> Option<Known>
+        requires ready { (program : Program) × (layouts : Layouts) × (heap : Heap) × IsHeapOf program layouts self.now heap }
+        ensures known { (program : Program) (layouts : Layouts) (heap : Heap) → IsHeapOf program layouts self.now heap → IsKnownAt heap.graph.objects addr result }
+    {
+        self.pages.sound();
+        let (start, size) = self.pages.owner(addr)?;
+        if start != addr {
+            return None;
+        }
+        self.directory.get(addr, size)
+    }
+}
