@@ -24,7 +24,7 @@ use Rattle.gt_assign.proofs.CommonFound.{common-is}
 use Rattle.gt_assign.proofs.Standing.{Stands}
 use Rattle.gt_assign.proofs.Whole.{makes}
 use Rattle.gt_assign.proofs.Nesting.{deep-block}
-use Rattle.gt_assign.proofs.Refit.{refit-block}
+use Rattle.gt_value.proofs.Refit.{refit-block}
 
 -- ---- where the leaf is
 

@@ -13,7 +13,6 @@ pub mod PastReads
 pub mod Standing
 pub mod Whole
 pub mod Nesting
-pub mod Refit
 pub mod Assigned
 pub mod Records
 pub mod Selves

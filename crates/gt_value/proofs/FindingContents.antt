@@ -16,7 +16,7 @@ use Rattle.gt_tree.proofs.PathBegins.{one-number}
 use Rattle.gt_tree.proofs.FixedParts.{is-opaque}
 use Rattle.gt_tree.proofs.FixedRead.{IsRead, read-opaque}
 use Rattle.gt_tree.proofs.FixedSame.{Got}
-use Rattle.gt_value.specs.declared.places.Found.{Found}
+use Rattle.gt_value.specs.declared.places.Place.{Place}
 use Rattle.gt_value.specs.declared.places.LeafKind.{LeafKind}
 use Rattle.gt_value.specs.declared.places.LeafKind.TheVariants.{Number, Pointer}
 use Rattle.gt_value.specs.declared.places.LeafContent.TheVariants as content
@@ -25,7 +25,6 @@ use Rattle.gt_value.specs.declared.sources.Source.{Source}
 use Rattle.gt_value.specs.Bytes.{itself}
 use Rattle.gt_value.specs.Reading.{Stands, shape_of, bits_from, bits_number, number_from}
 use Rattle.gt_value.specs.Places.{Part, HasBits, IsContentOf, IsPlaceOfPart, content_of, pointer_of, leaf_kind, length_there, kind_of_shape}
-use Rattle.gt_value.specs.Finding.{IsFoundPart, place_at}
 use Rattle.gt_value.proofs.BitNumbers.{bits_number-below, bits_number-bit, bits_number-is, fit}
 use Rattle.gt_value.proofs.LeafReads.{held-number, number-here, pointer-here, no-pointer, opaque-inside}
 
@@ -157,17 +156,20 @@ placed-content space range from addr at kind active tree e f low h =
     (subst (λ x. IsContentOf x tree) (same-content (bits_from range (addr - range.start)) (bits_from range (addr - range.start + at / 8)) at (at % 8) kind active (shifted-bits range (addr - range.start) at))
     (subst (λ k. IsContentOf (content_of (bits_from range k) at kind active) tree) f (subst (λ r. IsContentOf (content_of (bits_from r from) at kind active) tree) e h)))
 
--- what was found in a space, at its place there
-pub found-placed : (source : Source) (program : Program) (range : Range) (addr : ℕ) (p : Part) (found : Found) → source.program.now ≡ program → source.space.now ≡ range → source.from ≡ addr - range.start → range.start ≤ addr
-    → IsFoundPart source p found → IsPlaceOfPart program range addr p (place_at addr found)
-found-placed source program range addr p found e f g low is = record {
-  address_is = ap (λ n. addr + n / 8) is.bit_is;
-  bit_is = ap (λ n. n % 8) is.bit_is;
-  kind_is = is.kind_is;
-  active_is = is.active_is;
-  holder_is = is.holder_is;
-  length_is = is.length_is ∙ ap (λ x. length_there x p.scope p.type) e;
-  from_start = omega (arith, low);
-  bits = placed-bits source.space.now range source.from addr found.at found.kind f g low is.bits;
-  holds = placed-content source.space.now range source.from addr found.at found.kind found.active p.tree f g low is.holds;
+-- a leaf of a space, at its place there
+pub leaf-placed : (space range : Range) (program : Program) (from addr at : ℕ) (p : Part) (place : Place) → space ≡ range → from ≡ addr - range.start → range.start ≤ addr → at ≡ p.bit → place.addr ≡ addr + at / 8 → place.bit ≡ at % 8
+    → leaf_kind p.type ≡ Some place.kind → place.active ≡ p.active → place.holder ≡ p.holder → place.length ≡ length_there program p.scope p.type
+    → HasBits space from at place.kind → IsContentOf (content_of (bits_from space from) at place.kind place.active) p.tree → IsPlaceOfPart program range addr p place
+leaf-placed space range program from addr at p place e f low bit a b kind active holder len bits holds = record {
+  address_is = a ∙ ap (λ n. addr + n / 8) bit;
+  bit_is = b ∙ ap (λ n. n % 8) bit;
+  kind_is = kind;
+  active_is = active;
+  holder_is = holder;
+  length_is = len;
+  from_start = omega (arith, low, a);
+  bits = subst (λ n. HasBits range (place.addr - range.start) n place.kind) (sym b) (subst (λ n. HasBits range (n - range.start) (at % 8) place.kind) (sym a) (placed-bits space range from addr at place.kind e f low bits));
+  holds =
+      subst (λ n. IsContentOf (content_of (bits_from range (place.addr - range.start)) n place.kind place.active) p.tree) (sym b)
+      (subst (λ n. IsContentOf (content_of (bits_from range (n - range.start)) (at % 8) place.kind place.active) p.tree) (sym a) (placed-content space range from addr at place.kind place.active p.tree e f low holds));
 }

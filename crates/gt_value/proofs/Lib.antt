@@ -16,6 +16,11 @@ pub mod StandingSteps
 pub mod StandingStarts
 pub mod FindingSteps
 pub mod FindingContents
-pub mod FindingAnswers
-pub mod FindingScopes
-pub mod FindingRoots
+pub mod Refit
+pub mod CursorPaths
+pub mod CursorCommons
+pub mod CursorSteps
+pub mod CursorAnswers
+pub mod CursorFollows
+pub mod CursorLeaves
+pub mod CursorStarts

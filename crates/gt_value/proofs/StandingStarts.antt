@@ -48,6 +48,7 @@ use Rattle.gt_value.specs.Finding.{StandsIn, RootsStand}
 use Rattle.gt_value.proofs.ZeroSteps.{root-flat}
 use Rattle.gt_value.proofs.ZeroValues.{element-held, root-held}
 use Rattle.gt_value.proofs.PathWorths.{number-read}
+use Rattle.gt_value.proofs.Refit.{refit-block}
 
 -- ---- the bytes of a value, among those of its space
 
@@ -78,6 +79,21 @@ window-end : (range : Range) (addr from size : ℕ) → from ≡ addr - range.st
 window-end range addr from size e inside = let d = length-drop from range.bytes in omega (arith, d, e, inside.from_start, inside.to_end)
 
 -- ---- elements of blocks
+
+-- an element of a block stands beside any static record
+abbrev stands-beside : (program : Program) (layouts : Layouts) (capacity : ℕ) (type : Ty) (range : Range) (addr : ℕ) (value : Tree) → Settled program → StandsFor program layouts capacity type range addr value → Trees
+    → StandsFor program layouts capacity type range addr value
+stands-beside program layouts capacity type range addr value settled s statics = record {
+  kind = s.kind;
+  held = s.held;
+  of_kind = s.of_kind;
+  size = s.size;
+  takes = s.takes;
+  blocks = s.blocks;
+  statics = statics;
+  addresses = s.addresses;
+  is = record { leaves = s.is.leaves; fits = refit-block program settled s.blocks capacity s.kind s.statics statics value s.is.fits; has = s.is.has; stand = s.is.stand };
+}
 
 module _ (source : Source) (settled : Settled source.program.now) (laid : IsLaidOut source.program.now source.layouts.now) (small : end_from source.space.now source.from < 2 ^ 32) where
   outside-context : (blocks : Blocks) → AreAddresses blocks itself → (capacity : ℕ) → capacity < 2 ^ 32 → (statics : Trees) → Context source outside_all
@@ -224,18 +240,15 @@ module _ (source : Source) (program : Program) (layouts : Layouts) (range : Rang
   turn F h =
       subst (λ x. F x source.layouts.now source.space.now) (sym p) (subst (λ x. F program x source.space.now) (sym l) (subst (λ x. F program layouts x) (sym s) h))
 
-  pub block-starts_in : (capacity : ℕ) (type : Ty) (addr : ℕ) (value : Tree) → capacity < 2 ^ 32 → source.from ≡ addr - range.start → IsRoomFor program layouts capacity type range addr
-      → StandsFor program layouts capacity type range addr value → (statics : Trees) × StandsIn source outside_all (outside statics) type 0 value
-  block-starts_in capacity type addr value few from room stands =
-      let here = turn (λ a b c. StandsFor a b capacity type c addr value) stands in (
-        here.statics,
-        block-stands source (turn (λ a b c. Settled a) settled) (turn (λ a b c. IsLaidOut a b) laid) small capacity type addr value few (from ∙ ap (λ r. addr - r.start) (sym s))
-            (turn (λ a b c. IsRoomFor a b capacity type c addr) room) here,
-      )
+  pub block-starts_in : (capacity : ℕ) (type : Ty) (addr : ℕ) (value : Tree) (statics : Trees) → capacity < 2 ^ 32 → source.from ≡ addr - range.start → IsRoomFor program layouts capacity type range addr
+      → StandsFor program layouts capacity type range addr value → StandsIn source outside_all (outside statics) type 0 value
+  block-starts_in capacity type addr value statics few from room stands =
+      block-stands source (turn (λ a b c. Settled a) settled) (turn (λ a b c. IsLaidOut a b) laid) small capacity type addr value few (from ∙ ap (λ r. addr - r.start) (sym s))
+      (turn (λ a b c. IsRoomFor a b capacity type c addr) room) (stands-beside source.program.now source.layouts.now capacity type source.space.now addr value (turn (λ a b c. Settled a) settled) (turn (λ a b c. StandsFor a b capacity type c addr value) stands) statics)
 
   pub block-starts : (capacity : ℕ) (type : Ty) (addr : ℕ) (value : Tree) → capacity < 2 ^ 32 → source.from ≡ addr - range.start → IsRoomFor program layouts capacity type range addr
       → StandsFor program layouts capacity type range addr value → Stands source outside_all type 0 value
-  block-starts capacity type addr value few from room stands = (block-starts_in capacity type addr value few from room stands).1.0
+  block-starts capacity type addr value few from room stands = (block-starts_in capacity type addr value stands.statics few from room stands).0
 
   pub element-shallow : (capacity : ℕ) (type : Ty) (addr : ℕ) (value : Tree) → StandsFor program layouts capacity type range addr value → HoldsWithinDepth source.program.now type 33
   element-shallow capacity type addr value stands = turn (λ a b c. HoldsWithinDepth a type 33) (element-held program settled type (stands.kind, stands.held, stands.of_kind))

@@ -5,3 +5,4 @@ pub mod Noughts
 pub mod Reading
 pub mod Places
 pub mod Finding
+pub mod Cursors

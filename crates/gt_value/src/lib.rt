@@ -2,6 +2,7 @@
 #![tactic(auto)]
 
 mod bits;
+mod cursors;
 mod names;
 mod places;
 mod reading;
@@ -10,6 +11,7 @@ mod unions;
 mod values;
 mod zeros;
 
+pub use cursors::Cursor;
 pub use names::{BlockKind, BlockNames, BlockOf};
 pub use places::{Holder, LeafContent, LeafKind, Place, leaf_at, leaf_in_statics, read_leaf};
 pub use reading::{read, read_statics};

@@ -1,40 +1,63 @@
-use Rattle.std.proofs.Common.{◌≡◌, ◌≤◌, ◌-◌, ap, sym, subst, rules, arith, ◌∙◌, None}
-use Rattle.std.specs.Prelude.{MatchOption}
-use Rattle.gt_tree.specs.Trees.{Trees, Rec}
-use Rattle.gt_tree.specs.Reshapes.{LeadsToLeaf}
-use Rattle.gt_value.specs.Bytes.{StandForStatics}
-use Rattle.gt_value.specs.Places.{IsStaticPlaceOf}
-use Rattle.gt_value.proofs.StandingStarts.{roots-start}
-use Rattle.gt_value.proofs.FindingRoots.{RootAnswers}
-use Rattle.gt_value.proofs.FindingScopes.{root-placed}
+use Rattle.std.proofs.Common.{◌≡◌, ◌-◌, ◌∷◌, [], get_or, take, drop, length, sym, subst, rules, None}
+use Rattle.std.specs.Prelude.{slice_get}
+use Rattle.gt_value.specs.Cursors.{frame, root_part}
+use Rattle.gt_value.proofs.CursorStarts.{no-root}
+use Rattle.gt_value.proofs.CursorSteps.{split-path}
+use Rattle.gt_value.proofs.CursorFollows.{FollowsOn}
+use Rattle.gt_value.proofs.CursorLeaves.{StaticLeafOn, root-leaf, root-somewhere, root-nowhere}
 use Rattle.gt_value.proofs.places.leaf_in_statics.Goals as goal
 
-pub find_root-requires : goal.find_root-requires
-find_root-requires c =
-    let from : c.new-source.result.from ≡ c.args.space.now.start - c.args.space.now.start = c.new-source.ensures.place ∙ ap (λ n. n - c.args.space.now.start) c.start-start.ensures.start in
+pub returns-in_err-start : goal.returns-in_err-start
+returns-in_err-start c =
+    let path = c.args.path.now in
+    let i = get_or path 0 0 in
+    let rest = take (length path - 1) (drop 1 path) in
+    let none : slice_get c.args.program.now.roots i ≡ None = search rules in
     record {
-      stand = (c.requires.stands.0, roots-start c.new-source.result c.args.program.now c.args.layouts.now c.args.space.now c.new-source.ensures.program c.new-source.ensures.layouts c.new-source.ensures.space c.requires.settled c.requires.laid c.new-source.ensures.small c.requires.stands.0 from c.requires.inside c.requires.stands.1);
+      leaf = subst (λ p. StaticLeafOn c.args.program.now c.args.layouts.now c.args.space.now p c.from_residual.result) (sym (split-path path c.in-len1-up.len_at_least))
+          (subst (λ r. StaticLeafOn c.args.program.now c.args.layouts.now c.args.space.now (i ∷ rest) r) (sym c.from_residual.ensures) (λ values stand. no-root c.args.program.now _ values i rest stand.are.fit none));
     }
 
-pub returns-in_err-found : goal.returns-in_err-found
-returns-in_err-found c =
-    let from : c.new-source.result.from ≡ c.args.space.now.start - c.args.space.now.start = c.new-source.ensures.place ∙ ap (λ n. n - c.args.space.now.start) c.start-start.ensures.start in
-    let none : c.find_root.result ≡ None = search rules in
-    let nowhere = subst (λ r. RootAnswers c.new-source.result c.args.path.now r) none c.find_root.ensures in
+pub follow-requires : goal.follow-requires
+follow-requires c =
+    let s = c.requires.stands in
+    let root = c.in_ok-start.ensures.root s.0 s.1 in
     record {
-      leaf = subst (λ r. MatchOption r ((values : Trees) → StandForStatics c.args.program.now c.args.layouts.now c.args.space.now values → ¬ LeadsToLeaf (Rec values) c.args.path.now)
-          (λ place. (values : Trees) → StandForStatics c.args.program.now c.args.layouts.now c.args.space.now values → IsStaticPlaceOf c.args.program.now c.args.layouts.now c.args.space.now values c.args.path.now place))
-          (sym c.from_residual.ensures)
-          (λ values stand. nowhere values (roots-start c.new-source.result c.args.program.now c.args.layouts.now c.args.space.now c.new-source.ensures.program c.new-source.ensures.layouts c.new-source.ensures.space c.requires.settled c.requires.laid c.new-source.ensures.small values from c.requires.inside stand));
+      stands = record {
+        at = frame c.args.program.now c.args.layouts.now c.args.space.now c.args.space.now.start;
+        value = root_part s.0 (get_or c.args.path.now 0 0) root.spot root.r root.tree;
+        path = [];
+        is = root.is;
+      };
+    }
+
+pub returns-in_err-there : goal.returns-in_err-there
+returns-in_err-there c =
+    let path = c.args.path.now in
+    let i = get_or path 0 0 in
+    let rest = take (length path - 1) (drop 1 path) in
+    let none : c.follow.result ≡ None = search rules in
+    let nowhere = subst (λ r. FollowsOn c.in_ok-start.start rest r) none c.follow.ensures.part in
+    record {
+      leaf = subst (λ p. StaticLeafOn c.args.program.now c.args.layouts.now c.args.space.now p c.from_residual-in_err-there.result) (sym (split-path path c.in-len1-up.len_at_least))
+          (subst (λ r. StaticLeafOn c.args.program.now c.args.layouts.now c.args.space.now (i ∷ rest) r) (sym c.from_residual-in_err-there.ensures)
+          (root-nowhere c.args.program.now c.args.layouts.now c.args.space.now i rest c.in_ok-start.start c.in_ok-start.start c.in_ok-start.ensures.root nowhere));
+    }
+
+pub leaf-requires : goal.leaf-requires
+leaf-requires c =
+    let path = c.args.path.now in
+    let s = c.requires.stands in
+    record {
+      stands = root-somewhere c.args.program.now c.args.layouts.now c.args.space.now (get_or path 0 0) (take (length path - 1) (drop 1 path)) c.in_ok-start.start c.in_ok-there.there c.in_ok-start.ensures.root s.0 s.1 c.in_ok-there.ensures.part;
     }
 
 pub returns : goal.returns
 returns c =
-    let from : c.new-source.result.from ≡ c.args.space.now.start - c.args.space.now.start = c.new-source.ensures.place ∙ ap (λ n. n - c.args.space.now.start) c.start-start.ensures.start in
+    let path = c.args.path.now in
+    let i = get_or path 0 0 in
+    let rest = take (length path - 1) (drop 1 path) in
     record {
-      leaf = λ values stand.
-          let roots = roots-start c.new-source.result c.args.program.now c.args.layouts.now c.args.space.now c.new-source.ensures.program c.new-source.ensures.layouts c.new-source.ensures.space c.requires.settled c.requires.laid c.new-source.ensures.small values from c.requires.inside stand in
-          let low : c.args.space.now.start ≤ c.start-start.result = omega (arith, c.start-start.ensures.start) in
-          root-placed c.new-source.result c.args.program.now c.args.layouts.now c.args.space.now c.new-source.ensures.program c.new-source.ensures.layouts c.new-source.ensures.space c.start-start.result c.new-source.ensures.place low
-          values c.args.path.now c.in_ok-found.found c.place_at.result c.start-start.ensures.start c.place_at.ensures (c.in_ok-found.ensures values roots);
+      leaf = subst (λ p. StaticLeafOn c.args.program.now c.args.layouts.now c.args.space.now p c.leaf.result) (sym (split-path path c.in-len1-up.len_at_least))
+          (root-leaf c.args.program.now c.args.layouts.now c.args.space.now i rest c.in_ok-start.start c.in_ok-there.there c.in_ok-start.ensures.root c.leaf.result c.in_ok-there.ensures.part c.leaf.ensures.leaf);
     }

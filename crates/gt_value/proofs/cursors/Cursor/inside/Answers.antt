@@ -1,0 +1,261 @@
+use Rattle.std.proofs.Common.{◌≡◌, ◌∙◌, ◌+◌, ◌<◌, [], get_or, length, ap, sym, subst, arith, rules, Some, None, true, false}
+use Rattle.std.specs.Prelude.{slice_get}
+use Rattle.std.proofs.lemmas.Option.{slice_get-get_or, slice_get_within}
+use Rattle.gt_types.specs.declared.types.TypeId.{TypeId}
+use Rattle.gt_types.specs.declared.types.Ty.TheVariants as ty
+use Rattle.gt_types.specs.declared.program.Active.TheVariants.{Never}
+use Rattle.gt_types.specs.Unions.{IsCommon}
+use Rattle.gt_layout.specs.Places.{begin_at}
+use Rattle.gt_layout.proofs.Laying.{read_at}
+use Rattle.gt_value.specs.declared.places.Holder.TheVariants as lies_in
+use Rattle.gt_value.specs.Reading.{entered, without_pointers}
+use Rattle.gt_value.specs.Cursors.{IsMoved}
+use Rattle.gt_value.proofs.ZeroSteps.{active-within}
+use Rattle.gt_value.proofs.StandingParts.{active-is}
+use Rattle.gt_value.proofs.FindingSteps.{node-has}
+use Rattle.gt_value.proofs.CursorSteps.{site, answers-none, struct-step, struct-field, struct-spot, struct-none, member-step, member-none, common-step, nothing-none}
+use Rattle.gt_value.proofs.CursorCommons.{common-at, common-missing, common-within}
+use Rattle.gt_value.proofs.cursors.Cursor.inside.Goals as goal
+
+pub bounds-as_slice-id : goal.bounds-as_slice-id
+bounds-as_slice-id c =
+    let self = c.args.self.now in
+    let source = self.source in
+    let known = node-has c.args.id c.args.desc.now c.requires.stands.0 c.requires.stands.1.fits in
+    let there = slice_get_within source.program.now.structures c.args.id.0 known.0 known.1 in
+    omega (arith, there, ap length c.as_slice.ensures.items)
+
+pub bounds-as_slice-id-then-not-structure : goal.bounds-as_slice-id-then-not-structure
+bounds-as_slice-id-then-not-structure c =
+    let self = c.args.self.now in
+    let source = self.source in
+    let known = node-has c.args.id c.args.desc.now c.requires.stands.0 c.requires.stands.1.fits in
+    let there = slice_get_within source.program.now.structures c.args.id.0 known.0 known.1 in
+    omega (arith, there, c.requires.stands.1.context.laid.structures.all, ap length c.as_slice-then-not-structure.ensures.items)
+
+pub returns-in_err-field : goal.returns-in_err-field
+returns-in_err-field c =
+    let self = c.args.self.now in
+    let source = self.source in
+    let planes = source.layouts.now.structures in
+    let y = c.index-as_slice-id.result in
+    let value = c.requires.stands.0 in
+    let known = node-has c.args.id c.args.desc.now value c.requires.stands.1.fits in
+    let there = slice_get_within source.program.now.structures c.args.id.0 known.0 known.1 in
+    let has = read_at c.as_slice.result.now source.program.now.structures c.args.id.0 y c.as_slice.ensures.items there c.index-as_slice-id.is in
+    let struct : y.is_union ≡ false = search rules in
+    let plane = c.index-as_slice-id-then-not-structure.result in
+    let within : c.args.id.0 < length planes = omega (arith, there, c.requires.stands.1.context.laid.structures.all) in
+    let laid = read_at c.as_slice-then-not-structure.result.now planes c.args.id.0 plane c.as_slice-then-not-structure.ensures.items within c.index-as_slice-id-then-not-structure.is in
+    let none : slice_get y.fields c.args.place ≡ None = search rules in
+    answers-none source self.site (ty.Node c.args.id c.args.desc.now) self.at c.args.place c.from_residual.result c.from_residual.ensures (struct-none source self.site c.args.id c.args.desc.now self.at y has plane c.args.place struct laid none)
+
+pub returns-in_err-spot : goal.returns-in_err-spot
+returns-in_err-spot c =
+    let self = c.args.self.now in
+    let source = self.source in
+    let planes = source.layouts.now.structures in
+    let y = c.index-as_slice-id.result in
+    let value = c.requires.stands.0 in
+    let known = node-has c.args.id c.args.desc.now value c.requires.stands.1.fits in
+    let there = slice_get_within source.program.now.structures c.args.id.0 known.0 known.1 in
+    let has = read_at c.as_slice.result.now source.program.now.structures c.args.id.0 y c.as_slice.ensures.items there c.index-as_slice-id.is in
+    let struct : y.is_union ≡ false = search rules in
+    let plane = c.index-as_slice-id-then-not-structure.result in
+    let within : c.args.id.0 < length planes = omega (arith, there, c.requires.stands.1.context.laid.structures.all) in
+    let laid = read_at c.as_slice-then-not-structure.result.now planes c.args.id.0 plane c.as_slice-then-not-structure.ensures.items within c.index-as_slice-id-then-not-structure.is in
+    let f = c.in_ok-field.field.now in
+    let got : slice_get y.fields c.args.place ≡ Some f = search rules in
+    let none : slice_get plane.fields c.args.place ≡ None = search rules in
+    absurd (struct-spot source self.site c.args.id c.args.desc.now self.at y has plane c.args.place f value struct laid got none c.requires.stands.1)
+
+pub overflow_cast-begin-then-not-structure : goal.overflow_cast-begin-then-not-structure
+overflow_cast-begin-then-not-structure c =
+    let self = c.args.self.now in
+    let source = self.source in
+    let planes = source.layouts.now.structures in
+    let y = c.index-as_slice-id.result in
+    let value = c.requires.stands.0 in
+    let known = node-has c.args.id c.args.desc.now value c.requires.stands.1.fits in
+    let there = slice_get_within source.program.now.structures c.args.id.0 known.0 known.1 in
+    let has = read_at c.as_slice.result.now source.program.now.structures c.args.id.0 y c.as_slice.ensures.items there c.index-as_slice-id.is in
+    let struct : y.is_union ≡ false = search rules in
+    let plane = c.index-as_slice-id-then-not-structure.result in
+    let within : c.args.id.0 < length planes = omega (arith, there, c.requires.stands.1.context.laid.structures.all) in
+    let laid = read_at c.as_slice-then-not-structure.result.now planes c.args.id.0 plane c.as_slice-then-not-structure.ensures.items within c.index-as_slice-id-then-not-structure.is in
+    let f = c.in_ok-field.field.now in
+    let got : slice_get y.fields c.args.place ≡ Some f = search rules in
+    let spot = c.in_ok-spot.spot.now in
+    let spot_of : slice_get plane.fields c.args.place ≡ Some spot = search rules in
+    let begin : self.at + c.begin_at.result ≡ self.at + begin_at spot = ap (λ k. self.at + k) c.begin_at.ensures.begin in
+    let found = struct-field source self.site c.args.id c.args.desc.now self.at y has plane c.args.place f spot struct laid got spot_of value c.requires.stands.1 in
+    omega (arith, begin, found.1.inside, found.1.context.small)
+
+pub returns-then-not-structure : goal.returns-then-not-structure
+returns-then-not-structure c =
+    let self = c.args.self.now in
+    let source = self.source in
+    let planes = source.layouts.now.structures in
+    let y = c.index-as_slice-id.result in
+    let value = c.requires.stands.0 in
+    let known = node-has c.args.id c.args.desc.now value c.requires.stands.1.fits in
+    let there = slice_get_within source.program.now.structures c.args.id.0 known.0 known.1 in
+    let has = read_at c.as_slice.result.now source.program.now.structures c.args.id.0 y c.as_slice.ensures.items there c.index-as_slice-id.is in
+    let struct : y.is_union ≡ false = search rules in
+    let plane = c.index-as_slice-id-then-not-structure.result in
+    let within : c.args.id.0 < length planes = omega (arith, there, c.requires.stands.1.context.laid.structures.all) in
+    let laid = read_at c.as_slice-then-not-structure.result.now planes c.args.id.0 plane c.as_slice-then-not-structure.ensures.items within c.index-as_slice-id-then-not-structure.is in
+    let f = c.in_ok-field.field.now in
+    let got : slice_get y.fields c.args.place ≡ Some f = search rules in
+    let spot = c.in_ok-spot.spot.now in
+    let spot_of : slice_get plane.fields c.args.place ≡ Some spot = search rules in
+    let begin : self.at + c.begin_at.result ≡ self.at + begin_at spot = ap (λ k. self.at + k) c.begin_at.ensures.begin in
+    let moved =
+    subst (λ k. IsMoved c.moved.result source (site c.enter-inner.result (lies_in.Field c.args.id c.args.place)) f.ty k) begin c.moved.ensures in
+    struct-step source self.site c.args.id c.args.desc.now self.at y has plane c.args.place f spot c.moved.result struct laid got spot_of
+    (subst (λ x. IsMoved c.moved.result source (site x (lies_in.Field c.args.id c.args.place)) f.ty (self.at + begin_at spot)) c.enter-inner.ensures moved)
+
+pub returns-then-active-place : goal.returns-then-active-place
+returns-then-active-place c =
+    let self = c.args.self.now in
+    let source = self.source in
+    let planes = source.layouts.now.structures in
+    let y = c.index-as_slice-id.result in
+    let value = c.requires.stands.0 in
+    let known = node-has c.args.id c.args.desc.now value c.requires.stands.1.fits in
+    let there = slice_get_within source.program.now.structures c.args.id.0 known.0 known.1 in
+    let has = read_at c.as_slice.result.now source.program.now.structures c.args.id.0 y c.as_slice.ensures.items there c.index-as_slice-id.is in
+    let inner = entered self.site.around c.args.id self.at in
+    let union : y.is_union ≡ true = search rules in
+    let active = active-is source c.enter-inner.result inner c.args.desc.now c.worth_of.result c.as_slice-fields.result.now y.fields (Some c.in-Some.active) c.enter-inner.ensures c.worth_of.ensures c.as_slice-fields.ensures.items c.in-Some.ensures in
+    let lt = active-within c.worth_of.result c.as_slice-fields.result.now c.in-Some.active (sym c.in-Some.ensures) in
+    let within : c.in-Some.active < length y.fields = omega (arith, lt, ap length c.as_slice-fields.ensures.items) in
+    let f = get_or y.fields c.in-Some.active (record { name = []; ty = ty.Str None; active = Never }) in
+    let got = slice_get-get_or y.fields c.in-Some.active (record { name = []; ty = ty.Str None; active = Never }) within in
+    member-none source self.site c.args.id c.args.desc.now self.at y has union c.in-Some.active c.args.place f active got c.if-active-place.true
+
+pub bounds-fields-active : goal.bounds-fields-active
+bounds-fields-active c = active-within c.worth_of.result c.as_slice-fields.result.now c.in-Some.active (sym c.in-Some.ensures)
+
+pub returns-in-Some : goal.returns-in-Some
+returns-in-Some c =
+    let self = c.args.self.now in
+    let source = self.source in
+    let planes = source.layouts.now.structures in
+    let y = c.index-as_slice-id.result in
+    let value = c.requires.stands.0 in
+    let known = node-has c.args.id c.args.desc.now value c.requires.stands.1.fits in
+    let there = slice_get_within source.program.now.structures c.args.id.0 known.0 known.1 in
+    let has = read_at c.as_slice.result.now source.program.now.structures c.args.id.0 y c.as_slice.ensures.items there c.index-as_slice-id.is in
+    let inner = entered self.site.around c.args.id self.at in
+    let union : y.is_union ≡ true = search rules in
+    let active = active-is source c.enter-inner.result inner c.args.desc.now c.worth_of.result c.as_slice-fields.result.now y.fields (Some c.in-Some.active) c.enter-inner.ensures c.worth_of.ensures c.as_slice-fields.ensures.items c.in-Some.ensures in
+    let lt = active-within c.worth_of.result c.as_slice-fields.result.now c.in-Some.active (sym c.in-Some.ensures) in
+    let within : c.in-Some.active < length y.fields = omega (arith, lt, ap length c.as_slice-fields.ensures.items) in
+    let f = c.index-fields-active.result in
+    let got = read_at c.as_slice-fields.result.now y.fields c.in-Some.active f c.as_slice-fields.ensures.items within c.index-fields-active.is in
+    let got_place = subst (λ k. slice_get y.fields k ≡ Some f) c.if-active-place.false got in
+    let active_place = active ∙ ap Some c.if-active-place.false in
+    let moved = subst (λ g. IsMoved c.moved-in-Some.result source (site c.enter-inner.result (lies_in.Field c.args.id c.args.place)) g.ty self.at) (sym c.index-fields-active.is) c.moved-in-Some.ensures in
+    member-step source self.site c.args.id c.args.desc.now self.at y has union c.args.place f c.moved-in-Some.result active_place got_place
+    (subst (λ x. IsMoved c.moved-in-Some.result source (site x (lies_in.Field c.args.id c.args.place)) f.ty self.at) c.enter-inner.ensures moved)
+
+pub common_structure-requires-clause-has : goal.common_structure-requires-clause-has
+common_structure-requires-clause-has c =
+    let self = c.args.self.now in
+    let source = self.source in
+    let planes = source.layouts.now.structures in
+    let y = c.index-as_slice-id.result in
+    let value = c.requires.stands.0 in
+    let known = node-has c.args.id c.args.desc.now value c.requires.stands.1.fits in
+    let there = slice_get_within source.program.now.structures c.args.id.0 known.0 known.1 in
+    let has = read_at c.as_slice.result.now source.program.now.structures c.args.id.0 y c.as_slice.ensures.items there c.index-as_slice-id.is in
+    has
+
+pub returns-in_err-common : goal.returns-in_err-common
+returns-in_err-common c =
+    let self = c.args.self.now in
+    let source = self.source in
+    let planes = source.layouts.now.structures in
+    let y = c.index-as_slice-id.result in
+    let value = c.requires.stands.0 in
+    let known = node-has c.args.id c.args.desc.now value c.requires.stands.1.fits in
+    let there = slice_get_within source.program.now.structures c.args.id.0 known.0 known.1 in
+    let has = read_at c.as_slice.result.now source.program.now.structures c.args.id.0 y c.as_slice.ensures.items there c.index-as_slice-id.is in
+    let inner = entered self.site.around c.args.id self.at in
+    let union : y.is_union ≡ true = search rules in
+    let none : c.active_member.result ≡ None = search rules in
+    let active = active-is source c.enter-inner.result inner c.args.desc.now c.worth_of.result c.as_slice-fields.result.now y.fields None c.enter-inner.ensures c.worth_of.ensures c.as_slice-fields.ensures.items (sym none ∙ c.active_member.ensures) in
+    let no_common : (common : TypeId) → ¬ IsCommon source.program.now y common = search rules in
+    answers-none source self.site (ty.Node c.args.id c.args.desc.now) self.at c.args.place c.from_residual-in_err-common.result c.from_residual-in_err-common.ensures (nothing-none source self.site c.args.id c.args.desc.now self.at y has union c.args.place active no_common)
+
+pub returns-in_err-member : goal.returns-in_err-member
+returns-in_err-member c =
+    let self = c.args.self.now in
+    let source = self.source in
+    let planes = source.layouts.now.structures in
+    let y = c.index-as_slice-id.result in
+    let value = c.requires.stands.0 in
+    let known = node-has c.args.id c.args.desc.now value c.requires.stands.1.fits in
+    let there = slice_get_within source.program.now.structures c.args.id.0 known.0 known.1 in
+    let has = read_at c.as_slice.result.now source.program.now.structures c.args.id.0 y c.as_slice.ensures.items there c.index-as_slice-id.is in
+    let common = c.in_ok-common.common in
+    let is : IsCommon source.program.now y common = search rules in
+    let missing : c.find_node.result ≡ None = search rules in
+    absurd (common-missing source.program.now y common c.as_slice-fields.result.now is c.as_slice-fields.ensures.items (sym c.find_node.ensures ∙ missing))
+
+pub offset_bounds-fields-member : goal.offset_bounds-fields-member
+offset_bounds-fields-member c =
+    let self = c.args.self.now in
+    let source = self.source in
+    let y = c.index-as_slice-id.result in
+    let known = node-has c.args.id c.args.desc.now c.requires.stands.0 c.requires.stands.1.fits in
+    let there = slice_get_within source.program.now.structures c.args.id.0 known.0 known.1 in
+    let has = read_at c.as_slice.result.now source.program.now.structures c.args.id.0 y c.as_slice.ensures.items there c.index-as_slice-id.is in
+    let found : c.find_node.result ≡ Some c.in_ok-member.member = search rules in
+    let lt = common-within c.in_ok-common.common c.as_slice-fields.result.now c.in_ok-member.member (sym c.find_node.ensures ∙ found) in
+    let few = (c.requires.stands.1.context.settled.structures c.args.id y has).few_fields in
+    omega (arith, lt, few, ap length c.as_slice-fields.ensures.items)
+
+pub bounds-fields-member : goal.bounds-fields-member
+bounds-fields-member c =
+    let self = c.args.self.now in
+    let source = self.source in
+    let planes = source.layouts.now.structures in
+    let y = c.index-as_slice-id.result in
+    let value = c.requires.stands.0 in
+    let known = node-has c.args.id c.args.desc.now value c.requires.stands.1.fits in
+    let there = slice_get_within source.program.now.structures c.args.id.0 known.0 known.1 in
+    let has = read_at c.as_slice.result.now source.program.now.structures c.args.id.0 y c.as_slice.ensures.items there c.index-as_slice-id.is in
+    let common = c.in_ok-common.common in
+    let is : IsCommon source.program.now y common = search rules in
+    let found : c.find_node.result ≡ Some c.in_ok-member.member = search rules in
+    common-within common c.as_slice-fields.result.now c.in_ok-member.member (sym c.find_node.ensures ∙ found)
+
+pub returns : goal.returns
+returns c =
+    let self = c.args.self.now in
+    let source = self.source in
+    let planes = source.layouts.now.structures in
+    let y = c.index-as_slice-id.result in
+    let value = c.requires.stands.0 in
+    let known = node-has c.args.id c.args.desc.now value c.requires.stands.1.fits in
+    let there = slice_get_within source.program.now.structures c.args.id.0 known.0 known.1 in
+    let has = read_at c.as_slice.result.now source.program.now.structures c.args.id.0 y c.as_slice.ensures.items there c.index-as_slice-id.is in
+    let inner = entered self.site.around c.args.id self.at in
+    let union : y.is_union ≡ true = search rules in
+    let none : c.active_member.result ≡ None = search rules in
+    let active = active-is source c.enter-inner.result inner c.args.desc.now c.worth_of.result c.as_slice-fields.result.now y.fields None c.enter-inner.ensures c.worth_of.ensures c.as_slice-fields.ensures.items (sym none ∙ c.active_member.ensures) in
+    let common = c.in_ok-common.common in
+    let is : IsCommon source.program.now y common = search rules in
+    let found : c.find_node.result ≡ Some c.in_ok-member.member = search rules in
+    let f = c.index-fields-member.result in
+    let within = common-within common c.as_slice-fields.result.now c.in_ok-member.member (sym c.find_node.ensures ∙ found) in
+    let got = read_at c.as_slice-fields.result.now y.fields c.in_ok-member.member f c.as_slice-fields.ensures.items (omega (arith, within, ap length c.as_slice-fields.ensures.items)) c.index-fields-member.is in
+    let type = common-at source.program.now c.args.id y common c.as_slice-fields.result.now c.in_ok-member.member f c.requires.stands.1.context.settled has is c.as_slice-fields.ensures.items (sym c.find_node.ensures ∙ found) got in
+    let changed : c.without_pointers.result ≡ without_pointers inner = c.without_pointers.ensures ∙ ap without_pointers c.enter-inner.ensures in
+    let next = c.moved-2.result in
+    let of_field = subst (λ g. IsMoved next source (site c.without_pointers.result self.site.holder) g.ty self.at) (sym c.index-fields-member.is) c.moved-2.ensures in
+    let of_type = subst (λ t. IsMoved next source (site c.without_pointers.result self.site.holder) t self.at) type of_field in
+    common-step source self.site c.args.id c.args.desc.now self.at y has union common c.args.place next active is
+    (subst (λ x. IsMoved next source (site x self.site.holder) (ty.Node common None) self.at) changed of_type)
