@@ -4,23 +4,12 @@
 # `mark` and `marked` are each asked after `owner`; `sweep` and `clear_marks` with 16 pages in use, beside the same with all pages in use. Run by hand,
 # from any folder; the program around gt_pages is written and built in a copy of the crates that it needs.
 . "$(dirname "$0")/shared.sh"
-copy_crates gt_space gt_links gt_bits gt_entries gt_pages
-program=$work/crates/time_calls
-mkdir -p "$program/src"
-echo 'time_calls: gt_space gt_pages' >>"$work/crates.txt"
-mkdir -p "$program/proofs/make_block" "$program/proofs/mark_at" "$program/proofs/marked_at"
-cp -R "$root/crates/pages_table/proofs/"{Found.antt,Runs.antt,images,sizes} "$program/proofs"
+start_pages time_calls
+mkdir -p "$program/proofs/mark_at" "$program/proofs/marked_at"
+cp -R "$root/crates/pages_table/proofs/"{Runs.antt,images,sizes} "$program/proofs"
 cp "$root/crates/pages_table/src/"{images.rt,sizes.rt} "$program/src"
 find "$program/proofs" -name '*.antt' -exec sed -i 's/Rattle\.pages_table\./Rattle.time_calls./' {} +
-printf 'mod Found\nmod Runs\n' >"$program/proofs/Lib.antt"
-cat >"$program/proofs/make_block/Answers.antt" <<'END'
-use Rattle.std.proofs.Common.{sym, ◌∙◌}
-use Rattle.time_calls.proofs.Found.{rounded_listed}
-use Rattle.time_calls.proofs.make_block.Goals as goal
-
-pub alloc_slot-requires : goal.alloc_slot-requires
-alloc_slot-requires c = record { listed = rounded_listed c.args.bytes c.in-Some.size (sym c.rounded_size.ensures.least ∙ c.in-Some.is) }
-END
+echo 'mod Runs' >>"$program/proofs/Lib.antt"
 cat >"$program/proofs/mark_at/Answers.antt" <<'END'
 use Rattle.std.proofs.Common.{sym, ◌∙◌}
 use Rattle.time_calls.proofs.Found.{owner_starts}
@@ -193,7 +182,7 @@ fn clears(pages: &mut Pages, times: u64) -> u64 {
 }
 
 // Eight blocks of each size, one run after another.
-fn runs(alloc: Global) -> Result<Vec<Run>, AllocError> {
+fn eight_of_each(alloc: Global) -> Result<Vec<Run>, AllocError> {
     let mut runs = Vec::new(alloc);
     for size in SIZES {
         runs.push(Run { size, count: 8 })?;
@@ -274,7 +263,7 @@ fn main(rt: HostRuntime) -> io::Result<()> {
     match what.as_str() {
         "owner" | "mark" | "marked" => {
             if count == 0 {
-                let runs = runs(alloc)?;
+                let runs = eight_of_each(alloc)?;
                 take_image(&mut pages, &runs)?;
             } else {
                 fill(&mut pages, 32, count);
@@ -285,9 +274,7 @@ fn main(rt: HostRuntime) -> io::Result<()> {
     println!(rt; "{}", run(&mut pages, what.as_str(), times, count))
 }
 RT
-: >"$program/stdin"
-build_copied gt_space gt_links gt_bits gt_entries gt_pages
-(cd "$program" && quiet rt run -- none)
+build_pages none
 ours=$program/out/time_calls
 
 # The seconds of so many calls over so many blocks.

@@ -1,25 +1,11 @@
 #!/usr/bin/env bash
 # Makes blocks in pages and collects them, beside a small allocator in C with the same sizes, which keeps a bit for each place: a list of
-# so many nodes of 24 bytes, and for each third node one more that names it and that nothing names. A collection is the mean of fifty, after a first
+# so many nodes of 24 bytes, and for each third node one more that names it and that nothing names. A collection is the mean of a hundred, after a first
 # one. The program does not know that a block starts at an address that it reads, so it marks the block that has the byte there. Then it says how many
 # bytes the pages take, beyond those of the space, with a block of a page in each, and with blocks of 8 bytes.
 # Run by hand, from any folder; the program around gt_pages is written and built in a copy of the crates that it needs.
 . "$(dirname "$0")/shared.sh"
-copy_crates gt_space gt_links gt_bits gt_entries gt_pages
-program=$work/crates/time_pages
-mkdir -p "$program/src"
-echo 'time_pages: gt_space gt_pages' >>"$work/crates.txt"
-mkdir -p "$program/proofs/make_block"
-cp "$root/crates/pages_table/proofs/Found.antt" "$program/proofs"
-echo 'mod Found' >"$program/proofs/Lib.antt"
-cat >"$program/proofs/make_block/Answers.antt" <<'END'
-use Rattle.std.proofs.Common.{sym, ◌∙◌}
-use Rattle.time_pages.proofs.Found.{rounded_listed}
-use Rattle.time_pages.proofs.make_block.Goals as goal
-
-pub alloc_slot-requires : goal.alloc_slot-requires
-alloc_slot-requires c = record { listed = rounded_listed c.args.bytes c.in-Some.size (sym c.rounded_size.ensures.least ∙ c.in-Some.is) }
-END
+start_pages time_pages
 cat >"$program/src/main.rt" <<'RT'
 //! Makes nodes in pages and collects them. The words are `make`, `collect`, `pages`, `bytes` or `none`, and how many there are; what is
 //! printed is how many blocks a collection keeps, or how many were made.
@@ -40,11 +26,14 @@ fn put(space: &mut Space, addr: u64, value: u64) {
     }
 }
 
-fn get(space: &Space, addr: u64) -> u64 {
-    if addr >= space.start() && addr < 4294967296 && addr + 8 <= space.start() + space.len() {
-        return space.read_u64(addr);
+// The two pointers of the node at an address.
+#[inline(always)]
+fn pointers(space: &Space, addr: u64) -> (u64, u64) {
+    let addr = addr % 4294967296;
+    if addr >= space.start() && addr + 16 <= space.start() + space.len() {
+        return (space.read_u64(addr), space.read_u64(addr + 8));
     }
-    0
+    (0, 0)
 }
 
 // Makes a block for so many bytes.
@@ -109,8 +98,9 @@ fn collect(
         };
         if pages.mark_owner(addr, 0, 1) == Some(true) {
             kept = kept.wrapping_add(1);
-            push(&mut stack, get(space, addr % 4294967296))?;
-            push(&mut stack, get(space, addr.wrapping_add(8) % 4294967296))?;
+            let (next, other) = pointers(space, addr);
+            push(&mut stack, next)?;
+            push(&mut stack, other)?;
         }
     }
     pages.sweep();
@@ -180,14 +170,12 @@ fn main(rt: HostRuntime) -> io::Result<()> {
 }
 RT
 build_small
-: >"$program/stdin"
-build_copied gt_space gt_links gt_bits gt_entries gt_pages
-(cd "$program" && quiet rt run -- make 1)
+build_pages make 1
 ours=$program/out/time_pages
 
 # The seconds of making so many nodes, and of one collection of them.
-makes() { minus "$(seconds 9 "$1" make "$2")" "$(seconds 9 "$1" make 0)"; }
-collects() { awk -v a="$(seconds 9 "$1" collect "$2" 51)" -v b="$(seconds 9 "$1" collect "$2" 1)" 'BEGIN { printf "%.9f\n", (a - b) / 50 }'; }
+makes() { minus "$(seconds 40 "$1" make "$2")" "$(seconds 40 "$1" make 0)"; }
+collects() { awk -v a="$(seconds 40 "$1" collect "$2" 101)" -v b="$(seconds 40 "$1" collect "$2" 1)" 'BEGIN { printf "%.9f\n", (a - b) / 100 }'; }
 for n in 100000 1000000; do
   for what in make collect; do
     [ "$("$ours" $what $n)" = "$("$work/small" $what $n)" ] || { echo "$what $n: other answers" >&2; exit 2; }

@@ -91,6 +91,31 @@ build_copied() {
   for name; do (cd "$work/crates/$name" && quiet rt lib); done
 }
 
+# Starts `program`, of this name, around the pages in a copy of the crates that it needs. Its function `make_block` makes a block for so many bytes.
+start_pages() {
+  copy_crates gt_space gt_links gt_bits gt_entries gt_pages
+  echo "$1: gt_space gt_pages" >>"$work/crates.txt"
+  program=$work/crates/$1
+  mkdir -p "$program/src" "$program/proofs/make_block"
+  : >"$program/stdin"
+  cp "$root/crates/pages_table/proofs/Found.antt" "$program/proofs"
+  echo 'mod Found' >"$program/proofs/Lib.antt"
+  cat >"$program/proofs/make_block/Answers.antt" <<END
+use Rattle.std.proofs.Common.{sym, ◌∙◌}
+use Rattle.$1.proofs.Found.{rounded_listed}
+use Rattle.$1.proofs.make_block.Goals as goal
+
+pub alloc_slot-requires : goal.alloc_slot-requires
+alloc_slot-requires c = record { listed = rounded_listed c.args.bytes c.in-Some.size (sym c.rounded_size.ensures.least ∙ c.in-Some.is) }
+END
+}
+
+# Proves and builds this program over the copied crates, and runs it once under these arguments.
+build_pages() {
+  build_copied gt_space gt_links gt_bits gt_entries gt_pages
+  (cd "$program" && quiet rt run -- "$@")
+}
+
 # Builds `small`, a list of nodes in a small allocator in C, which is made (`make N`), or made and collected so many times (`collect N TIMES`).
 build_small() {
   cat >"$work/small.c" <<'C'

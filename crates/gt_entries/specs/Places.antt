@@ -1,4 +1,4 @@
--- How the places of an entry stand in its bits.
+-- No promise: how the places of an entry stand in its bits.
 use Rattle.std.specs.Prelude.{◌≡◌, ℕ, ◌*◌, ◌^◌, ◌<◌, ◌≤◌, Bool, true, false, List, length, map, slice_index_or, Some, None}
 use Rattle.std.specs.List.{range_with_len}
 use Rattle.gt_bits.specs.Sets.{has}

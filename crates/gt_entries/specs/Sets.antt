@@ -1,4 +1,4 @@
--- The three sets of an entry, in one list of words.
+-- No promise: the three sets of an entry, in one list of words.
 use Rattle.std.specs.Prelude.{◌≡◌, ℕ, ◌*◌, ◌/◌, List, length, take, drop}
 
 -- the places in use, those with a marked block, and those whose block is still to be walked

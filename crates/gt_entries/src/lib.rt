@@ -5,6 +5,7 @@
 #![tactic(auto)]
 
 mod marks;
+mod memory;
 mod places;
 mod sets;
 

@@ -4,6 +4,7 @@ ghost use Rattle.gt_bits.specs.Sets as bits;
 ghost use Rattle.gt_entries.specs.Cells.{Free, Used, IsFirstFrom, cell_at, is_free, is_lost, is_marked, is_pending, mark_in, swept, unmarked, walked};
 
 use crate::marks::Mark;
+use crate::memory::filled;
 use crate::sets::Sets;
 use gt_bits::{count, has, next, next_gap};
 use std::alloc::{AllocError, Global};
@@ -52,8 +53,8 @@ impl Places {
         }
     }
 
-    /// So many free places, in the memory of these, which is given back where it does not suffice. It fails only if
-    /// memory runs out.
+    /// So many free places, in the memory of these, which is given back where it does not suffice and where it is more than twice what
+    /// is needed. It fails only if memory runs out.
     pub fn renew(self, count: u32) -> Result<Places, AllocError>
         requires { count ≤ MAX_PLACES }
         ensures free { IfOk result (λ places. places ≡ replicate count Free) }
@@ -202,13 +203,4 @@ impl Places {
         self.sets.clear_marked();
         self.sets.clear_pending();
     }
-}
-
-// So many tags of this value, in the memory of a vector.
-fn filled(mut tags: Vec<Tag>, value: Tag, len: usize) -> Result<Vec<Tag>, AllocError>
-    ensures { IfOk result (λ new. new.items ≡ replicate len value) }
-{
-    tags.clear();
-    tags.resize(len, value)?;
-    Ok(tags)
 }

@@ -2,6 +2,7 @@
 ghost use Rattle.std.specs.Prelude.{◌≡◌, ◌≢◌, ℕ, ◌*◌, ◌^◌, ◌<◌, ◌≤◌, true, false, [], length, replicate, IfOk};
 ghost use Rattle.gt_bits.specs.Sets as bits;
 
+use crate::memory::filled;
 use gt_bits::{clear, insert, remove};
 use std::alloc::{AllocError, Global};
 use std::marker::Model;
@@ -36,15 +37,13 @@ impl Sets {
         }
     }
 
-    /// Empty sets of so many words each, in the memory of these, which is given back where it does not suffice. It fails
-    /// only if memory runs out.
+    /// Empty sets of so many words each, in the memory of these, which is given back where it does not suffice and where it is more than
+    /// twice what is needed. It fails only if memory runs out.
     pub(crate) fn renew(self, len: usize) -> Result<Sets, AllocError>
         requires { len < 2 ^ 32 }
         ensures { IfOk result (λ s. s ≡ record { used = replicate len 0; marked = replicate len 0; pending = replicate len 0 }) }
     {
-        let mut words = self.words;
-        words.clear();
-        words.resize(3 * len, 0)?;
+        let words = filled(self.words, 0, 3 * len)?;
         Ok(Sets { len, words })
     }
 

@@ -1,3 +1,4 @@
+-- No promise: how the lists stand in the links.
 use Rattle.std.specs.Prelude.{◌≡◌, ℕ, zero, suc, ◌+◌, ◌-◌, ◌^◌, ◌<◌, ◌↔◌, List, [], ◌∷◌, length, map, Some, None}
 use Rattle.std.specs.List.{range_with_len}
 use Rattle.gt_links.specs.declared.rings.Place.{Place}

@@ -1,3 +1,4 @@
+-- No promise: the rings, and what the calls of the rings do to them.
 use Rattle.std.specs.List.{range_with_len}
 use Rattle.std.specs.Prelude.{◌++◌, map, ◌≡◌, ◌≢◌, ℕ, ◌+◌, ◌<◌, List, length, slice_index_or, Option, Some, None}
 use Rattle.gt_links.specs.declared.rings.Place.{Place}

@@ -24,4 +24,4 @@ pub mod ListViewLemmas
 pub mod ImageLemmas
 pub mod RunLemmas
 pub mod UsedLemmas
-pub mod ShiftLemmas
+pub mod InverseLemmas

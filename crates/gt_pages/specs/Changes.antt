@@ -1,4 +1,4 @@
--- What calls do to the parts.
+-- No promise: what calls do to the parts.
 use Rattle.std.specs.Prelude.{◌≡◌, ℕ, ◌+◌, ◌-◌, ◌/◌, ◌<◌, ◌≤◌, ◌⊎◌, ◌↔◌, true, false, ◌≢◌, List, [], ◌∷◌, length, filter, map, replicate, slice_set, IsTrue, Some, None}
 use Rattle.gt_bits.specs.Sets.{has}
 use Rattle.gt_links.specs.Lists.{Lists, Holds, empty_lists, nodes_of, with_nodes, without}

@@ -1,4 +1,4 @@
--- How the table of pages stands in its leaves.
+-- No promise: how the table of pages stands in its leaves.
 use Rattle.std.specs.Prelude.{ℕ, ◌/◌, ◌%◌, ◌<◌, List, [], length, map, Option, None, slice_index_or}
 use Rattle.std.specs.List.{range_with_len}
 use Rattle.gt_pages.specs.declared.tables.TheConstants.{LEAF_PAGES}

@@ -3,6 +3,7 @@ pub mod Slots
 pub mod Contents
 pub mod Images
 pub mod Tables
+pub mod Inverses
 pub mod Leaves
 pub mod Parts
 pub mod Changes

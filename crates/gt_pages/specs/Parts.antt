@@ -1,4 +1,4 @@
--- How the contents stand in the entries, the sets of pages, the table and the lists.
+-- No promise: how the contents stand in the entries, the sets of pages, the table and the lists.
 use Rattle.std.specs.Prelude.{◌≡◌, ℕ, ◌+◌, ◌*◌, ◌^◌, ◌<◌, ◌≤◌, ◌↔◌, ◌⊎◌, true, false, if◌then◌else◌, List, [], ◌∷◌, length, Option, flat_map, slice_index_or, count_by, Some, None, Contains}
 use Rattle.std.specs.List.{range_with_len}
 use Rattle.gt_space.specs.declared.TheConstants.{MIN_PAGES, MAX_PAGES}

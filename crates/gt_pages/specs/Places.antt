@@ -1,4 +1,4 @@
--- Where a new block lies.
+-- No promise: where a new block lies.
 use Rattle.std.specs.Prelude.{◌≡◌, ℕ, ◌+◌, ◌≤◌, slice_get, Some}
 use Rattle.gt_links.specs.Lists.{nodes_of}
 use Rattle.gt_pages.specs.Ledger.{HasFreePlace, LiesOutside, page_address, page_of, pages_of}

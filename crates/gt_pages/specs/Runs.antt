@@ -1,4 +1,4 @@
--- How the runs of an image come into the parts, one by one.
+-- No promise: how the runs of an image come into the parts, one by one.
 use Rattle.std.specs.Prelude.{◌≡◌, ℕ, ◌+◌, None, replicate}
 use Rattle.gt_entries.specs.Cells.{Used}
 use Rattle.gt_pages.specs.declared.pages.Run.{Run}

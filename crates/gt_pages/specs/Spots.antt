@@ -1,4 +1,4 @@
--- The place of an entry that has a byte.
+-- No promise: the place of an entry that has a byte.
 use Rattle.std.specs.Prelude.{◌≡◌, ℕ, slice_set, ◌+◌, ◌-◌, ◌*◌, ◌/◌, ◌<◌, ◌≤◌, ◌⊎◌, Bool, true, false, length, Option, Some, None, IfSome, IfNone, option_map}
 use Rattle.gt_space.specs.declared.TheConstants.{HEAP_START}
 use Rattle.gt_bits.specs.Sets.{has, HoldsNone}

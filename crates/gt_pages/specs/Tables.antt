@@ -1,4 +1,4 @@
--- The table of pages: to which entry each page leads.
+-- No promise: to which entry each page leads.
 use Rattle.std.specs.Prelude.{◌≡◌, ℕ, ◌+◌, ◌<◌, ◌≤◌, ◌⊎◌, List, Option, None, length, slice_index_or}
 
 -- where a page leads

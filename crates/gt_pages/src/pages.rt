@@ -228,7 +228,7 @@ impl Pages {
         let entry = &self.store.entries[node as usize];
         PageEntry {
             page: node,
-            size: entry.size,
+            size: entry.size.bytes(),
             free: entry.places.free_count(),
         }
     }

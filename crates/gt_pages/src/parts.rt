@@ -1,8 +1,7 @@
 //! How the pages keep their entries: opened, filled, closed and found.
-ghost use Rattle.std.specs.Prelude.{◌≡◌, ◌≢◌, ℕ, ◌+◌, ◌*◌, ◌/◌, ◌^◌, ◌<◌, ◌≤◌, ◌⊎◌, ◌↔◌, true, false, length, replicate, Contains, IfOk, IsTrue};
+ghost use Rattle.std.specs.Prelude.{◌≡◌, ◌≢◌, ℕ, ◌+◌, ◌*◌, ◌/◌, ◌^◌, ◌<◌, ◌≤◌, ◌⊎◌, ◌↔◌, true, false, length, replicate, IfOk, IsTrue};
 ghost use Rattle.gt_bits.specs.Sets.{has};
 ghost use Rattle.gt_pages.specs.Ledger as ledger;
-ghost use Rattle.gt_pages.specs.Ledger.{sizes};
 ghost use Rattle.gt_pages.specs.Contents as contents;
 ghost use Rattle.gt_pages.specs.Parts.{empty_entry, entry_pages};
 
@@ -35,19 +34,6 @@ pub(crate) fn places_of(size: u32) -> u32
         PAGE_BYTES as u32 / size
     } else {
         1
-    }
-}
-
-/// The place in which an offset lies, where each has this listed size: by a shift where the size is a power of two.
-pub(crate) fn place_in(offset: u32, size: u32) -> u32
-    requires { Contains sizes size }
-    ensures { result ≡ offset / size }
-{
-    let shift = size.trailing_zeros();
-    if size >> shift == 1 {
-        offset >> shift
-    } else {
-        offset / size
     }
 }
 

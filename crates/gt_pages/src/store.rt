@@ -19,9 +19,9 @@ ghost use Rattle.gt_links.specs.Lists.{Holds, IsFree, IsInList, nodes_of, with_n
 use crate::pages::{CACHED, LISTS, Run, SlotFail};
 use crate::parts::{
     Spot, empty_entries, first_pages, insert_range, no_pages, page_address, pages_of,
-    place_address, place_in, places_of, remove_range,
+    place_address, places_of, remove_range,
 };
-use crate::sizes::list_of;
+use crate::sizes::{BlockSize, list_of};
 use crate::tables::PageTable;
 use gt_bits::{first_run, insert, longest_run, next, next_gap, remove};
 use gt_entries::{MAX_PLACES, Mark, Places};
@@ -32,7 +32,7 @@ use std::alloc::{AllocError, Global};
 /// The blocks of one page, of one larger block, or of one run of the image.
 #[derive(Drop)]
 pub(crate) struct Entry {
-    pub(crate) size: u32,
+    pub(crate) size: BlockSize,
     pub(crate) places: Places,
 }
 
@@ -63,7 +63,7 @@ impl Entry {
         ensures { result ≡ empty_entry }
     {
         Entry {
-            size: 0,
+            size: BlockSize::none(),
             places: Places::none(alloc),
         }
     }
@@ -73,7 +73,7 @@ impl Entry {
         requires { self.now.size * length self.now.places < 2 ^ 40 }
         ensures { result ≡ entry_pages self.now }
     {
-        pages_of(self.size as u64 * self.places.len() as u64)
+        pages_of(self.size.bytes() as u64 * self.places.len() as u64)
     }
 }
 
@@ -186,7 +186,8 @@ impl Store {
         if !entry.places.is_used(spot.place) {
             return None;
         }
-        Some((place_address(spot.page, entry.size, spot.place), entry.size))
+        let size = entry.size.bytes();
+        Some((place_address(spot.page, size, spot.place), size))
     }
 
     pub(crate) fn clear_marks(&mut self)
@@ -452,7 +453,7 @@ impl Store {
         if page >= self.pages as u64 {
             return None;
         }
-        match self.table.get(page as u32) {
+        match self.table.get(page as usize) {
             None => None,
             Some(first) => Some(self.spot_in(first, addr)),
         }
@@ -463,12 +464,12 @@ impl Store {
         requires kept { IsKept (parts_of self.now) }
         requires starts { has (parts_of self.now).starts page ≡ true }
         requires above { ledger_page_address page ≤ addr }
-        requires below { addr < 2 ^ 30 }
+        requires below { addr < HEAP_START + 2 ^ 26 }
         ensures page { result.page ≡ page }
         ensures place { result.place ≡ (addr - ledger_page_address page) / (entry_at (parts_of self.now).entries page).size }
     {
-        let offset = (addr - page_address(page)) as u32;
-        let place = place_in(offset, self.entries[page as usize].size);
+        let offset = addr - HEAP_START - PAGE_BYTES * page as u64;
+        let place = self.entries[page as usize].size.place_of(offset);
         Spot { page, place }
     }
 
@@ -521,7 +522,7 @@ impl Store {
     {
         let entry = &self.entries[spot.page as usize];
         let mark = entry.places.mark_of(spot.place)?;
-        let addr = place_address(spot.page, entry.size, spot.place);
+        let addr = place_address(spot.page, entry.size.bytes(), spot.place);
         Some((addr, mark.walk, mark.count))
     }
 
@@ -585,7 +586,11 @@ impl Store {
         let memory = self.take_memory(page);
         let (places, place) = new_places(memory, places_of(size))?;
         self.release_for(page);
-        self.put_entry(page, Entry { size, places });
+        let entry = Entry {
+            size: BlockSize::new(size),
+            places,
+        };
+        self.put_entry(page, entry);
         self.push_entry(list_of(size), page);
         Ok(place_address(page, size, place))
     }
@@ -856,7 +861,7 @@ impl Store {
         let mut places = Places::none(self.alloc).renew(run.count)?;
         places.fill();
         let entry = Entry {
-            size: run.size,
+            size: BlockSize::new(run.size),
             places,
         };
         let count = entry.page_count();

@@ -83,11 +83,10 @@ impl PageTable {
     }
 
     /// Where a page leads.
-    pub(crate) fn get(&self, page: u32) -> Option<u32>
+    pub(crate) fn get(&self, page: usize) -> Option<u32>
         requires { page < length self.now }
         ensures { result ≡ page_at self.now page }
     {
-        let page = page as usize;
         self.leaves[page / LEAF_PAGES].get(page % LEAF_PAGES)
     }
 

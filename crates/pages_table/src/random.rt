@@ -64,7 +64,8 @@ fn one_call(
         10..=13 => same_contents(alloc, pages, plain),
         14..=23 => Ok(fit_one(generator, pages, plain)),
         24..=38 => Ok(walk_one(generator, pages, plain)),
-        39..=98 => Ok(mark_one(generator, pages, plain)),
+        39..=68 => Ok(mark_one(generator, pages, plain)),
+        69..=98 => Ok(mark_owner_one(generator, pages, plain)),
         _ => alloc_one(alloc, generator, pages, plain),
     }
 }
@@ -225,6 +226,23 @@ fn mark_one(generator: &mut Generator, pages: &mut Pages, plain: &mut Plain) -> 
     let walk = generator.below(1000);
     let count = generator.below(1000);
     pages.mark(start, walk, count) == plain.mark(start, walk, count)
+}
+
+// Marks the block that has a random byte of a random block, or has the byte after that block: maybe none has that.
+fn mark_owner_one(generator: &mut Generator, pages: &mut Pages, plain: &mut Plain) -> bool {
+    let at = generator.below(plain.blocks.len() as u64) as usize;
+    let Some(block) = plain.blocks.get(at).copied() else {
+        return true;
+    };
+    let bytes = block.size.saturating_add(1);
+    let byte = block.addr.saturating_add(generator.below(bytes) as u64);
+    let walk = generator.below(1000);
+    let count = generator.below(1000);
+    let wanted = match plain.owner(byte) {
+        Some((start, _size)) => Some(plain.mark(start, walk, count)),
+        None => None,
+    };
+    pages.mark_owner(byte, walk, count) == wanted
 }
 
 // Whether both have the same blocks, marks and entries.

@@ -27,7 +27,7 @@ returns c =
     let read = entry_read p.entries c.args.node c.index-entry.result.now (omega (arith, low, len)) c.index-entry.ensures in
     record {
       entry =
-          subst (λ v. IsEntry v c.args.node (record { page = c.args.node; size = c.index-entry.result.now.size; free = c.free_count.result })) c.self.view_is
-          (is_entry p c.self.invariant is.0 c.args.node is.1 (record { page = c.args.node; size = c.index-entry.result.now.size; free = c.free_count.result }) refl
-          (ap (λ e. e.size) read ∙ is.1.sized) (c.free_count.ensures.count ∙ ap (λ e. count_by is_free e.places) read));
+          subst (λ v. IsEntry v c.args.node (record { page = c.args.node; size = c.bytes.result; free = c.free_count.result })) c.self.view_is
+          (is_entry p c.self.invariant is.0 c.args.node is.1 (record { page = c.args.node; size = c.bytes.result; free = c.free_count.result }) refl
+          (c.bytes.ensures ∙ ap (λ e. e.size) read ∙ is.1.sized) (c.free_count.ensures.count ∙ ap (λ e. count_by is_free e.places) read));
     }

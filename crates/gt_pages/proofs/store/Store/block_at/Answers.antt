@@ -21,14 +21,14 @@ place_address-requires c =
     entry_read c.args.self.now.entries.items c.args.spot.page c.index-entry.result.now (let low = c.requires.kept.starts c.args.spot.page c.requires.starts in omega (arith, low, c.requires.kept.entries)) c.index-entry.ensures in
     let used = not-true (is_free (cell_at (entry_at c.args.self.now.entries.items c.args.spot.page).places c.args.spot.place)) (ap (λ e. not (is_free (cell_at e.places c.args.spot.place))) (sym read) ∙ (sym c.is_used.ensures.used ∙ c.if-not-is_used.false)) in
     let low = used_place (entry_at c.args.self.now.entries.items c.args.spot.page).places c.args.spot.place used in
-    rw read (place_small (parts_of c.args.self.now) c.args.spot.page c.args.spot.place c.requires.kept c.requires.starts low)
+    rw (c.bytes-size.ensures, read) (place_small (parts_of c.args.self.now) c.args.spot.page c.args.spot.place c.requires.kept c.requires.starts low)
 
 pub returns : goal.returns
 returns c =
     let read : c.index-entry.result.now ≡ entry_at c.args.self.now.entries.items c.args.spot.page =
     entry_read c.args.self.now.entries.items c.args.spot.page c.index-entry.result.now (let low = c.requires.kept.starts c.args.spot.page c.requires.starts in omega (arith, low, c.requires.kept.entries)) c.index-entry.ensures in
     let used = not-true (is_free (cell_at (entry_at c.args.self.now.entries.items c.args.spot.page).places c.args.spot.place)) (ap (λ e. not (is_free (cell_at e.places c.args.spot.place))) (sym read) ∙ (sym c.is_used.ensures.used ∙ c.if-not-is_used.false)) in
-    ap (λ a. Some (a, c.index-entry.result.now.size)) c.place_address.ensures
-    ∙ ap (λ e. Some (page_address c.args.spot.page + e.size * c.args.spot.place, e.size)) read
+    ap (λ a. Some (a, c.bytes-size.result)) c.place_address.ensures
+    ∙ ap (λ n. Some (page_address c.args.spot.page + n * c.args.spot.place, n)) (c.bytes-size.ensures ∙ ap (λ e. e.size) read)
     ∙ sym (block_used (page_address c.args.spot.page) (entry_at c.args.self.now.entries.items c.args.spot.page).size
     (cell_at (entry_at c.args.self.now.entries.items c.args.spot.page).places c.args.spot.place) c.args.spot.place used)

@@ -62,7 +62,8 @@ returns-clause-kept c =
     (opened_all (parts_of c.args.self.now) (parts_of c.release_for.new.self) (parts_of c.put_entry.new.self) (parts_of c.push_entry.new.self)
     c.args.page c.args.size c.in_ok-places.place c.list_of.result c.release_for.ensures.kept (releases_then (parts_of c.args.self.now) (parts_of c.take_memory-memory.new.self) (parts_of c.release_for.new.self) c.take_memory-memory.ensures.released c.release_for.ensures.released) c.list_of.ensures.number
     c.requires.run (omega (arith, low, count)) c.release_for.ensures.own
-    (subst (λ e. Opens (parts_of c.release_for.new.self) c.args.page e (parts_of c.put_entry.new.self)) is c.put_entry.ensures)
+    (subst (λ e. Opens (parts_of c.release_for.new.self) c.args.page e (parts_of c.put_entry.new.self)) is
+    (subst (λ n. Opens (parts_of c.release_for.new.self) c.args.page (record { size = n; places = c.in_ok-places.places }) (parts_of c.put_entry.new.self)) c.new.ensures c.put_entry.ensures))
     c.push_entry.ensures.back c.push_entry.ensures.front).0
 
 pub returns-clause-added : goal.returns-clause-added
@@ -73,7 +74,8 @@ returns-clause-added c =
     (opened_all (parts_of c.args.self.now) (parts_of c.release_for.new.self) (parts_of c.put_entry.new.self) (parts_of c.push_entry.new.self)
     c.args.page c.args.size c.in_ok-places.place c.list_of.result c.release_for.ensures.kept (releases_then (parts_of c.args.self.now) (parts_of c.take_memory-memory.new.self) (parts_of c.release_for.new.self) c.take_memory-memory.ensures.released c.release_for.ensures.released) c.list_of.ensures.number
     c.requires.run (omega (arith, low, count)) c.release_for.ensures.own
-    (subst (λ e. Opens (parts_of c.release_for.new.self) c.args.page e (parts_of c.put_entry.new.self)) is c.put_entry.ensures)
+    (subst (λ e. Opens (parts_of c.release_for.new.self) c.args.page e (parts_of c.put_entry.new.self)) is
+    (subst (λ n. Opens (parts_of c.release_for.new.self) c.args.page (record { size = n; places = c.in_ok-places.places }) (parts_of c.put_entry.new.self)) c.new.ensures c.put_entry.ensures))
     c.push_entry.ensures.back c.push_entry.ensures.front).1
     ∙ ap (λ a. with_slot (contents_of (parts_of c.args.self.now)).slots (slot_at a c.args.size)) (sym c.place_address.ensures)
 

@@ -13,4 +13,4 @@ place_address-addr-requires c =
     let used = marked_used (cell_at cells c.args.spot.place) c.in_ok-mark.mark
     (ap (λ e. mark_in (cell_at e.places c.args.spot.place)) (sym read) ∙ (sym c.mark_of.ensures.mark ∙ c.in_ok-mark.was)) in
     let low = used_place cells c.args.spot.place used in
-    rw read (place_small (parts_of c.args.self.now) c.args.spot.page c.args.spot.place c.requires.kept c.requires.starts low)
+    rw (c.bytes.ensures, read) (place_small (parts_of c.args.self.now) c.args.spot.page c.args.spot.place c.requires.kept c.requires.starts low)
