@@ -23,7 +23,7 @@ use Rattle.gt_store.proofs.LeafStored.{leaf-stored, static-leaf-stored}
 use Rattle.gt_assign.proofs.Selves.{in-place, all-in-place}
 use Rattle.gt_leaf.specs.HeldTypes.{IsOfPart, held_type}
 use Rattle.gt_leaf.specs.Unread.{structures_on, structures_in_statics, IsUnread, MayReplace}
-use Rattle.gt_leaf.specs.Writing.{StandsBeside, StaticsStandBeside, MayWrite, IsWrittenInPlace, IsStaticWrittenInPlace}
+use Rattle.gt_leaf.specs.Writing.{StandsBeside, StaticsStandBeside, MayWrite, MayPut, MayPutStatic, IsWrittenInPlace, IsStaticWrittenInPlace}
 use Rattle.gt_leaf.proofs.LeafTrees.{LeafTree, leaf-tree, content-leaf, content-word, may-be}
 use Rattle.gt_leaf.proofs.LeafTypes.{type-there, root-type-there}
 use Rattle.gt_leaf.proofs.UnreadLaws.{unread-elements, unread-statics}
@@ -108,6 +108,18 @@ module _ (program : Program) (layouts : Layouts) (settled : Settled program) (la
         same = stored.1;
       }
 
+  -- so it may be put there
+  pub may-put : (blocks : Blocks) (statics : Trees) (capacity : ℕ) (type : Ty) (address : ℕ) (value : Tree) (path : List ℕ) (leaf : LeafContent) (range : Range) (place : Place) → IsRoomFor program layouts capacity type range address
+      → StandsBeside program layouts blocks statics capacity type range address value
+      → (at : IsPlaceOf program layouts.structures (outside statics) lies_in.Element type range address value path place) → MayWrite program blocks (structures_on program (Some type) path) at.p leaf
+      → MayPut program layouts blocks statics capacity type address value path leaf range place
+  may-put blocks statics capacity type address value path leaf range place room s at may = record {
+    at = at;
+    may = may;
+    holds = may-be at.p.type place.kind leaf blocks (eval_in program at.p.scope) s.addresses at.is.kind_is may.fits;
+    writes = λ new written. written-in-place blocks statics capacity type address value path leaf range new place room s at may written;
+  }
+
   -- ---- the static record
 
   pub static-written-in-place : (blocks : Blocks) (values : Trees) (path : List ℕ) (leaf : LeafContent) (old new : Range) (place : Place) → IsInside old old.start layouts.statics.size
@@ -133,3 +145,12 @@ module _ (program : Program) (layouts : Layouts) (settled : Settled program) (la
         written = written;
         same = stored.1;
       }
+
+  pub may-put-static : (blocks : Blocks) (values : Trees) (path : List ℕ) (leaf : LeafContent) (range : Range) (place : Place) → IsInside range range.start layouts.statics.size → StaticsStandBeside program layouts blocks range values
+      → (at : IsStaticPlaceOf program layouts range values path place) → MayWrite program blocks (structures_in_statics program path) at.p leaf → MayPutStatic program layouts blocks values path leaf range place
+  may-put-static blocks values path leaf range place inside s at may = record {
+    at = at;
+    may = may;
+    holds = may-be at.p.type place.kind leaf blocks (eval_in program at.p.scope) s.addresses at.is.kind_is may.fits;
+    writes = λ new written. static-written-in-place blocks values path leaf range new place inside s at may written;
+  }

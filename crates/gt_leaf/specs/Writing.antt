@@ -20,7 +20,7 @@ use Rattle.gt_value.specs.declared.places.LeafContent.TheVariants as content
 use Rattle.gt_value.specs.declared.places.Place.{Place}
 use Rattle.gt_value.specs.Bytes.{itself, Takes}
 use Rattle.gt_value.specs.Places.{Part, PartLies, StaticPartLies, IsContentOf, IsPlaceOf, IsStaticPlaceOf}
-use Rattle.gt_store.specs.Leaf.{IsLeafWritten, IsSameBut}
+use Rattle.gt_store.specs.Leaf.{IsLeafWritten, IsSameBut, MayBe}
 use Rattle.gt_tree.specs.PathLaws.{has_room_in}
 use Rattle.gt_leaf.specs.Unread.{structures_on, structures_in_statics, IsUnread}
 
@@ -112,7 +112,28 @@ pub record IsStaticWrittenInPlace (program : Program) (layouts : Layouts) (block
   pub written : IsLeafWritten place leaf old new
   pub same : IsSameBut old old.start layouts.statics.size new
 
+-- ---- before the write
+
+-- The leaf at a path of an element lies at this place, where this may be written; and whoever writes it there writes it in place.
+pub record MayPut (program : Program) (layouts : Layouts) (blocks : Blocks) (statics : Trees) (capacity : ℕ) (type : Ty) (address : ℕ) (value : Tree) (path : List ℕ) (leaf : LeafContent) (range : Range) (place : Place) : Type 0 where
+  pub at : IsPlaceOf program layouts.structures (outside statics) lies_in.Element type range address value path place
+  pub may : MayWrite program blocks (structures_on program (Some type) path) at.p leaf
+  pub holds : MayBe place.kind leaf
+  pub writes : (new : Range) → IsLeafWritten place leaf range new → IsWrittenInPlace program layouts blocks statics capacity type address value path leaf range new
+
+-- so in the static record
+pub record MayPutStatic (program : Program) (layouts : Layouts) (blocks : Blocks) (values : Trees) (path : List ℕ) (leaf : LeafContent) (range : Range) (place : Place) : Type 0 where
+  pub at : IsStaticPlaceOf program layouts range values path place
+  pub may : MayWrite program blocks (structures_in_statics program path) at.p leaf
+  pub holds : MayBe place.kind leaf
+  pub writes : (new : Range) → IsLeafWritten place leaf range new → IsStaticWrittenInPlace program layouts blocks values path leaf range new
+
 -- ---- the clauses
+
+-- whatever value the bytes of an element stand for, the leaf there may be put at this place
+abbrev pub MayPutElement : Program → Layouts → Blocks → ℕ → Ty → ℕ → List ℕ → LeafContent → Range → Place → Type 0
+MayPutElement program layouts blocks capacity type address path leaf range place = (statics : Trees) (value : Tree) → StandsBeside program layouts blocks statics capacity type range address value
+    → MayPut program layouts blocks statics capacity type address value path leaf range place
 
 -- whatever value the bytes of an element stood for, the leaf was written in place
 abbrev pub WritesElement : Program → Layouts → Blocks → ℕ → Ty → ℕ → List ℕ → LeafContent → Range → Range → Type 0
@@ -130,6 +151,9 @@ MisfitsElement program layouts blocks capacity type address path leaf range = (s
     → ¬ Assigns program blocks statics capacity type value path tree new
 
 -- so for the static record
+abbrev pub MayPutStatics : Program → Layouts → Blocks → List ℕ → LeafContent → Range → Place → Type 0
+MayPutStatics program layouts blocks path leaf range place = (values : Trees) → StaticsStandBeside program layouts blocks range values → MayPutStatic program layouts blocks values path leaf range place
+
 abbrev pub WritesStatics : Program → Layouts → Blocks → List ℕ → LeafContent → Range → Range → Type 0
 WritesStatics program layouts blocks path leaf old new = (values : Trees) → StaticsStandBeside program layouts blocks old values → IsStaticWrittenInPlace program layouts blocks values path leaf old new
 

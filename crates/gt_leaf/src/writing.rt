@@ -1,5 +1,5 @@
 // One leaf written where it lies.
-ghost use Rattle.std.specs.Prelude.{◌≡◌, ◌≢◌, ◌≤◌, ◌-◌, ◌↔◌, ℤ, IsTrue, List, Option, option_copied};
+ghost use Rattle.std.specs.Prelude.{◌≡◌, ◌≢◌, ◌↔◌, ℤ, IsTrue, List, Option, option_copied};
 ghost use Rattle.gt_types.specs.declared.expressions.Expr.{Expr};
 ghost use Rattle.gt_types.specs.declared.types.TypeId.{TypeId};
 ghost use Rattle.gt_types.specs.declared.program.Program.{Program};
@@ -10,16 +10,17 @@ ghost use Rattle.gt_layout.specs.Excess.{IsWithin};
 ghost use Rattle.gt_space.specs.Range.{IsInside, KeepsAddresses};
 ghost use Rattle.gt_tree.specs.Trees.{Tree, Trees};
 ghost use Rattle.gt_tree.specs.Scopes.{◌then◌, eval_in};
-ghost use Rattle.gt_tree.specs.FixedLaws.{AreAddresses};
-ghost use Rattle.gt_value.specs.Bytes.{itself, IsElement, IsRoomFor};
-ghost use Rattle.gt_value.specs.Places.{Part, HasBits};
-ghost use Rattle.gt_store.specs.Leaf.{IsLeafWritten};
+ghost use Rattle.gt_value.specs.Bytes.{IsElement, IsRoomFor};
+ghost use Rattle.gt_value.specs.Places.{Part};
 ghost use Rattle.gt_leaf.specs.Tables.{IsTableOf};
 ghost use Rattle.gt_leaf.specs.Unread.{IsUnread};
 ghost use Rattle.gt_leaf.specs.HeldTypes.{IsOfPart};
 ghost use Rattle.gt_leaf.specs.Verdicts.{IsMisfit};
-ghost use Rattle.gt_leaf.specs.Writing.{StandsBeside, StaticsStandBeside, is_number_leaf, takes_number, has_word, LeafFits, MayWrite, IsAlone, WritesElement, LeavesElement, MisfitsElement, WritesStatics, LeavesStatics, MisfitsStatics};
+ghost use Rattle.gt_leaf.specs.Writing.{StandsBeside, StaticsStandBeside, is_number_leaf, takes_number, has_word, LeafFits, MayWrite, IsAlone, MayPutElement, WritesElement, LeavesElement, MisfitsElement, MayPutStatics, WritesStatics, LeavesStatics, MisfitsStatics};
 ghost use Rattle.gt_leaf.specs.declared.writing.LeafWrite.TheVariants.{Written, NotInPlace, Misfit};
+ghost use Rattle.gt_leaf.specs.declared.writing.LeafVerdict.TheVariants as LeafVerdict;
+ghost use Rattle.gt_leaf.specs.declared.writing.LeafVerdict.TheVariants.{InPlace};
+ghost use Rattle.gt_value.specs.declared.places.Place.{Place};
 
 use crate::reads::Reads;
 use crate::types::held_type;
@@ -39,6 +40,17 @@ pub enum LeafWrite {
     /// member, or eight bytes that are never scanned have no room for the number. Nothing has changed.
     NotInPlace,
     /// No value fits with this leaf. Nothing has changed.
+    Misfit,
+}
+
+/// What is found out about the write of one leaf before it is done.
+#[derive(Clone, Copy, Debug, PartialEq, Eq)]
+pub enum LeafVerdict {
+    /// It may be written where it lies, which is this place.
+    InPlace(Place),
+    /// The whole value has to be looked at, as in `LeafWrite`.
+    NotInPlace,
+    /// No value fits with this leaf.
     Misfit,
 }
 
@@ -110,34 +122,97 @@ fn fits_at<N: BlockNames>(names: &N, ty: Option<&Ty>, place: Place, leaf: LeafCo
     }
 }
 
-// Writes a leaf at its place, of a part of this type, which expressions read or not, where it may be written.
-fn write_at<N: BlockNames>(
+// Judges a leaf at its place, of a part of this type, which expressions read or not.
+fn judge_at<N: BlockNames>(
     unread: bool,
     names: &N,
-    space: &mut Space,
     ty: Option<&Ty>,
     place: Place,
     leaf: LeafContent,
-) -> LeafWrite
-    requires from_start { space.old.start ≤ place.addr }
-    requires bits { HasBits space.old (place.addr - space.old.start) place.bit place.kind }
-    requires addresses { AreAddresses (N.blocks names.now) itself }
-    requires part { (program : Program) × (around : List TypeId) × (p : Part) × (IsTrue unread ↔ IsUnread program around p.active p.holder) × IsOfPart program p place (option_copied ty) }
-    ensures addresses { KeepsAddresses space.old space.new }
-    ensures bytes { result ≡ Written → IsLeafWritten place leaf space.old space.new }
-    ensures may { result ≡ Written → (program : Program) (around : List TypeId) (p : Part) → IsTrue unread ↔ IsUnread program around p.active p.holder → IsOfPart program p place (option_copied ty.entry) → MayWrite program (N.blocks names.now) around p leaf }
-    ensures elsewhere { result ≢ Written → space.new ≡ space.old }
-    ensures not_alone { result ≡ NotInPlace → (program : Program) (around : List TypeId) (p : Part) → IsTrue unread ↔ IsUnread program around p.active p.holder → IsOfPart program p place (option_copied ty.entry) → ¬ IsAlone program around p leaf }
-    ensures misfit { result ≡ Misfit → (program : Program) (around : List TypeId) (p : Part) → IsTrue unread ↔ IsUnread program around p.active p.holder → IsOfPart program p place (option_copied ty.entry) → IsMisfit program (N.blocks names.now) around p leaf }
+) -> LeafVerdict
+    ensures there { (other : Place) → result ≡ InPlace other → other ≡ place }
+    ensures may { (other : Place) → result ≡ InPlace other → (program : Program) (around : List TypeId) (p : Part) → IsTrue unread ↔ IsUnread program around p.active p.holder → IsOfPart program p place (option_copied ty.entry)
+        → MayWrite program (N.blocks names.now) around p leaf }
+    ensures not_alone { result ≡ LeafVerdict.NotInPlace → (program : Program) (around : List TypeId) (p : Part) → IsTrue unread ↔ IsUnread program around p.active p.holder → IsOfPart program p place (option_copied ty.entry) → ¬ IsAlone program around p leaf }
+    ensures misfit { result ≡ LeafVerdict.Misfit → (program : Program) (around : List TypeId) (p : Part) → IsTrue unread ↔ IsUnread program around p.active p.holder → IsOfPart program p place (option_copied ty.entry) → IsMisfit program (N.blocks names.now) around p leaf }
 {
     if !is_alone(unread, ty, place, leaf) {
-        return LeafWrite::NotInPlace;
+        return LeafVerdict::NotInPlace;
     }
     if !fits_at(names, ty, place, leaf) {
-        return LeafWrite::Misfit;
+        return LeafVerdict::Misfit;
     }
-    store_leaf(space, place, leaf);
-    LeafWrite::Written
+    LeafVerdict::InPlace(place)
+}
+
+/// Judges the write of the leaf at a path of an element of a block, with room for so many elements at its end, before it is done:
+/// `write_leaf` is this and `store_leaf`. It takes no memory, and its time grows with the path alone; where a string is written, with
+/// its characters too.
+pub fn judge_leaf<N: BlockNames>(
+    program: &Program,
+    layouts: &Layouts,
+    reads: &Reads,
+    names: &N,
+    space: &Space,
+    ty: &Ty,
+    addr: u64,
+    capacity: u32,
+    path: &[u32],
+    leaf: LeafContent,
+) -> LeafVerdict
+    requires settled { Settled program.now }
+    requires laid { IsLaidOut program.now layouts.now }
+    requires within { IsWithin program.now layouts.now }
+    requires table { IsTableOf program.now reads.now }
+    requires element { IsElement program.now ty.now }
+    requires inside { IsRoomFor program.now layouts.now capacity ty.now space.now addr }
+    requires stands { (statics : Trees) × (value : Tree) × StandsBeside program.now layouts.now (N.blocks names.now) statics capacity ty.now space.now addr value }
+    ensures in_place { (place : Place) → result ≡ InPlace place → MayPutElement program.now layouts.now (N.blocks names.now) capacity ty.now addr path.now leaf space.now place }
+    ensures not_in_place { result ≡ LeafVerdict.NotInPlace → LeavesElement program.now layouts.now (N.blocks names.now) capacity ty.now addr path.now leaf space.now }
+    ensures misfit { result ≡ LeafVerdict.Misfit → MisfitsElement program.now layouts.now (N.blocks names.now) capacity ty.now addr path.now leaf space.now }
+{
+    match leaf_at(program, layouts, space, ty, addr, capacity, path) {
+        None => LeafVerdict::NotInPlace,
+        Some(place) => judge_at(
+            reads.is_unread(program, Some(ty), path, place),
+            names,
+            held_type(program, Some(ty), place.holder),
+            place,
+            leaf,
+        ),
+    }
+}
+
+/// The same for the static record, of which the first place of a path is that of a root.
+pub fn judge_static_leaf<N: BlockNames>(
+    program: &Program,
+    layouts: &Layouts,
+    reads: &Reads,
+    names: &N,
+    space: &Space,
+    path: &[u32],
+    leaf: LeafContent,
+) -> LeafVerdict
+    requires settled { Settled program.now }
+    requires laid { IsLaidOut program.now layouts.now }
+    requires within { IsWithin program.now layouts.now }
+    requires table { IsTableOf program.now reads.now }
+    requires inside { IsInside space.now space.now.start layouts.now.statics.size }
+    requires stands { (values : Trees) × StaticsStandBeside program.now layouts.now (N.blocks names.now) space.now values }
+    ensures in_place { (place : Place) → result ≡ InPlace place → MayPutStatics program.now layouts.now (N.blocks names.now) path.now leaf space.now place }
+    ensures not_in_place { result ≡ LeafVerdict.NotInPlace → LeavesStatics program.now layouts.now (N.blocks names.now) path.now leaf space.now }
+    ensures misfit { result ≡ LeafVerdict.Misfit → MisfitsStatics program.now layouts.now (N.blocks names.now) path.now leaf space.now }
+{
+    match leaf_in_statics(program, layouts, space, path) {
+        None => LeafVerdict::NotInPlace,
+        Some(place) => judge_at(
+            reads.is_unread_static(program, path, place),
+            names,
+            held_type(program, None, place.holder),
+            place,
+            leaf,
+        ),
+    }
 }
 
 /// Writes the leaf at a path in the bytes of an element of a block with room for so many elements at its end, where no expression
@@ -169,16 +244,15 @@ pub fn write_leaf<N: BlockNames>(
     ensures in_place { result ≡ NotInPlace → LeavesElement program.now layouts.now (N.blocks names.now) capacity ty.now addr path.now leaf space.old }
     ensures misfit { result ≡ Misfit → MisfitsElement program.now layouts.now (N.blocks names.now) capacity ty.now addr path.now leaf space.old }
 {
-    match leaf_at(program, layouts, space, ty, addr, capacity, path) {
-        None => LeafWrite::NotInPlace,
-        Some(place) => write_at(
-            reads.is_unread(program, Some(ty), path, place),
-            names,
-            space,
-            held_type(program, Some(ty), place.holder),
-            place,
-            leaf,
-        ),
+    match judge_leaf(
+        program, layouts, reads, names, space, ty, addr, capacity, path, leaf,
+    ) {
+        LeafVerdict::InPlace(place) => {
+            store_leaf(space, place, leaf);
+            LeafWrite::Written
+        }
+        LeafVerdict::NotInPlace => LeafWrite::NotInPlace,
+        LeafVerdict::Misfit => LeafWrite::Misfit,
     }
 }
 
@@ -204,15 +278,12 @@ pub fn write_static_leaf<N: BlockNames>(
     ensures in_place { result ≡ NotInPlace → LeavesStatics program.now layouts.now (N.blocks names.now) path.now leaf space.old }
     ensures misfit { result ≡ Misfit → MisfitsStatics program.now layouts.now (N.blocks names.now) path.now leaf space.old }
 {
-    match leaf_in_statics(program, layouts, space, path) {
-        None => LeafWrite::NotInPlace,
-        Some(place) => write_at(
-            reads.is_unread_static(program, path, place),
-            names,
-            space,
-            held_type(program, None, place.holder),
-            place,
-            leaf,
-        ),
+    match judge_static_leaf(program, layouts, reads, names, space, path, leaf) {
+        LeafVerdict::InPlace(place) => {
+            store_leaf(space, place, leaf);
+            LeafWrite::Written
+        }
+        LeafVerdict::NotInPlace => LeafWrite::NotInPlace,
+        LeafVerdict::Misfit => LeafWrite::Misfit,
     }
 }

@@ -43,7 +43,7 @@ use Rattle.gt_objects.proofs.Zeros.{is_zero, zeros_are}
 
 -- ---- parts
 
-pairs_stay : (objects others : List Object) → AreAmong (blocks_of objects) (blocks_of others) → (caches : List Cache) (pairs : List (List (ℕ × ℕ))) → AllZip (ArePairsOf objects) caches pairs
+pub pairs_stay : (objects others : List Object) → AreAmong (blocks_of objects) (blocks_of others) → (caches : List Cache) (pairs : List (List (ℕ × ℕ))) → AllZip (ArePairsOf objects) caches pairs
     → AllZip (ArePairsOf others) caches pairs
 pairs_stay objects others among [] [] are = tt
 pairs_stay objects others among [] (ps ∷ pairs) are = absurd are

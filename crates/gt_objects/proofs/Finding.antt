@@ -1,12 +1,13 @@
 -- The object at an address.
-use Rattle.std.proofs.Common.{◌≡◌, ◌≢◌, ℕ, ◌+◌, ◌<◌, ◌≤◌, true, cond, nat_le, nat_lt, List, [], ◌∷◌, Option, Some, None, option_map, length, map, sym, ap, subst, ◌∙◌, inl, inr, arith}
-use Rattle.std.specs.Prelude.{Contains, find}
-use Rattle.std.proofs.lemmas.Bool.{and_from, and_parts, cases_Bool, le-leb, leb-true, lt-ltb, ltb-true}
+use Rattle.std.proofs.Common.{◌≡◌, ◌≢◌, ℕ, ◌+◌, ◌<◌, ◌≤◌, true, cond, nat_le, nat_lt, List, [], ◌∷◌, Option, Some, None, option_map, length, map, refl, sym, ap, subst, ◌∙◌, inl, inr, arith}
+use Rattle.std.specs.Prelude.{◌==◌, Contains, find}
+use Rattle.std.proofs.lemmas.Bool.{and_from, and_parts, cases_Bool, cases_eq, eq-eqb, le-leb, leb-true, lt-ltb, ltb-true, ne_eqb}
 use Rattle.std.proofs.lemmas.List.Elements.{All-contains}
 use Rattle.std.proofs.lemmas.Option.{none-some, some_pair_parts}
 use Rattle.gt_types.specs.declared.program.Program.{Program}
 use Rattle.gt_layout.specs.declared.planes.Layouts.{Layouts}
 use Rattle.gt_space.specs.Laws.{IsApart}
+use Rattle.gt_tree.specs.Scopes.{◌then◌}
 use Rattle.gt_pages.specs.Ledger.{AreApart, page_address}
 use Rattle.gt_pages.specs.Slots.{Slot, block_of, has_byte, owner_of}
 use Rattle.gt_directory.specs.Directories.{IsBlock, known_at}
@@ -18,6 +19,7 @@ use Rattle.gt_objects.specs.declared.objects.Known.{Known}
 use Rattle.gt_objects.specs.declared.objects.Objects.{Objects}
 use Rattle.gt_objects.specs.Knowing.{IsKnown, IsKnownAt}
 use Rattle.gt_objects.specs.Holding.{IsHeapOf}
+use Rattle.gt_objects.specs.InBytes.{HasPlaces, known_in}
 use Rattle.gt_objects.proofs.Items.{find_is, map_there, there_cases, there_mapped}
 use Rattle.gt_objects.proofs.Naming.{mapped_some, name_is, no_object, object_found, object_in, placed_of}
 use Rattle.gt_objects.proofs.Listed.{rounded_listed, size_bounds}
@@ -48,6 +50,24 @@ one_owner address (y ∷ ys) t apart there has = elim (there_cases y ys t there)
     | inr not_here ↦ ap (λ b. cond b (Some y) (find (has_byte address) ys)) not_here ∙ one_owner address ys t apart.1 later has
   ]
 ]
+
+-- ---- what pages and directory know
+
+abbrev known_by : Objects → ℕ → Option (ℕ × ℕ) → Option Known
+known_by objects address owner = owner then λ o. cond (o.0 == address) (known_at objects.directory address o.1) None
+
+module _ (objects : Objects) (address : ℕ) where
+  pub known_nowhere : owner_of objects.pages.slots address ≡ None → known_in objects address ≡ None
+  known_nowhere none = ap (known_by objects address) none
+
+  pub known_elsewhere : (start size : ℕ) → owner_of objects.pages.slots address ≡ Some (start, size) → start ≢ address → known_in objects address ≡ None
+  known_elsewhere start size e differs = ap (known_by objects address) e ∙ ap (λ b. cond b (known_at objects.directory address size) None) (ne_eqb start address differs)
+
+  pub owner_here : (start size : ℕ) → start ≡ address → owner_of objects.pages.slots address ≡ Some (start, size) → owner_of objects.pages.slots address ≡ Some (address, size)
+  owner_here start size starts e = e ∙ ap (λ a. Some (a, size)) starts
+
+  pub known_here : (size : ℕ) → owner_of objects.pages.slots address ≡ Some (address, size) → known_in objects address ≡ known_at objects.directory address size
+  known_here size e = ap (known_by objects address) e ∙ ap (λ b. cond b (known_at objects.directory address size) None) (eq-eqb address address refl)
 
 -- ---- objects and owners
 
@@ -126,3 +146,17 @@ module _ (program : Program) (layouts : Layouts) (objects : Objects) (heap : Hea
       let told = is.told q.0 o.place q.2 o.in_places (name_is is.good.places o.place o.in_places ∙ o.at ∙ sym q.3) in
       known_told (known_at objects.directory address size) q.0 q.1 told.0
       (ap (λ a. known_at objects.directory a size) (sym o.at) ∙ ap (λ n. known_at objects.directory o.place.block.address n) (sym o.sized) ∙ told.1) told.2
+
+  -- what pages and directory know of an address is what is known of the object there
+  pub known_is : IsKnownAt heap.graph.objects address (known_in objects address)
+  known_is = by_owner (owner_of objects.pages.slots address) refl
+    where
+      by_owner : (owner : Option (ℕ × ℕ)) → owner_of objects.pages.slots address ≡ owner → IsKnownAt heap.graph.objects address (known_in objects address)
+      by_owner None e = subst (IsKnownAt heap.graph.objects address) (sym (known_nowhere objects address e)) (known_none e)
+      by_owner (Some (start, size)) e = elim (cases_eq start address) as (λ _. IsKnownAt heap.graph.objects address (known_in objects address)) [
+        | inl same ↦ subst (IsKnownAt heap.graph.objects address) (sym (known_here objects address size (owner_here objects address start size same e))) (known_some start size same e)
+        | inr differs ↦ subst (IsKnownAt heap.graph.objects address) (sym (known_elsewhere objects address start size e differs)) (known_other start size e differs)
+      ]
+
+pub has_places : (program : Program) (layouts : Layouts) (objects : Objects) (heap : Heap) → IsHeapOf program layouts objects heap → HasPlaces objects
+has_places program layouts objects heap is address size e = owner_block program layouts objects heap is address address size refl e

@@ -1,3 +1,4 @@
 pub mod Knowing
 pub mod Holding
 pub mod Making
+pub mod InBytes

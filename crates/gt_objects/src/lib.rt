@@ -10,4 +10,4 @@ mod sizes;
 pub use laws::blocks_have_a_greatest_size;
 pub use making::{Made, MakeFail};
 pub use objects::{Known, Objects};
-pub use sizes::block_size;
+pub use sizes::{block_size, element_size};

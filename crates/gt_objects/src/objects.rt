@@ -5,12 +5,14 @@ ghost use Rattle.gt_types.specs.Settled.{Settled};
 ghost use Rattle.gt_layout.specs.declared.planes.Layouts.{Layouts};
 ghost use Rattle.gt_layout.specs.Planes.{IsLaidOut};
 ghost use Rattle.gt_space.specs.declared.TheConstants.{MIN_PAGES, MAX_PAGES, MAX_STATICS};
+ghost use Rattle.gt_space.specs.Range.{IsSpace};
 ghost use Rattle.gt_tree.specs.Trees.{Trees};
 ghost use Rattle.gt_tree.specs.Fits.{IsZeroRecord};
 ghost use Rattle.gt_graph.specs.Objects.{blocks_of};
 ghost use Rattle.gt_graph.specs.Good.{Heap};
 ghost use Rattle.gt_objects.specs.Knowing.{IsKnownAt};
 ghost use Rattle.gt_objects.specs.Holding.{IsHeapOf, opening};
+ghost use Rattle.gt_objects.specs.InBytes.{HasPlaces, known_in};
 
 use gt_directory::Directory;
 use gt_layout::Layouts;
@@ -60,10 +62,26 @@ impl Objects {
         &self.space
     }
 
+    /// The bytes lie in a space: a law, which does nothing.
+    pub fn sound(&self)
+        ensures space { IsSpace self.now.space }
+    {
+        let _ = self.space.start();
+    }
+
     /// What is known of the object at an address; None where no object has this address.
     pub fn known(&self, addr: u64) -> Option<Known>
         requires ready { (program : Program) × (layouts : Layouts) × (heap : Heap) × IsHeapOf program layouts self.now heap }
         ensures known { (program : Program) (layouts : Layouts) (heap : Heap) → IsHeapOf program layouts self.now heap → IsKnownAt heap.graph.objects addr result }
+    {
+        self.known_block(addr)
+    }
+
+    /// What pages and directory know of the block that starts at an address; None where none does. It is what is known of the object
+    /// there: where it is not yet said of which heap these are, this can be asked.
+    pub fn known_block(&self, addr: u64) -> Option<Known>
+        requires places { HasPlaces self.now }
+        ensures known { result ≡ known_in self.now addr }
     {
         self.pages.sound();
         let (start, size) = self.pages.owner(addr)?;

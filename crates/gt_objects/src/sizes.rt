@@ -15,8 +15,8 @@ use gt_pages::rounded_size;
 use gt_types::Program;
 use gt_value::BlockKind;
 
-// How many bytes an element takes, with room for so many elements at its end.
-fn element_size(program: &Program, layouts: &Layouts, kind: BlockKind, capacity: u32) -> u64
+/// How many bytes an element takes, with room for so many elements at its end.
+pub fn element_size(program: &Program, layouts: &Layouts, kind: BlockKind, capacity: u32) -> u64
     requires settled { Settled program.now }
     requires laid { IsLaidOut program.now layouts.now }
     requires within { IsWithin program.now layouts.now }

@@ -43,10 +43,10 @@ use Rattle.gt_store.proofs.LeafBits.{unset-low, unset-high, Chain-seen, tight, r
 
 -- ---- bits of the bytes at an address
 
-get-at : (r : Range) (address size k : ℕ) → k < size → get_or (bytes_at r address size) k 0 ≡ get_or r.bytes ((address - r.start) + k) 0
+pub get-at : (r : Range) (address size k : ℕ) → k < size → get_or (bytes_at r address size) k 0 ≡ get_or r.bytes ((address - r.start) + k) 0
 get-at r address size k lt = get_or-take size (drop (address - r.start) r.bytes) k 0 lt ∙ get_or-drop (address - r.start) r.bytes k 0
 
-bit-at : (r : Range) (address size i : ℕ) → i < 8 * size → bit_in (bytes_at r address size) i ≡ bit_in r.bytes (8 * (address - r.start) + i)
+pub bit-at : (r : Range) (address size i : ℕ) → i < 8 * size → bit_in (bytes_at r address size) i ≡ bit_in r.bytes (8 * (address - r.start) + i)
 bit-at r address size i lt =
     let k : (address - r.start) + i / 8 ≡ (8 * (address - r.start) + i) / 8 = omega arith in
     let b : i % 8 ≡ (8 * (address - r.start) + i) % 8 = omega arith in
@@ -64,14 +64,14 @@ or-first : (a b : Bool) → b ≡ false → (a || b) ≡ a
 or-first true b e = refl
 or-first false b e = e
 
-set-here : (before here after : List Leaf) (i : ℕ) → list_any (is_set_in itself i) before ≡ false → list_any (is_set_in itself i) after ≡ false
+pub set-here : (before here after : List Leaf) (i : ℕ) → list_any (is_set_in itself i) before ≡ false → list_any (is_set_in itself i) after ≡ false
     → list_any (is_set_in itself i) (before ++ (here ++ after)) ≡ list_any (is_set_in itself i) here
 set-here before here after i first second =
     set-among before here after i
     ∙ ap (λ b. b || (list_any (is_set_in itself i) here || list_any (is_set_in itself i) after)) first
     ∙ or-first (list_any (is_set_in itself i) here) (list_any (is_set_in itself i) after) second
 
-set-elsewhere : (before here other after : List Leaf) (i : ℕ) → list_any (is_set_in itself i) here ≡ false → list_any (is_set_in itself i) other ≡ false
+pub set-elsewhere : (before here other after : List Leaf) (i : ℕ) → list_any (is_set_in itself i) here ≡ false → list_any (is_set_in itself i) other ≡ false
     → list_any (is_set_in itself i) (before ++ (here ++ after)) ≡ list_any (is_set_in itself i) (before ++ (other ++ after))
 set-elsewhere before here other after i first second =
     set-among before here after i

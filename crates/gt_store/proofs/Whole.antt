@@ -93,7 +93,7 @@ lt-shift a b d = elim (below-or a b) [
   | inr le ↦ le-ltb (a + d) (b + d) (omega (arith, le)) ∙ sym (le-ltb a b le)
 ]
 
-set-shifted : (d i : ℕ) (ls : List Leaf) → list_any (is_set_in itself (i + d)) (shifted d ls) ≡ list_any (is_set_in itself i) ls
+pub set-shifted : (d i : ℕ) (ls : List Leaf) → list_any (is_set_in itself (i + d)) (shifted d ls) ≡ list_any (is_set_in itself i) ls
 set-shifted d i [] = refl
 set-shifted d i (l ∷ ls) =
     let e : (l.at + d) + l.width ≡ (l.at + l.width) + d = omega arith in

@@ -1,42 +1,20 @@
-use Rattle.gt_tree.specs.Scopes.{outside}
-use Rattle.std.proofs.Common.{Some}
-use Rattle.gt_leaf.specs.Unread.{structures_on}
-use Rattle.gt_leaf.specs.Writing.{IsLeft}
-use Rattle.gt_leaf.proofs.MisfitPlaces.{misfits}
-use Rattle.gt_leaf.proofs.WritePlaces.{part-unread, stands-for, place-part, written-in-place}
 use Rattle.gt_leaf.proofs.writing.write_leaf.Goals as goal
 
-pub write_at-requires-clause-from_start : goal.write_at-requires-clause-from_start
-write_at-requires-clause-from_start g c = let s = c.requires.stands in (c.in-Some.ensures.leaf s.0 s.1 (stands-for s.2)).is.from_start
+pub store_leaf-requires-clause-from_start : goal.store_leaf-requires-clause-from_start
+store_leaf-requires-clause-from_start g c = let s = c.requires.stands in (c.judge_leaf.ensures.in_place c.in-InPlace.place c.in-InPlace.is s.0 s.1 s.2).at.is.from_start
 
-pub write_at-requires-clause-bits : goal.write_at-requires-clause-bits
-write_at-requires-clause-bits g c = let s = c.requires.stands in (c.in-Some.ensures.leaf s.0 s.1 (stands-for s.2)).is.bits
+pub store_leaf-requires-clause-bits : goal.store_leaf-requires-clause-bits
+store_leaf-requires-clause-bits g c = let s = c.requires.stands in (c.judge_leaf.ensures.in_place c.in-InPlace.place c.in-InPlace.is s.0 s.1 s.2).at.is.bits
 
-pub write_at-requires-clause-part : goal.write_at-requires-clause-part
-write_at-requires-clause-part g c =
-    let s = c.requires.stands in
-    let at = c.in-Some.ensures.leaf s.0 s.1 (stands-for s.2) in
-    (c.args.program.now, (structures_on c.args.program.now (Some c.args.ty.now) c.args.path.now), at.p, part-unread (structures_on c.args.program.now (Some c.args.ty.now) c.args.path.now) c.is_unread.result at.is (c.is_unread.ensures.unread c.requires.table), place-part c.args.program.now c.args.layouts.now (outside s.0) c.args.ty.now c.args.space.now c.args.addr s.1 c.args.path.now c.in-Some.place _ c.held_type.ensures at)
+pub store_leaf-requires-clause-may : goal.store_leaf-requires-clause-may
+store_leaf-requires-clause-may g c = let s = c.requires.stands in (c.judge_leaf.ensures.in_place c.in-InPlace.place c.in-InPlace.is s.0 s.1 s.2).holds
 
-pub returns-in-None-clause-in_place : goal.returns-in-None-clause-in_place
-returns-in-None-clause-in_place g c = λ e statics value s. IsLeft.nowhere (c.in-None.ensures.leaf value (stands-for s))
+pub returns-in-InPlace-clause-written : goal.returns-in-InPlace-clause-written
+returns-in-InPlace-clause-written g c = λ e statics value s.
+    (c.judge_leaf.ensures.in_place c.in-InPlace.place c.in-InPlace.is statics value s).writes c.store_leaf.new.space c.store_leaf.ensures.written
 
-pub returns-in-Some-clause-written : goal.returns-in-Some-clause-written
-returns-in-Some-clause-written g c = λ e statics value s.
-    let at = c.in-Some.ensures.leaf statics value (stands-for s) in
-    let part = place-part c.args.program.now c.args.layouts.now (outside statics) c.args.ty.now c.args.space.now c.args.addr value c.args.path.now c.in-Some.place _ c.held_type.ensures at in
-    written-in-place c.args.program.now c.args.layouts.now c.requires.settled c.requires.laid (g.N.BlockNames.blocks c.args.names.now) statics c.args.capacity c.args.ty.now c.args.addr value c.args.path.now c.args.leaf c.args.space.now c.write_at.new.space
-    c.in-Some.place c.requires.inside s at (c.write_at.ensures.may e c.args.program.now (structures_on c.args.program.now (Some c.args.ty.now) c.args.path.now) at.p (part-unread (structures_on c.args.program.now (Some c.args.ty.now) c.args.path.now) c.is_unread.result at.is (c.is_unread.ensures.unread c.requires.table)) part) (c.write_at.ensures.bytes e)
+pub returns-in-NotInPlace-clause-in_place : goal.returns-in-NotInPlace-clause-in_place
+returns-in-NotInPlace-clause-in_place g c = λ e. c.judge_leaf.ensures.not_in_place c.in-NotInPlace.is
 
-pub returns-in-Some-clause-in_place : goal.returns-in-Some-clause-in_place
-returns-in-Some-clause-in_place g c = λ e statics value s.
-    let at = c.in-Some.ensures.leaf statics value (stands-for s) in
-    let part = place-part c.args.program.now c.args.layouts.now (outside statics) c.args.ty.now c.args.space.now c.args.addr value c.args.path.now c.in-Some.place _ c.held_type.ensures at in
-    IsLeft.not_alone at.p at.lies (c.write_at.ensures.not_alone e c.args.program.now (structures_on c.args.program.now (Some c.args.ty.now) c.args.path.now) at.p (part-unread (structures_on c.args.program.now (Some c.args.ty.now) c.args.path.now) c.is_unread.result at.is (c.is_unread.ensures.unread c.requires.table)) part)
-
-pub returns-in-Some-clause-misfit : goal.returns-in-Some-clause-misfit
-returns-in-Some-clause-misfit g c = λ e statics value tree new s means.
-    let at = c.in-Some.ensures.leaf statics value (stands-for s) in
-    let part = place-part c.args.program.now c.args.layouts.now (outside statics) c.args.ty.now c.args.space.now c.args.addr value c.args.path.now c.in-Some.place _ c.held_type.ensures at in
-    misfits c.args.program.now c.args.layouts.now c.requires.settled (g.N.BlockNames.blocks c.args.names.now) statics c.args.capacity c.args.ty.now c.args.addr value c.args.path.now c.args.leaf c.args.space.now c.in-Some.place s at
-    (c.write_at.ensures.misfit e c.args.program.now (structures_on c.args.program.now (Some c.args.ty.now) c.args.path.now) at.p (part-unread (structures_on c.args.program.now (Some c.args.ty.now) c.args.path.now) c.is_unread.result at.is (c.is_unread.ensures.unread c.requires.table)) part) tree new means
+pub returns-in-Misfit-clause-misfit : goal.returns-in-Misfit-clause-misfit
+returns-in-Misfit-clause-misfit g c = λ e. c.judge_leaf.ensures.misfit c.in-Misfit.is

@@ -1,5 +1,5 @@
 use Rattle.std.proofs.Common.{◌≡◌, ◌-◌, drop, take, get_or, length, rules, option_copied}
-use Rattle.gt_value.proofs.FindingAnswers.{split-path}
+use Rattle.gt_value.proofs.CursorSteps.{split-path}
 use Rattle.gt_leaf.specs.Unread.{root_at}
 use Rattle.gt_leaf.proofs.TableLemmas.{static-step}
 use Rattle.gt_leaf.proofs.reads.Reads.is_unread_static.Goals as goal

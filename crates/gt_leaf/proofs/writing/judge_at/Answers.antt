@@ -1,7 +1,5 @@
 use Rattle.std.proofs.Common.{IsTrue}
-use Rattle.gt_tree.specs.Scopes.{eval_in}
-use Rattle.gt_leaf.proofs.LeafTrees.{may-be}
-use Rattle.gt_leaf.proofs.writing.write_at.Goals as goal
+use Rattle.gt_leaf.proofs.writing.judge_at.Goals as goal
 
 pub returns-then-not-fits_at-clause-misfit : goal.returns-then-not-fits_at-clause-misfit
 returns-then-not-fits_at-clause-misfit g c = λ e program around p said part.
@@ -14,15 +12,8 @@ returns-then-not-fits_at-clause-misfit g c = λ e program around p said part.
           cc;
     }
 
-pub store_leaf-requires-clause-may : goal.store_leaf-requires-clause-may
-store_leaf-requires-clause-may g c =
-    let part = c.requires.part in
-    let fits_is : IsTrue c.fits_at.result = let h = c.if-not-fits_at.false in cc in
-    let fits = (c.fits_at.ensures part.0 part.2 part.4).0 fits_is in
-    may-be part.2.type c.args.place.kind c.args.leaf (g.N.BlockNames.blocks c.args.names.now) (eval_in part.0 part.2.scope) c.requires.addresses part.4.kind_is fits
-
 pub returns-clause-may : goal.returns-clause-may
-returns-clause-may g c = λ e program around p said part.
+returns-clause-may g c = λ other e program around p said part.
     let alone_is : IsTrue c.is_alone.result = let h = c.if-not-is_alone.false in cc in
     let fits_is : IsTrue c.fits_at.result = let h = c.if-not-fits_at.false in cc in
     let alone = (c.is_alone.ensures program around p said part).0 alone_is in

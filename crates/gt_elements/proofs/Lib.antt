@@ -1,0 +1,9 @@
+pub mod Among
+pub mod Found
+pub mod Chars
+pub mod SameBlocks
+pub mod Asking
+pub mod Rewritten
+pub mod Restored
+pub mod Replaced
+pub mod InPlace
