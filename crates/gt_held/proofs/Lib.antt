@@ -1,0 +1,2 @@
+pub mod ZeroBlocks
+pub mod TypeLemmas

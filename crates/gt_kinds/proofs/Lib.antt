@@ -1,0 +1,4 @@
+pub mod PlaceLemmas
+pub mod Naming
+pub mod Meant
+pub mod TypeKinds

@@ -1,0 +1,4 @@
+pub mod TypedParts
+pub mod Rows
+pub mod Fields
+pub mod Members
