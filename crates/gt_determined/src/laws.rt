@@ -24,8 +24,8 @@ pub fn opening_is_good()
     ensures { (program : Program) (layouts : Layouts) → IsRead program layouts → OpeningIsGood program layouts }
 {}
 
-/// From a good state a command has one answer, but for the address of a new block, and with each answer one next state, but for the
-/// rounds of a collection.
+/// From a good state a command has at most one answer, but for the address of a new block, and with each answer one next state, but
+/// for the rounds of a collection.
 pub fn steps_are_one()
     ensures answers { (program : Program) (layouts : Layouts) → IsRead program layouts → AnswerIsOne program layouts }
     ensures states { (program : Program) (layouts : Layouts) → IsRead program layouts → StateIsOne program layouts }

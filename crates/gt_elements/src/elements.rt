@@ -11,7 +11,8 @@ use gt_layout::Layouts;
 use gt_objects::{Objects, element_size};
 use gt_types::Program;
 
-/// The element at a place of the object at an address; None where there is no such element. It takes constant time.
+/// The element at a place of the object at an address; None where there is no such element. It takes constant time but for
+/// unions, whose size is found from their members.
 pub fn element(
     objects: &Objects,
     program: &Program,

@@ -36,7 +36,8 @@ fn has_zero_element(
 }
 
 /// Whether so many elements, with room for so many at the end of each, can all be zero: whether zero has the shape that the
-/// expressions of its type ask for. Its time grows with one element. It fails only if memory runs out.
+/// expressions of its type ask for. A block of characters ends in a zero, so it has one at least. The time grows with one element. It
+/// fails only if memory runs out.
 pub fn has_zero(
     alloc: Global,
     program: &Program,

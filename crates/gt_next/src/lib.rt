@@ -1,5 +1,5 @@
-//! The typed-object machine over values of every type: what a command answers and leaves. These are definitions alone, with the
-//! types of answers that they speak of; no contract cites them yet but that of `numbers`, which pins the numbers in them.
+//! The typed-object machine over values of every type: what a command answers and leaves. These are definitions, with the types
+//! of answers that they speak of. The only call is `numbers`, which pins the numbers in them.
 #![tactic(auto)]
 
 mod answer;

@@ -39,7 +39,7 @@ pub enum MakeFail {
 
 impl Objects {
     /// Makes a zero object. It is known, and the bytes of its block are zero; all else is as before. Where none is made, all is as
-    /// before. Apart from zeroing the block it takes constant time.
+    /// before. Apart from zeroing the block, the size of a union and the search for a new page it takes constant time.
     pub fn make(
         &mut self,
         program: &Program,

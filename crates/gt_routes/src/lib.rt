@@ -1,4 +1,4 @@
-//! Where a path of a script leads in a heap, step by step, or why it leads nowhere.
+//! Where a step of a script's path leads within a value, or why it is refused.
 #![tactic(auto)]
 
 mod steps;

@@ -21,7 +21,7 @@ use gt_types::{Program, TypeId, Word};
 use gt_value::Cursor;
 use std::alloc::Global;
 
-/// Why a path leads nowhere: memory is wanting, or a step is refused.
+/// Why a step leads nowhere: memory ran out, or it is refused.
 #[derive(Clone, Copy, Debug, PartialEq, Eq)]
 pub enum WalkFail {
     Memory,
