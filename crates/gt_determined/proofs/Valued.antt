@@ -14,7 +14,7 @@ use Rattle.gt_tree.specs.Scopes.{Scope, outside}
 use Rattle.gt_tree.specs.Fits.{Fits, EachFits, EndsAs}
 use Rattle.gt_tree.proofs.PathBits.{some-same}
 use Rattle.gt_tree.proofs.Fitting.{fits-one}
-use Rattle.gt_assign.proofs.Refit.{refit-block}
+use Rattle.gt_value.proofs.Refit.{refit-block}
 use Rattle.gt_graph.specs.Objects.{Object, object_of, block_of, blocks_of, chars_in}
 use Rattle.gt_graph.specs.Places.{Places, ArePlacesOf, IsSizeFor}
 use Rattle.gt_graph.specs.Changes.{valued, with_value}
