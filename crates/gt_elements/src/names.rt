@@ -14,6 +14,7 @@ use gt_objects::Objects;
 use gt_value::{BlockNames, BlockOf};
 
 /// Objects as the blocks that pointers name, by their addresses.
+#[derive(Drop)]
 pub struct Names<'a> {
     objects: &'a Objects,
     ghost named: { AreNamed objects.now },

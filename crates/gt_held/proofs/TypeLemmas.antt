@@ -1,5 +1,5 @@
 -- The types of the elements of blocks, as they are made one after another.
-use Rattle.std.proofs.Common.{◌≡◌, ◌<◌, ◌≤◌, ℕ, zero, suc, ◌+◌, List, [], ◌∷◌, ◌++◌, length, get_or, Option, Some, refl, sym, ap, subst, ◌∙◌, arith, inl, inr}
+use Rattle.std.proofs.Common.{◌≡◌, ◌<◌, ◌≤◌, ℕ, zero, suc, ◌+◌, List, [], ◌∷◌, ◌++◌, length, get_or, Some, refl, sym, ap, subst, ◌∙◌, arith, inl, inr}
 use Rattle.std.specs.Prelude.{slice_get}
 use Rattle.std.proofs.lemmas.Bool.{cases_lt}
 use Rattle.std.proofs.lemmas.Option.{get_or_from_slice_get, slice_get_within}
@@ -19,7 +19,7 @@ use Rattle.gt_held.specs.Types.{AreElementTypesOf, AreNodesOf, ArePointersOf, po
 
 -- ---- lists
 
-get-first : {X : Type 0} (xs ys : List X) (k : ℕ) (x : X) → slice_get xs k ≡ Some x → slice_get (xs ++ ys) k ≡ Some x
+pub get-first : {X : Type 0} (xs ys : List X) (k : ℕ) (x : X) → slice_get xs k ≡ Some x → slice_get (xs ++ ys) k ≡ Some x
 get-first [] ys k x at = absurd (cc)
 get-first (y ∷ xs) ys zero x at = at
 get-first (y ∷ xs) ys (suc k) x at = get-first xs ys k x at
@@ -28,7 +28,7 @@ get-last : {X : Type 0} (xs : List X) (y : X) → slice_get (xs ++ y ∷ []) (le
 get-last [] y = refl
 get-last (x ∷ xs) y = get-last xs y
 
-get-pushed : {X : Type 0} (xs : List X) (y : X) (k : ℕ) → length xs ≡ k → slice_get (xs ++ y ∷ []) k ≡ Some y
+pub get-pushed : {X : Type 0} (xs : List X) (y : X) (k : ℕ) → length xs ≡ k → slice_get (xs ++ y ∷ []) k ≡ Some y
 get-pushed xs y k many = ap (slice_get (xs ++ y ∷ [])) (sym many) ∙ get-last xs y
 
 abbrev pub id : ℕ → TypeId

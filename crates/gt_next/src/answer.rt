@@ -1,4 +1,5 @@
-use gt_types::Bytes;
+use gt_types::{Bytes, Copied};
+use std::alloc::{AllocError, Global};
 
 /// What a command answers.
 #[derive(Debug, PartialEq, Eq, Drop)]
@@ -41,6 +42,59 @@ pub enum Answer {
     },
     /// The command was refused, and changed nothing.
     Refused(Why),
+}
+
+impl Answer {
+    ghost use Rattle.std.specs.Prelude.{◌≡◌};
+    ghost use Rattle.gt_next.specs.Texts.{is_refusal as is_refusal_of};
+
+    /// Whether the command was refused.
+    pub fn is_refusal(&self) -> bool
+        ensures { result ≡ is_refusal_of self.now }
+    {
+        matches!(self, Answer::Refused(_))
+    }
+}
+
+impl Copied for Answer {
+    fn copy(&self, alloc: Global) -> Result<Answer, AllocError> {
+        match self {
+            Answer::Done => Ok(Answer::Done),
+            Answer::Made { addr, size } => Ok(Answer::Made {
+                addr: *addr,
+                size: *size,
+            }),
+            Answer::Number(n) => Ok(Answer::Number(*n)),
+            Answer::Null => Ok(Answer::Null),
+            Answer::Ref { addr } => Ok(Answer::Ref { addr: *addr }),
+            Answer::Shown(text) => Ok(Answer::Shown(text.copy(alloc)?)),
+            Answer::Skipped => Ok(Answer::Skipped),
+            Answer::Collected {
+                kept,
+                freed,
+                dropped,
+            } => Ok(Answer::Collected {
+                kept: *kept,
+                freed: *freed,
+                dropped: *dropped,
+            }),
+            Answer::Heap(text) => Ok(Answer::Heap(text.copy(alloc)?)),
+            Answer::Stats {
+                allocated,
+                last,
+                threshold,
+                image,
+                rounds,
+            } => Ok(Answer::Stats {
+                allocated: *allocated,
+                last: *last,
+                threshold: *threshold,
+                image: *image,
+                rounds: *rounds,
+            }),
+            Answer::Refused(why) => Ok(Answer::Refused(*why)),
+        }
+    }
 }
 
 /// Why a command is refused.

@@ -31,11 +31,11 @@ byte_in address s h =
     let parts = and_parts (nat_le s.address address) (nat_lt address (s.address + s.size)) h in
     (leb-true s.address address parts.0, ltb-true address (s.address + s.size) parts.1)
 
-first_byte : (s : Slot) → 8 ≤ s.size → has_byte s.address s ≡ true
+pub first_byte : (s : Slot) → 8 ≤ s.size → has_byte s.address s ≡ true
 first_byte s large = and_from (nat_le s.address s.address) (nat_lt s.address (s.address + s.size)) (le-leb s.address s.address (omega arith)) (lt-ltb s.address (s.address + s.size) (omega (arith, large)))
 
 -- of blocks that are apart one has it
-one_owner : (address : ℕ) (slots : List Slot) (t : Slot) → AreApart (map block_of slots) → Contains slots t → has_byte address t ≡ true → find (has_byte address) slots ≡ Some t
+pub one_owner : (address : ℕ) (slots : List Slot) (t : Slot) → AreApart (map block_of slots) → Contains slots t → has_byte address t ≡ true → find (has_byte address) slots ≡ Some t
 one_owner address [] t apart there has = absurd (let no : 1 ≤ 0 = omega (arith, there.1) in omega (arith, no))
 one_owner address (y ∷ ys) t apart there has = elim (there_cases y ys t there) [
   | inl is ↦ ap (λ b. cond b (Some y) (find (has_byte address) ys)) (ap (has_byte address) is ∙ has) ∙ ap (λ z. Some z) is

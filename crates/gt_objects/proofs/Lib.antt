@@ -1,6 +1,8 @@
 pub mod Items
+pub mod Filtered
 pub mod Inserted
 pub mod Zeros
+pub mod Fewer
 pub mod Growing
 pub mod Leaves
 pub mod Listed
@@ -10,7 +12,11 @@ pub mod Naming
 pub mod Standing
 pub mod Opening
 pub mod Before
+pub mod Sweeping
+pub mod Marking
 pub mod Added
 pub mod Finding
 pub mod Taking
+pub mod Counts
+pub mod Walked
 pub mod Widths

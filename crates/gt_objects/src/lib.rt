@@ -2,10 +2,15 @@
 //! at an address; they know of bytes, pages and directory only of which heap these are.
 #![tactic(auto)]
 
+mod counted;
+mod counting;
 pub mod laws;
 mod making;
+mod marks;
 mod objects;
 mod sizes;
+mod storing;
+mod totals;
 
 pub use laws::blocks_have_a_greatest_size;
 pub use making::{Made, MakeFail};

@@ -56,6 +56,7 @@ impl Objects {
         ensures size { (need : ℕ) → result ≡ Err (Full need) → HasSize program.now layouts.now known need }
         ensures full { (need : ℕ) → result ≡ Err (Full need) → (heap : Heap) → IsHeapOf program.now layouts.now self.old heap → ¬ Room (places.ledger_of heap.places) need }
         ensures unchanged { OnErr result ((heap : Heap) → IsHeapOf program.now layouts.now self.old heap → IsHeapOf program.now layouts.now self.new heap) }
+        ensures bytes { OnErr result (self.new.space ≡ self.old.space) }
     {
         let Some(size) = block_size(program, layouts, known) else {
             return Err(MakeFail::TooLarge);

@@ -14,9 +14,9 @@ ghost use Rattle.gt_objects.specs.Knowing.{IsKnownAt};
 ghost use Rattle.gt_objects.specs.Holding.{IsHeapOf, opening};
 ghost use Rattle.gt_objects.specs.InBytes.{HasPlaces, known_in};
 
+use crate::counted::CountedPages;
 use gt_directory::Directory;
 use gt_layout::Layouts;
-use gt_pages::Pages;
 use gt_space::Space;
 use gt_value::BlockKind;
 use std::alloc::{AllocError, Global};
@@ -33,7 +33,7 @@ pub struct Known {
 #[derive(Drop)]
 pub struct Objects {
     pub(crate) space: Space,
-    pub(crate) pages: Pages,
+    pub(crate) pages: CountedPages,
     pub(crate) directory: Directory<Known>,
 }
 
@@ -50,7 +50,7 @@ impl Objects {
         space.resize_fresh(pages, layouts.statics.size)?;
         Ok(Objects {
             space,
-            pages: Pages::new(alloc, pages)?,
+            pages: CountedPages::new(alloc, pages)?,
             directory: Directory::new(alloc, pages)?,
         })
     }
@@ -60,6 +60,13 @@ impl Objects {
         ensures { result.now ≡ self.now.space }
     {
         &self.space
+    }
+
+    /// Gives the space back.
+    pub fn into_space(self) -> Space
+        ensures { result ≡ self.space }
+    {
+        self.space
     }
 
     /// The bytes lie in a space: a law, which does nothing.

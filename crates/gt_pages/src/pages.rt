@@ -99,6 +99,13 @@ impl Pages {
         self.store.has_room(size)
     }
 
+    /// How many pages the image takes up; none before the first load.
+    pub fn image_pages(&self) -> u32
+        ensures image { result ≡ self.now.image.count }
+    {
+        self.store.image_count
+    }
+
     /// The block that has the byte at an address: its own address, and its size in bytes. `None` says that there is none.
     pub fn owner(&self, addr: u64) -> Option<(u64, u32)>
         ensures owner { result ≡ owner_of self.now.slots addr }

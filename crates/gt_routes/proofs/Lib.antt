@@ -2,3 +2,13 @@ pub mod TypedParts
 pub mod Rows
 pub mod Fields
 pub mod Members
+pub mod Begins
+pub mod CommonParts
+pub mod Suits
+pub mod Passes
+pub mod SpotParts
+pub mod Targets
+pub mod HeapSteps
+pub mod Named
+pub mod Singles
+pub mod Walking

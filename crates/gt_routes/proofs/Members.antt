@@ -23,7 +23,7 @@ use Rattle.gt_routes.proofs.TypedParts.{IsNamedIn, typed-after, one-typed}
 use Rattle.gt_routes.proofs.Fields.{part-type}
 
 -- a value with an active member is that of a union
-alt-of : (tree : Tree) (place : ℕ) → member_of tree ≡ Some place → (inner : Tree) × (tree ≡ Alt (Some place) inner)
+pub alt-of : (tree : Tree) (place : ℕ) → member_of tree ≡ Some place → (inner : Tree) × (tree ≡ Alt (Some place) inner)
 alt-of (Alt member inner) place e = (inner, ap (λ m. Alt m inner) e)
 alt-of (Num n) place e = absurd (cc)
 alt-of Null place e = absurd (cc)
@@ -31,6 +31,19 @@ alt-of (To id) place e = absurd (cc)
 alt-of (Raw bytes) place e = absurd (cc)
 alt-of (Rec trees) place e = absurd (cc)
 alt-of (Row trees) place e = absurd (cc)
+
+module _ (at : Frame) (value : Part) (path : List ℕ) (c : Cursor) (here : StandsAt at value path c) (settled : Settled at.program) (node : TypeId) (desc : Option Expr) (type : c.ty.now ≡ ty.Node node desc) where
+  -- the active member
+  pub member-there : (next : Cursor) (place : ℕ) → member_of here.here.p.tree ≡ Some place → IsAt at next value (path ++ place ∷ []) → StandsAt at value (path ++ place ∷ []) next
+  member-there next place active there =
+      let p = here.here.p in
+      let alt = alt-of p.tree place active in
+      let same = part-type at value path c here settled node desc type in
+      let lies = lies-after settled here.here.lies (place ∷ []) there.p there.lies in
+      let of_type : IsNamedIn at.program (ty.Node node desc) (Alt (Some place) alt.0) place there.p.type = tt in
+      let of_tree = subst (λ v. IsNamedIn at.program (ty.Node node desc) v place there.p.type) (sym alt.1) of_type in
+      let named = subst (λ t. IsNamedIn at.program t p.tree place there.p.type) same of_tree in
+      record { here = there; known = typed-after at.program value.type value.tree path (place ∷ []) (typed p.type p.tree) here.known ∙ one-typed lies named }
 
 module _ (at : Frame) (value : Part) (path : List ℕ) (c : Cursor) (here : StandsAt at value path c) (settled : Settled at.program) (node : TypeId) (desc : Option Expr) (type : c.ty.now ≡ ty.Node node desc)
     (s : Structure) (has : HasStructure at.program node s) (union : s.is_union ≡ true) (name : List ℕ) (place : ℕ) (found : place_of s name ≡ Some place) (active : member_of here.here.p.tree ≡ Some place) where
@@ -40,13 +53,9 @@ module _ (at : Frame) (value : Part) (path : List ℕ) (c : Cursor) (here : Stan
       let p = here.here.p in
       let alt = alt-of p.tree place active in
       let same = part-type at value path c here settled node desc type in
-      let lies = lies-after settled here.here.lies (place ∷ []) there.p there.lies in
-      let of_type : IsNamedIn at.program (ty.Node node desc) (Alt (Some place) alt.0) place there.p.type = tt in
-      let of_tree = subst (λ v. IsNamedIn at.program (ty.Node node desc) v place there.p.type) (sym alt.1) of_type in
-      let named = subst (λ t. IsNamedIn at.program t p.tree place there.p.type) same of_tree in
       let steps = subst (λ v. StepsIn at.program (typed (ty.Node node desc) v) (Name name) (place ∷ [])) (sym alt.1) (StepsIn.to_active has union found) in
       record {
-        there = record { here = there; known = typed-after at.program value.type value.tree path (place ∷ []) (typed p.type p.tree) here.known ∙ one-typed lies named };
+        there = member-there at value path c here settled node desc type next place active there;
         steps = subst (λ t. StepsIn at.program (typed t p.tree) (Name name) (place ∷ [])) same steps;
       }
 

@@ -1,5 +1,5 @@
 -- A part of a value by its places is the part to which a walk by types and values leads.
-use Rattle.std.proofs.Common.{◌≡◌, ℕ, List, [], ◌∷◌, ◌++◌, Bool, cond, refl, ap, ◌∙◌, Option, Some, None}
+use Rattle.std.proofs.Common.{◌≡◌, ℕ, List, [], ◌∷◌, ◌++◌, Bool, cond, refl, ap, sym, ◌∙◌, Option, Some, None}
 use Rattle.std.specs.Prelude.{slice_get}
 use Rattle.gt_types.specs.declared.expressions.Expr.{Expr}
 use Rattle.gt_types.specs.declared.types.TypeId.{TypeId}
@@ -35,12 +35,21 @@ typed-after program type tree (place ∷ path) rest t e =
 both : (a : Option Ty) (b : Option Tree) (x : Ty) (y : Tree) → a ≡ Some x → b ≡ Some y → (a then λ inner. b then λ part. Some (typed inner part)) ≡ Some (typed x y)
 both a b x y e f = ap (λ o. o then λ inner. b then λ part. Some (typed inner part)) e ∙ ap (λ o. o then λ part. Some (typed x part)) f
 
-field-type : (program : Program) (node : TypeId) (desc : Option Expr) (s : Structure) (i : ℕ) (f : Field) → HasStructure program node s → slice_get s.fields i ≡ Some f → type_of_part program (ty.Node node desc) i ≡ Some f.ty
+pub field-type : (program : Program) (node : TypeId) (desc : Option Expr) (s : Structure) (i : ℕ) (f : Field) → HasStructure program node s → slice_get s.fields i ≡ Some f → type_of_part program (ty.Node node desc) i ≡ Some f.ty
 field-type program node desc s i f has got = ap (λ o. o then λ x. slice_get x.fields i then λ g. Some g.ty) has ∙ ap (λ o. o then λ g. Some g.ty) got
 
 row-type : (program : Program) (type elem : Ty) (i : ℕ) → element_at (out-Ty type) ≡ Some elem → type_of_part program type i ≡ Some elem
 row-type program (ty.Node node desc) elem i e = let o = ap element_at (outs-Node node desc) in absurd (cc)
 row-type program type elem i e = e
+
+-- what a walk of one place has found
+pub typed-one : (a : Option Ty) (b : Option Tree) (x : Ty) (t : Typed) → a ≡ Some x → (a then λ inner. b then λ part. Some (typed inner part)) ≡ Some t → (t.type ≡ x) × (b ≡ Some t.value)
+typed-one None b x t e h = absurd (cc)
+typed-one (Some inner) None x t e h = absurd (cc)
+typed-one (Some inner) (Some part) x t e h =
+    let whole : typed inner part ≡ t = cc in
+    let same : inner ≡ x = cc in
+    (sym (ap (λ y. y.type) whole) ∙ same, ap (λ y. Some y.value) whole)
 
 -- a member of a union without an active one has the type of its common structure
 abbrev pub IsNamedIn : Program → Ty → Tree → ℕ → Ty → Type 0
@@ -51,8 +60,11 @@ as-typed : {type : Ty} {tree : Tree} (p : Part) (r : Option Typed) → (type ≡
 as-typed {type} {tree} p r e h = h ∙ ap (λ t. Some (typed t tree)) e.0 ∙ ap (λ v. Some (typed p.type v)) e.1
 
 module _ {program : Program} {planes : List Plane} where
-  whole-is : {scope : Scope} {holder : Holder} {active : Bool} {at : ℕ} {type : Ty} {tree : Tree} {p : Part} → PartLies program planes scope holder active at type tree [] p → (type ≡ p.type) × (tree ≡ p.tree)
+  pub whole-is : {scope : Scope} {holder : Holder} {active : Bool} {at : ℕ} {type : Ty} {tree : Tree} {p : Part} → PartLies program planes scope holder active at type tree [] p → (type ≡ p.type) × (tree ≡ p.tree)
   whole-is PartLies.whole = (refl, refl)
+
+  pub whole-active : {scope : Scope} {holder : Holder} {active : Bool} {at : ℕ} {type : Ty} {tree : Tree} {p : Part} → PartLies program planes scope holder active at type tree [] p → p.active ≡ active
+  whole-active PartLies.whole = refl
 
   -- the part at one place is that of its type
   pub one-typed : {scope : Scope} {holder : Holder} {active : Bool} {at : ℕ} {type : Ty} {tree : Tree} {place : ℕ} {p : Part} → PartLies program planes scope holder active at type tree (place ∷ []) p

@@ -1,5 +1,5 @@
 -- Where a step leads within a value.
-use Rattle.std.specs.Prelude.{◌≡◌, ◌≢◌, ℕ, List, ◌++◌, Some}
+use Rattle.std.specs.Prelude.{◌≡◌, ◌≢◌, ℕ, List, ◌∷◌, ◌++◌, Some}
 use Rattle.gt_types.specs.declared.types.TypeId.{TypeId}
 use Rattle.gt_types.specs.declared.program.Program.{Program}
 use Rattle.gt_types.specs.declared.program.Structure.{Structure}
@@ -10,8 +10,9 @@ use Rattle.gt_tree.specs.Trees.{Tree}
 use Rattle.gt_value.specs.declared.cursors.Cursor.{Cursor}
 use Rattle.gt_value.specs.Places.{Part}
 use Rattle.gt_value.specs.Cursors.{Frame, IsAt, member_of}
+use Rattle.gt_next.specs.declared.answer.Why.{Why}
 use Rattle.gt_next.specs.Spots.{typed_part}
-use Rattle.gt_next.specs.Paths.{StepsIn, place_of}
+use Rattle.gt_next.specs.Paths.{StepsIn, RefusesIn, place_of, way_to}
 use Rattle.gt_routes.specs.declared.steps.Step.{Step}
 
 -- a cursor stands at a part of a value, at the end of this path in it, and a walk by types and values leads to the same
@@ -44,3 +45,18 @@ pub record IsInactive (program : Program) (tree : Tree) (node : TypeId) (name : 
   pub has : HasStructure program node s
   pub place_is : place_of s name ≡ Some place
   pub inactive : member_of tree ≢ Some place
+
+-- a step leads to where another cursor stands, wherever this one stands
+abbrev pub LeadsFrom : Program → Cursor → Hop → Step → Type 0
+LeadsFrom program c hop to = (at : Frame) (value : Part) (path : List ℕ) (here : StandsAt at value path c) → at.program ≡ program → StepsTo at value path c hop to.at to.places.items here
+
+-- a step is refused, wherever a cursor stands
+abbrev pub RefusedFrom : Program → Cursor → Hop → Why → Type 0
+RefusedFrom program c hop why = (at : Frame) (value : Part) (path : List ℕ) (here : StandsAt at value path c) → at.program ≡ program → RefusesIn at.program (typed here.here.p.type here.here.p.tree) hop why
+
+-- a cursor stands at the structure of a type with which the value at another begins, and these are the place of a member and the way there
+pub record IsBegin (at : Frame) (value : Part) (path : List ℕ) (c : Cursor) (common : TypeId) (member : ℕ) (to : Step) (here : StandsAt at value path c) : Type 0 where
+  pub way : List ℕ
+  pub places_are : to.places.items ≡ member ∷ way
+  pub there : StandsAt at value (path ++ way) to.at
+  pub found : way_to at.program common (Some here.here.p.type) here.here.p.tree ≡ Some way

@@ -1,6 +1,10 @@
-//! Where a step of a script's path leads within a value, or why it is refused.
+//! Where a step of a script's path leads within a value, or why it is refused; and where a whole path leads in a heap.
 #![tactic(auto)]
 
+mod commons;
+mod hops;
+mod reaching;
 mod steps;
 
+pub use reaching::{End, Reached, Start, walk};
 pub use steps::{Step, WalkFail, element_step, field_step, member_step};

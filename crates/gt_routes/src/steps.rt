@@ -36,7 +36,7 @@ pub struct Step<'a> {
 }
 
 // A step by one place.
-fn made<'a>(alloc: Global, at: Cursor<'a>, place: u32) -> Result<Step<'a>, WalkFail>
+pub fn made<'a>(alloc: Global, at: Cursor<'a>, place: u32) -> Result<Step<'a>, WalkFail>
     ensures made { IfOk result (λ step. MadeOf step at.entry (place ∷ [])) }
     ensures refused { (why : Why) → ¬ (result ≡ Err (Refused why)) }
 {

@@ -16,6 +16,7 @@ pub mod StandingSteps
 pub mod StandingStarts
 pub mod FindingSteps
 pub mod FindingContents
+mod ReadableTypes
 pub mod Refit
 pub mod CursorPaths
 pub mod CursorCommons

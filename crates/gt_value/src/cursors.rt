@@ -1,5 +1,5 @@
 // A place in a value, from which steps lead to its parts.
-ghost use Rattle.std.specs.Prelude.{◌≡◌, ◌≤◌, ◌<◌, ◌+◌, ◌*◌, ◌++◌, ◌∷◌, [], ℕ, List, Some, None, false, MatchOption, slice_get};
+ghost use Rattle.std.specs.Prelude.{◌≡◌, ◌≤◌, ◌<◌, ◌+◌, ◌*◌, ◌++◌, ◌∷◌, [], ℕ, List, Some, None, false, IfOk, MatchOption, slice_get};
 ghost use Rattle.std.specs.List.{position_from};
 ghost use Rattle.gt_types.specs.Settled.{Settled};
 ghost use Rattle.gt_types.specs.declared.types.Ty.TheVariants.{Node};
@@ -9,17 +9,20 @@ ghost use Rattle.gt_space.specs.Range.{IsInside};
 ghost use Rattle.gt_tree.specs.Trees.{Tree, Trees, tree_at, is_word};
 ghost use Rattle.gt_tree.specs.Scopes.{is_node};
 ghost use Rattle.gt_value.specs.Bytes.{IsRoomFor, StandsFor, StandForStatics};
+ghost use Rattle.gt_value.specs.Values.{tree_of};
 ghost use Rattle.gt_value.specs.Reading.{Stands, EachStands};
 ghost use Rattle.gt_value.specs.Places.{Part, IsPlaceOfPart};
 ghost use Rattle.gt_value.specs.Cursors.{Frame, frame, element_part, IsAt, IsAtRoot, IsNoPart, IsSomewhere, LeadsNowhere, member_of, count_of, IsMoved, StepAnswers, ElementAnswers};
 
 use crate::places::{Holder, Place, leaf_kind, read_count};
-use crate::reading::{read_length, size_of};
+use crate::reading::{read_length, read_type, size_of};
 use crate::sources::{Around, Source, begin_at, worth_of};
 use crate::unions::{active_member, common_structure};
+use crate::values::Value;
 use gt_layout::Layouts;
 use gt_space::Space;
-use gt_types::{Expr, Field, Program, Ty, TypeId};
+use gt_types::{Expr, Field, MAX_DEPTH, Program, Ty, TypeId};
+use std::alloc::{AllocError, Global};
 
 // What stands around a part of a value: the structures in which it is, and what it lies in.
 #[derive(Clone, Copy)]
@@ -276,5 +279,20 @@ impl<'a> Cursor<'a> {
             holder: self.site.holder,
             length,
         })
+    }
+
+    /// The value of the part. It fails only if memory runs out.
+    pub fn read(&self, alloc: Global) -> Result<Value, AllocError>
+        requires stands { IsSomewhere self.now }
+        ensures value { IfOk result (λ v. (at : Frame) (value : Part) (path : List ℕ) (there : IsAt at self.now value path) → tree_of v ≡ there.p.tree) }
+    {
+        read_type(
+            alloc,
+            &self.source,
+            self.site.around,
+            self.ty,
+            self.at,
+            MAX_DEPTH + 1,
+        )
     }
 }

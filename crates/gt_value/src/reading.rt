@@ -119,7 +119,7 @@ fn make_alt(alloc: Global, member: Option<u32>, value: Value) -> Result<Value, A
 
 // A value of a type, inside which structures stand less deep than `depth`.
 #[cycle(reading)]
-fn read_type(
+pub fn read_type(
     alloc: Global,
     source: &Source<'_>,
     around: Around,

@@ -41,3 +41,9 @@ returns-in-Err-Full-clause-unchanged c = λ heap is. heap_as_before c.args.progr
 
 pub returns-in-Err-Memory-clause-unchanged : goal.returns-in-Err-Memory-clause-unchanged
 returns-in-Err-Memory-clause-unchanged c = λ heap is. heap_as_before c.args.program.now c.args.layouts.now c.args.self.now c.take_block.new.self c.in-Err-Memory.ensures.unchanged heap is
+
+pub returns-in-Err-Full-clause-bytes : goal.returns-in-Err-Full-clause-bytes
+returns-in-Err-Full-clause-bytes c = c.in-Err-Full.ensures.unchanged.bytes
+
+pub returns-in-Err-Memory-clause-bytes : goal.returns-in-Err-Memory-clause-bytes
+returns-in-Err-Memory-clause-bytes c = c.in-Err-Memory.ensures.unchanged.bytes

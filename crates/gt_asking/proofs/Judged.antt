@@ -1,0 +1,135 @@
+-- Which leaves may be written at a spot.
+use Rattle.std.proofs.Common.{◌≡◌, ℕ, Bool, true, false, refl, ap, sym, subst, ◌∙◌, Some, None}
+use Rattle.std.specs.Prelude.{not, ◌&&◌}
+use Rattle.std.specs.Bool.{Decides}
+use Rattle.gt_types.specs.declared.types.Ty.{Ty}
+use Rattle.gt_types.specs.declared.program.Program.{Program}
+use Rattle.gt_types.specs.Shapes.{is_pointer}
+use Rattle.gt_layout.specs.declared.planes.Layouts.{Layouts}
+use Rattle.gt_tree.specs.Trees.{is_word}
+use Rattle.gt_tree.specs.Blocks.{Chars}
+use Rattle.gt_tree.proofs.PathBits.{some-same}
+use Rattle.gt_value.specs.declared.cursors.Cursor.{Cursor}
+use Rattle.gt_value.specs.declared.places.Place.{Place}
+use Rattle.gt_value.specs.declared.places.LeafContent.{LeafContent}
+use Rattle.gt_value.specs.declared.places.LeafContent.TheVariants as content
+use Rattle.gt_value.specs.Names.{kind_of}
+use Rattle.gt_value.specs.Places.{IsPlaceOfPart}
+use Rattle.gt_graph.specs.Objects.{Object, object_of}
+use Rattle.gt_graph.specs.Changes.{Owner, Of}
+use Rattle.gt_graph.specs.Good.{Heap}
+use Rattle.gt_objects.specs.declared.objects.Objects.{Objects}
+use Rattle.gt_objects.specs.declared.objects.Known.{Known}
+use Rattle.gt_objects.specs.Knowing.{IsKnownAt}
+use Rattle.gt_next.specs.Spots.{Spot, is_in_none}
+use Rattle.gt_next.specs.Leaves.{kind_named}
+use Rattle.gt_routes.specs.Reaching.{IsValueAt}
+use Rattle.gt_routes.proofs.Targets.{pointer-leaf}
+use Rattle.gt_tree.specs.Scopes.{Typed, typed}
+use Rattle.gt_next.specs.Spots.{Value, standing_at}
+use Rattle.gt_next.specs.Leaves.{is_in_range}
+use Rattle.gt_next.specs.declared.answer.Why.TheVariants.{OutOfRange}
+use Rattle.gt_routes.proofs.SpotParts.{value-same}
+use Rattle.gt_writes.specs.SpotWrites.{LeafSuits, SpotTakes}
+use Rattle.gt_asking.specs.Judging.{is_idle, is_beyond, IsFixedIn, IsIdleAt, SuitsAs, RefusesLeaf}
+
+of-same : (a b : ℕ) → Of a ≡ Of b → a ≡ b
+of-same a b e = cc
+
+pub fixed-some : (heap : Heap) (address : ℕ) (owner : Owner) (known : Known) (r : Bool) → owner ≡ Of address → IsKnownAt heap.graph.objects address (Some known) → Decides r (kind_of known.kind ≡ Chars) → Decides r (IsFixedIn heap owner)
+fixed-some heap address owner known r is (o, there, k) d = (λ e. (address, o, is, there, k.kind ∙ d.0 e), back)
+  where
+    back : IsFixedIn heap owner → r ≡ true
+    back (id, x, own, found, chars) =
+        let ids : address ≡ id = of-same address id (sym is ∙ own) in
+        let here = subst (λ i. object_of heap.graph.objects i ≡ Some x) (sym ids) found in
+        let same : o ≡ x = some-same (object_of heap.graph.objects address) o x there here in
+        d.1 (sym k.kind ∙ ap (λ (y : Object). y.kind) same ∙ chars)
+
+pub fixed-none : (heap : Heap) (address : ℕ) (owner : Owner) → owner ≡ Of address → object_of heap.graph.objects address ≡ None → Decides false (IsFixedIn heap owner)
+fixed-none heap address owner is none = (λ e. absurd (cc), back)
+  where
+    back : IsFixedIn heap owner → false ≡ true
+    back (id, x, own, found, chars) =
+        let ids : address ≡ id = of-same address id (sym is ∙ own) in
+        let here = subst (λ i. object_of heap.graph.objects i ≡ Some x) (sym ids) found in
+        absurd (cc)
+
+pub suits-some : (heap : Heap) (address : ℕ) (type : Ty) (known : Known) (r : Bool) → IsKnownAt heap.graph.objects address (Some known) → Decides r (kind_named type ≡ Some (kind_of known.kind)) → Decides r (SuitsAs heap.graph.objects type (content.To address))
+suits-some heap address type known r (o, there, k) d = (λ e. (o, there, d.0 e ∙ ap Some (sym k.kind)), back)
+  where
+    back : SuitsAs heap.graph.objects type (content.To address) → r ≡ true
+    back (x, found, names) =
+        let same : x ≡ o = some-same (object_of heap.graph.objects address) x o found there in
+        d.1 (names ∙ ap (λ (y : Object). Some y.kind) same ∙ ap Some k.kind)
+
+pub suits-none : (heap : Heap) (address : ℕ) (type : Ty) → object_of heap.graph.objects address ≡ None → Decides false (SuitsAs heap.graph.objects type (content.To address))
+suits-none heap address type none = (λ e. absurd (cc), back)
+  where
+    back : SuitsAs heap.graph.objects type (content.To address) → false ≡ true
+    back (x, found, names) = absurd (cc)
+
+not-not : (a b : Bool) → a ≡ not b → not a ≡ b
+not-not a true e = ap not e
+not-not a false e = ap not e
+
+both-true : (a b : Bool) → (a && b) ≡ true → (a ≡ true) × (b ≡ true)
+both-true true b e = (refl, e)
+both-true false b e = absurd (cc)
+
+true-of : (b : Bool) → not b ≡ false → b ≡ true
+true-of true e = refl
+true-of false e = absurd (cc)
+
+leaf-suits : (heap : Heap) (type : Ty) (leaf : LeafContent) → SuitsAs heap.graph.objects type leaf → is_beyond type leaf ≡ false → LeafSuits heap.graph.objects type leaf
+leaf-suits heap type (content.Num n) s e = LeafSuits.number s (true-of (is_in_range type n) e)
+leaf-suits heap type content.Null s e = LeafSuits.null s
+leaf-suits heap type (content.To id) (o, there, names) e = LeafSuits.to there names
+
+module _ (program : Program) (layouts : Layouts) (objects : Objects) (heap : Heap) (at : Spot) (c : Cursor) (v : IsValueAt program layouts objects heap at c) where
+  pub idle-some : (place : Place) → IsPlaceOfPart v.frame.program v.frame.space v.frame.addr v.here.here.p place → (is_pointer c.ty.now && not place.active) ≡ is_idle heap at c.ty.now
+  idle-some place is = ap (λ b. is_pointer c.ty.now && b) (not-not place.active (is_in_none heap.graph at) (is.active_is ∙ v.active))
+
+  pub idle-none : is_word v.here.here.p.tree ≡ false → false ≡ is_idle heap at c.ty.now
+  idle-none none = go (is_pointer c.ty.now) refl
+    where
+      go : (b : Bool) → is_pointer c.ty.now ≡ b → false ≡ (b && is_in_none heap.graph at)
+      go true e = absurd (pointer-leaf v.frame v.value v.path c v.here e none)
+      go false e = refl
+
+  pub idle-of : (place : Place) → IsPlaceOfPart v.frame.program v.frame.space v.frame.addr v.here.here.p place → (r pointer : Bool) (type : Ty) → r ≡ (pointer && not place.active) → pointer ≡ is_pointer type → type ≡ c.ty.now → r ≡ is_idle heap at c.ty.now
+  idle-of place is r pointer type e h i = e ∙ ap (λ b. b && not place.active) (h ∙ ap is_pointer i) ∙ idle-some place is
+
+  abbrev here : Typed
+  here = typed v.here.here.p.type v.here.here.p.tree
+
+  type-is : c.ty.now ≡ v.here.here.p.type
+  type-is = v.here.here.is.type_is
+
+  same-there : (t : Typed) → standing_at program heap.graph at ≡ Some (Value t) → t ≡ here
+  same-there t e = value-same t here (some-same (standing_at program heap.graph at) (Value t) (Value here) e v.standing)
+
+  pub idle-refused : is_idle heap at c.ty.now ≡ true → IsIdleAt program heap at
+  idle-refused e = let both = both-true (is_pointer c.ty.now) (is_in_none heap.graph at) e in (here, v.standing, sym (ap is_pointer type-is) ∙ both.0, both.1)
+
+  not-idle : is_idle heap at c.ty.now ≡ false → ¬ IsIdleAt program heap at
+  not-idle e (t, st, pointer, none) =
+      let types : is_pointer c.ty.now ≡ true = ap is_pointer type-is ∙ sym (ap (λ (u : Typed). is_pointer u.type) (same-there t st)) ∙ pointer in
+      let idle : is_idle heap at c.ty.now ≡ true = ap (λ b. b && is_in_none heap.graph at) types ∙ none in
+      cc
+
+  module _ (leaf : LeafContent) (free : is_idle heap at c.ty.now ≡ false) (suits : SuitsAs heap.graph.objects c.ty.now leaf) (open_to : ¬ IsFixedIn heap at.owner) where
+    suits-here : SuitsAs heap.graph.objects v.here.here.p.type leaf
+    suits-here = subst (λ t. SuitsAs heap.graph.objects t leaf) type-is suits
+
+    pub beyond-refused : is_beyond c.ty.now leaf ≡ true → RefusesLeaf program heap at leaf OutOfRange
+    beyond-refused e = (not-idle free, (here, v.standing, suits-here, open_to), here, v.standing, sym (ap (λ t. is_beyond t leaf) type-is) ∙ e)
+
+    pub takes-there : is_beyond c.ty.now leaf ≡ false → SpotTakes program heap.graph at leaf
+    takes-there e = record {
+      t = here;
+      standing = v.standing;
+      suits = leaf-suits heap v.here.here.p.type leaf suits-here (sym (ap (λ t. is_beyond t leaf) type-is) ∙ e);
+      no_string = λ id o owner there chars. open_to (id, o, owner, there, chars);
+      not_idle = λ pointer none. not-idle free (here, v.standing, pointer, none);
+    }

@@ -1,0 +1,8 @@
+pub mod Starts
+pub mod PartFits
+pub mod Ends
+pub mod Bindings
+pub mod Showing
+pub mod WholeBlocks
+pub mod Judged
+pub mod Sets

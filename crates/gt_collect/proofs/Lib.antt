@@ -1,0 +1,4 @@
+pub mod Bare
+pub mod Cleared
+pub mod Rooted
+pub mod Closed

@@ -1,0 +1,8 @@
+//! The collection of a heap: the objects that its roots reach are kept, and the others are freed.
+#![tactic(auto)]
+
+mod clearing;
+mod collecting;
+mod nulls;
+
+pub use collecting::{Collected, collect};

@@ -1,0 +1,5 @@
+mod BoundNames
+mod Sizing
+mod Binds
+mod Asked
+mod Single

@@ -1,0 +1,164 @@
+// The blocks of a space, and how many there are of each size.
+ghost use Rattle.std.specs.Prelude.{◌≡◌, ◌↔◌, ℕ, ◌≤◌, false, [], map, filter, count_by, length, option_map, Contains, IfErr, IfOk, IsTrue, Some, None};
+ghost use Rattle.gt_space.specs.declared.TheConstants.{MIN_PAGES, MAX_PAGES};
+ghost use Rattle.gt_links.specs.Lists.{with_nodes};
+ghost use Rattle.gt_pages.specs.Ledger.{Place, Room, sizes};
+ghost use Rattle.gt_pages.specs.Slots.{StartsSome, block_of, is_marked, is_unmarked, mark_at, new_mark, next_slot, owner_of, slot_at, unmarked, with_mark_at, with_slot};
+ghost use Rattle.gt_pages.specs.Contents.{AreLaidOut, KeepsPages, cached_list, empty_contents, ledger_of, with_slots};
+ghost use Rattle.gt_objects.specs.Totals.{AreTotals, bytes_of, count_of};
+
+use crate::totals::Totals;
+use gt_pages::{Pages, SlotFail};
+use std::alloc::{AllocError, Global};
+use std::marker::Model;
+
+/// Pages whose blocks are counted.
+#[derive(Drop)]
+pub(crate) struct CountedPages {
+    pages: Pages,
+    totals: Totals,
+}
+
+impl Model for CountedPages {
+    ghost use Rattle.std.specs.Prelude.{map};
+    ghost use Rattle.gt_pages.specs.Slots.{block_of};
+    ghost use Rattle.gt_pages.specs.Contents.{Contents};
+    ghost use Rattle.gt_objects.specs.Totals.{AreTotals};
+
+    ghost Value = { Contents };
+
+    ghost view = { λ p. p.pages };
+
+    ghost invariant = { λ p. AreTotals p.totals (map block_of p.pages.slots) };
+}
+
+impl CountedPages {
+    /// A space of so many pages without blocks. It fails only if memory runs out.
+    pub(crate) fn new(alloc: Global, pages: u32) -> Result<CountedPages, AllocError>
+        requires at_least { MIN_PAGES ≤ pages }
+        requires at_most { pages ≤ MAX_PAGES }
+        ensures empty { IfOk result (λ p. p ≡ empty_contents pages) }
+    {
+        Ok(CountedPages {
+            pages: Pages::new(alloc, pages)?,
+            totals: Totals::none(),
+        })
+    }
+
+    /// Makes an unmarked block of a listed size, in bytes, and gives its address, as `Pages::alloc_slot` does.
+    pub(crate) fn alloc_slot(&mut self, size: u32) -> Result<u64, SlotFail>
+        requires listed { Contains sizes size }
+        ensures placed { IfOk result (λ addr. Place (ledger_of self.old) (block_of (slot_at addr size))) }
+        ensures added { IfOk result (λ addr. self.new.slots ≡ with_slot self.old.slots (slot_at addr size)) }
+        ensures kept { KeepsPages self.old self.new }
+        ensures full { IfErr result (λ e. e ≡ SlotFail.Full → ¬ (Room (ledger_of self.old) size)) }
+        ensures unchanged { IfErr result (λ e. e ≡ SlotFail.Memory → self.new ≡ self.old) }
+        ensures released { IfErr result (λ e. e ≡ SlotFail.Full → self.new ≡ record self.old { lists = with_nodes self.old.lists cached_list [] }) }
+    {
+        self.pages.sound();
+        match self.pages.alloc_slot(size) {
+            Ok(addr) => {
+                self.totals.add(size);
+                Ok(addr)
+            }
+            Err(fail) => Err(fail),
+        }
+    }
+
+    /// The block that has the byte at an address: its own address, and its size in bytes. `None` says that there is none.
+    pub(crate) fn owner(&self, addr: u64) -> Option<(u64, u32)>
+        ensures owner { result ≡ owner_of self.now.slots addr }
+    {
+        self.pages.owner(addr)
+    }
+
+    /// Takes all marks away, and releases the cached entries.
+    pub(crate) fn clear_marks(&mut self)
+        ensures cleared { self.new ≡ record (with_slots self.old (map unmarked self.old.slots)) { lists = with_nodes self.old.lists cached_list [] } }
+    {
+        self.pages.clear_marks();
+    }
+
+    /// Marks the block that starts at an address, and says whether it was not marked before. Where it was, nothing changes.
+    pub(crate) fn mark(&mut self, addr: u64) -> bool
+        requires start { StartsSome self.old.slots addr }
+        ensures fresh { IsTrue result ↔ (mark_at self.old.slots addr ≡ None) }
+        ensures marked { IsTrue result → self.new ≡ with_slots self.old (with_mark_at self.old.slots addr (Some (new_mark 0 0))) }
+        ensures unchanged { result ≡ false → self.new ≡ self.old }
+    {
+        self.pages.mark(addr, 0, 0)
+    }
+
+    /// Frees the blocks that are not marked, and says how many these were. It takes no memory.
+    pub(crate) fn sweep(&mut self) -> u32
+        ensures kept { self.new.slots ≡ filter is_marked self.old.slots }
+        ensures pages { KeepsPages self.old self.new }
+        ensures freed { result ≡ count_by is_unmarked self.old.slots }
+    {
+        self.totals = marked_totals(&self.pages);
+        self.pages.sweep()
+    }
+
+    /// How many blocks have this size.
+    pub(crate) fn count(&self, size: u32) -> u32
+        requires listed { Contains sizes size }
+        ensures count { result ≡ count_of size (map block_of self.now.slots) }
+    {
+        self.totals.count(size)
+    }
+
+    /// How many blocks there are.
+    pub(crate) fn len(&self) -> u32
+        ensures len { result ≡ length (map block_of self.now.slots) }
+    {
+        self.totals.len()
+    }
+
+    /// The bytes of all blocks.
+    pub(crate) fn allocated(&self) -> u64
+        ensures bytes { result ≡ bytes_of (map block_of self.now.slots) }
+    {
+        self.totals.bytes()
+    }
+
+    /// How many pages the image takes up.
+    pub(crate) fn image_pages(&self) -> u32
+        ensures image { result ≡ self.now.image.count }
+    {
+        self.pages.image_pages()
+    }
+
+    /// Says what holds of the blocks at all times, and does nothing.
+    pub(crate) fn sound(&self)
+        ensures laid { AreLaidOut self.now }
+    {
+        self.pages.sound();
+    }
+}
+
+// The next marked block above an address: its own address, and its size in bytes.
+fn next_marked(pages: &Pages, after: u64) -> Option<(u64, u32)>
+    ensures next { result ≡ option_map (λ s. (s.address, s.size)) (next_slot is_marked pages.now.slots after) }
+{
+    pages.sound();
+    let (addr, _, _) = pages.next_marked(after)?;
+    pages.owner(addr)
+}
+
+// How many marked blocks there are of each size.
+fn marked_totals(pages: &Pages) -> Totals
+    ensures totals { AreTotals result (map block_of (filter is_marked pages.now.slots)) }
+{
+    pages.sound();
+    let mut totals = Totals::none();
+    let mut after: u64 = 0;
+    'blocks: loop {
+        match next_marked(pages, after) {
+            None => return totals,
+            Some((addr, size)) => {
+                totals.add(size);
+                after = addr;
+            }
+        }
+    }
+}

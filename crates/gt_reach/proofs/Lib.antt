@@ -1,0 +1,7 @@
+pub mod Values
+pub mod Parts
+pub mod Waits
+pub mod Finding
+pub mod Going
+pub mod Many
+pub mod Ends

@@ -1,0 +1,5 @@
+mod Suiting
+mod FirstMade
+mod FirstCauses
+mod AnswersMade
+mod AnswersThere

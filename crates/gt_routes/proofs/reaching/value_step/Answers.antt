@@ -1,0 +1,43 @@
+use Rattle.std.proofs.Common.{◌≡◌, ◌++◌, sym, ◌∙◌, ap, subst}
+use Rattle.std.specs.Prelude.{Err}
+use Rattle.gt_elements.specs.Elements.{owner_of}
+use Rattle.gt_tree.specs.Scopes.{typed}
+use Rattle.gt_next.specs.Spots.{spot, further}
+use Rattle.gt_next.specs.Paths.{StepsIn, RefusesIn}
+use Rattle.gt_routes.specs.declared.steps.WalkFail.TheVariants.{Refused}
+use Rattle.gt_routes.specs.Reaching.{IsValueAt}
+use Rattle.gt_routes.proofs.SpotParts.{value-further}
+use Rattle.gt_routes.proofs.reaching.value_step.Goals as goal
+
+pub local_step-requires-clause-stands : goal.local_step-requires-clause-stands
+local_step-requires-clause-stands c =
+    let v = c.requires.stands c.requires.ready.0 c.requires.ready.1 in
+    record { at = v.frame; value = v.value; path = v.path; program_is = v.program_is; stands = v.here }
+
+pub returns-in-Err-clause-refused : goal.returns-in-Err-clause-refused
+returns-in-Err-clause-refused c why e heap is =
+    let v = c.requires.stands heap is in
+    let p = v.here.here.p in
+    let same : c.in-Err.stop ≡ Refused why = cc in
+    let refused = c.local_step.ensures.refused why (c.in-Err.is ∙ ap Err same) v.frame v.value v.path v.here v.program_is in
+    (typed p.type p.tree, v.standing, subst (λ x. RefusesIn x (typed p.type p.tree) c.args.hop.now why) v.program_is refused)
+
+pub returns-clause-leads : goal.returns-clause-leads
+returns-clause-leads c heap is =
+    let program = c.args.schema.now.program in
+    let at = spot (owner_of c.args.owner) c.args.places.items in
+    let places = c.in-Ok.step.places.items in
+    let v = c.requires.stands heap is in
+    let p = v.here.here.p in
+    let steps = c.in-Ok.ensures.leads v.frame v.value v.path v.here v.program_is in
+    let items : c.extend_from_slice.new.self.items ≡ c.args.places.items ++ places = c.in-Ok-extend_from_slice.ensures.items ∙ ap (λ xs. c.args.places.items ++ xs) c.deref.ensures.value in
+    let spots : spot (owner_of c.args.owner) c.extend_from_slice.new.self.items ≡ further at places = ap (spot (owner_of c.args.owner)) items in
+    let value = value-further program c.args.schema.now.layouts c.args.objects.now heap at c.args.at c.in-Ok.step.at c.args.hop.now places c.requires.schema.settled v steps in
+    record {
+      t = typed p.type p.tree;
+      path = places;
+      standing = v.standing;
+      steps = subst (λ x. StepsIn x (typed p.type p.tree) c.args.hop.now places) v.program_is steps.steps;
+      spot_is = spots;
+      ends = subst (λ s. IsValueAt program c.args.schema.now.layouts c.args.objects.now heap s c.in-Ok.step.at) (sym spots) value;
+    }

@@ -1,0 +1,336 @@
+// Where a path leads in a heap.
+ghost use Rattle.std.specs.Prelude.{◌≡◌, ℕ, List, ◌<◌, [], ◌∷◌, true, Some, Err, IfOk, MatchOption};
+ghost use Rattle.gt_types.specs.Shapes.{is_pointer};
+ghost use Rattle.gt_tree.specs.Trees.{Null, To};
+ghost use Rattle.gt_value.specs.declared.cursors.Cursor.{Cursor};
+ghost use Rattle.gt_value.specs.Places.{Part};
+ghost use Rattle.gt_value.specs.Cursors.{Frame};
+ghost use Rattle.gt_graph.specs.Objects.{Object, object_of};
+ghost use Rattle.gt_graph.specs.Changes.{Of};
+ghost use Rattle.gt_graph.specs.Good.{Heap};
+ghost use Rattle.gt_objects.specs.Holding.{IsHeapOf};
+ghost use Rattle.gt_script.specs.declared.command.Hop.TheVariants.{Name, Index};
+ghost use Rattle.gt_elements.specs.Elements.{owner_of};
+ghost use Rattle.gt_next.specs.Spots.{spot};
+ghost use Rattle.gt_next.specs.Paths.{Steps, RefusesStep, Walks, RefusesWalk};
+ghost use Rattle.gt_schema.specs.Schemas.{IsSchema};
+ghost use Rattle.gt_routes.specs.declared.steps.WalkFail.TheVariants.{Refused};
+ghost use Rattle.gt_routes.specs.Steps.{StandsAt};
+ghost use Rattle.gt_routes.specs.Reaching.{start_of, spot_of, IsStart, IsValueAt, IsEndAt, IsElementEnd, LeadsWithin, StopsWithin, LeadsOn, StopsAt, holds_nodes};
+
+use crate::hops::local_step;
+use crate::steps::WalkFail;
+use gt_elements::{Owner, element};
+use gt_next::Why;
+use gt_objects::Objects;
+use gt_schema::Schema;
+use gt_script::Hop;
+use gt_space::Space;
+use gt_types::Ty;
+use gt_value::{BlockKind, Cursor, LeafContent, read_leaf};
+use std::alloc::Global;
+
+/// Where a path starts: at the object at an address, or at the root at a place.
+#[derive(Clone, Copy, Debug, PartialEq, Eq)]
+pub enum Start {
+    Object(u64),
+    Root(u32),
+}
+
+/// What stands where a path leads: an object as a whole, or a value, at which a cursor stands.
+#[derive(Clone, Copy)]
+pub enum End<'a> {
+    Object,
+    Value(Cursor<'a>),
+}
+
+/// Where a path leads: into the static record or an object, and on by places in its value, from the outside in.
+#[derive(Drop)]
+pub struct Reached<'a> {
+    pub owner: Owner,
+    pub places: Vec<u32>,
+    pub end: End<'a>,
+}
+
+// Whether a type is that of a pointer.
+fn is_pointer(ty: &Ty) -> bool
+    ensures { result ≡ is_pointer ty.now }
+{
+    match ty {
+        Ty::Str(_) | Ty::Ptr { .. } => true,
+        Ty::Num(_) | Ty::Bits { .. } | Ty::Opaque { .. } => false,
+        Ty::Node { .. } | Ty::Arr { .. } | Ty::Tail { .. } => false,
+    }
+}
+
+// The address that a pointer holds; None where it is null.
+fn target(space: &Space, at: Cursor<'_>) -> Option<u64>
+    requires stands { (frame : Frame) × (value : Part) × (path : List ℕ) × StandsAt frame value path at × (frame.space ≡ space.now) }
+    requires pointer { is_pointer at.ty.now ≡ true }
+    ensures target { (frame : Frame) (value : Part) (path : List ℕ) (here : StandsAt frame value path at.entry) → frame.space ≡ space.now → MatchOption result (here.here.p.tree ≡ Null) (λ address. here.here.p.tree ≡ To address) }
+{
+    let Some(place) = at.leaf() else {
+        return None;
+    };
+    match read_leaf(space, place) {
+        LeafContent::To(address) => Some(address),
+        LeafContent::Null => None,
+        LeafContent::Num(_) => None,
+    }
+}
+
+// The element at a place of an object; None where there is none.
+fn element_at<'a>(
+    schema: &'a Schema,
+    objects: &'a Objects,
+    address: u64,
+    place: u32,
+) -> Option<Cursor<'a>>
+    requires schema { IsSchema schema.now }
+    requires ready { (heap : Heap) × IsHeapOf schema.now.program schema.now.layouts objects.now heap }
+    ensures element { MatchOption result ((heap : Heap) (o : Object) → IsHeapOf schema.now.program schema.now.layouts objects.now heap → object_of heap.graph.objects address ≡ Some o → ¬ (place < o.count)) (λ c. (heap : Heap) → IsHeapOf schema.now.program schema.now.layouts objects.now heap → IsElementEnd schema.now.program schema.now.layouts objects.now heap address place c) }
+{
+    let Some(found) = element(objects, &schema.program, &schema.layouts, address, place) else {
+        return None;
+    };
+    let ty = schema.types.get(found.kind);
+    Some(Cursor::at_element(
+        &schema.program,
+        &schema.layouts,
+        objects.space(),
+        ty,
+        found.addr,
+        found.capacity,
+    ))
+}
+
+// Where a path starts.
+fn begin<'a>(
+    alloc: Global,
+    schema: &'a Schema,
+    objects: &'a Objects,
+    start: Start,
+) -> Result<Reached<'a>, WalkFail>
+    requires schema { IsSchema schema.now }
+    requires ready { (heap : Heap) × IsHeapOf schema.now.program schema.now.layouts objects.now heap }
+    requires starts { (heap : Heap) → IsHeapOf schema.now.program schema.now.layouts objects.now heap → IsStart schema.now.program heap start }
+    ensures start { IfOk result (λ to. spot_of to ≡ start_of start) }
+    ensures ends { IfOk result (λ to. (heap : Heap) → IsHeapOf schema.now.program schema.now.layouts objects.now heap → IsEndAt schema.now.program schema.now.layouts objects.now heap (spot_of to) to.end) }
+    ensures refused { (why : Why) → ¬ (result ≡ Err (Refused why)) }
+{
+    let mut places = Vec::new(alloc);
+    match start {
+        Start::Object(address) => Ok(Reached {
+            owner: Owner::Object(address),
+            places,
+            end: End::Object,
+        }),
+        Start::Root(place) => {
+            objects.sound();
+            let space = objects.space();
+            let Some(at) = Cursor::at_root(&schema.program, &schema.layouts, space, place) else {
+                unreachable!()
+            };
+            let Ok(()) = places.push(place) else {
+                return Err(WalkFail::Memory);
+            };
+            Ok(Reached {
+                owner: Owner::Statics,
+                places,
+                end: End::Value(at),
+            })
+        }
+    }
+}
+
+// A step by a number in an object, to the element at this place.
+fn index_step<'a>(
+    alloc: Global,
+    schema: &'a Schema,
+    objects: &'a Objects,
+    address: u64,
+    place: u64,
+) -> Result<Reached<'a>, WalkFail>
+    requires schema { IsSchema schema.now }
+    requires ready { (heap : Heap) × IsHeapOf schema.now.program schema.now.layouts objects.now heap }
+    requires there { (heap : Heap) → IsHeapOf schema.now.program schema.now.layouts objects.now heap → (o : Object) × (object_of heap.graph.objects address ≡ Some o) }
+    ensures leads { IfOk result (λ to. (heap : Heap) → IsHeapOf schema.now.program schema.now.layouts objects.now heap → LeadsOn schema.now.program schema.now.layouts objects.now heap (spot (Of address) []) (Index place) to) }
+    ensures refused { (why : Why) → result ≡ Err (Refused why) → (heap : Heap) → IsHeapOf schema.now.program schema.now.layouts objects.now heap → StopsAt schema.now.program heap (spot (Of address) []) (Index place) why }
+{
+    let Some(known) = objects.known(address) else {
+        unreachable!()
+    };
+    if place >= known.count as u64 {
+        return Err(WalkFail::Refused(Why::BadIndex));
+    }
+    let Some(at) = element_at(schema, objects, address, place as u32) else {
+        unreachable!()
+    };
+    let mut places = Vec::new(alloc);
+    let Ok(()) = places.push(place as u32) else {
+        return Err(WalkFail::Memory);
+    };
+    Ok(Reached {
+        owner: Owner::Object(address),
+        places,
+        end: End::Value(at),
+    })
+}
+
+// A step in the value at some places of the static record or of an object. The places of the step are added to them.
+fn value_step<'a>(
+    alloc: Global,
+    schema: &'a Schema,
+    objects: &'a Objects,
+    owner: Owner,
+    mut places: Vec<u32>,
+    at: Cursor<'a>,
+    hop: &Hop,
+) -> Result<Reached<'a>, WalkFail>
+    requires schema { IsSchema schema.now }
+    requires ready { (heap : Heap) × IsHeapOf schema.now.program schema.now.layouts objects.now heap }
+    requires stands { (heap : Heap) → IsHeapOf schema.now.program schema.now.layouts objects.now heap → IsValueAt schema.now.program schema.now.layouts objects.now heap (spot (owner_of owner) places.items) at }
+    ensures leads { IfOk result (λ to. (heap : Heap) → IsHeapOf schema.now.program schema.now.layouts objects.now heap → LeadsWithin schema.now.program schema.now.layouts objects.now heap (spot (owner_of owner) places.items) hop.now to) }
+    ensures refused { (why : Why) → result ≡ Err (Refused why) → (heap : Heap) → IsHeapOf schema.now.program schema.now.layouts objects.now heap → StopsWithin schema.now.program heap (spot (owner_of owner) places.items) hop.now why }
+{
+    let step = match local_step(alloc, &schema.program, &schema.fields, at, hop) {
+        Ok(step) => step,
+        Err(stop) => return Err(stop),
+    };
+    let Ok(()) = places.extend_from_slice(&step.places) else {
+        return Err(WalkFail::Memory);
+    };
+    Ok(Reached {
+        owner,
+        places,
+        end: End::Value(step.at),
+    })
+}
+
+// Whether a block holds structures.
+fn holds_nodes(kind: BlockKind) -> bool
+    ensures { result ≡ holds_nodes kind }
+{
+    matches!(kind, BlockKind::Nodes(_))
+}
+
+// A step by a name in an object of one structure: it is a step in this structure. In another object it is refused.
+fn single_step<'a>(
+    alloc: Global,
+    schema: &'a Schema,
+    objects: &'a Objects,
+    address: u64,
+    hop: &Hop,
+) -> Result<Reached<'a>, WalkFail>
+    requires schema { IsSchema schema.now }
+    requires ready { (heap : Heap) × IsHeapOf schema.now.program schema.now.layouts objects.now heap }
+    requires name { (name : List ℕ) × (hop.now ≡ Name name) }
+    requires there { (heap : Heap) → IsHeapOf schema.now.program schema.now.layouts objects.now heap → (o : Object) × (object_of heap.graph.objects address ≡ Some o) }
+    ensures leads { IfOk result (λ to. (heap : Heap) → IsHeapOf schema.now.program schema.now.layouts objects.now heap → LeadsOn schema.now.program schema.now.layouts objects.now heap (spot (Of address) []) hop.now to) }
+    ensures refused { (why : Why) → result ≡ Err (Refused why) → (heap : Heap) → IsHeapOf schema.now.program schema.now.layouts objects.now heap → StopsAt schema.now.program heap (spot (Of address) []) hop.now why }
+{
+    let Some(known) = objects.known(address) else {
+        unreachable!()
+    };
+    if known.count != 1 {
+        return Err(WalkFail::Refused(Why::WrongType));
+    }
+    if !holds_nodes(known.kind) {
+        return Err(WalkFail::Refused(Why::WrongType));
+    }
+    let Some(at) = element_at(schema, objects, address, 0) else {
+        unreachable!()
+    };
+    let mut places = Vec::new(alloc);
+    let Ok(()) = places.push(0) else {
+        return Err(WalkFail::Memory);
+    };
+    value_step(
+        alloc,
+        schema,
+        objects,
+        Owner::Object(address),
+        places,
+        at,
+        hop,
+    )
+}
+
+// A step from an object as a whole.
+fn object_step<'a>(
+    alloc: Global,
+    schema: &'a Schema,
+    objects: &'a Objects,
+    address: u64,
+    hop: &Hop,
+) -> Result<Reached<'a>, WalkFail>
+    requires schema { IsSchema schema.now }
+    requires ready { (heap : Heap) × IsHeapOf schema.now.program schema.now.layouts objects.now heap }
+    requires there { (heap : Heap) → IsHeapOf schema.now.program schema.now.layouts objects.now heap → (o : Object) × (object_of heap.graph.objects address ≡ Some o) }
+    ensures leads { IfOk result (λ to. (heap : Heap) → IsHeapOf schema.now.program schema.now.layouts objects.now heap → LeadsOn schema.now.program schema.now.layouts objects.now heap (spot (Of address) []) hop.now to) }
+    ensures refused { (why : Why) → result ≡ Err (Refused why) → (heap : Heap) → IsHeapOf schema.now.program schema.now.layouts objects.now heap → StopsAt schema.now.program heap (spot (Of address) []) hop.now why }
+{
+    match hop {
+        Hop::Index(place) => index_step(alloc, schema, objects, address, *place),
+        Hop::Name(_) => single_step(alloc, schema, objects, address, hop),
+    }
+}
+
+// One step from where a path stands. At a pointer it begins at the object that this names.
+fn step<'a>(
+    alloc: Global,
+    schema: &'a Schema,
+    objects: &'a Objects,
+    from: Reached<'a>,
+    hop: &Hop,
+) -> Result<Reached<'a>, WalkFail>
+    requires schema { IsSchema schema.now }
+    requires ready { (heap : Heap) × IsHeapOf schema.now.program schema.now.layouts objects.now heap }
+    requires stands { (heap : Heap) → IsHeapOf schema.now.program schema.now.layouts objects.now heap → IsEndAt schema.now.program schema.now.layouts objects.now heap (spot_of from) from.end }
+    ensures leads { IfOk result (λ to. (heap : Heap) → IsHeapOf schema.now.program schema.now.layouts objects.now heap → Steps schema.now.program heap.graph (spot_of from.entry) hop.now (spot_of to)) }
+    ensures ends { IfOk result (λ to. (heap : Heap) → IsHeapOf schema.now.program schema.now.layouts objects.now heap → IsEndAt schema.now.program schema.now.layouts objects.now heap (spot_of to) to.end) }
+    ensures refused { (why : Why) → result ≡ Err (Refused why) → (heap : Heap) → IsHeapOf schema.now.program schema.now.layouts objects.now heap → RefusesStep schema.now.program heap.graph (spot_of from.entry) hop.now why }
+{
+    let at = match from.end {
+        End::Value(at) => at,
+        End::Object => {
+            let Owner::Object(address) = from.owner else {
+                unreachable!()
+            };
+            return object_step(alloc, schema, objects, address, hop);
+        }
+    };
+    if !is_pointer(at.ty()) {
+        return value_step(alloc, schema, objects, from.owner, from.places, at, hop);
+    }
+    match target(objects.space(), at) {
+        Some(address) => object_step(alloc, schema, objects, address, hop),
+        None => Err(WalkFail::Refused(Why::NullStep)),
+    }
+}
+
+/// Where some steps lead from a start: at a pointer a step first goes to the object that it names. It is refused at the first step that
+/// does not lead on. Its time grows with the steps, and for a member of a common structure with the fields of its union.
+pub fn walk<'a>(
+    alloc: Global,
+    schema: &'a Schema,
+    objects: &'a Objects,
+    start: Start,
+    steps: &[Hop],
+) -> Result<Reached<'a>, WalkFail>
+    requires schema { IsSchema schema.now }
+    requires ready { (heap : Heap) × IsHeapOf schema.now.program schema.now.layouts objects.now heap }
+    requires starts { (heap : Heap) → IsHeapOf schema.now.program schema.now.layouts objects.now heap → IsStart schema.now.program heap start }
+    ensures leads { IfOk result (λ to. (heap : Heap) → IsHeapOf schema.now.program schema.now.layouts objects.now heap → Walks schema.now.program heap.graph (start_of start) steps.now (spot_of to)) }
+    ensures ends { IfOk result (λ to. (heap : Heap) → IsHeapOf schema.now.program schema.now.layouts objects.now heap → IsEndAt schema.now.program schema.now.layouts objects.now heap (spot_of to) to.end) }
+    ensures refused { (why : Why) → result ≡ Err (Refused why) → (heap : Heap) → IsHeapOf schema.now.program schema.now.layouts objects.now heap → RefusesWalk schema.now.program heap.graph (start_of start) steps.now why }
+{
+    let mut at = begin(alloc, schema, objects, start)?;
+    for hop in steps {
+        at = match step(alloc, schema, objects, at, hop) {
+            Ok(next) => next,
+            Err(stop) => return Err(stop),
+        };
+    }
+    Ok(at)
+}

@@ -1,0 +1,121 @@
+// What is made once of a program.
+ghost use Rattle.std.specs.Prelude.{◌≡◌, IfOk};
+ghost use Rattle.gt_types.specs.Settled.{Settled};
+ghost use Rattle.gt_layout.specs.Planes.{IsLaidOut};
+ghost use Rattle.gt_layout.specs.Excess.{IsWithin};
+ghost use Rattle.gt_fields.specs.FieldNames as fields;
+ghost use Rattle.gt_held.specs.Types.{AreElementTypesOf};
+ghost use Rattle.gt_held.specs.Tails.{AreTailTypesOf};
+ghost use Rattle.gt_kinds.specs.Names.{AreNamesOf};
+ghost use Rattle.gt_leaf.specs.Tables.{IsTableOf};
+ghost use Rattle.gt_schema.specs.Schemas.{IsSchema};
+
+use gt_fields::FieldNames;
+use gt_held::{ElementTypes, TailTypes};
+use gt_kinds::ProgramNames;
+use gt_layout::Layouts;
+use gt_leaf::Reads;
+use gt_types::Program;
+use std::alloc::{AllocError, Global};
+
+/// A program and its layouts, the types of the elements of its blocks, which structures are of a tail type, its names, the names of its
+/// fields, and which leaves its expressions read.
+#[derive(Drop)]
+pub struct Schema {
+    pub program: Program,
+    pub layouts: Layouts,
+    pub types: ElementTypes,
+    pub tails: TailTypes,
+    pub names: ProgramNames,
+    pub fields: FieldNames,
+    pub reads: Reads,
+}
+
+// The types and the names of a program.
+#[derive(Drop)]
+struct Named {
+    types: ElementTypes,
+    tails: TailTypes,
+    names: ProgramNames,
+}
+
+// The names of its fields, and which leaves its expressions read.
+#[derive(Drop)]
+struct Fielded {
+    fields: FieldNames,
+    reads: Reads,
+}
+
+// The names of a program.
+fn names_of(alloc: Global, program: &Program) -> Result<ProgramNames, AllocError>
+    requires settled { Settled program.now }
+    ensures names { IfOk result (AreNamesOf program.now) }
+{
+    ProgramNames::of(alloc, program)
+}
+
+// The names of the fields of a program.
+fn fields_of(alloc: Global, program: &Program) -> Result<FieldNames, AllocError>
+    requires settled { Settled program.now }
+    ensures fields { IfOk result (fields.AreNamesOf program.now.structures) }
+{
+    FieldNames::of(alloc, program.structures.as_slice())
+}
+
+impl Named {
+    fn of(alloc: Global, program: &Program) -> Result<Named, AllocError>
+        requires settled { Settled program.now }
+        ensures types { IfOk result (λ named. AreElementTypesOf program.now named.types) }
+        ensures tails { IfOk result (λ named. AreTailTypesOf program.now named.tails) }
+        ensures names { IfOk result (λ named. AreNamesOf program.now named.names) }
+    {
+        let types = ElementTypes::of(alloc, program)?;
+        let tails = TailTypes::of(alloc, program)?;
+        let names = names_of(alloc, program)?;
+        Ok(Named {
+            types,
+            tails,
+            names,
+        })
+    }
+}
+
+impl Fielded {
+    fn of(alloc: Global, program: &Program) -> Result<Fielded, AllocError>
+        requires settled { Settled program.now }
+        ensures fields { IfOk result (λ fielded. fields.AreNamesOf program.now.structures fielded.fields) }
+        ensures reads { IfOk result (λ fielded. IsTableOf program.now fielded.reads) }
+    {
+        let fields = fields_of(alloc, program)?;
+        let reads = Reads::of(alloc, program)?;
+        Ok(Fielded { fields, reads })
+    }
+}
+
+impl Schema {
+    /// The schema of a program and its layouts. It fails only if memory runs out.
+    pub fn of(alloc: Global, program: Program, layouts: Layouts) -> Result<Schema, AllocError>
+        requires settled { Settled program }
+        requires laid { IsLaidOut program layouts }
+        requires within { IsWithin program layouts }
+        ensures schema { IfOk result IsSchema }
+        ensures program { IfOk result (λ schema. schema.program ≡ program) }
+        ensures layouts { IfOk result (λ schema. schema.layouts ≡ layouts) }
+    {
+        let Named {
+            types,
+            tails,
+            names,
+        } = Named::of(alloc, &program)?;
+        let Fielded { fields, reads } = Fielded::of(alloc, &program)?;
+        Ok(Schema {
+            program,
+            layouts,
+            types,
+            tails,
+            names,
+            fields,
+            reads,
+        })
+    }
+}

@@ -1,0 +1,2 @@
+mod RootZeros
+mod Opened

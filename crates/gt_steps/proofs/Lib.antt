@@ -1,0 +1,3 @@
+mod Forced
+mod Stepped
+mod SizeLines

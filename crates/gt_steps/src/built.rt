@@ -1,0 +1,30 @@
+// Which commands are built so far.
+ghost use Rattle.std.specs.Bool.{Decides};
+ghost use Rattle.gt_steps.specs.Built.{IsBuilt};
+
+use gt_script::Command;
+
+/// Whether `step` answers the command: all but `string`, `put`, `find`, `save`, `load` and `tables`.
+pub fn is_built(command: &Command) -> bool
+    ensures built { Decides result (IsBuilt command.now) }
+{
+    match command {
+        Command::New { .. } => true,
+        Command::Array { .. } => true,
+        Command::Block { .. } => true,
+        Command::Set { .. } => true,
+        Command::Get { .. } => true,
+        Command::Drop { .. } => true,
+        Command::Print { .. } => true,
+        Command::Collect => true,
+        Command::CollectForce => true,
+        Command::Heap => true,
+        Command::Stats => true,
+        Command::Text { .. } => false,
+        Command::Put { .. } => false,
+        Command::Find { .. } => false,
+        Command::Save { .. } => false,
+        Command::Load { .. } => false,
+        Command::Tables => false,
+    }
+}

@@ -1,0 +1,4 @@
+mod VarsEntries
+mod VarsCounts
+mod EntriesCount
+mod Unbound

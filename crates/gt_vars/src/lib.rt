@@ -1,0 +1,6 @@
+//! The variables of a script.
+#![tactic(auto)]
+
+mod vars;
+
+pub use vars::Vars;

@@ -1,0 +1,9 @@
+mod Words
+mod SpotTypes
+mod LeafForms
+mod Anew
+mod Replacing
+mod AtElement
+mod StaticsReplaced
+mod AnewStatics
+mod AtRoot

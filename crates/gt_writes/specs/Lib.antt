@@ -1,0 +1,3 @@
+pub mod SpotWrites
+pub mod Typing
+pub mod Rewriting

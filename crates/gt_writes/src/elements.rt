@@ -1,0 +1,136 @@
+// A leaf of an object, written.
+ghost use Rattle.std.specs.Prelude.{◌≡◌, ◌∷◌, Err, OnOk, OnErr};
+ghost use Rattle.gt_tree.specs.Trees.{Tree};
+ghost use Rattle.gt_leaf.specs.declared.writing.LeafVerdict.TheVariants as LeafVerdict;
+ghost use Rattle.gt_leaf.specs.declared.writing.LeafVerdict.TheVariants.{InPlace};
+ghost use Rattle.gt_value.specs.declared.places.Place.{Place};
+ghost use Rattle.gt_value.specs.Places.{IsContentOf};
+ghost use Rattle.gt_value.specs.Bytes.{IsElement, IsRoomFor};
+ghost use Rattle.gt_value.specs.Values.{tree_of};
+ghost use Rattle.gt_value.specs.declared.values.ValueFail.TheVariants.{Shape};
+ghost use Rattle.gt_graph.specs.Changes.{Of};
+ghost use Rattle.gt_graph.specs.Good.{Heap};
+ghost use Rattle.gt_objects.specs.Holding.{IsHeapOf};
+ghost use Rattle.gt_next.specs.Spots.{spot};
+ghost use Rattle.gt_schema.specs.Schemas.{IsSchema};
+ghost use Rattle.gt_writes.specs.SpotWrites.{SpotTakes, IsWrittenAt, MisfitsAt};
+ghost use Rattle.gt_writes.specs.Rewriting.{IsElementRewritten, StandsIn, ElementMisfits, MayPutIn, IsInActive};
+
+use crate::leaves::{is_word_at, leaf_value, only_active};
+use gt_assign::assign;
+use gt_elements::{Element, Names, element};
+use gt_leaf::{LeafVerdict, judge_leaf};
+use gt_objects::Objects;
+use gt_schema::Schema;
+use gt_types::Ty;
+use gt_value::{LeafContent, Value, ValueFail, read};
+use std::alloc::Global;
+
+// Writes an element anew: what the write of a leaf makes of it.
+fn rewrite_element(
+    alloc: Global,
+    schema: &Schema,
+    objects: &mut Objects,
+    element: Element,
+    ty: &Ty,
+    path: &[u32],
+    leaf: Value,
+) -> Result<(), ValueFail>
+    requires schema { IsSchema schema.now }
+    requires ready { (heap : Heap) × IsHeapOf schema.now.program schema.now.layouts objects.old heap }
+    requires element { IsElement schema.now.program ty.now }
+    requires inside { IsRoomFor schema.now.program schema.now.layouts element.capacity ty.now objects.old.space element.addr }
+    requires stands { (heap : Heap) → IsHeapOf schema.now.program schema.now.layouts objects.old heap → (value : Tree) × StandsIn schema.now.program schema.now.layouts heap element.capacity ty.now objects.old.space element.addr value }
+    ensures written { OnOk result ((heap : Heap) (value : Tree) → IsHeapOf schema.now.program schema.now.layouts objects.old heap → StandsIn schema.now.program schema.now.layouts heap element.capacity ty.now objects.old.space element.addr value
+        → IsElementRewritten schema.now.program schema.now.layouts heap element.capacity ty.now element.addr value path.now (tree_of leaf) objects.old.space objects.new.space) }
+    ensures rest { OnOk result (objects.new ≡ record objects.old { space = objects.new.space }) }
+    ensures shape { result ≡ Err Shape → (heap : Heap) (value : Tree) → IsHeapOf schema.now.program schema.now.layouts objects.old heap → StandsIn schema.now.program schema.now.layouts heap element.capacity ty.now objects.old.space element.addr value
+        → ElementMisfits schema.now.program heap element.capacity ty.now value path.now (tree_of leaf) }
+    ensures unchanged { OnErr result (objects.new ≡ objects.old) }
+{
+    let program = &schema.program;
+    let layouts = &schema.layouts;
+    let Element { addr, capacity, .. } = element;
+    let old = read(alloc, program, layouts, objects.space(), ty, addr, capacity)?;
+    let names = Names::of(objects);
+    let new = match assign(alloc, program, ty, capacity, old, path, leaf, &names) {
+        Ok(new) => new,
+        Err(fail) => return Err(fail),
+    };
+    objects.store(program, layouts, ty, addr, capacity, &new);
+    Ok(())
+}
+
+// Judges the write of the leaf at a path of an element before it is done. Where a union around it has no active member, it is not
+// written in place: what the type of its field says is then not what lies there.
+fn judge_element(
+    schema: &Schema,
+    objects: &Objects,
+    element: Element,
+    ty: &Ty,
+    path: &[u32],
+    leaf: LeafContent,
+) -> LeafVerdict
+    requires schema { IsSchema schema.now }
+    requires ready { (heap : Heap) × IsHeapOf schema.now.program schema.now.layouts objects.now heap }
+    requires element { IsElement schema.now.program ty.now }
+    requires inside { IsRoomFor schema.now.program schema.now.layouts element.capacity ty.now objects.now.space element.addr }
+    requires stands { (heap : Heap) → IsHeapOf schema.now.program schema.now.layouts objects.now heap → (value : Tree) × StandsIn schema.now.program schema.now.layouts heap element.capacity ty.now objects.now.space element.addr value }
+    ensures in_place { (place : Place) → result ≡ InPlace place → (heap : Heap) (value : Tree) → IsHeapOf schema.now.program schema.now.layouts objects.now heap → StandsIn schema.now.program schema.now.layouts heap element.capacity ty.now objects.now.space element.addr value
+        → MayPutIn schema.now.program schema.now.layouts heap element.capacity ty.now element.addr value path.now leaf objects.now.space place }
+    ensures active { (place : Place) → result ≡ InPlace place → IsInActive place leaf }
+    ensures misfit { result ≡ LeafVerdict.Misfit → (heap : Heap) (value tree : Tree) → IsHeapOf schema.now.program schema.now.layouts objects.now heap → StandsIn schema.now.program schema.now.layouts heap element.capacity ty.now objects.now.space element.addr value
+        → IsContentOf leaf tree → ElementMisfits schema.now.program heap element.capacity ty.now value path.now tree }
+{
+    let Element { addr, capacity, .. } = element;
+    let names = Names::of(objects);
+    let verdict = judge_leaf(
+        &schema.program,
+        &schema.layouts,
+        &schema.reads,
+        &names,
+        objects.space(),
+        ty,
+        addr,
+        capacity,
+        path,
+        leaf,
+    );
+    only_active(verdict, leaf)
+}
+
+/// Writes the leaf at a place and a path in the object at an address. `Shape` says that no value fits with it. At an error nothing changes.
+pub fn write_in_object(
+    alloc: Global,
+    schema: &Schema,
+    objects: &mut Objects,
+    addr: u64,
+    place: u32,
+    rest: &[u32],
+    leaf: LeafContent,
+) -> Result<(), ValueFail>
+    requires schema { IsSchema schema.now }
+    requires ready { (heap : Heap) × IsHeapOf schema.now.program schema.now.layouts objects.old heap }
+    requires may { (heap : Heap) → IsHeapOf schema.now.program schema.now.layouts objects.old heap → SpotTakes schema.now.program heap.graph (spot (Of addr) (place ∷ rest.now)) leaf }
+    ensures written { OnOk result ((heap : Heap) → IsHeapOf schema.now.program schema.now.layouts objects.old heap → IsWrittenAt schema.now.program schema.now.layouts heap (Of addr) (place ∷ rest.now) leaf objects.new) }
+    ensures shape { result ≡ Err Shape → (heap : Heap) → IsHeapOf schema.now.program schema.now.layouts objects.old heap → MisfitsAt schema.now.program heap (Of addr) (place ∷ rest.now) leaf }
+    ensures unchanged { OnErr result (objects.new ≡ objects.old) }
+{
+    objects.sound();
+    let Some(here) = element(objects, &schema.program, &schema.layouts, addr, place) else {
+        return Err(ValueFail::Shape);
+    };
+    let ty = schema.types.get(here.kind);
+    match judge_element(schema, objects, here, ty, rest, leaf) {
+        LeafVerdict::InPlace(at) => {
+            objects.store_leaf(at, leaf);
+            Ok(())
+        }
+        LeafVerdict::Misfit => Err(ValueFail::Shape),
+        LeafVerdict::NotInPlace => {
+            let is_word = is_word_at(&schema.program, Some(ty), rest);
+            let value = leaf_value(alloc, is_word, leaf)?;
+            rewrite_element(alloc, schema, objects, here, ty, rest, value)
+        }
+    }
+}

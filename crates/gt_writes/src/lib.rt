@@ -1,0 +1,9 @@
+//! One leaf of a heap, written: where it lies, if no expression reads it, and else by what its element or the static record becomes.
+#![tactic(auto)]
+
+mod elements;
+mod leaves;
+mod roots;
+mod writing;
+
+pub use writing::write;
