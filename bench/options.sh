@@ -1,6 +1,6 @@
 #!/usr/bin/env bash
-# Runs an empty script under headers with many options, and under a tenth of them. The headers have no fault and are not built, so the program
-# reads all of them, settles what they declare, and refuses them; `again` alone has a fault. Run by hand, from any folder, after ./gtyheap.
+# Runs an empty script under headers with many options, and under a tenth of them: the program reads all of them and settles what they
+# declare; `again` alone has a fault. Run by hand, from any folder, after ./gtyheap.
 . "$(dirname "$0")/shared.sh"
 take_program
 
@@ -53,18 +53,22 @@ skipped() { one_field "$1" "$2" skip; }
 # The same without `skip`: each but the first stands there again, which is 17.
 again() { one_field "$1" "$2" maybe_undef; }
 
-# The seconds under so many of a kind, where the program ends with these words.
+# The seconds under so many of a kind, where the program ends with this fault, or without a word.
 took() {
   local folder=$work/$1$2
   mkdir "$folder"
   "$1" "$2" "$folder"
-  wants 2 1 "$work/empty.gty" "$folder"/*.h
-  grep -q ": $3\$" "$work/out" || { cat "$work/out" >&2; exit 2; }
+  if [ -z "$3" ]; then
+    wants 0 0 "$work/empty.gty" "$folder"/*.h
+  else
+    wants 2 1 "$work/empty.gty" "$folder"/*.h
+    grep -q ": $3\$" "$work/out" || { cat "$work/out" >&2; exit 2; }
+  fi
   minus "$(seconds 5 "$program" "$work/empty.gty" "$folder"/*.h)" "$idle"
   rm -r "$folder"
 }
 compare() {
-  local small large words=${4-not built}
+  local small large words=${4-}
   small=$(took "$1" $(($2 / 10)) "$words")
   large=$(took "$1" "$2" "$words")
   row "$3" "$2" "$large" 'a tenth' "$small" 12

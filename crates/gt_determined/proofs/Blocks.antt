@@ -15,14 +15,14 @@ use Rattle.gt_tree.specs.Fits.{Fits, EachFits, EndsInZero, BlockFits}
 use Rattle.gt_tree.specs.FixedLaws.{MayHold}
 use Rattle.gt_graph.specs.Objects.{Object, Graph, object_of, block_of, blocks_of}
 use Rattle.gt_graph.specs.Places.{Placed}
-use Rattle.gt_graph.specs.Changes.{Makes}
+use Rattle.gt_graph.specs.Changes.{Makes, characters}
 use Rattle.gt_graph.specs.Good.{IsOfTails, IsObject, IsGraph}
 use Rattle.gt_objects.proofs.Growing.{AreAmong, block_more, fields_more}
 use Rattle.gt_objects.proofs.Inserted.{new_there, all_inserted, find_inserted, pairs_inserted}
 use Rattle.gt_objects.proofs.Items.{find_is, find_some}
 use Rattle.gt_next.specs.declared.answer.Answer.{Answer}
 use Rattle.gt_next.specs.States.{State, with_variable, IsFullOfVariables, IsGoodState}
-use Rattle.gt_next.specs.Making.{Wanted, wanted, Contents, zeros, characters, text, Binds, HasCapacity, NextNew, NextArray, NextText, NextBlock}
+use Rattle.gt_next.specs.Making.{Wanted, wanted, Contents, zeros, text, Binds, HasCapacity, NextNew, NextArray, NextText, NextBlock}
 use Rattle.gt_determined.proofs.Standings.{map-some}
 use Rattle.gt_determined.proofs.Arrays.{kind-may}
 use Rattle.gt_determined.proofs.Bound.{bound-one, bound-few}

@@ -9,7 +9,7 @@ use Rattle.gt_words.specs.declared.call.Call.{Call}
 use Rattle.gt_words.specs.declared.call.Script.TheVariants.{Generated}
 use Rattle.gt_words.specs.Calls.{call_of}
 use Rattle.gt_script.specs.Outcome.{IsRefusedAt, IsTooLong}
-use Rattle.gt_headers.specs.Headers.{Declares, IsFirstFault, IsNotBuilt}
+use Rattle.gt_headers.specs.Headers.{Declares, IsFirstFault}
 use Rattle.gt_front.specs.Texts.{File, Texts, files_in_order, IsTextOf}
 use Rattle.gt_front.specs.Asks.{Calls, Reads}
 use Rattle.gt_front.specs.declared.TheConstants.{SCRIPT_SYNTAX, SCRIPT_TOO_LONG}
@@ -53,8 +53,6 @@ abbrev pub Comes : List (List ℕ) → Option Held → Texts → Refusal → Typ
 Comes words told texts Words = call_of words ≡ None
 Comes words told texts (InFile word why) = (call : Call) × (name : List ℕ) × Calls words call name × IsRefusedFile told (files_in_order name call.headers) word why
 Comes words told texts (Header fault) = (call : Call) × Reads words told call texts × IsFirstFault texts.headers fault
-Comes words told texts (NotBuilt word) =
-    ((word ≡ 0) × (call : Call) × (call_of words ≡ Some call) × IsGenerated call)
-    ⊎ ((call : Call) × Reads words told call texts × IsNotBuilt texts.headers word)
+Comes words told texts NotBuilt = (call : Call) × (call_of words ≡ Some call) × IsGenerated call
 Comes words told texts (Script number line) = (call : Call) × Reads words told call texts × ((program : Program) × Declares texts.headers program)
     × IsScriptFault texts.script number line

@@ -82,6 +82,6 @@ IsFaultLine words texts fault line = (text : List ℕ) × (slice_get texts.heade
 abbrev pub IsRefusalLine : List (List ℕ) → Texts → Refusal → List ℕ → Type 0
 IsRefusalLine words texts Words line = line ≡ codes "words: refused" ++ 10 ∷ []
 IsRefusalLine words texts (InFile word why) line = IsLineOf words word (why_text why) line
-IsRefusalLine words texts (NotBuilt word) line = IsLineOf words word (codes ": not built") line
+IsRefusalLine words texts NotBuilt line = IsLineOf words 0 (codes ": not built") line
 IsRefusalLine words texts (Header fault) line = IsFaultLine words texts fault line
 IsRefusalLine words texts (Script number at) line = IsLineOf words 0 (script_text number at) line

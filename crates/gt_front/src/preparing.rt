@@ -1,23 +1,28 @@
 // The order of work up to the first command.
 ghost use Rattle.std.specs.Prelude.{◌≡◌, ◌≤◌, ℕ, List, Err, IfErr, IfOk};
 ghost use Rattle.gt_io.specs.Counts.{Rose};
+ghost use Rattle.gt_layout.specs.Planes.{IsLaidOut};
+ghost use Rattle.gt_layout.specs.Excess.{IsWithin};
 ghost use Rattle.gt_words.specs.Ranges.{IsInRange};
 ghost use Rattle.gt_front.specs.Asks.{Asks};
 ghost use Rattle.gt_front.specs.Halts.{Halts};
 
-use crate::stages::{called, lines_of, program_of, read_files};
+use crate::stages::{called, declared, lines_of, read_files};
 use crate::{FileWhy, Refusal};
+use gt_headers::Declared;
 use gt_io::Files;
+use gt_layout::Layouts;
 use gt_script::Line;
 use gt_types::{Bytes, List, Program, Word};
 use gt_words::Call;
 use std::alloc::Global;
 
-/// What the arguments ask for, the program of the headers, and the lines of the script.
+/// What the arguments ask for, the program of the headers with its layouts, and the lines of the script.
 #[derive(Drop)]
 pub struct Ready {
     pub call: Call,
     pub program: Program,
+    pub layouts: Layouts,
     pub lines: List<Line>,
 }
 
@@ -33,6 +38,8 @@ pub enum Halt {
 /// program's name. No file changes.
 pub fn prepare<F: Files>(alloc: Global, words: &[Word], files: &mut F) -> Result<Ready, Halt>
     ensures ready { IfOk result (λ ready. Asks words.now (F.told files.old) ready.call ready.program ready.lines) }
+    ensures laid { IfOk result (λ ready. IsLaidOut ready.program ready.layouts) }
+    ensures within { IfOk result (λ ready. IsWithin ready.program ready.layouts) }
     ensures ranges { IfOk result (λ ready. IsInRange ready.call) }
     ensures halted { IfErr result (Halts words.now (F.told files.old)) }
     ensures told { F.told files.new ≡ F.told files.old }
@@ -49,8 +56,8 @@ pub fn prepare<F: Files>(alloc: Global, words: &[Word], files: &mut F) -> Result
         Ok(found) => found,
         Err(halt) => return Err(halt),
     };
-    let program = match program_of(alloc, &call, found.headers.as_slice()) {
-        Ok(program) => program,
+    let Declared { program, layouts } = match declared(alloc, &call, found.headers.as_slice()) {
+        Ok(declared) => declared,
         Err(halt) => return Err(halt),
     };
     let lines = match lines_of(alloc, &call, found.script.as_slice()) {
@@ -60,6 +67,7 @@ pub fn prepare<F: Files>(alloc: Global, words: &[Word], files: &mut F) -> Result
     Ok(Ready {
         call,
         program,
+        layouts,
         lines,
     })
 }

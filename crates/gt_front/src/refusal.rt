@@ -11,8 +11,8 @@ pub enum Refusal {
     Script { number: u8, line: u32 },
     /// A file: 0 is the script, i the i-th header.
     File { word: u32, why: FileWhy },
-    /// A header (by its place from 1) or the script (0) asks for what is not built yet.
-    NotBuilt { word: u32 },
+    /// The script asks for what is not built yet.
+    NotBuilt,
 }
 
 /// Why a file was not read.

@@ -20,7 +20,7 @@ pub fn words_line(alloc: Global) -> Result<Bytes, AllocError>
 
 /// The line of a script that asks for what is not built yet.
 pub fn not_built_line(alloc: Global, call: &Call) -> Result<Bytes, AllocError>
-    ensures line { (words : List (List ℕ)) (texts : Texts) → call_of words ≡ Some call.now → IfOk result (IsRefusalLine words texts (Refusal.NotBuilt 0)) }
+    ensures line { (words : List (List ℕ)) (texts : Texts) → call_of words ≡ Some call.now → IfOk result (IsRefusalLine words texts Refusal.NotBuilt) }
 {
     file_line(alloc, call, 0, b": not built")
 }

@@ -3,6 +3,8 @@ ghost use Rattle.std.specs.Prelude.{◌≡◌, ◌≤◌, IfErr, IfOk, IsErrOf, 
 ghost use Rattle.gt_io.specs.Counts.{Rose};
 ghost use Rattle.gt_io.specs.Held.{Held};
 ghost use Rattle.gt_headers.specs.Headers.{Declares};
+ghost use Rattle.gt_layout.specs.Planes.{IsLaidOut};
+ghost use Rattle.gt_layout.specs.Excess.{IsWithin};
 ghost use Rattle.gt_script.specs.Outcome.{Parsed};
 ghost use Rattle.gt_types.specs.declared.program.Program.{Program};
 ghost use Rattle.gt_words.specs.Calls.{call_of};
@@ -19,10 +21,10 @@ use crate::preparing::Halt;
 use crate::reading::{ReadStop, read_file, read_headers};
 use crate::refused::{fault_line, file_line, not_built_line, script_line, why_text, words_line};
 use crate::{FileWhy, MAX_SCRIPT_BYTES, Refusal, SCRIPT_SYNTAX, SCRIPT_TOO_LONG};
-use gt_headers::{HeaderStop, declare};
+use gt_headers::{Declared, declare};
 use gt_io::Files;
 use gt_script::{Line, ScriptStop, parse_script};
-use gt_types::{Bytes, List, Program, Word};
+use gt_types::{Bytes, List, Stop, Word};
 use gt_words::{Call, Script, read_words};
 use std::alloc::{AllocError, Global};
 
@@ -72,24 +74,22 @@ pub fn read_files<F: Files>(alloc: Global, call: &Call, files: &mut F) -> Result
     }
 }
 
-/// The program that the headers with these texts declare.
-pub fn program_of(alloc: Global, call: &Call, texts: &[Bytes]) -> Result<Program, Halt>
+/// The program that the headers with these texts declare, with its layouts.
+pub fn declared(alloc: Global, call: &Call, texts: &[Bytes]) -> Result<Declared, Halt>
     requires within { AreWithin call.now texts.now }
-    ensures declared { IfOk result (Declares texts.now) }
+    ensures declared { IfOk result (λ declared. Declares texts.now declared.program) }
+    ensures laid { IfOk result (λ declared. IsLaidOut declared.program declared.layouts) }
+    ensures within { IfOk result (λ declared. IsWithin declared.program declared.layouts) }
     ensures halted { (words : List (List ℕ)) (told : Option Held) (script : List ℕ)
         → Reads words told call.now (record { headers = texts.now; script = script }) → IfErr result (Halts words told) }
     ensures no_file { (word : ℕ) (line : List ℕ) → IsErrOf result (Halt.Refused (Refusal.File word FileWhy.Fault) line) → ⊥ }
 {
     match declare(alloc, texts) {
-        Ok(declared) => Ok(declared.program),
-        Err(HeaderStop::Memory) => Err(Halt::Memory),
-        Err(HeaderStop::Faulty(fault)) => Err(refused(
+        Ok(declared) => Ok(declared),
+        Err(Stop::Memory) => Err(Halt::Memory),
+        Err(Stop::At(fault)) => Err(refused(
             Refusal::Header(fault),
             fault_line(alloc, call, texts, fault),
-        )),
-        Err(HeaderStop::NotBuilt { file }) => Err(refused(
-            Refusal::NotBuilt { word: file },
-            file_line(alloc, call, file, b": not built"),
         )),
     }
 }
@@ -115,10 +115,10 @@ pub fn lines_of(alloc: Global, call: &Call, text: &[u8]) -> Result<List<Line>, H
 // The halt at a generated script, which is not built so far.
 fn generated(alloc: Global, call: &Call) -> Halt
     ensures halted { (words : List (List ℕ)) (told : Option Held) (texts : Texts)
-        → Comes words told texts (Refusal.NotBuilt 0) → call_of words ≡ Some call.now → Halts words told result }
-    ensures same { (other : Refusal) (bytes : List ℕ) → result ≡ Halt.Refused other bytes → other ≡ Refusal.NotBuilt 0 }
+        → Comes words told texts Refusal.NotBuilt → call_of words ≡ Some call.now → Halts words told result }
+    ensures same { (other : Refusal) (bytes : List ℕ) → result ≡ Halt.Refused other bytes → other ≡ Refusal.NotBuilt }
 {
-    refused(Refusal::NotBuilt { word: 0 }, not_built_line(alloc, call))
+    refused(Refusal::NotBuilt, not_built_line(alloc, call))
 }
 
 // The halt at a file that was not read.

@@ -1,8 +1,8 @@
 -- What commands change in a heap: one more object, or one leaf of a value.
-use Rattle.std.specs.Prelude.{◌≡◌, ◌≢◌, ◌==◌, ℕ, if◌then◌else◌, List, [], ◌∷◌, ◌++◌, Some, All, map}
+use Rattle.std.specs.Prelude.{◌≡◌, ◌≢◌, ◌==◌, ℕ, pos, if◌then◌else◌, List, [], ◌∷◌, ◌++◌, Some, All, map}
 use Rattle.gt_types.specs.declared.program.Program.{Program}
 use Rattle.gt_layout.specs.declared.planes.Layouts.{Layouts}
-use Rattle.gt_tree.specs.Trees.{Tree, Row, Trees, IsZero, tree_at, with_part}
+use Rattle.gt_tree.specs.Trees.{Tree, Num, Row, Trees, End, And, IsZero, tree_at, with_part}
 use Rattle.gt_tree.specs.Blocks.{Kind, element_type}
 use Rattle.gt_tree.specs.Fits.{BlockFits}
 use Rattle.gt_tree.specs.Reshapes.{Assigns, AssignsStatics}
@@ -32,6 +32,11 @@ pub record Makes (program : Program) (layouts : Layouts) (old : Heap) (object : 
 pub record IsZeroBlock (program : Program) (g : Graph) (kind : Kind) (count capacity : ℕ) (value : Tree) : Type 0 where
   pub fits : BlockFits program (blocks_of g.objects) g.statics kind count capacity value
   pub zero : IsZero value
+
+-- the elements of a block of characters: the bytes of a text and a zero
+abbrev pub characters : List ℕ → Trees
+characters [] = And (Num (pos 0)) End
+characters (byte ∷ bytes) = And (Num (pos byte)) (characters bytes)
 
 -- ---- one leaf
 

@@ -1,16 +1,11 @@
--- A fault of the headers, and a header with something that the heap does not take so far, are of one of the texts.
-use Rattle.std.proofs.Common.{◌≡◌, ℕ, suc, ◌+◌, ◌≤◌, List, [], ◌∷◌, length, refl, subst, ap, ◌∙◌, inl, inr, length-append, arith}
+-- A fault of the headers is of one of the texts.
+use Rattle.std.proofs.Common.{◌≡◌, ℕ, suc, ◌+◌, ◌≤◌, List, [], ◌∷◌, length, refl, ap, ◌∙◌, inl, inr, length-append, arith}
 use Rattle.gt_types.specs.declared.faults.Fault.{Fault}
-use Rattle.gt_types.specs.declared.program.Program.{Program}
 use Rattle.gt_items.specs.declared.items.Items.{Items}
-use Rattle.gt_resolve.specs.declared.draft.Draft.{Draft}
-use Rattle.gt_resolve.specs.Resolution.{Resolves}
-use Rattle.gt_resolve.proofs.FaultFiles.{OfStructure, OfRoot, OfCache}
 use Rattle.gt_resolve.proofs.FaultPlaces.{InFiles, first_fault_in, structures_in, roots_in, caches_in}
 use Rattle.gt_headers.specs.Reading.{AreRead}
-use Rattle.gt_headers.specs.Headers.{IsFirstFault, IsNotBuilt}
-use Rattle.gt_headers.specs.Untaken.{HasUntaken}
-use Rattle.gt_headers.proofs.OptionFiles.{at_place, of_options}
+use Rattle.gt_headers.specs.Headers.{IsFirstFault}
+use Rattle.gt_headers.proofs.OptionFiles.{of_options}
 use Rattle.gt_headers.proofs.SizePlaces.{size_fault_in}
 
 -- there are as many files as texts
@@ -38,21 +33,4 @@ fault_within texts fault (inr (inr (inl (draft, resolved, first)))) =
 fault_within texts fault (inr (inr (inr large))) =
     let within = size_fault_in large.resolved.files large.program fault large.first in
     let many = as_many texts large.resolved.files large.resolved.are_read in
-    (within.0, omega (arith, within.1, many))
-
--- what is not taken is in one of the files
-untaken_in : (files : List Items) (draft : Draft) (program : Program) (file : ℕ) → Resolves files draft → HasUntaken draft program file → InFiles (length files) file
-untaken_in files draft program file is (inl (place, u)) =
-    subst (InFiles (length files)) u.here (at_place (OfStructure (InFiles (length files))) draft.structures place u.drafted (structures_in files draft [] is) u.draft_has)
-untaken_in files draft program file is (inr (inl (place, u))) =
-    subst (InFiles (length files)) u.here (at_place (OfRoot (InFiles (length files))) draft.roots place u.drafted (roots_in files draft [] is) u.draft_has)
-untaken_in files draft program file is (inr (inr (place, (c, at, here)))) =
-    subst (InFiles (length files)) here (at_place (OfCache (InFiles (length files))) draft.caches place c (caches_in files draft [] is) at)
-
--- and so of one of the texts
-pub untaken_within : (texts : List (List ℕ)) (file : ℕ) → IsNotBuilt texts file → (1 ≤ file) × (file ≤ length texts)
-untaken_within texts file n =
-    let resolved = n.settles.resolved in
-    let within = untaken_in resolved.files n.draft n.program file resolved.resolved n.first.0 in
-    let many = as_many texts resolved.files resolved.are_read in
     (within.0, omega (arith, within.1, many))

@@ -1,6 +1,3 @@
-mod TakingLemmas
-mod LeastLemmas
-mod TakenPrograms
 mod ReadingLemmas
 mod ItemOutcomes
 mod ReadOutcomes

@@ -1,4 +1,4 @@
--- Headers declare one program, or have one first fault, or one first header that is not built, and never two of these.
+-- Headers declare one program or have one first fault, and never both.
 use Rattle.std.proofs.Common.{◌≡◌, ℕ, List, subst, ◌⊎◌, inl, inr}
 use Rattle.gt_types.specs.declared.faults.Fault.{Fault}
 use Rattle.gt_types.specs.declared.program.Program.{Program}
@@ -12,13 +12,10 @@ use Rattle.gt_rules.specs.Faults.{Declares as DeclaresProgram, IsFirstFault as I
 use Rattle.gt_options.specs.declared.settling.Settlement.{Settlement}
 use Rattle.gt_options.specs.declared.settling.Settlement.TheVariants as settlement
 use Rattle.gt_options.specs.Settlements.{IsSettlement}
-use Rattle.gt_headers.specs.Headers.{AreResolved, Declares, IsFirstFault, IsNotBuilt, IsTooLargeAt, Settles, SettlesBy}
+use Rattle.gt_headers.specs.Headers.{AreResolved, Declares, DeclaresBy, IsFirstFault, IsTooLargeAt}
 use Rattle.gt_headers.specs.Reading.{AreRead, IsReadingFault}
 use Rattle.gt_headers.specs.Sizes.{IsSizeFault}
-use Rattle.gt_headers.specs.Takes.{Takes}
-use Rattle.gt_headers.specs.Untaken.{IsFirstUntaken}
 use Rattle.gt_headers.proofs.SizeLemmas.{one_size_fault}
-use Rattle.gt_headers.proofs.TakenPrograms.{one_untaken, taken_nowhere}
 
 -- a fault that comes after those of names and types: of options, or of sizes
 abbrev AfterNames : List (List ℕ) → Fault → Type 0
@@ -109,44 +106,22 @@ module _ (one_reading : (texts : List (List ℕ)) (files others : List Items) �
   one_first_fault texts fault other (inr (inr a)) b =
       let (draft, resolved) = are_resolved texts fault a in one_after texts fault other a (after_names texts draft other resolved b)
 
-  pub one_settled : (texts : List (List ℕ)) (program other : Program) → Settles texts program → Settles texts other → program ≡ other
-  one_settled texts program other (draft, a) (second, b) = one_program texts draft second program other a.resolved b.resolved a.declares b.declares
-
   pub one_declared : (texts : List (List ℕ)) (program other : Program) → Declares texts program → Declares texts other → program ≡ other
-  one_declared texts program other a b = one_settled texts program other a.settles b.settles
+  one_declared texts program other (draft, a) (second, b) = one_program texts draft second program other a.resolved b.resolved a.declares b.declares
 
-  settled_by_no_fault : (texts : List (List ℕ)) (draft : Draft) (program : Program) (fault : Fault) → SettlesBy texts draft program → IsFirstFault texts fault → ⊥
-  settled_by_no_fault texts draft program fault s f = by (after_names texts draft fault s.resolved f)
+  declared_by_no_fault : (texts : List (List ℕ)) (draft : Draft) (program : Program) (fault : Fault) → DeclaresBy texts draft program → IsFirstFault texts fault → ⊥
+  declared_by_no_fault texts draft program fault d f = by (after_names texts draft fault d.resolved f)
     where
       by : AfterNames texts fault → ⊥
-      by (inl (other, b, g)) = faultless texts draft other program fault s.resolved b s.declares g
-      by (inr large) = s.sized fault (size_fault_of texts draft program fault s.resolved s.declares large)
-
-  pub settled_no_fault : (texts : List (List ℕ)) (program : Program) (fault : Fault) → Settles texts program → IsFirstFault texts fault → ⊥
-  settled_no_fault texts program fault (draft, s) f = settled_by_no_fault texts draft program fault s f
+      by (inl (other, b, g)) = faultless texts draft other program fault d.resolved b d.declares g
+      by (inr large) = d.sized fault (size_fault_of texts draft program fault d.resolved d.declares large)
 
   pub declared_no_fault : (texts : List (List ℕ)) (program : Program) (fault : Fault) → Declares texts program → IsFirstFault texts fault → ⊥
-  declared_no_fault texts program fault d f = settled_no_fault texts program fault d.settles f
-
-  pub one_not_built : (texts : List (List ℕ)) (file other : ℕ) → IsNotBuilt texts file → IsNotBuilt texts other → file ≡ other
-  one_not_built texts file other a b =
-      let draft = one_resolved texts a.draft b.draft a.settles.resolved b.settles.resolved in
-      let program = one_program texts a.draft b.draft a.program b.program a.settles.resolved b.settles.resolved a.settles.declares b.settles.declares in
-      one_untaken b.draft b.program file other
-      (subst (λ (p : Program). IsFirstUntaken b.draft p file) program (subst (λ (d : Draft). IsFirstUntaken d a.program file) draft a.first)) b.first
-
-  pub declared_built : (texts : List (List ℕ)) (program : Program) (file : ℕ) → Declares texts program → IsNotBuilt texts file → ⊥
-  declared_built texts program file d n =
-      let (draft, s) = d.settles in
-      let same = one_program texts draft n.draft program n.program s.resolved n.settles.resolved s.declares n.settles.declares in
-      taken_nowhere n.draft n.program n.settles.declares.made (subst Takes same d.takes) file n.first.0
-
-  pub fault_built : (texts : List (List ℕ)) (fault : Fault) (file : ℕ) → IsFirstFault texts fault → IsNotBuilt texts file → ⊥
-  fault_built texts fault file f n = settled_by_no_fault texts n.draft n.program fault n.settles f
+  declared_no_fault texts program fault (draft, d) f = declared_by_no_fault texts draft program fault d f
 
   -- where names and types have no fault, it cannot be that there is neither a program nor a first fault
   pub some_outcome : ((draft : Draft) → IsSound draft → ¬ ((s : Settlement) → ¬ IsSettlement draft s)) → (texts : List (List ℕ)) (draft : Draft) → AreResolved texts draft
-      → ((program : Program) → ¬ Settles texts program) → ((fault : Fault) → ¬ IsFirstFault texts fault) → ⊥
+      → ((program : Program) → ¬ Declares texts program) → ((fault : Fault) → ¬ IsFirstFault texts fault) → ⊥
   some_outcome some texts draft a no_program no_fault = some draft (sound texts draft a) none
     where
       large : (program : Program) → DeclaresProgram draft program → (fault : Fault) → ¬ IsSizeFault a.files program fault

@@ -1,5 +1,5 @@
 -- What the steps of the work on texts come to.
-use Rattle.std.proofs.Common.{◌≡◌, ℕ, true, false, List, Some, length, sym, subst, inl, inr}
+use Rattle.std.proofs.Common.{◌≡◌, ℕ, true, false, List, length, sym, subst, inl, inr}
 use Rattle.gt_types.specs.declared.faults.Fault.{Fault}
 use Rattle.gt_types.specs.declared.faults.Stop.{Stop}
 use Rattle.gt_types.specs.declared.faults.Stop.TheVariants.{Memory, At}
@@ -9,15 +9,11 @@ use Rattle.gt_resolve.specs.declared.draft.Draft.{Draft}
 use Rattle.gt_resolve.specs.Placings.{faults_from}
 use Rattle.gt_resolve.specs.Resolution.{Resolves}
 use Rattle.gt_rules.specs.Faults.{Declares as DeclaresProgram, IsFirstFault as IsFirstOptionFault}
-use Rattle.gt_headers.specs.Deciding.{IsLeast}
-use Rattle.gt_headers.specs.Halting.{stop_of}
-use Rattle.gt_headers.specs.Headers.{Declares, IsFirstFault, IsHeaderStop, IsNotBuilt, SettlesBy}
+use Rattle.gt_headers.specs.Headers.{Declares, IsFirstFault, IsHeaderStop}
 use Rattle.gt_headers.specs.Reading.{AreRead}
 use Rattle.gt_headers.specs.Sizes.{IsSizeFault}
 use Rattle.gt_headers.specs.Stops.{IsSizeStop}
-use Rattle.gt_headers.specs.Untaken.{HasUntaken}
 use Rattle.gt_headers.proofs.SizePlaces.{count_roots, count_structures}
-use Rattle.gt_headers.proofs.TakenPrograms.{as_many_roots, as_many_structures, taken}
 
 module _ (texts : List (List ℕ)) (files : List Items) (draft : Draft) (read : AreRead texts files) (resolved : Resolves files draft) where
   -- the first fault of options
@@ -32,16 +28,18 @@ module _ (texts : List (List ℕ)) (files : List Items) (draft : Draft) (read : 
     roots_in = subst (λ (fs : List Items). length program.roots ≡ length (faults_from false 1 fs)) (sym same) (count_roots files draft program resolved declares.made)
 
     -- a program that is not too large
-    pub settles_by : ((fault : Fault) → ¬ IsSizeFault shown program fault) → SettlesBy texts draft program
-    settles_by sized =
-        record {
-          resolved = record { files = files; are_read = read; resolved = resolved };
-          declares = declares;
-          sized = λ fault f. sized fault (subst (λ (fs : List Items). IsSizeFault fs program fault) (sym same) f);
-        }
+    pub declares_by : ((fault : Fault) → ¬ IsSizeFault shown program fault) → Declares texts program
+    declares_by sized = (
+      draft,
+      record {
+        resolved = record { files = files; are_read = read; resolved = resolved };
+        declares = declares;
+        sized = λ fault f. sized fault (subst (λ (fs : List Items). IsSizeFault fs program fault) (sym same) f);
+      },
+    )
 
     -- a program that is, or no memory to lay it out
-    pub size_stop : (stop : Stop) → IsSizeStop shown program stop → IsHeaderStop texts (stop_of stop)
+    pub size_stop : (stop : Stop) → IsSizeStop shown program stop → IsHeaderStop texts stop
     size_stop Memory stopped = tt
     size_stop (At fault) f =
         inr (inr (inr (record {
@@ -51,18 +49,3 @@ module _ (texts : List (List ℕ)) (files : List Items) (draft : Draft) (read : 
           declares = declares;
           first = subst (λ (fs : List Items). IsSizeFault fs program fault) same f;
         })))
-
-module _ (texts : List (List ℕ)) (draft : Draft) (program : Program) (settles : SettlesBy texts draft program) where
-  pub each_structure : length draft.structures ≡ length program.structures
-  each_structure = sym (as_many_structures draft program settles.declares.made)
-
-  pub each_root : length draft.roots ≡ length program.roots
-  each_root = sym (as_many_roots draft program settles.declares.made)
-
-  -- nothing is untaken
-  pub declares_by : ((file : ℕ) → HasUntaken draft program file → ⊥) → Declares texts program
-  declares_by none = record { settles = (draft, settles); takes = taken draft program settles.declares.made none }
-
-  -- something is, first in this header
-  pub not_built_by : (file : ℕ) → IsLeast (HasUntaken draft program) (Some file) → IsNotBuilt texts file
-  not_built_by file first = record { draft = draft; program = program; settles = settles; first = first }

@@ -4,13 +4,15 @@ use Rattle.std.specs.Prelude.{is_some, slice_get, IfSome}
 use Rattle.std.specs.Option.{option_to_list}
 use Rattle.std.specs.List.{All, cons_option, filter_map}
 use Rattle.std.proofs.lemmas.Bool.{false≢true}
+use Rattle.std.proofs.lemmas.List.{length-map}
 use Rattle.std.proofs.lemmas.List.Elements.{All-nil, All-cons, All-append, All-contains}
 use Rattle.gt_types.specs.declared.faults.Fault.{Fault}
 use Rattle.gt_types.specs.declared.program.Program.{Program}
 use Rattle.gt_items.specs.declared.items.Item.{Item}
 use Rattle.gt_items.specs.declared.items.Item.TheVariants as item
 use Rattle.gt_items.specs.declared.items.Items.{Items}
-use Rattle.gt_declare.specs.Programs.{IsMadeOf}
+use Rattle.gt_declare.specs.Programs.{IsMadeOf, all_unchained, root_of, unchained}
+use Rattle.gt_declare.proofs.Wholes.{chained_length}
 use Rattle.gt_resolve.specs.declared.draft.Draft.{Draft}
 use Rattle.gt_resolve.specs.Declarations.{declarations}
 use Rattle.gt_resolve.specs.Drafts.{items_from, root_item, structure_item}
@@ -20,7 +22,6 @@ use Rattle.gt_resolve.proofs.FaultFiles.{OfFault}
 use Rattle.gt_resolve.proofs.FaultPlaces.{InFiles}
 use Rattle.gt_headers.specs.Sizes.{IsSizeFault}
 use Rattle.gt_headers.proofs.OptionFiles.{at_place}
-use Rattle.gt_headers.proofs.TakenPrograms.{as_many_roots, as_many_structures}
 
 -- ---- how many there are
 
@@ -46,6 +47,14 @@ module _ {A B : Type 0} where
       let gs = length-append (filter_map (g file) items.items) (items_from g (suc file) files) in omega (arith, here, rest, fs, gs)
 
 module _ (files : List Items) (draft : Draft) (program : Program) (is : Resolves files draft) (made : IsMadeOf draft program) where
+  as_many_structures : length program.structures ≡ length draft.structures
+  as_many_structures =
+      ap (λ (p : Program). length p.structures) made.made
+      ∙ chained_length (all_unchained draft made.planes) 0 draft.structures (unchained draft made.planes)
+
+  as_many_roots : length program.roots ≡ length draft.roots
+  as_many_roots = ap (λ (p : Program). length p.roots) made.made ∙ length-map draft.roots (root_of draft made.planes)
+
   same_structure : (file : ℕ) (x : Item) → is_some (structure_item (declarations files) is.types file x) ≡ is_some (fault_item true file x)
   same_structure file (item.Structure s) = refl
   same_structure file (item.Root r) = refl
@@ -63,13 +72,13 @@ module _ (files : List Items) (draft : Draft) (program : Program) (is : Resolves
   -- a structure of the program for each such place at a tag
   pub count_structures : length program.structures ≡ length (faults_from true 1 files)
   count_structures =
-      as_many_structures draft program made ∙ ap (λ (d : Draft). length d.structures) is.drafted
+      as_many_structures ∙ ap (λ (d : Draft). length d.structures) is.drafted
       ∙ count_files (structure_item (declarations files) is.types) (fault_item true) same_structure 1 files
 
   -- and a root for each at a name
   pub count_roots : length program.roots ≡ length (faults_from false 1 files)
   count_roots =
-      as_many_roots draft program made ∙ ap (λ (d : Draft). length d.roots) is.drafted
+      as_many_roots ∙ ap (λ (d : Draft). length d.roots) is.drafted
       ∙ count_files (root_item (declarations files) is.types) (fault_item false) same_root 1 files
 
 -- ---- in which files

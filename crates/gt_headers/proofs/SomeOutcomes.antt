@@ -1,12 +1,12 @@
 -- Texts come to something: a program or a first fault.
-use Rattle.std.proofs.Common.{◌≡◌, ◌⊎◌, inl, inr, ℕ, ◌+◌, List, [], ◌∷◌, ◌++◌, length, refl, ap, arith}
+use Rattle.std.proofs.Common.{◌⊎◌, inl, inr, ℕ, ◌+◌, List, [], ◌∷◌, refl, ap, arith}
 use Rattle.gt_types.specs.declared.faults.Fault.{Fault}
 use Rattle.gt_types.specs.declared.program.Program.{Program}
 use Rattle.gt_items.specs.declared.items.Items.{Items}
 use Rattle.gt_resolve.specs.declared.draft.Draft.{Draft}
 use Rattle.gt_exists.specs.Outcomes.{HasReading, has_items, has_token_fault, has_item_fault, HasResolution, has_draft, has_fault}
 use Rattle.gt_headers.specs.Reading.{AreRead, IsReadingFault, IsTextFault}
-use Rattle.gt_headers.specs.Headers.{AreResolved, IsFirstFault, Settles}
+use Rattle.gt_headers.specs.Headers.{AreResolved, Declares, IsFirstFault}
 
 -- all texts are read, or one is the first with a fault
 abbrev Reads : List (List ℕ) → Type 0
@@ -44,8 +44,8 @@ reads each (text ∷ texts) = more text texts (each text) (reads each texts)
 
 -- neither a program nor a first fault cannot be
 pub not_nothing : ((text : List ℕ) → HasReading text) → ((files : List Items) → ¬ (¬ HasResolution files))
-    → ((texts : List (List ℕ)) (draft : Draft) → AreResolved texts draft → ((program : Program) → ¬ Settles texts program) → ((fault : Fault) → ¬ IsFirstFault texts fault) → ⊥)
-    → (texts : List (List ℕ)) → ((program : Program) → ¬ Settles texts program) → ((fault : Fault) → ¬ IsFirstFault texts fault) → ⊥
+    → ((texts : List (List ℕ)) (draft : Draft) → AreResolved texts draft → ((program : Program) → ¬ Declares texts program) → ((fault : Fault) → ¬ IsFirstFault texts fault) → ⊥)
+    → (texts : List (List ℕ)) → ((program : Program) → ¬ Declares texts program) → ((fault : Fault) → ¬ IsFirstFault texts fault) → ⊥
 not_nothing each resolution resolved texts no_program no_fault = by_reading (reads each texts)
   where
     by_resolution : (files : List Items) → AreRead texts files → HasResolution files → ⊥

@@ -1,52 +1,30 @@
 // The program that headers declare.
-ghost use Rattle.std.specs.Prelude.{◌≡◌, ◌≤◌, ◌<◌, ◌^◌, All, IfErr, IfOk, length};
+ghost use Rattle.std.specs.Prelude.{◌≤◌, ◌<◌, ◌^◌, All, IfErr, IfOk, length};
 ghost use Rattle.std.specs.Bool.{Decides};
 ghost use Rattle.gt_layout.specs.Planes.{IsLaidOut};
 ghost use Rattle.gt_layout.specs.Excess.{IsWithin};
 ghost use Rattle.gt_markers.specs.Sound.{IsSound};
 ghost use Rattle.gt_resolve.specs.Resolution.{Resolves};
-ghost use Rattle.gt_headers.specs.Halting.{stop_of};
-ghost use Rattle.gt_headers.specs.Headers.{Declares, IsHeaderStop, Settles, SettlesBy};
+ghost use Rattle.gt_headers.specs.Headers.{Declares, IsHeaderStop};
 ghost use Rattle.gt_headers.specs.Reading.{AreRead};
 
 use crate::MAX_HEADERS;
 use crate::reading::read_all;
 use crate::sizes::lay_out;
-use crate::taking::untaken_file;
 use gt_items::Items;
 use gt_layout::Layouts;
 use gt_options::{Settlement, settle};
 use gt_resolve::{Draft, few, resolve};
 use gt_settled::declared_is_settled;
 use gt_sound::{read_is_well_made, resolved_is_sound};
-use gt_types::{Bytes, Fault, Program, Stop};
-use std::alloc::{AllocError, Global};
+use gt_types::{Bytes, Program, Stop};
+use std::alloc::Global;
 
 /// What headers declare: a program, and how its structures and its static record lie.
 #[derive(Debug, Drop)]
 pub struct Declared {
     pub program: Program,
     pub layouts: Layouts,
-}
-
-/// Why headers give no program: out of memory; their first fault; or, where there is none, the place from 1 of the first
-/// header with something that the heap does not take so far.
-#[derive(Clone, Copy, Debug, PartialEq, Eq)]
-pub enum HeaderStop {
-    Memory,
-    Faulty(Fault),
-    NotBuilt { file: u32 },
-}
-
-impl From<AllocError> for HeaderStop {
-    ghost use Rattle.std.specs.Prelude.{◌≡◌};
-    ghost use Rattle.gt_headers.specs.declared.declaring.HeaderStop.TheVariants.{Memory};
-
-    ghost from_gives = { λ _ stop. stop ≡ Memory };
-
-    fn from(_: AllocError) -> HeaderStop {
-        HeaderStop::Memory
-    }
 }
 
 /// Whether texts may be read together: there are at most 64, and each is shorter than 4 GiB.
@@ -58,47 +36,14 @@ pub fn are_within_limits(texts: &[Bytes]) -> bool
 
 /// The program that the headers with these texts declare, in their order, and its layouts. Each text is read by itself, and its
 /// faults (1 to 10) come first, in the order of the texts; then come those of names and types over all of them (11 to 15), then
-/// those of options (16 to 23), and then that of a program that is too large (24). The heap takes structs of plain pointers to one
-/// another and roots that are such pointers so far; the first header with something else is not built.
-pub fn declare(alloc: Global, texts: &[Bytes]) -> Result<Declared, HeaderStop>
+/// those of options (16 to 23), and then that of a program that is too large (24).
+pub fn declare(alloc: Global, texts: &[Bytes]) -> Result<Declared, Stop>
     requires few { length texts.now ≤ MAX_HEADERS }
     requires short { All (λ text. length text < 2 ^ 32) texts.now }
     ensures declared { IfOk result (λ declared. Declares texts.now declared.program) }
     ensures laid_out { IfOk result (λ declared. IsLaidOut declared.program declared.layouts) }
     ensures within { IfOk result (λ declared. IsWithin declared.program declared.layouts) }
     ensures stopped { IfErr result (IsHeaderStop texts.now) }
-{
-    let (draft, declared) = match settle_all(alloc, texts) {
-        Ok(settled) => settled,
-        Err(stop) => return Err(stopped(stop)),
-    };
-    match untaken_file(&draft, &declared.program) {
-        Some(file) => Err(HeaderStop::NotBuilt { file }),
-        None => Ok(declared),
-    }
-}
-
-/// The program that the headers with these texts declare, built or not, or their first fault.
-pub fn program_of(alloc: Global, texts: &[Bytes]) -> Result<Program, Stop>
-    requires few { length texts.now ≤ MAX_HEADERS }
-    requires short { All (λ text. length text < 2 ^ 32) texts.now }
-    ensures settled { IfOk result (Settles texts.now) }
-    ensures stopped { IfErr result (λ stop. IsHeaderStop texts.now (stop_of stop)) }
-{
-    match settle_all(alloc, texts) {
-        Ok((_, declared)) => Ok(declared.program),
-        Err(stop) => Err(stop),
-    }
-}
-
-// The draft of all texts with what it declares, or their first fault.
-fn settle_all(alloc: Global, texts: &[Bytes]) -> Result<(Draft, Declared), Stop>
-    requires few { length texts.now ≤ MAX_HEADERS }
-    requires short { All (λ text. length text < 2 ^ 32) texts.now }
-    ensures settles { IfOk result (λ both. SettlesBy texts.now both.0 both.1.program) }
-    ensures laid_out { IfOk result (λ both. IsLaidOut both.1.program both.1.layouts) }
-    ensures within { IfOk result (λ both. IsWithin both.1.program both.1.layouts) }
-    ensures stopped { IfErr result (λ stop. IsHeaderStop texts.now (stop_of stop)) }
 {
     declared_is_settled();
     let Resolution { files, draft } = match resolve_all(alloc, texts) {
@@ -110,7 +55,7 @@ fn settle_all(alloc: Global, texts: &[Bytes]) -> Result<(Draft, Declared), Stop>
         Settlement::Fault(fault) => return Err(Stop::At(fault)),
     };
     match lay_out(alloc, &files, &program) {
-        Ok(layouts) => Ok((draft, Declared { program, layouts })),
+        Ok(layouts) => Ok(Declared { program, layouts }),
         Err(stop) => Err(stop),
     }
 }
@@ -129,7 +74,7 @@ fn resolve_all(alloc: Global, texts: &[Bytes]) -> Result<Resolution, Stop>
     ensures read { IfOk result (λ r. AreRead texts.now r.files.items) }
     ensures resolved { IfOk result (λ r. Resolves r.files.items r.draft) }
     ensures sound { IfOk result (λ r. IsSound r.draft) }
-    ensures stopped { IfErr result (λ stop. IsHeaderStop texts.now (stop_of stop)) }
+    ensures stopped { IfErr result (IsHeaderStop texts.now) }
 {
     few();
     read_is_well_made();
@@ -141,14 +86,5 @@ fn resolve_all(alloc: Global, texts: &[Bytes]) -> Result<Resolution, Stop>
     match resolve(alloc, &files) {
         Ok(draft) => Ok(Resolution { files, draft }),
         Err(stop) => Err(stop),
-    }
-}
-
-fn stopped(stop: Stop) -> HeaderStop
-    ensures { result ≡ stop_of stop }
-{
-    match stop {
-        Stop::Memory => HeaderStop::Memory,
-        Stop::At(fault) => HeaderStop::Faulty(fault),
     }
 }

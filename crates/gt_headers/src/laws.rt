@@ -7,7 +7,7 @@ ghost use Rattle.gt_types.specs.declared.limits.TheConstants.{MAX_STRUCTURES as 
 ghost use Rattle.gt_types.specs.Settled.{Settled};
 ghost use Rattle.gt_layout.specs.declared.planes.TheConstants.{MAX_SIZE};
 ghost use Rattle.gt_resolve.specs.declared.draft.Draft.{Draft};
-ghost use Rattle.gt_headers.specs.Headers.{AreResolved, Declares, IsFirstFault, IsNotBuilt, Settles};
+ghost use Rattle.gt_headers.specs.Headers.{AreResolved, Declares, IsFirstFault};
 ghost use Rattle.gt_lex.specs.declared.faults.TheConstants.{BAD_UTF8, OPEN_COMMENT, OPEN_STRING, BAD_NUMBER};
 ghost use Rattle.gt_expr.specs.declared.TheConstants.{BAD_EXPR, EXPR_TOO_LARGE, MAX_PARTS};
 ghost use Rattle.gt_parse.specs.declared.faults.TheConstants.{UNCLOSED, UNEXPECTED, UNSUPPORTED, BAD_MARKER_PLACE};
@@ -22,20 +22,13 @@ use gt_parse::one_search;
 use gt_settled::declared_is_settled;
 use gt_sound::{read_is_well_made, resolved_is_sound};
 
-/// Headers declare at most one program, built or not, have at most one first fault, and at most one of them is the first with
-/// something that the heap does not take. A program never stands beside a first fault, and what is not taken stands neither beside one
-/// nor beside a program that the heap takes. Where names and types are without a fault, it cannot be that there is neither a program
-/// nor a first fault.
+/// Headers declare at most one program and have at most one first fault, and never both. Where names and types are without a fault,
+/// it cannot be that there is neither.
 pub fn one_outcome()
     ensures program { (texts : List (List ℕ)) (program other : Program) → Declares texts program → Declares texts other → program ≡ other }
-    ensures settled { (texts : List (List ℕ)) (program other : Program) → Settles texts program → Settles texts other → program ≡ other }
     ensures fault { (texts : List (List ℕ)) (fault other : Fault) → IsFirstFault texts fault → IsFirstFault texts other → fault ≡ other }
-    ensures file { (texts : List (List ℕ)) (file other : ℕ) → IsNotBuilt texts file → IsNotBuilt texts other → file ≡ other }
     ensures no_fault { (texts : List (List ℕ)) (program : Program) (fault : Fault) → Declares texts program → IsFirstFault texts fault → ⊥ }
-    ensures settled_no_fault { (texts : List (List ℕ)) (program : Program) (fault : Fault) → Settles texts program → IsFirstFault texts fault → ⊥ }
-    ensures built { (texts : List (List ℕ)) (program : Program) (file : ℕ) → Declares texts program → IsNotBuilt texts file → ⊥ }
-    ensures fault_first { (texts : List (List ℕ)) (fault : Fault) (file : ℕ) → IsFirstFault texts fault → IsNotBuilt texts file → ⊥ }
-    ensures resolved { (texts : List (List ℕ)) (draft : Draft) → AreResolved texts draft → ((program : Program) → ¬ Settles texts program) → ((fault : Fault) → ¬ IsFirstFault texts fault) → ⊥ }
+    ensures resolved { (texts : List (List ℕ)) (draft : Draft) → AreResolved texts draft → ((program : Program) → ¬ Declares texts program) → ((fault : Fault) → ¬ IsFirstFault texts fault) → ⊥ }
 {
     one_answer();
     one_search();
@@ -47,29 +40,27 @@ pub fn one_outcome()
     one_layout();
 }
 
-/// It cannot be that headers have neither a program, built or not, nor a first fault.
+/// It cannot be that headers have neither a program nor a first fault.
 pub fn some_outcome()
-    ensures outcome { (texts : List (List ℕ)) → ((program : Program) → ¬ Settles texts program) → ((fault : Fault) → ¬ IsFirstFault texts fault) → ⊥ }
+    ensures outcome { (texts : List (List ℕ)) → ((program : Program) → ¬ Declares texts program) → ((fault : Fault) → ¬ IsFirstFault texts fault) → ⊥ }
 {
     each_text();
     each_resolution();
     one_outcome();
 }
 
-/// The program to which headers settle, built or not, is settled.
-pub fn settles_is_settled()
-    ensures settled { (texts : List (List ℕ)) (program : Program) → Settles texts program → Settled program }
+/// The program that headers declare is settled.
+pub fn declared_programs_are_settled()
+    ensures settled { (texts : List (List ℕ)) (program : Program) → Declares texts program → Settled program }
 {
     read_is_well_made();
     resolved_is_sound();
     declared_is_settled();
 }
 
-/// The file of a first fault, and that of the first header with something that the heap does not take, is one of the texts, counted
-/// from 1.
+/// The file of a first fault is one of the texts, counted from 1.
 pub fn text_places()
     ensures fault { (texts : List (List ℕ)) (fault : Fault) → IsFirstFault texts fault → (1 ≤ fault.file) × (fault.file ≤ length texts) }
-    ensures file { (texts : List (List ℕ)) (file : ℕ) → IsNotBuilt texts file → (1 ≤ file) × (file ≤ length texts) }
 {}
 
 /// The numbers of the faults and the limits, of which the definitions speak by name: those of the headers, and those of a settled

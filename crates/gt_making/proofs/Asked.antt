@@ -1,28 +1,26 @@
 -- The commands, by their last steps.
-use Rattle.std.proofs.Common.{◌≡◌, ◌≢◌, ◌<◌, ◌≤◌, ℕ, ℤ, List, Option, Result, Ok, Err, refl, sym, ap, subst, ◌∙◌, pos, negsuc}
+use Rattle.std.proofs.Common.{◌≡◌, ◌≢◌, ℕ, ℤ, List, Result, Ok, Err, refl, sym, subst, pos, negsuc}
 use Rattle.std.specs.Prelude.{IfOk}
 use Rattle.std.specs.declared.alloc.AllocError.{AllocError}
 use Rattle.gt_types.specs.declared.program.Program.{Program}
 use Rattle.gt_layout.specs.declared.planes.Layouts.{Layouts}
 use Rattle.gt_script.specs.declared.command.Command.{Command}
-use Rattle.gt_script.specs.declared.command.Command.TheVariants as command
 use Rattle.gt_script.specs.declared.command.TypeName.{TypeName}
 use Rattle.gt_tree.specs.Blocks.{Kind, Chars, Raw}
 use Rattle.gt_tree.specs.FixedLaws.{MayHold}
 use Rattle.gt_graph.specs.Good.{IsOfTails}
-use Rattle.gt_io.specs.Held.{Held}
 use Rattle.gt_determined.specs.Staying.{StaysGoodUncollected}
 use Rattle.gt_next.specs.declared.answer.Answer.{Answer}
 use Rattle.gt_next.specs.declared.answer.Answer.TheVariants.{Refused}
 use Rattle.gt_next.specs.declared.answer.Why.{Why}
 use Rattle.gt_next.specs.Kinds.{IsKindOf}
-use Rattle.gt_next.specs.Making.{NextArray, NextBlock, IsNegative, wanted, zeros, Binds, IsTooLarge}
+use Rattle.gt_next.specs.Making.{NextArray, NextBlock, IsNegative}
 use Rattle.gt_next.specs.Next.{Next}
 use Rattle.gt_next.specs.Laws.{IsOfBytes, IsCollection, IsRead}
 use Rattle.gt_next.specs.States.{State, IsGoodState}
 use Rattle.gt_schema.specs.declared.schema.Schema.{Schema}
 use Rattle.gt_session.specs.declared.session.Session.{Session}
-use Rattle.gt_session.specs.Sessions.{Goes, IsSession, Holds, StandsFor}
+use Rattle.gt_session.specs.Sessions.{Goes, IsSession}
 use Rattle.gt_making.specs.Binding.{LeavesBy, MakesMany}
 
 -- a refusal leaves the session as it is

@@ -1,5 +1,5 @@
 -- Single structures, with room at their end or without.
-use Rattle.std.proofs.Common.{◌≡◌, ◌<◌, ◌≤◌, ◌*◌, ℕ, ℤ, Bool, true, false, IsTrue, List, Option, Some, None, refl, sym, ap, subst, ◌∙◌, arith, pos}
+use Rattle.std.proofs.Common.{◌≡◌, ◌<◌, ◌*◌, ℕ, ℤ, Bool, true, false, List, Option, Some, None, refl, sym, subst, arith, pos}
 use Rattle.std.specs.Prelude.{option_map}
 use Rattle.std.specs.Bool.{Decides}
 use Rattle.gt_types.specs.declared.types.TypeId.{TypeId}
@@ -14,7 +14,6 @@ use Rattle.gt_tree.specs.Blocks.{Nodes}
 use Rattle.gt_tree.specs.FixedLaws.{MayHold}
 use Rattle.gt_tree.proofs.Sizes.{sizes-one}
 use Rattle.gt_graph.specs.Good.{IsOfTails}
-use Rattle.gt_held.specs.Zeros.{HasZero}
 use Rattle.gt_held.proofs.SomeBytes.{tail-size}
 use Rattle.gt_next.specs.declared.answer.Answer.{Answer}
 use Rattle.gt_next.specs.Kinds.{NamesNodes}

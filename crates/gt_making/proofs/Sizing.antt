@@ -1,5 +1,5 @@
 -- Which blocks are too large.
-use Rattle.std.proofs.Common.{◌≡◌, refl, false, IsTrue, ◌<◌, ◌≤◌, ◌↔◌, ℕ, suc, ◌*◌, ap, sym, ◌∙◌, arith, Some, None}
+use Rattle.std.proofs.Common.{◌≡◌, refl, false, IsTrue, ◌<◌, ◌≤◌, ◌↔◌, ℕ, suc, ◌+◌, ◌*◌, ap, sym, ◌∙◌, arith, Some, None}
 use Rattle.gt_types.specs.declared.types.TypeId.{TypeId}
 use Rattle.gt_types.specs.declared.types.Ty.{Ty}
 use Rattle.gt_types.specs.declared.types.Ty.TheVariants as ty
@@ -28,6 +28,7 @@ use Rattle.gt_pages.specs.Ledger.{rounded}
 use Rattle.gt_graph.specs.Places.{Needs}
 use Rattle.gt_objects.specs.declared.objects.Known.{Known}
 use Rattle.gt_objects.specs.Making as objects
+use Rattle.gt_objects.proofs.Widths.{chars_take}
 use Rattle.gt_next.specs.Making.{IsTooLarge, wanted}
 use Rattle.gt_making.specs.Binding.{wanted_of}
 
@@ -75,6 +76,17 @@ plain-some program layouts settled laid Raw may whole size takes = raw-some prog
 
 eight : (x y k : ℕ) → 8 * x ≡ k → 8 * y ≡ k → x ≡ y
 eight x y k a b = omega (arith, a, b)
+
+-- the characters of a text are too large exactly where they are more than a block may have, as many bytes as the text has and one
+module _ (program : Program) (layouts : Layouts) (n : ℕ) where
+  pub text-large : 1048576 < n + 1 → IsTooLarge program layouts (wanted Chars (suc n) 0)
+  text-large large = (suc n * 1, (1, chars_take program layouts 0, refl), omega (arith, large))
+
+  pub text-small : n + 1 ≤ 1048576 → ¬ IsTooLarge program layouts (wanted Chars (suc n) 0)
+  text-small small (bytes, (size, takes, is), large) =
+      let one : size ≡ 1 = eight size 1 _ takes (chars_take program layouts 0) in
+      let all : bytes ≡ suc n * 1 = is ∙ ap (λ k. suc n * k) one in
+      let no : 1 ≤ 0 = omega (arith, small, all, large) in omega (arith, no)
 
 module _ (program : Program) (layouts : Layouts) (settled : Settled program) (laid : IsLaidOut program layouts) where
   size-at-one : (node : TypeId) (capacity x y : ℕ) → MayHold program (Nodes node) → SizeAt program layouts.structures capacity node x → SizeAt program layouts.structures capacity node y → x ≡ y

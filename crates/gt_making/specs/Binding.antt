@@ -1,5 +1,6 @@
 -- No promise: what the last steps of the commands that make blocks do.
-use Rattle.std.specs.Prelude.{ℕ, ℤ, Bool, true, not, List, Option, Some, None}
+use Rattle.std.specs.Prelude.{◌≡◌, ℕ, ℤ, Bool, true, not, List, Option, Some, None, Result, Ok, Err}
+use Rattle.std.specs.declared.alloc.AllocError.{AllocError}
 use Rattle.gt_types.specs.declared.program.Program.{Program}
 use Rattle.gt_types.specs.declared.types.TypeId.{TypeId}
 use Rattle.gt_layout.specs.declared.planes.Layouts.{Layouts}
@@ -7,11 +8,14 @@ use Rattle.gt_tree.specs.Blocks.{Kind, Nodes}
 use Rattle.gt_value.specs.Names.{kind_of}
 use Rattle.gt_held.specs.Zeros.{HasZero}
 use Rattle.gt_objects.specs.declared.objects.Known.{Known}
+use Rattle.gt_objects.specs.declared.making.Made.{Made as MadeBlock}
+use Rattle.gt_objects.specs.declared.making.MakeFail.{MakeFail}
+use Rattle.gt_objects.specs.declared.making.MakeFail.TheVariants as fail
 use Rattle.gt_io.specs.Held.{Held}
 use Rattle.gt_next.specs.declared.answer.Answer.{Answer}
-use Rattle.gt_next.specs.declared.answer.Answer.TheVariants.{Refused}
-use Rattle.gt_next.specs.declared.answer.Why.TheVariants.{Shape, TooLarge}
-use Rattle.gt_next.specs.States.{State}
+use Rattle.gt_next.specs.declared.answer.Answer.TheVariants.{Made, Refused}
+use Rattle.gt_next.specs.declared.answer.Why.TheVariants.{Full, Shape, TooLarge}
+use Rattle.gt_next.specs.States.{State, Variables, meaning, with_variable}
 use Rattle.gt_next.specs.Making.{Wanted, wanted, Contents, Binds, HasCapacity, IsMisshapen, IsTooLarge, zeros}
 use Rattle.gt_session.specs.declared.session.Session.{Session}
 use Rattle.gt_session.specs.Sessions.{Holds, StandsFor}
@@ -28,6 +32,17 @@ LeavesBy Next old new answer = (told : Option Held) (s : State) → StandsFor ol
 -- a block with such contents is made and bound, or refused for the last reasons
 abbrev pub BindsIn : (old new : Session) → List ℕ → Wanted → (State → Contents) → Answer → Type 0
 BindsIn old new var w contents answer = LeavesBy (λ s answer t. Binds old.schema.program old.schema.layouts s var w (contents s) answer t) old new answer
+
+-- where a variable was bound that had this meaning before, or none, it means that again
+abbrev pub TakesBack : (old : Variables) (var : List ℕ) (before : Option ℕ) (new : Variables) → Type 0
+TakesBack old var before new = (v : Variables) (address : ℕ) → old ≡ with_variable v var address → before ≡ meaning v var → new ≡ v
+
+-- A command ends for which a variable was bound: it is bound to what was made, or, where there was no room or no memory, means again what it
+-- did before.
+pub data Ends (old : Session) (var : List ℕ) (before : Option ℕ) : Result MadeBlock MakeFail → Session → Result Answer AllocError → Type 0 where
+  made : {m : MadeBlock} → Ends old var before (Ok m) (record old { vars = with_variable old.vars var m.addr }) (Ok (Made m.addr m.size))
+  full : {need : ℕ} {vars : Variables} → TakesBack old.vars var before vars → Ends old var before (Err (fail.Full need)) (record old { vars = vars }) (Ok (Refused (Full need)))
+  memory : {vars : Variables} {e : AllocError} → TakesBack old.vars var before vars → Ends old var before (Err fail.Memory) (record old { vars = vars }) (Err e)
 
 -- there is a zero block of what is to be known, whatever state a session stands for
 abbrev pub CanBeZero : Session → Known → Type 0

@@ -1,22 +1,54 @@
 // The last steps of the commands that make blocks.
-ghost use Rattle.std.specs.Prelude.{◌≡◌, ◌≢◌, ◌≤◌, ℕ, IfOk, OnErr};
+ghost use Rattle.std.specs.Prelude.{◌≡◌, ◌≢◌, ◌≤◌, ℕ, Err, IfOk, IsSome, OnErr};
 ghost use Rattle.gt_tree.specs.Blocks.{Chars, element_type};
 ghost use Rattle.gt_tree.specs.FixedLaws.{MayHold};
 ghost use Rattle.gt_value.specs.Names.{kind_of};
 ghost use Rattle.gt_value.specs.Bytes.{Takes};
 ghost use Rattle.gt_graph.specs.Good.{IsOfTails};
 ghost use Rattle.gt_objects.specs.Making.{IsTooLarge};
+ghost use Rattle.gt_next.specs.States.{meaning};
 ghost use Rattle.gt_next.specs.Making.{zeros};
 ghost use Rattle.gt_session.specs.Sessions.{IsAsBefore, IsSession, KeepsBytes};
-ghost use Rattle.gt_making.specs.Binding.{BindsIn, CanBeZero, LeavesBy, MakesMany, wanted_of};
+ghost use Rattle.gt_making.specs.Binding.{BindsIn, CanBeZero, Ends, LeavesBy, MakesMany, wanted_of};
 
 use gt_held::plain_zeros_are_there;
 use gt_next::{Answer, Why};
-use gt_objects::{Known, MakeFail, block_size, blocks_have_a_greatest_size, element_size};
+use gt_objects::{Known, Made, MakeFail, block_size, blocks_have_a_greatest_size, element_size};
 use gt_session::Session;
 use gt_types::Word;
 use gt_value::BlockKind;
 use std::alloc::AllocError;
+
+// Binds a variable, which is bound already, to what was made. Where nothing was made it means again what it did before.
+pub fn conclude(
+    s: &mut Session,
+    var: &Word,
+    before: Option<u64>,
+    made: Result<Made, MakeFail>,
+) -> Result<Answer, AllocError>
+    requires bound { IsSome (meaning s.old.vars var.now) }
+    requires possible { made ≢ Err MakeFail.TooLarge }
+    ensures ends { Ends s.old var.now before made s.new result }
+{
+    match made {
+        Ok(made) => {
+            s.vars.rebind(var, made.addr);
+            Ok(Answer::Made {
+                addr: made.addr,
+                size: made.size,
+            })
+        }
+        Err(MakeFail::Full { need }) => {
+            s.vars.take_back(var, before);
+            Ok(Answer::Refused(Why::Full { need }))
+        }
+        Err(MakeFail::Memory) => {
+            s.vars.take_back(var, before);
+            Err(AllocError)
+        }
+        Err(MakeFail::TooLarge) => unreachable!(),
+    }
+}
 
 // Makes a zero object and binds a variable to it, where it is not one too many and there is room for the object. The variable is bound
 // first, since that may want memory, and it means again what it did, where no object is made. If memory runs out, nothing changes.
@@ -37,24 +69,8 @@ pub fn bind_zeros(s: &mut Session, var: &Word, known: Known) -> Result<Answer, A
     }
     let before = s.vars.get(var);
     s.vars.bind(var, 0)?;
-    match s.objects.make(&s.schema.program, &s.schema.layouts, known) {
-        Ok(made) => {
-            s.vars.rebind(var, made.addr);
-            Ok(Answer::Made {
-                addr: made.addr,
-                size: made.size,
-            })
-        }
-        Err(MakeFail::Full { need }) => {
-            s.vars.take_back(var, before);
-            Ok(Answer::Refused(Why::Full { need }))
-        }
-        Err(MakeFail::Memory) => {
-            s.vars.take_back(var, before);
-            Err(AllocError)
-        }
-        Err(MakeFail::TooLarge) => unreachable!(),
-    }
+    let made = s.objects.make(&s.schema.program, &s.schema.layouts, known);
+    conclude(s, var, before, made)
 }
 
 // Makes so many zero elements without room at their end, where they are not too large for a block, and binds a variable to them.

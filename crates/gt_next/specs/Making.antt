@@ -1,17 +1,17 @@
 -- Blocks that commands make, and why they make none.
-use Rattle.std.specs.Prelude.{◌≡◌, ◌<◌, ℕ, suc, ℤ, pos, negsuc, List, [], ◌∷◌, Option, Some, None, length}
+use Rattle.std.specs.Prelude.{◌≡◌, ◌<◌, ℕ, suc, ℤ, pos, negsuc, List, Option, Some, None, length}
 use Rattle.gt_types.specs.declared.types.TypeId.{TypeId}
 use Rattle.gt_types.specs.declared.program.Program.{Program}
 use Rattle.gt_types.specs.Tails.{IsTailType}
 use Rattle.gt_layout.specs.declared.planes.Layouts.{Layouts}
 use Rattle.gt_script.specs.declared.command.TypeName.{TypeName}
-use Rattle.gt_tree.specs.Trees.{Tree, Num, Row, Trees, End, And}
+use Rattle.gt_tree.specs.Trees.{Tree, Row}
 use Rattle.gt_tree.specs.Blocks.{Kind, Nodes, Chars, Raw}
 use Rattle.gt_pages.specs.Ledger.{Room, rounded}
 use Rattle.gt_graph.specs.Objects.{Object}
 use Rattle.gt_graph.specs.Places.{Placed, Needs, ledger_of}
 use Rattle.gt_graph.specs.Good.{IsOfTails}
-use Rattle.gt_graph.specs.Changes.{Makes, IsZeroBlock}
+use Rattle.gt_graph.specs.Changes.{Makes, IsZeroBlock, characters}
 use Rattle.gt_next.specs.declared.TheConstants.{MAX_BLOCK}
 use Rattle.gt_next.specs.declared.answer.Answer.{Answer}
 use Rattle.gt_next.specs.declared.answer.Answer.TheVariants.{Made, Refused}
@@ -43,10 +43,6 @@ abbrev pub zeros : Program → State → Wanted → Contents
 zeros program s w value = IsZeroBlock program s.heap.graph w.kind w.count w.capacity value
 
 -- the bytes of a text and a zero
-abbrev pub characters : List ℕ → Trees
-characters [] = And (Num (pos 0)) End
-characters (byte ∷ bytes) = And (Num (pos byte)) (characters bytes)
-
 abbrev pub text : List ℕ → Contents
 text bytes value = value ≡ Row (characters bytes)
 

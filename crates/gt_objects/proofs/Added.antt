@@ -1,4 +1,4 @@
--- The heap with one more object, in a new block of zero bytes.
+-- The heap with one more object, in a new block of bytes that stand for it.
 use Rattle.std.proofs.Common.{◌≡◌, ◌≢◌, ℕ, ◌+◌, ◌<◌, ◌≤◌, ◌==◌, List, [], ◌∷◌, Some, option_map, length, map, replicate, refl, sym, ap, subst, ◌∙◌, inl, inr, arith}
 use Rattle.std.specs.Prelude.{Contains, slice_get}
 use Rattle.std.specs.List.{AllZip}
@@ -13,14 +13,14 @@ use Rattle.gt_layout.specs.declared.planes.Layouts.{Layouts}
 use Rattle.gt_layout.specs.Planes.{IsLaidOut}
 use Rattle.gt_layout.specs.Excess.{IsWithin}
 use Rattle.gt_space.specs.Laws.{IsApart}
-use Rattle.gt_space.specs.Range.{IsInside, bytes_at, with_bytes}
+use Rattle.gt_space.specs.Range.{Range, IsInside, bytes_at, with_bytes}
 use Rattle.gt_space.proofs.RangeLemmas.{bytes_at-with_bytes, bytes_at-with_bytes_apart}
 use Rattle.gt_tree.specs.Blocks.{Nodes}
 use Rattle.gt_value.specs.Names.{kind_of}
 use Rattle.gt_pages.specs.Ledger.{Block, Ledger, Place, Sound, insert_by, with_block}
 use Rattle.gt_pages.specs.Slots.{Slot, block_of as block_of_slot}
 use Rattle.gt_pages.specs.Contents as pages
-use Rattle.gt_graph.specs.Objects.{Object, blocks_of, block_of}
+use Rattle.gt_graph.specs.Objects.{Object, Graph, blocks_of, block_of}
 use Rattle.gt_graph.specs.Places.{Placed, ArePlacesOf, IsSizeFor, Needs, address_in, ledger_of}
 use Rattle.gt_graph.specs.Good.{Heap, ArePairsOf, IsGraph, IsObject, IsSingle}
 use Rattle.gt_graph.specs.Changes.{Inserts, Makes}
@@ -74,11 +74,35 @@ needs_of program layouts o known bytes is needs =
     (subst (λ n. Needs program layouts (kind_of known.kind) n o.capacity bytes) (sym is.count)
     (subst (λ c. Needs program layouts (kind_of known.kind) known.count c bytes) (sym is.capacity) needs))
 
+-- ---- the new object
+
+-- An object that may be made, under whatever name, in a block of so many bytes: it may stand in the graph, this is what is known of it,
+-- and these bytes stand for it.
+pub record IsNewObject (program : Program) (layouts : Layouts) (g : Graph) (known : Known) (o : Object) (size : ℕ) (contents : List ℕ) : Type 0 where
+  pub object : IsObject program g o
+  pub is_known : IsKnown o known
+  pub long : length contents ≡ size
+  pub stands : (naming : ℕ → ℕ) (range : Range) (address : ℕ) → bytes_at range address size ≡ contents
+      → BlockStands program layouts naming range (named address o) (block_at address size)
+
+-- zero bytes stand for a zero object
+pub zero_is_new : (program : Program) (layouts : Layouts) → Settled program → IsLaidOut program layouts → (g : Graph) (known : Known) (o : Object) → IsZeroObject program g known o → (size : ℕ)
+    → HasSize program layouts known size → IsNewObject program layouts g known o size (replicate size 0)
+zero_is_new program layouts settled laid g known o zero size sized = record {
+  object = zero.object;
+  is_known = zero.is_known;
+  long = length-replicate size 0;
+  stands = λ naming range address bytes.
+      let needs = needs_of program layouts o known sized.0 zero.is_known sized.1 in
+      zero_block_stands program layouts settled laid (blocks_of g.objects) g.statics naming range (named address o) (block_at address size) needs.0 zero.object.fits zero.zero needs.1
+      (All-same is_zero (bytes_at range address size) (replicate size 0) bytes (zeros_are size));
+}
+
 -- ---- the whole
 
-module _ (program : Program) (layouts : Layouts) (settled : Settled program) (laid : IsLaidOut program layouts) (within : IsWithin program layouts) (old new : Objects) (heap : Heap)
-    (was : IsHeapOf program layouts old heap) (known : Known) (o : Object) (zero : IsZeroObject program heap.graph known o) (address size : ℕ) (sized : HasSize program layouts known size)
-    (taken : TakesBlock old known address size new) where
+module _ (program : Program) (layouts : Layouts) (within : IsWithin program layouts) (old new : Objects) (heap : Heap) (was : IsHeapOf program layouts old heap) (known : Known) (o : Object)
+    (address size : ℕ) (contents : List ℕ) (is_new : IsNewObject program layouts heap.graph known o size contents) (sized : HasSize program layouts known size)
+    (taken : TakesBlock old known address size contents new) where
   abbrev x : Object
   x = named address o
 
@@ -90,9 +114,6 @@ module _ (program : Program) (layouts : Layouts) (settled : Settled program) (la
 
   abbrev after : Heap
   after = with_object heap x p
-
-  abbrev zeros : List ℕ
-  zeros = replicate size 0
 
   are : ArePlacesOf program layouts heap.graph.objects heap.places
   are = was.good.places
@@ -166,7 +187,7 @@ module _ (program : Program) (layouts : Layouts) (settled : Settled program) (la
 
   new_object : IsObject program after.graph x
   new_object =
-      let is = object_stays o zero.object in
+      let is = object_stays o is_new.object in
       record { may_hold = is.may_hold; single_tail = is.single_tail; no_room = is.no_room; fits = is.fits }
 
   graph : IsGraph program after.graph
@@ -189,7 +210,7 @@ module _ (program : Program) (layouts : Layouts) (settled : Settled program) (la
       (sym (map_inserted (λ p. p.block) (λ p. p.id) (λ b. b.address) p heap.places.placed refl (λ r there. sym (name_is are r there))))
 
   new_size : IsSizeFor program layouts x size
-  new_size = (sized.0, needs_of program layouts o known sized.0 zero.is_known sized.1, sized.2)
+  new_size = (sized.0, needs_of program layouts o known sized.0 is_new.is_known sized.1, sized.2)
 
   places : ArePlacesOf program layouts after.graph.objects after.places
   places = record {
@@ -205,10 +226,10 @@ module _ (program : Program) (layouts : Layouts) (settled : Settled program) (la
 
   -- ---- the bytes
 
-  inside : IsInside old.space address (length zeros)
+  inside : IsInside old.space address (length contents)
   inside =
       let space = placed_space (ledger_of heap.places) b place large in
-      subst (λ n. IsInside old.space address n) (sym (length-replicate size 0)) (block_inside old.space heap.places.pages layouts.statics.size was.stands.sized address size space.0 space.1)
+      subst (λ n. IsInside old.space address n) (sym is_new.long) (block_inside old.space heap.places.pages layouts.statics.size was.stands.sized address size space.0 space.1)
 
   same_addresses : Agree (address_in heap.places.placed) (address_in after.places.placed) (blocks_of heap.graph.objects)
   same_addresses id blk e = address_named are id blk e ∙ sym (address_named places id blk (among id blk e))
@@ -217,33 +238,30 @@ module _ (program : Program) (layouts : Layouts) (settled : Settled program) (la
   other_bytes r there =
       let space = other_space (ledger_of heap.places) b place large r.block (in_ledger r there) (listed r there) in
       ap (λ s. bytes_at s r.block.address r.block.size) taken.bytes
-      ∙ bytes_at-with_bytes_apart old.space address zeros r.block.address r.block.size inside
+      ∙ bytes_at-with_bytes_apart old.space address contents r.block.address r.block.size inside
       (block_inside old.space heap.places.pages layouts.statics.size was.stands.sized r.block.address r.block.size space.0 space.1)
-      (subst (λ n. IsApart address n r.block.address r.block.size) (sym (length-replicate size 0)) (apart r there))
+      (subst (λ n. IsApart address n r.block.address r.block.size) (sym is_new.long) (apart r there))
 
   record_bytes : bytes_at new.space new.space.start layouts.statics.size ≡ bytes_at old.space old.space.start layouts.statics.size
   record_bytes =
       let space = placed_space (ledger_of heap.places) b place large in
       ap (λ s. bytes_at s s.start layouts.statics.size) taken.bytes
-      ∙ bytes_at-with_bytes_apart old.space address zeros old.space.start layouts.statics.size inside
+      ∙ bytes_at-with_bytes_apart old.space address contents old.space.start layouts.statics.size inside
       (record_inside old.space heap.places.pages layouts.statics.size was.stands.sized within.statics)
       (inr (record_below old.space heap.places.pages layouts.statics.size was.stands.sized within.statics address space.0))
 
-  new_bytes : bytes_at new.space address size ≡ zeros
+  new_bytes : bytes_at new.space address size ≡ contents
   new_bytes =
       ap (λ s. bytes_at s address size) taken.bytes
-      ∙ ap (λ n. bytes_at (with_bytes old.space address zeros) address n) (sym (length-replicate size 0))
-      ∙ bytes_at-with_bytes old.space address zeros inside
+      ∙ ap (λ n. bytes_at (with_bytes old.space address contents) address n) (sym is_new.long)
+      ∙ bytes_at-with_bytes old.space address contents inside
 
   new_stands : BlockStands program layouts (address_in after.places.placed) new.space x b
-  new_stands =
-      let needs = needs_of program layouts o known sized.0 zero.is_known sized.1 in
-      zero_block_stands program layouts settled laid (blocks_of after.graph.objects) heap.graph.statics (address_in after.places.placed) new.space x b needs.0 new_object.fits zero.zero needs.1
-      (All-same is_zero (bytes_at new.space address size) zeros new_bytes (zeros_are size))
+  new_stands = is_new.stands (address_in after.places.placed) new.space address new_bytes
 
   stands : Stands program layouts after new.space
   stands = record {
-    sized = sized_after old.space new.space heap.places.pages layouts.statics.size address zeros was.stands.sized inside taken.bytes;
+    sized = sized_after old.space new.space heap.places.pages layouts.statics.size address contents was.stands.sized inside taken.bytes;
     statics = record_stands program layouts (blocks_of heap.graph.objects) heap.graph.statics (address_in heap.places.placed) (address_in after.places.placed) same_addresses old.space new.space
         was.good.graph.statics record_bytes was.stands.statics;
     objects = each_pair (λ q r. BlockStands program layouts (address_in after.places.placed) new.space q r.block) new_stands
@@ -256,7 +274,7 @@ module _ (program : Program) (layouts : Layouts) (settled : Settled program) (la
 
   told : (q : Object) (r : Placed) → Contains after.graph.objects q → Contains after.places.placed r → r.id ≡ q.id → IsTold new q r
   told = each_pair (IsTold new)
-      (known, taken.learns.known, record { kind = zero.is_known.kind; count = zero.is_known.count; capacity = zero.is_known.capacity })
+      (known, taken.learns.known, record { kind = is_new.is_known.kind; count = is_new.is_known.count; capacity = is_new.is_known.capacity })
       (λ q r here there same.
       let before = was.told q r here there same in
       let space = other_space (ledger_of heap.places) b place large r.block (in_ledger r there) (listed r there) in (

@@ -20,3 +20,4 @@ pub mod Taking
 pub mod Counts
 pub mod Walked
 pub mod Widths
+pub mod Characters

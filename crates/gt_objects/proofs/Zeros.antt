@@ -20,7 +20,7 @@ use Rattle.gt_tree.proofs.WriteLeaves.{HoldsNought, noughts}
 abbrev pub is_zero : ℕ → Type 0
 is_zero byte = byte ≡ 0
 
-zero_at : (bytes : List ℕ) (k : ℕ) → All is_zero bytes → get_or bytes k 0 ≡ 0
+pub zero_at : (bytes : List ℕ) (k : ℕ) → All is_zero bytes → get_or bytes k 0 ≡ 0
 zero_at bytes k zeros = elim (cases_lt k (length bytes)) [
   | inl low ↦ All-get_or is_zero bytes k 0 low zeros
   | inr past ↦ get_or_past bytes k 0 past

@@ -1,9 +1,11 @@
 -- One more object.
-use Rattle.std.specs.Prelude.{◌≡◌, ℕ, length, replicate, Some, None}
+use Rattle.std.specs.Prelude.{◌≡◌, ℕ, suc, List, length, Some, None}
 use Rattle.gt_types.specs.declared.program.Program.{Program}
 use Rattle.gt_layout.specs.declared.planes.Layouts.{Layouts}
 use Rattle.gt_space.specs.Range.{with_bytes}
-use Rattle.gt_tree.specs.Trees.{IsZero}
+use Rattle.gt_tree.specs.Trees.{Row, IsZero}
+use Rattle.gt_tree.specs.Blocks.{Chars}
+use Rattle.gt_value.specs.declared.names.BlockKind.TheVariants as told
 use Rattle.gt_value.specs.Names.{kind_of}
 use Rattle.gt_pages.specs.Ledger.{Block, Place, rounded, insert_by, with_block}
 use Rattle.gt_pages.specs.Contents as pages
@@ -11,7 +13,7 @@ use Rattle.gt_directory.specs.Directories.{Learns}
 use Rattle.gt_graph.specs.Objects.{Object, Graph}
 use Rattle.gt_graph.specs.Places.{Placed, Needs}
 use Rattle.gt_graph.specs.Good.{Heap, IsObject}
-use Rattle.gt_graph.specs.Changes.{Makes}
+use Rattle.gt_graph.specs.Changes.{Makes, characters}
 use Rattle.gt_objects.specs.declared.objects.Known.{Known}
 use Rattle.gt_objects.specs.declared.objects.Objects.{Objects}
 use Rattle.gt_objects.specs.Knowing.{IsKnown}
@@ -60,17 +62,27 @@ pub record IsMade (program : Program) (layouts : Layouts) (heap : Heap) (o : Obj
   pub makes : Makes program layouts heap (named address o) (placed address size) (with_object heap (named address o) (placed address size))
   pub holds : IsHeapOf program layouts new (with_object heap (named address o) (placed address size))
 
+-- ---- a text
+
+-- what is known of the characters of a text: there is one more, the zero after them
+abbrev pub known_text : List ℕ → Known
+known_text bytes = record { kind = told.Chars; count = suc (length bytes); capacity = 0 }
+
+-- the characters of a text, under no name yet
+abbrev pub text_object : List ℕ → Object
+text_object bytes = record { id = 0; kind = Chars; count = suc (length bytes); capacity = 0; value = Row (characters bytes) }
+
 -- ---- no promise: what the functions inside the crate do
 
 abbrev pub block_at : (address size : ℕ) → Block
 block_at address size = record { address = address; size = size }
 
--- a new block of zero bytes, of which the directory knows this
-pub record TakesBlock (old : Objects) (known : Known) (address size : ℕ) (new : Objects) : Type 0 where
+-- a new block with these bytes, of which the directory knows this
+pub record TakesBlock (old : Objects) (known : Known) (address size : ℕ) (contents : List ℕ) (new : Objects) : Type 0 where
   pub place : Place (pages.ledger_of old.pages) (block_at address size)
   pub ledger : pages.ledger_of new.pages ≡ with_block (pages.ledger_of old.pages) (block_at address size)
   pub laid : pages.AreLaidOut new.pages
-  pub bytes : new.space ≡ with_bytes old.space address (replicate size 0)
+  pub bytes : new.space ≡ with_bytes old.space address contents
   pub learns : Learns old.directory address size known new.directory
   pub shelves : length new.directory.shelves ≡ length old.directory.shelves
 

@@ -10,6 +10,7 @@ mod marks;
 mod objects;
 mod sizes;
 mod storing;
+mod texts;
 mod totals;
 
 pub use laws::blocks_have_a_greatest_size;

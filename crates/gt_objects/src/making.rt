@@ -1,5 +1,5 @@
 //! One more object.
-ghost use Rattle.std.specs.Prelude.{◌≡◌, ◌+◌, ◌*◌, ◌≤◌, ℕ, Contains, Err, IfOk, IfErr, OnErr, length};
+ghost use Rattle.std.specs.Prelude.{◌≡◌, ◌+◌, ◌*◌, ◌≤◌, ℕ, Contains, Err, IfOk, IfErr, OnErr, length, replicate};
 ghost use Rattle.gt_types.specs.Settled.{Settled};
 ghost use Rattle.gt_layout.specs.Planes.{IsLaidOut};
 ghost use Rattle.gt_layout.specs.Excess.{IsWithin};
@@ -69,12 +69,12 @@ impl Objects {
     }
 
     // Takes a block of zero bytes of which this is known, and gives its address.
-    fn take_block(&mut self, size: u32, known: Known) -> Result<u64, SlotFail>
+    pub(crate) fn take_block(&mut self, size: u32, known: Known) -> Result<u64, SlotFail>
         requires listed { Contains sizes size }
         requires shelves { length self.old.directory.shelves ≡ self.old.pages.pages }
         requires start { self.old.space.start ≤ HEAP_START }
         requires sized { HEAP_START + PAGE_BYTES * self.old.pages.pages ≤ self.old.space.start + length self.old.space.bytes }
-        ensures taken { IfOk result (λ addr. TakesBlock self.old known addr size self.new) }
+        ensures taken { IfOk result (λ addr. TakesBlock self.old known addr size (replicate size 0) self.new) }
         ensures full { IfErr result (λ e. e ≡ SlotFail.Full → ¬ Room (ledger_of self.old.pages) size) }
         ensures unchanged { OnErr result (IsAsBefore self.old self.new) }
     {

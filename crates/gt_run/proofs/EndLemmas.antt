@@ -1,90 +1,76 @@
 -- What the program comes to, from what its parts did.
-use Rattle.std.proofs.Common.{◌≡◌, ℕ, ◌*◌, ◌⊎◌, List, [], length, All, refl, sym, ap, subst, ◌∙◌, Option, inl, inr}
+use Rattle.std.proofs.Common.{◌≡◌, ◌≢◌, ◌⊎◌, ℕ, List, [], ◌∷◌, ◌++◌, All, refl, sym, ap, subst, ◌∙◌, Option, inl, inr}
 use Rattle.gt_types.specs.declared.program.Program.{Program}
-use Rattle.gt_space.specs.Range.{Range, IsSized, empty_range}
+use Rattle.gt_layout.specs.declared.planes.Layouts.{Layouts}
+use Rattle.gt_layout.specs.Planes.{IsLaidOut}
+use Rattle.gt_space.specs.Range.{Range, empty_range}
 use Rattle.gt_io.specs.Held.{Held}
-use Rattle.gt_io.specs.Appends.{Adds, IsFrontOf}
+use Rattle.gt_io.specs.Appends.{IsFrontOf}
 use Rattle.gt_script.specs.declared.command.Line.{Line}
 use Rattle.gt_words.specs.declared.call.Call.{Call}
-use Rattle.gt_words.specs.declared.call.Settings.{Settings}
 use Rattle.gt_front.specs.Asks.{Asks}
 use Rattle.gt_front.specs.Texts.{Texts}
 use Rattle.gt_front.specs.Refused.{IsRefusalLine}
 use Rattle.gt_front.specs.declared.refusal.Refusal.{Refusal}
-use Rattle.gt_heap.specs.Stands.{Stands}
-use Rattle.gt_machine.specs.Built.{IsBuilt}
-use Rattle.gt_machine.specs.State.{State}
-use Rattle.gt_machine.specs.Good.{IsGoodState}
-use Rattle.gt_machine.specs.Run.{Run}
-use Rattle.gt_machine.specs.Text.{texts_of}
-use Rattle.gt_machine.specs.declared.answer.Answer.{Answer}
+use Rattle.gt_graph.specs.Stands.{Stands}
+use Rattle.gt_next.specs.declared.answer.Answer.{Answer}
+use Rattle.gt_next.specs.States.{State, IsGoodState}
+use Rattle.gt_steps.specs.Built.{IsBuilt}
+use Rattle.gt_lines.specs.Runs.{AddsAllBut, RanFirst, RunsLines}
+use Rattle.gt_lines.specs.Scripts.{LeavesSpace, RunsScript}
+use Rattle.gt_lines.specs.declared.lines.LinesEnd.{LinesEnd}
+use Rattle.gt_lines.specs.declared.lines.LinesEnd.TheVariants as lines
 use Rattle.gt_run.specs.Comes.{IsRefusedFirst}
+use Rattle.gt_run.specs.Endings.{ending_of}
 use Rattle.gt_run.specs.Runs.{Opens, Runs}
-use Rattle.gt_run.specs.Lines.{Opened, RanFirst, RunsLines, RunsScript}
-use Rattle.gt_run.specs.Ended.{AddsAllBut, IsNothing, Ended, Ends, Refuses, refusal_of, status_of}
+use Rattle.gt_run.specs.Ended.{Ended, Ends, Refuses, refusal_of, status_of}
 use Rattle.gt_run.specs.declared.ending.Ending.{Ending}
 use Rattle.gt_run.specs.declared.ending.Ending.TheVariants.{Finished, Refused, SinkFailed, NoMemory}
 use Rattle.gt_run.specs.declared.outcome.Outcome.{Outcome}
 
 -- ---- a script that is run
 
-module _ (p q : Program) (settings : Settings) (lines : List Line) (told : Option Held) (opening state : State) (answers : List Answer) (range : Range)
-    (e : q ≡ p) (opens : Opens p settings told opening) (good : IsGoodState q state) (stands : Stands range state.graph) (sized : IsSized range state.graph.ledger.pages (8 * length q.roots)) where
-  -- what the first lines left, where the opening state is that of the program
-  opened : (left : List Line) → (r : RanFirst q opening state lines answers left) → (o : Opened p settings lines told answers left range) × (o.ran.0 ≡ r.0)
-  opened left r =
-      let G : Program → Type 0 = λ x. IsGoodState x state in
-      let Z : Program → Type 0 = λ x. IsSized range state.graph.ledger.pages (8 * length x.roots) in
-      let R : Program → Type 0 = λ x. Run x opening r.0 answers state in (
-        record { opening = opening; opens = opens; state = state; ran = (r.0, r.1, subst R e r.2); good = subst G e good; stands = stands; sized = subst Z e sized },
-        refl,
-      )
-
-  -- what the lines left is what the script leaves, where the opening state is that of the program
-  pub RunsScript-lines : (old new : Option (List ℕ)) (ending : Ending) → RunsLines q lines opening state answers old new ending → RunsScript p settings lines told answers old new range ending
-  RunsScript-lines old new Finished h =
-      let w = opened [] h.0 in
-      let A : List Line → Type 0 = λ done. Adds old (texts_of done answers) new in
-      (w.0, subst A (sym w.1) h.1)
-  RunsScript-lines old new SinkFailed h =
-      let w = opened h.0 h.1 in
-      let A : List Line → Type 0 = λ done. AddsAllBut old done answers IsFrontOf new in
-      (h.0, w.0, subst A (sym w.1) h.2)
-  RunsScript-lines old new NoMemory h =
-      let w = opened h.0 h.1 in
-      let A : List Line → Type 0 = λ done. Adds old (texts_of done answers) new ⊎ AddsAllBut old done answers IsNothing new in
-      inr (h.0, w.0, subst A (sym w.1) h.2)
-  RunsScript-lines old new (Refused refusal) h = absurd h
-
-module _ (words : List (List ℕ)) (told : Option Held) (call : Call) (p : Program) (lines : List Line) (asks : Asks words told call p lines)
-    (built : All (λ (line : Line). IsBuilt line.command) lines) (answers : List Answer) (range : Range) where
+module _ (words : List (List ℕ)) (told : Option Held) (call : Call) (p : Program) (layouts : Layouts) (script : List Line) (laid : IsLaidOut p layouts)
+    (asks : Asks words told call p script) (built : All (λ (line : Line). IsBuilt line.command) script) (opening state : State) (opens : Opens p call.settings told opening)
+    (good : IsGoodState p layouts state) where
   -- a run of what the words ask for
-  abbrev Runs-opened : (left : List Line) → Opened p call.settings lines told answers left range → Runs words told answers range
-  Runs-opened left o =
+  abbrev Runs-first : (answers : List Answer) (range : Range) (left : List Line) → RanFirst p layouts opening state script answers left → Stands p layouts state.heap range → Runs words told answers range
+  Runs-first answers range left ran stands =
       record {
         call = call;
         program = p;
-        lines = lines;
+        layouts = layouts;
+        laid = laid;
+        lines = script;
         asks = asks;
         built = built;
-        done = o.ran.0;
+        done = ran.0;
         left = left;
-        split = o.ran.1;
-        opening = o.opening;
-        opens = o.opens;
-        state = o.state;
-        run = o.ran.2;
-        good = o.good;
-        stands = o.stands;
-        sized = o.sized;
+        split = ran.1;
+        opening = opening;
+        opens = opens;
+        state = state;
+        run = ran.2;
+        good = good;
+        stands = stands;
       }
 
-  -- an ending of a script is one of the program
-  pub Ended-script : (old new : Option (List ℕ)) (ending : Ending) → RunsScript p call.settings lines told answers old new range ending → Ended words told old ending answers new range
-  Ended-script old new Finished h = (Runs-opened [] h.0, refl, h.1)
-  Ended-script old new SinkFailed h = inr (Runs-opened h.0 h.1, h.2)
-  Ended-script old new NoMemory h = elim h [ inl n ↦ inl n | inr r ↦ inr (Runs-opened r.0 r.1, r.2) ]
-  Ended-script old new (Refused refusal) h = absurd h
+  -- what lines leave is an ending of the program, where the space was empty
+  Ended-lines : (answers : List Answer) (old new : Option (List ℕ)) (before now : Range) (end : LinesEnd) → before ≡ empty_range
+      → RunsLines p layouts script opening state answers old new end → LeavesSpace p layouts state end answers before now → Ended words told old (ending_of end) answers new now
+  Ended-lines answers old new before now lines.Finished empty h stands = (Runs-first answers now [] h.0 stands, refl, h.1)
+  Ended-lines answers old new before now lines.SinkFailed empty h stands = inr (Runs-first answers now h.0 h.1 stands, h.2)
+  Ended-lines [] old new before now lines.NoMemory empty h same = inl (refl, h.3 refl, same ∙ empty)
+  Ended-lines (answer ∷ answers) old new before now lines.NoMemory empty h stands =
+      inr ((λ none. cc), Runs-first (answer ∷ answers) now h.0 h.1 stands, h.2)
+
+-- what a script leaves is an ending of the program, where the space was empty
+pub Ended-script : (words : List (List ℕ)) (told : Option Held) (call : Call) (p : Program) (layouts : Layouts) (script : List Line) → IsLaidOut p layouts
+    → Asks words told call p script → All (λ (line : Line). IsBuilt line.command) script → (opening : State) → Opens p call.settings told opening
+    → (answers : List Answer) (old new : Option (List ℕ)) (before now : Range) (end : LinesEnd) → before ≡ empty_range
+    → RunsScript p layouts script opening answers old new before now end → Ended words told old (ending_of end) answers new now
+Ended-script words told call p layouts script laid asks built opening opens answers old new before now end empty h =
+    Ended-lines words told call p layouts script laid asks built opening h.last opens h.good answers old new before now end empty h.runs h.space
 
 -- ---- outcomes
 
@@ -107,5 +93,23 @@ Ended-refused words told texts refusal line first is old new (Refused other) h =
     let L : Refusal → Type 0 = λ r. IsRefusalLine words texts r line in
     (refl, refl, texts, subst F (sym h.0) first, line, subst L (sym h.0) is, h.1)
 Ended-refused words told texts refusal line first is old new SinkFailed h = inl (refl, refl, refusal, texts, first, line, is, h)
-Ended-refused words told texts refusal line first is old new NoMemory h = inl (refl, h, inl refl)
+Ended-refused words told texts refusal line first is old new NoMemory h = inl (refl, h, refl)
 Ended-refused words told texts refusal line first is old new Finished h = absurd h
+
+-- ---- calls without an answer
+
+-- one more answer is not none
+answered-some : (before now : List Answer) (answer : Answer) → now ≡ before ++ answer ∷ [] → now ≢ []
+answered-some [] now answer e none = let is : answer ∷ [] ≡ [] = sym e ∙ none in cc
+answered-some (a ∷ more) now answer e none = let is : a ∷ more ++ answer ∷ [] ≡ [] = sym e ∙ none in cc
+
+-- where no line was answered, the space is empty unless all is done
+pub Ends-unanswered : (words : List (List ℕ)) (told : Option Held) (old new : Option (List ℕ)) (outcome : Outcome) (range : Range) → Ends words told old new outcome range
+    → outcome.answers ≡ [] → (range ≡ empty_range) ⊎ (outcome.status ≡ 0)
+Ends-unanswered words told old new outcome range ends none =
+    by_ending ends.ending ends.status ends.ended where
+      by_ending : (ending : Ending) → outcome.status ≡ status_of ending outcome.answers → Ended words told old ending outcome.answers new range → (range ≡ empty_range) ⊎ (outcome.status ≡ 0)
+      by_ending Finished s h = inr (s ∙ ap (status_of Finished) none)
+      by_ending (Refused refusal) s h = inl h.1
+      by_ending SinkFailed s h = elim h [ inl refused ↦ inl refused.1 | inr ran ↦ absurd (answered-some ran.1.3 outcome.answers ran.1.4 ran.1.5 none) ]
+      by_ending NoMemory s h = elim h [ inl before ↦ inl before.2 | inr ran ↦ absurd (ran.0 none) ]

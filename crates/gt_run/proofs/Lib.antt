@@ -1,6 +1,4 @@
-mod RunLemmas
 mod EndLemmas
-mod Linked
 mod WellLemmas
 mod RefusalOnce
 mod RefusedEnds

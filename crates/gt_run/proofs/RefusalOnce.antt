@@ -12,7 +12,7 @@ use Rattle.gt_script.specs.declared.stop.ScriptStop.TheVariants.{ScriptSyntax, S
 use Rattle.gt_script.specs.Outcome.{Parsed}
 use Rattle.gt_words.specs.declared.call.Call.{Call}
 use Rattle.gt_words.specs.Calls.{call_of}
-use Rattle.gt_headers.specs.Headers.{Declares, IsFirstFault, IsNotBuilt}
+use Rattle.gt_headers.specs.Headers.{Declares, IsFirstFault}
 use Rattle.gt_front.specs.Texts.{File, Texts, AreTextsOf, files_in_order}
 use Rattle.gt_front.specs.Asks.{Asks, Calls, Reads}
 use Rattle.gt_front.specs.Comes.{Comes, IsGenerated, IsThere, IsRefusedFile, IsRefusedFor, IsScriptFault}
@@ -20,10 +20,10 @@ use Rattle.gt_front.specs.declared.refusal.FileWhy.{FileWhy}
 use Rattle.gt_front.specs.declared.refusal.FileWhy.TheVariants.{Missing, TooLong, Fault}
 use Rattle.gt_front.specs.declared.refusal.Refusal.{Refusal}
 use Rattle.gt_front.specs.declared.refusal.Refusal.TheVariants.{Words, Header, Script, NotBuilt, File as InFile}
-use Rattle.gt_machine.specs.Built.{IsBuilt}
+use Rattle.gt_steps.specs.Built.{IsBuilt}
 use Rattle.gt_run.specs.Comes.{HasUnbuilt, IsRefusedFirst, IsTold}
 use Rattle.gt_run.specs.Complete.{AreHeld}
-use Rattle.gt_run.proofs.WellLemmas.{same_call, same_name, same_lines, no_generated, held_texts, parts, no_refusal, refused_file, OneOutcome, NoFault, AllBuilt, no_script_fault}
+use Rattle.gt_run.proofs.WellLemmas.{same_call, same_name, same_lines, no_generated, held_texts, parts, no_refusal, refused_file, OneOutcome, NoFault, no_script_fault}
 
 -- texts that are told are held
 held_of_told : (held : Held) (files : List File) (texts : List (List ℕ)) → AreTextsOf (Some held) files texts → AreHeld held files texts
@@ -112,14 +112,13 @@ same_read words held call other texts others a b =
 -- what is refused after the files are read
 data Behind (texts : Texts) : Refusal → Type 0 where
   header : (fault : HeaderFault) → IsFirstFault texts.headers fault → Behind texts (Header fault)
-  undone : (word : ℕ) → IsNotBuilt texts.headers word → Behind texts (NotBuilt word)
   script : (number line : ℕ) (program : Program) → Declares texts.headers program → IsScriptFault texts.script number line → Behind texts (Script number line)
-  unbuilt : (program : Program) (lines : List Line) → Declares texts.headers program → Parsed texts.script lines → HasUnbuilt lines → Behind texts (NotBuilt 0)
+  unbuilt : (program : Program) (lines : List Line) → Declares texts.headers program → Parsed texts.script lines → HasUnbuilt lines → Behind texts NotBuilt
 
 -- what is refused, by how far the work came
 data Place (words : List (List ℕ)) (held : Held) : Refusal → Type 0 where
   of_words : call_of words ≡ None → Place words held Words
-  of_generated : (call : Call) → call_of words ≡ Some call → IsGenerated call → Place words held (NotBuilt 0)
+  of_generated : (call : Call) → call_of words ≡ Some call → IsGenerated call → Place words held NotBuilt
   of_file : (call : Call) (name : List ℕ) (word : ℕ) (why : FileWhy) → Calls words call name → IsRefusedFile (Some held) (files_in_order name call.headers) word why → (why ≡ Fault → ⊥) → Place words held (InFile word why)
   of_texts : (call : Call) (texts : Texts) (refusal : Refusal) → Reads words (Some held) call texts → Behind texts refusal → Place words held refusal
 
@@ -128,8 +127,7 @@ place_comes : (words : List (List ℕ)) (held : Held) (texts : Texts) (refusal :
 place_comes words held texts Words c t = of_words c
 place_comes words held texts (InFile word why) c t = of_file c.0 c.1 word why c.2 c.3 (no_fault_told word why t)
 place_comes words held texts (Header fault) c t = of_texts c.0 texts (Header fault) c.1 (header fault c.2)
-place_comes words held texts (NotBuilt word) (inl c) t = subst (λ n. Place words held (NotBuilt n)) (sym c.0) (of_generated c.1 c.2 c.3)
-place_comes words held texts (NotBuilt word) (inr c) t = of_texts c.0 texts (NotBuilt word) c.1 (undone word c.2)
+place_comes words held texts NotBuilt c t = of_generated c.0 c.1 c.2
 place_comes words held texts (Script number line) c t = of_texts c.0 texts (Script number line) c.1 (script number line c.2.0 c.2.1 c.3)
 
 -- and so has that of a command that is not built
@@ -137,7 +135,7 @@ place : (words : List (List ℕ)) (held : Held) (texts : Texts) (refusal : Refus
 place words held texts refusal (inl c) t = place_comes words held texts refusal c t
 place words held texts refusal (inr u) t =
     let asks = u.4 in
-    subst (Place words held) (sym u.0) (of_texts u.1 asks.texts (NotBuilt 0) asks.reads (unbuilt u.2 u.3 asks.declares asks.parsed u.5))
+    subst (Place words held) (sym u.0) (of_texts u.1 asks.texts NotBuilt asks.reads (unbuilt u.2 u.3 asks.declares asks.parsed u.5))
 
 -- the same number and the same line are the same refusal
 same_script : (number other line place : ℕ) → number ≡ other → line ≡ place → Script number line ≡ Script other place
@@ -158,14 +156,6 @@ one_script one text number line other place (inr h) (inr k) = same_script number
 abbrev OneFault : Type 0
 OneFault = (texts : List (List ℕ)) (fault other : HeaderFault) → IsFirstFault texts fault → IsFirstFault texts other → fault ≡ other
 
--- and one of them is the first that is not built
-abbrev OneUndone : Type 0
-OneUndone = (texts : List (List ℕ)) (file other : ℕ) → IsNotBuilt texts file → IsNotBuilt texts other → file ≡ other
-
--- a fault comes before what is not built
-abbrev FaultFirst : Type 0
-FaultFirst = (texts : List (List ℕ)) (fault : HeaderFault) (file : ℕ) → IsFirstFault texts fault → IsNotBuilt texts file → ⊥
-
 -- a script in a file is not generated
 not_generated : (words : List (List ℕ)) (call other : Call) (name : List ℕ) → Calls words call name → call_of words ≡ Some other → IsGenerated other → ⊥
 not_generated words call other name calls e g =
@@ -183,30 +173,22 @@ not_refused words held call other name texts word why calls r reads =
     let F : List File → Type 0 = λ files. AreTextsOf (Some held) files (texts.headers ++ texts.script ∷ []) in
     refused_file held (Some held) refl (files_in_order name call.headers) (texts.headers ++ texts.script ∷ []) (held_of_told held _ _ (subst F order reads.texts_are)) word why r
 
-module _ (one : OneOutcome) (no_fault : NoFault) (all_built : AllBuilt) (one_fault : OneFault) (one_undone : OneUndone) (fault_first : FaultFirst) where
+module _ (one : OneOutcome) (no_fault : NoFault) (one_fault : OneFault) where
   -- over the same texts one is refused
   one_behind : (texts : Texts) (refusal other : Refusal) → Behind texts refusal → Behind texts other → refusal ≡ other
   one_behind texts _ _ (header f h) (header g k) = ap Header (one_fault texts.headers f g h k)
-  one_behind texts _ _ (header f h) (undone w k) = absurd (fault_first texts.headers f w h k)
   one_behind texts _ _ (header f h) (script n l p d k) = absurd (no_fault texts.headers p f d h)
   one_behind texts _ _ (header f h) (unbuilt p l d q k) = absurd (no_fault texts.headers p f d h)
-  one_behind texts _ _ (undone w h) (header g k) = absurd (fault_first texts.headers g w k h)
-  one_behind texts _ _ (undone w h) (undone v k) = ap NotBuilt (one_undone texts.headers w v h k)
-  one_behind texts _ _ (undone w h) (script n l p d k) = absurd (all_built texts.headers p w d h)
-  one_behind texts _ _ (undone w h) (unbuilt p l d q k) = absurd (all_built texts.headers p w d h)
   one_behind texts _ _ (script n l p d h) (header g k) = absurd (no_fault texts.headers p g d k)
-  one_behind texts _ _ (script n l p d h) (undone w k) = absurd (all_built texts.headers p w d k)
   one_behind texts _ _ (script n l p d h) (script m j r s k) = one_script one texts.script n l m j h k
   one_behind texts _ _ (script n l p d h) (unbuilt r j s q k) = absurd (no_script_fault one texts.script j n l q h)
   one_behind texts _ _ (unbuilt p l d q h) (header g k) = absurd (no_fault texts.headers p g d k)
-  one_behind texts _ _ (unbuilt p l d q h) (undone w k) = absurd (all_built texts.headers p w d k)
   one_behind texts _ _ (unbuilt p l d q h) (script m j r s k) = absurd (no_script_fault one texts.script l m j q k)
   one_behind texts _ _ (unbuilt p l d q h) (unbuilt r j s t k) = refl
 
   -- nor is anything, where the headers declare a program and the script has lines that are all built
   none_behind : (texts : Texts) (refusal : Refusal) (program : Program) (lines : List Line) → Declares texts.headers program → Parsed texts.script lines → All (λ (line : Line). IsBuilt line.command) lines → Behind texts refusal → ⊥
   none_behind texts _ program lines d q b (header f h) = no_fault texts.headers program f d h
-  none_behind texts _ program lines d q b (undone w h) = all_built texts.headers program w d h
   none_behind texts _ program lines d q b (script n l p s h) = no_script_fault one texts.script lines n l q h
   none_behind texts _ program lines d q b (unbuilt p l s t h) =
       let same : lines ≡ l = same_lines _ _ (one texts.script (Ok lines) (Ok l) q t) in

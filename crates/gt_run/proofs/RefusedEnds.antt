@@ -6,7 +6,7 @@ use Rattle.gt_front.specs.Texts.{Texts}
 use Rattle.gt_front.specs.declared.refusal.FileWhy.TheVariants.{Missing, TooLong, Fault}
 use Rattle.gt_front.specs.declared.refusal.Refusal.{Refusal}
 use Rattle.gt_front.specs.declared.refusal.Refusal.TheVariants.{Words, Header, Script, NotBuilt, File as InFile}
-use Rattle.gt_machine.specs.declared.answer.Answer.{Answer}
+use Rattle.gt_next.specs.declared.answer.Answer.{Answer}
 use Rattle.gt_run.specs.Comes.{IsRefusedFirst, IsTold}
 use Rattle.gt_run.specs.Runs.{Runs}
 use Rattle.gt_run.specs.Ended.{Ended, Ends, refusal_of, refusal_status, status_of}
@@ -21,7 +21,7 @@ told_or_fault (InFile word Missing) = inl tt
 told_or_fault (InFile word TooLong) = inl tt
 told_or_fault (InFile word Fault) = inr (word, refl)
 told_or_fault (Header fault) = inl tt
-told_or_fault (NotBuilt word) = inl tt
+told_or_fault NotBuilt = inl tt
 told_or_fault (Script number line) = inl tt
 
 -- at most one refusal that is told comes first

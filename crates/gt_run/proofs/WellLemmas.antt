@@ -14,7 +14,7 @@ use Rattle.gt_script.specs.Outcome.{Parsed, IsOutcome}
 use Rattle.gt_words.specs.declared.call.Call.{Call}
 use Rattle.gt_words.specs.declared.call.Script.{Script as ScriptWord}
 use Rattle.gt_words.specs.declared.call.Script.TheVariants.{File as NamedFile, Generated}
-use Rattle.gt_headers.specs.Headers.{Declares, IsFirstFault, IsNotBuilt}
+use Rattle.gt_headers.specs.Headers.{Declares, IsFirstFault}
 use Rattle.gt_front.specs.Texts.{File, Texts, AreTextsOf, files_in_order}
 use Rattle.gt_front.specs.Asks.{Asks, Calls, Reads}
 use Rattle.gt_front.specs.Comes.{Comes, IsGenerated, IsRefusedFile, IsRefusedFor, IsScriptFault}
@@ -22,8 +22,8 @@ use Rattle.gt_front.specs.declared.refusal.FileWhy.{FileWhy}
 use Rattle.gt_front.specs.declared.refusal.FileWhy.TheVariants.{Missing, TooLong, Fault}
 use Rattle.gt_front.specs.declared.refusal.Refusal.{Refusal}
 use Rattle.gt_front.specs.declared.refusal.Refusal.TheVariants.{Words, Header, Script, NotBuilt, File as InFile}
-use Rattle.gt_machine.specs.Built.{IsBuilt}
-use Rattle.gt_machine.specs.Text.{is_refusal}
+use Rattle.gt_next.specs.Texts.{is_refusal}
+use Rattle.gt_steps.specs.Built.{IsBuilt}
 use Rattle.gt_run.specs.Comes.{HasUnbuilt, IsRefusedFirst}
 use Rattle.gt_run.specs.Complete.{AreHeld, IsWell}
 use Rattle.gt_run.specs.Ended.{Ended, Ends, status_of, refusal_of}
@@ -111,16 +111,12 @@ OneOutcome = (text : List ℕ) (outcome other : Result (List Line) ScriptStop) �
 abbrev pub NoFault : Type 0
 NoFault = (texts : List (List ℕ)) (program : Program) (fault : HeaderFault) → Declares texts program → IsFirstFault texts fault → ⊥
 
--- and all that they declare is built
-abbrev pub AllBuilt : Type 0
-AllBuilt = (texts : List (List ℕ)) (program : Program) (file : ℕ) → Declares texts program → IsNotBuilt texts file → ⊥
-
 -- a script with lines has no fault
 pub no_script_fault : OneOutcome → (text : List ℕ) (lines : List Line) (number line : ℕ) → Parsed text lines → IsScriptFault text number line → ⊥
 no_script_fault one text lines number line parsed (inl h) = let e = one text (Ok lines) (Err (ScriptSyntax line)) parsed h.1 in absurd (cc)
 no_script_fault one text lines number line parsed (inr h) = let e = one text (Ok lines) (Err ScriptTooLong) parsed h.2 in absurd (cc)
 
-module _ (one : OneOutcome) (no_fault : NoFault) (all_built : AllBuilt) (words : List (List ℕ)) (held : Held) (told : Option Held) (e : told ≡ Some held) (well : IsWell words held) where
+module _ (one : OneOutcome) (no_fault : NoFault) (words : List (List ℕ)) (held : Held) (told : Option Held) (e : told ≡ Some held) (well : IsWell words held) where
   -- the texts that were read are those that are held
   read_texts : (call : Call) (texts : Texts) → Reads words told call texts → (texts.headers ≡ well.texts.headers) × (texts.script ≡ well.texts.script)
   read_texts call texts reads =
@@ -170,8 +166,7 @@ module _ (one : OneOutcome) (no_fault : NoFault) (all_built : AllBuilt) (words :
   Comes-well texts Words comes = let none : None ≡ Some well.call = sym comes ∙ well.calls.called in absurd (cc)
   Comes-well texts (InFile word why) comes = (word, ap (InFile word) (called_file comes.0 comes.1 comes.2 word why comes.3))
   Comes-well texts (Header fault) comes = absurd (no_fault texts.headers well.program fault (declares comes.0 texts comes.1) comes.2)
-  Comes-well texts (NotBuilt word) (inl comes) = absurd (no_generated_call comes.1 (sym comes.2 ∙ well.calls.called) comes.3)
-  Comes-well texts (NotBuilt word) (inr comes) = absurd (all_built texts.headers well.program word (declares comes.0 texts comes.1) comes.2)
+  Comes-well texts NotBuilt comes = absurd (no_generated_call comes.0 (sym comes.1 ∙ well.calls.called) comes.2)
   Comes-well texts (Script number line) comes = absurd (no_script_fault one texts.script well.lines number line (parsed comes.0 texts comes.1) comes.3)
 
   -- and so it is behind them

@@ -10,7 +10,7 @@ use Rattle.gt_front.specs.Comes.{Comes}
 use Rattle.gt_front.specs.declared.refusal.FileWhy.TheVariants.{Missing, TooLong, Fault}
 use Rattle.gt_front.specs.declared.refusal.Refusal.{Refusal}
 use Rattle.gt_front.specs.declared.refusal.Refusal.TheVariants.{Words, Header, Script, NotBuilt, File as InFile}
-use Rattle.gt_machine.specs.Built.{IsBuilt}
+use Rattle.gt_steps.specs.Built.{IsBuilt}
 
 -- one of the commands is not built so far
 abbrev pub HasUnbuilt : List Line → Type 0
@@ -20,7 +20,7 @@ HasUnbuilt lines = (line : Line) × Contains lines line × (IsBuilt line.command
 abbrev pub IsRefusedFirst : List (List ℕ) → Option Held → Texts → Refusal → Type 0
 IsRefusedFirst words told texts refusal =
     Comes words told texts refusal
-    ⊎ ((refusal ≡ NotBuilt 0) × (call : Call) × (program : Program) × (lines : List Line) × Asks words told call program lines × HasUnbuilt lines)
+    ⊎ ((refusal ≡ NotBuilt) × (call : Call) × (program : Program) × (lines : List Line) × Asks words told call program lines × HasUnbuilt lines)
 
 -- a refusal that the files tell: not the failure of a read
 abbrev pub IsTold : Refusal → Type 0
@@ -29,5 +29,5 @@ IsTold (InFile word Missing) = Unit {0}
 IsTold (InFile word TooLong) = Unit {0}
 IsTold (InFile word Fault) = ⊥
 IsTold (Header fault) = Unit {0}
-IsTold (NotBuilt word) = Unit {0}
+IsTold NotBuilt = Unit {0}
 IsTold (Script number line) = Unit {0}

@@ -8,7 +8,7 @@ use Rattle.gt_words.specs.declared.call.Call.{Call}
 use Rattle.gt_headers.specs.Headers.{Declares}
 use Rattle.gt_front.specs.Texts.{File, Texts, files_in_order}
 use Rattle.gt_front.specs.Asks.{Calls}
-use Rattle.gt_machine.specs.Built.{IsBuilt}
+use Rattle.gt_steps.specs.Built.{IsBuilt}
 
 -- each file is there with its text, which is within its limit
 abbrev pub AreHeld : Held → List File → List (List ℕ) → Type 0

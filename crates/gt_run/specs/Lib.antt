@@ -2,4 +2,4 @@ pub mod Comes
 pub mod Runs
 pub mod Ended
 pub mod Complete
-pub mod Lines
+pub mod Endings

@@ -1,10 +1,10 @@
 // Whether the commands of a script are built so far.
 ghost use Rattle.std.specs.Prelude.{All, MatchBool};
-ghost use Rattle.gt_machine.specs.Built.{IsBuilt};
+ghost use Rattle.gt_steps.specs.Built.{IsBuilt};
 ghost use Rattle.gt_run.specs.Comes.{HasUnbuilt};
 
-use gt_machine::is_built;
 use gt_script::Line;
+use gt_steps::is_built;
 
 /// Whether each of the lines has a command that is built.
 pub fn are_built(lines: &[Line]) -> bool

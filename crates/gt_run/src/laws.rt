@@ -7,13 +7,13 @@ ghost use Rattle.gt_space.specs.declared.TheConstants.{PAGE_BYTES, HEAP_START, M
 ghost use Rattle.gt_io.specs.Held.{Held};
 ghost use Rattle.gt_space.specs.Range.{Range};
 ghost use Rattle.gt_front.specs.Texts.{Texts};
-ghost use Rattle.gt_machine.specs.declared.TheConstants.{MAX_ALLOCATED, MAX_MIN_EXPAND as most_expand, MAX_MIN_HEAPSIZE as most_heapsize, MAX_VARIABLES};
+ghost use Rattle.gt_next.specs.declared.TheConstants.{MAX_ALLOCATED, MAX_MIN_EXPAND as most_expand, MAX_MIN_HEAPSIZE as most_heapsize, MAX_VARIABLES};
 ghost use Rattle.gt_run.specs.Comes.{IsRefusedFirst, IsTold};
 ghost use Rattle.gt_run.specs.Runs.{Runs};
 
 use gt_front::Refusal;
 use gt_headers::one_outcome as headers_outcome;
-use gt_machine::Answer;
+use gt_next::Answer;
 
 /// The ranges and defaults of the arguments, the limits of files in bytes, the numbers of the faults of a script, where the
 /// pages begin, how large they are and how many a space has, how large the static record may be, how many variables may be

@@ -1,12 +1,12 @@
 // What the program tells at its end.
 ghost use Rattle.std.specs.Prelude.{◌≡◌, if◌then◌else◌};
 ghost use Rattle.std.specs.List.{list_any};
-ghost use Rattle.gt_machine.specs.Text.{is_refusal as is_refusal_of};
+ghost use Rattle.gt_next.specs.Texts.{is_refusal as is_refusal_of};
 ghost use Rattle.gt_run.specs.Ended.{refusal_status as refusal_status_of};
 
 use crate::ending::Ending;
 use gt_front::Refusal;
-use gt_machine::Answer;
+use gt_next::Answer;
 use gt_types::{Copied, List};
 use std::alloc::{AllocError, Global};
 

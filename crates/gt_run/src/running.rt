@@ -1,34 +1,40 @@
 // The program as one call.
-ghost use Rattle.std.specs.Prelude.{◌≡◌, ◌≤◌, ◌⊎◌, ℕ, [], All, IfSome, List, Option, Some};
+ghost use Rattle.std.specs.Prelude.{◌≡◌, ◌≤◌, ◌⊎◌, ℕ, [], All, IfSome, List, None, Option, Some};
+ghost use Rattle.gt_types.specs.Settled.{Settled};
+ghost use Rattle.gt_layout.specs.Planes.{IsLaidOut};
+ghost use Rattle.gt_layout.specs.Excess.{IsWithin};
 ghost use Rattle.gt_space.specs.Range.{Range, empty_range};
 ghost use Rattle.gt_io.specs.Counts.{Rose};
 ghost use Rattle.gt_io.specs.Held.{Held};
+ghost use Rattle.gt_words.specs.declared.call.Call.{Call};
 ghost use Rattle.gt_words.specs.Calls.{call_of};
-ghost use Rattle.gt_words.specs.Ranges.{AreInRange, IsInRange};
+ghost use Rattle.gt_words.specs.Ranges.{IsInRange};
 ghost use Rattle.gt_front.specs.Asks.{Asks};
 ghost use Rattle.gt_front.specs.Refused.{IsRefusalLine};
 ghost use Rattle.gt_front.specs.Texts.{Texts};
-ghost use Rattle.gt_heap.specs.Heap.{IsLinked};
-ghost use Rattle.gt_machine.specs.Built.{IsBuilt};
+ghost use Rattle.gt_next.specs.States.{State};
+ghost use Rattle.gt_session.specs.Sessions.{IsSession, StandsFor};
+ghost use Rattle.gt_steps.specs.Built.{IsBuilt};
 ghost use Rattle.gt_run.specs.Comes.{IsRefusedFirst, IsTold};
-ghost use Rattle.gt_run.specs.Lines.{RunsScript};
-ghost use Rattle.gt_run.specs.Ended.{Ends, IsUnused, refusal_status};
 ghost use Rattle.gt_run.specs.Complete.{IsWell};
+ghost use Rattle.gt_run.specs.Ended.{Ends, refusal_status};
+ghost use Rattle.gt_run.specs.Runs.{Opens};
 
 use crate::built::are_built;
 use crate::ending::Ending;
 use crate::laws::one_refusal;
-use crate::lines::run_lines;
+use crate::opening::open;
 use crate::outcome::Outcome;
 use crate::refuse::refuse;
 use gt_front::{FileWhy, Halt, Ready, Refusal, not_built_line, prepare};
-use gt_headers::{one_outcome as headers_outcome, settles_is_settled};
+use gt_headers::{declared_programs_are_settled, one_outcome as headers_outcome};
 use gt_io::{Files, Sink};
-use gt_machine::{Answer, good_state, opening};
+use gt_lines::run_script;
 use gt_script::Line;
+use gt_session::Session;
 use gt_space::Space;
-use gt_types::{List, Program, Word};
-use gt_words::{Call, Settings};
+use gt_types::{List, Word};
+use gt_words::Call;
 use std::alloc::Global;
 
 /// Runs the program: reads the arguments, the files that they name, the headers and the script, and then answers each
@@ -43,8 +49,8 @@ pub fn top<F: Files, K: Sink>(
     requires empty { space.old ≡ empty_range }
     ensures ended { Ends words.now (F.told files.old) (K.written out.old) (K.written out.new) result space.new }
 
-    // Where no line was answered, no command has changed a byte of the space.
-    ensures unused { result.answers ≡ [] → IsUnused space.new }
+    // Where no line was answered, the space is empty, as it came, unless all is done.
+    ensures unused { result.answers ≡ [] → (space.new ≡ empty_range) ⊎ (result.status ≡ 0) }
 
     // No command writes a file.
     ensures files { F.told files.new ≡ F.told files.old }
@@ -65,7 +71,7 @@ pub fn top<F: Files, K: Sink>(
         → (Rose (F.faults files.old) (F.faults files.new) → ⊥)
         → ((result.refusal ≡ Some refusal) × (result.status ≡ refusal_status refusal)) ⊎ (result.status ≡ 4) ⊎ (result.status ≡ 9) }
 {
-    settles_is_settled();
+    declared_programs_are_settled();
     well_is_not_refused();
     refused_is_told();
     match prepare(alloc, words, files) {
@@ -106,12 +112,13 @@ fn run_ready<F: Files, K: Sink>(
     out: &mut K,
     space: &mut Space,
 ) -> Outcome
-    requires linked { IsLinked ready.program }
+    requires settled { Settled ready.program }
+    requires laid { IsLaidOut ready.program ready.layouts }
+    requires within { IsWithin ready.program ready.layouts }
     requires ranges { IsInRange ready.call }
     requires empty { space.old ≡ empty_range }
     ensures ended { (words : List (List ℕ)) → Asks words (F.told files.old) ready.call ready.program ready.lines → Ends words (F.told files.old) (K.written out.old) (K.written out.new) result space.new }
-    ensures refusal { IfSome result.refusal (λ refusal. refusal ≡ Refusal.NotBuilt 0) }
-    ensures unused { result.answers ≡ [] → IsUnused space.new }
+    ensures refusal { IfSome result.refusal (λ refusal. refusal ≡ Refusal.NotBuilt) }
     ensures files { files.new ≡ files.old }
     ensures later { K.faults out.old ≤ K.faults out.new }
     ensures cause { result.status ≡ 4 → Rose (K.faults out.old) (K.faults out.new) }
@@ -119,29 +126,47 @@ fn run_ready<F: Files, K: Sink>(
     if !are_built(ready.lines.as_slice()) {
         return refuse_unbuilt(alloc, &ready.call, out);
     }
+    let settings = ready.call.settings;
+    match open(alloc, ready.program, ready.layouts, settings) {
+        Ok(session) => run_lines(alloc, session, ready.lines.as_slice(), files, out, space),
+        Err(_) => Outcome::of(Ending::NoMemory, List::new(alloc)),
+    }
+}
+
+// Runs the lines from a session.
+fn run_lines<F: Files, K: Sink>(
+    alloc: Global,
+    session: Session,
+    lines: &[Line],
+    files: &mut F,
+    out: &mut K,
+    space: &mut Space,
+) -> Outcome
+    requires session { IsSession session }
+    requires built { All (λ line. IsBuilt line.command) lines.now }
+    requires empty { space.old ≡ empty_range }
+    ensures ended { (words : List (List ℕ)) (call : Call) (opening : State) → Asks words (F.told files.old) call session.schema.program lines.now
+        → Opens session.schema.program call.settings (F.told files.old) opening → StandsFor session (F.told files.old) opening
+        → Ends words (F.told files.old) (K.written out.old) (K.written out.new) result space.new }
+    ensures refusal { result.refusal ≡ None }
+    ensures files { files.new ≡ files.old }
+    ensures later { K.faults out.old ≤ K.faults out.new }
+    ensures cause { result.status ≡ 4 → Rose (K.faults out.old) (K.faults out.new) }
+{
     let mut answers = Vec::new(alloc);
-    let ending = run(
-        alloc,
-        ready.program,
-        ready.call.settings,
-        ready.lines.as_slice(),
-        files,
-        out,
-        space,
-        &mut answers,
-    );
-    Outcome::of(ending, List::of(answers))
+    let end = run_script(alloc, session, files, out, space, &mut answers, lines);
+    Outcome::of(Ending::of(end), List::of(answers))
 }
 
 // Says that the script asks for what is not built so far.
 fn refuse_unbuilt<K: Sink>(alloc: Global, call: &Call, out: &mut K) -> Outcome
-    ensures ended { (words : List (List ℕ)) (told : Option Held) (texts : Texts) → call_of words ≡ Some call.now → IsRefusedFirst words told texts (Refusal.NotBuilt 0) → Ends words told (K.written out.old) (K.written out.new) result empty_range }
-    ensures refusal { IfSome result.refusal (λ refusal. refusal ≡ Refusal.NotBuilt 0) }
+    ensures ended { (words : List (List ℕ)) (told : Option Held) (texts : Texts) → call_of words ≡ Some call.now → IsRefusedFirst words told texts Refusal.NotBuilt → Ends words told (K.written out.old) (K.written out.new) result empty_range }
+    ensures refusal { IfSome result.refusal (λ refusal. refusal ≡ Refusal.NotBuilt) }
     ensures later { K.faults out.old ≤ K.faults out.new }
     ensures cause { result.status ≡ 4 → Rose (K.faults out.old) (K.faults out.new) }
 {
     match not_built_line(alloc, call) {
-        Ok(line) => refused_outcome(alloc, Refusal::NotBuilt { word: 0 }, line.as_slice(), out),
+        Ok(line) => refused_outcome(alloc, Refusal::NotBuilt, line.as_slice(), out),
         Err(_) => Outcome::of(Ending::NoMemory, List::new(alloc)),
     }
 }
@@ -154,46 +179,4 @@ fn refused_outcome<K: Sink>(alloc: Global, refusal: Refusal, line: &[u8], out: &
     ensures cause { result.status ≡ 4 → Rose (K.faults out.old) (K.faults out.new) }
 {
     Outcome::of(refuse(refusal, line, out), List::new(alloc))
-}
-
-// Runs the lines from the opening state.
-fn run<F: Files, K: Sink>(
-    alloc: Global,
-    program: Program,
-    settings: Settings,
-    lines: &[Line],
-    files: &mut F,
-    out: &mut K,
-    space: &mut Space,
-    answers: &mut Vec<Answer>,
-) -> Ending
-    requires linked { IsLinked program }
-    requires settings { AreInRange settings }
-    requires built { All (λ line. IsBuilt line.command) lines.now }
-    requires none_yet { answers.old.items ≡ [] }
-    requires empty { space.old ≡ empty_range }
-    ensures ran { RunsScript program settings lines.now (F.told files.old) answers.new.items (K.written out.old) (K.written out.new) space.new result }
-    ensures unanswered { answers.new.items ≡ [] → IsUnused space.new }
-    ensures files { files.new ≡ files.old }
-    ensures later { K.faults out.old ≤ K.faults out.new }
-    ensures cause { result ≡ Ending.SinkFailed → Rose (K.faults out.old) (K.faults out.new) }
-{
-    let statics = 8 * program.roots.len() as u32;
-    let Ok(()) = space.resize_fresh(settings.pages, statics) else {
-        return Ending::NoMemory;
-    };
-    let Ok(session) = opening(
-        alloc,
-        program,
-        settings.pages,
-        settings.min_expand,
-        settings.min_heapsize,
-    ) else {
-        return Ending::NoMemory;
-    };
-    let mut session = session;
-
-    // The state that the lines leave is that of a session, so it is good.
-    good_state();
-    run_lines(alloc, &mut session, files, out, space, answers, lines)
 }

@@ -9,6 +9,7 @@ ghost use Rattle.gt_session.specs.Sessions.{StandsFor};
 
 use gt_objects::Objects;
 use gt_schema::Schema;
+use gt_space::Space;
 use gt_vars::Vars;
 use std::alloc::{AllocError, Global};
 
@@ -53,5 +54,12 @@ impl Session {
             last: 0,
             rounds: 0,
         })
+    }
+
+    /// Gives the space back.
+    pub fn into_space(self) -> Space
+        ensures { result ≡ self.objects.space }
+    {
+        self.objects.into_space()
     }
 }

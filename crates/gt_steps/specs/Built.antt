@@ -1,10 +1,9 @@
 -- The commands that are built so far.
 use Rattle.gt_script.specs.declared.command.Command.{Command}
-use Rattle.gt_script.specs.declared.command.Command.TheVariants.{Text, Put, Find, Save, Load, Tables}
+use Rattle.gt_script.specs.declared.command.Command.TheVariants.{Put, Find, Save, Load, Tables}
 
--- all but `string`, and those of caches, of images and of tables
+-- all but those of caches, of images and of tables
 abbrev pub IsBuilt : Command → Type 0
-IsBuilt (Text var bytes) = ⊥
 IsBuilt (Put cache key value) = ⊥
 IsBuilt (Find cache key) = ⊥
 IsBuilt (Save file page) = ⊥

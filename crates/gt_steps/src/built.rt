@@ -4,13 +4,14 @@ ghost use Rattle.gt_steps.specs.Built.{IsBuilt};
 
 use gt_script::Command;
 
-/// Whether `step` answers the command: all but `string`, `put`, `find`, `save`, `load` and `tables`.
+/// Whether `step` answers the command: all but `put`, `find`, `save`, `load` and `tables`.
 pub fn is_built(command: &Command) -> bool
     ensures built { Decides result (IsBuilt command.now) }
 {
     match command {
         Command::New { .. } => true,
         Command::Array { .. } => true,
+        Command::Text { .. } => true,
         Command::Block { .. } => true,
         Command::Set { .. } => true,
         Command::Get { .. } => true,
@@ -20,7 +21,6 @@ pub fn is_built(command: &Command) -> bool
         Command::CollectForce => true,
         Command::Heap => true,
         Command::Stats => true,
-        Command::Text { .. } => false,
         Command::Put { .. } => false,
         Command::Find { .. } => false,
         Command::Save { .. } => false,

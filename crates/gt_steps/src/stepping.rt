@@ -10,7 +10,7 @@ use crate::collecting::{collect, collect_force};
 use crate::reporting::{heap, stats};
 use gt_asking::{get, print, set, unbind};
 use gt_io::Files;
-use gt_making::{make_array, make_block, make_single};
+use gt_making::{make_array, make_block, make_single, make_string};
 use gt_next::Answer;
 use gt_script::{Command, Line};
 use gt_session::Session;
@@ -51,6 +51,7 @@ fn answer(alloc: Global, s: &mut Session, command: &Command) -> Result<Answer, A
     match command {
         Command::New { var, ty, n } => make_single(alloc, s, var, ty, *n),
         Command::Array { var, ty, n } => make_array(s, var, ty, *n),
+        Command::Text { var, text } => make_string(s, var, text.as_slice()),
         Command::Block { var, n } => make_block(s, var, *n),
         Command::Set { path, value } => set(alloc, s, path, value),
         Command::Get { var, path } => get(alloc, s, var, path),

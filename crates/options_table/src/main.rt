@@ -2,7 +2,7 @@
 //! and those that answer otherwise are printed. docs/NAMES.md says how a row is written, and program_notation how a program is.
 #![tactic(auto)]
 
-use gt_headers::{are_within_limits, program_of};
+use gt_headers::{are_within_limits, declare};
 use gt_types::{Bytes, Fault, Stop};
 use header_rows::rows_of;
 use program_notation::{Refusal, program};
@@ -51,8 +51,8 @@ fn found(alloc: Global, texts: &[String]) -> Result<String, AllocError> {
     if !are_within_limits(&headers) {
         return String::from_str(alloc, "more than headers may be");
     }
-    match program_of(alloc, &headers) {
-        Ok(program) => format!(in alloc; "{program:?}"),
+    match declare(alloc, &headers) {
+        Ok(declared) => format!(in alloc; "{:?}", declared.program),
         Err(Stop::Memory) => Err(AllocError),
         Err(Stop::At(Fault { number, file, at })) => {
             format!(in alloc; "{number} at {file}:{at}")

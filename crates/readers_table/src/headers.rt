@@ -1,10 +1,12 @@
-// What sets of headers declare, in one line: structures with the places of the structs to which their fields point, roots, and
-// names of typedefs.
-use gt_headers::{HeaderStop, are_within_limits, declare};
-use gt_types::{Bytes, Fault, Program, PtrKind, Root, Structure, Target, Ty, TypeId, TypeWord};
+// What sets of headers declare, in one line: structures with the places of the structs to which their fields point, roots, caches,
+// and names of typedefs.
+use gt_headers::{are_within_limits, declare};
+use gt_types::{
+    Bytes, Cache, Fault, Program, PtrKind, Root, Stop, Structure, Target, Ty, TypeId, TypeWord,
+};
 use std::alloc::{AllocError, Global};
 
-/// What the headers declare, or the first fault, or the first header that is not built.
+/// What the headers declare, or their first fault.
 pub fn answer(alloc: Global, texts: &[Bytes]) -> Result<String, AllocError> {
     if !are_within_limits(texts) {
         return String::from_str(alloc, "more than headers may be");
@@ -40,7 +42,21 @@ fn structure_text(alloc: Global, structure: &Structure) -> Result<String, AllocE
 
 fn root_text(alloc: Global, root: &Root) -> Result<String, AllocError> {
     let pointer = pointer_text(alloc, root.name.as_str(), &root.ty)?;
-    format!(in alloc; "root {}", pointer.as_str())
+    let word = if root.deletable {
+        "deletable root"
+    } else {
+        "root"
+    };
+    format!(in alloc; "{word} {}", pointer.as_str())
+}
+
+fn cache_text(alloc: Global, cache: &Cache) -> Result<String, AllocError> {
+    format!(in alloc;
+        "cache {}={},{}",
+        cache.name.as_str(),
+        cache.key.0,
+        cache.value.0
+    )
 }
 
 fn word_text(alloc: Global, word: &TypeWord) -> Result<String, AllocError> {
@@ -63,18 +79,20 @@ fn program_text(alloc: Global, program: &Program) -> Result<String, AllocError> 
     for root in program.roots.as_slice() {
         add(&mut line, root_text(alloc, root)?.as_str())?;
     }
+    for cache in program.caches.as_slice() {
+        add(&mut line, cache_text(alloc, cache)?.as_str())?;
+    }
     for word in program.words.as_slice() {
         add(&mut line, word_text(alloc, word)?.as_str())?;
     }
     Ok(line)
 }
 
-fn stop_text(alloc: Global, stop: HeaderStop) -> Result<String, AllocError> {
+fn stop_text(alloc: Global, stop: Stop) -> Result<String, AllocError> {
     match stop {
-        HeaderStop::Memory => String::from_str(alloc, "out of memory"),
-        HeaderStop::Faulty(Fault { number, file, at }) => {
+        Stop::Memory => String::from_str(alloc, "out of memory"),
+        Stop::At(Fault { number, file, at }) => {
             format!(in alloc; "fault {number} in {file} at {at}")
         }
-        HeaderStop::NotBuilt { file } => format!(in alloc; "not built {file}"),
     }
 }

@@ -1,13 +1,24 @@
 //! The table of refusals: for each form of a command that is built, the causes for which it is refused, in the order in which they
 //! are looked for, as docs/SCRIPT.md shows them. Each line of the input is a form, ` = `, and a command of this form. A cause is named by
-//! the number that the text of its refusal has, and the refusals of a path by P.
+//! the number that the text of its refusal has; one that has several refusals by a letter, P for a path.
 #![tactic(auto)]
 
-use gt_machine::{Answer, Cause, Why, refusals, text};
+use gt_answers::text;
+use gt_next::{Answer, Why};
+use gt_refusals::{Cause, refusals};
 use gt_script::{Line, ScriptStop, parse_script};
 use gt_types::List;
 use std::alloc::{AllocError, Global};
 use std::io;
+
+/// What names a cause in the table: its refusal, or a letter where it has several.
+#[derive(Clone, Copy)]
+enum Mark {
+    Refusal(Why),
+    Path,
+    Key,
+    Value,
+}
 
 fn main(rt: HostRuntime) -> io::Result<()> {
     let alloc = rt.alloc();
@@ -51,11 +62,18 @@ fn lines_text(alloc: Global, lines: &List<Line>) -> Result<String, AllocError> {
     Ok(text)
 }
 
-// The number of a cause's refusal, as the answer to a line has it, or P for those of a path.
+// What stands for a cause in the table.
 fn label(alloc: Global, line: &Line, cause: Cause) -> Result<String, AllocError> {
-    let Some(why) = refusal(cause) else {
-        return String::from_str(alloc, "P");
-    };
+    match mark_of(cause) {
+        Mark::Refusal(why) => number(alloc, line, why),
+        Mark::Path => String::from_str(alloc, "P"),
+        Mark::Key => String::from_str(alloc, "K"),
+        Mark::Value => String::from_str(alloc, "V"),
+    }
+}
+
+// The number of a refusal, as the answer to a line has it.
+fn number(alloc: Global, line: &Line, why: Why) -> Result<String, AllocError> {
     let text = text(alloc, line, &Answer::Refused(why))?;
     let text = String::from_utf8_lossy(alloc, text.as_slice())?;
     String::from_str(alloc, second_word(text.as_str()))
@@ -69,14 +87,23 @@ fn second_word(text: &str) -> &str {
     }
 }
 
-// The refusal of a cause, but for a path, which has several.
-fn refusal(cause: Cause) -> Option<Why> {
+// The refusal of a cause, or that it has several.
+fn mark_of(cause: Cause) -> Mark {
     match cause {
-        Cause::UnboundVariable => Some(Why::Unbound),
-        Cause::UnknownType => Some(Why::NoType),
-        Cause::Path => None,
-        Cause::WrongPlace => Some(Why::WrongType),
-        Cause::VariableTooMany => Some(Why::TooManyVars),
-        Cause::NoRoom => Some(Why::Full { need: 0 }),
+        Cause::UnboundVariable => Mark::Refusal(Why::Unbound),
+        Cause::UnknownType => Mark::Refusal(Why::NoType),
+        Cause::NegativeNumber => Mark::Refusal(Why::OutOfRange),
+        Cause::TooManyBytes => Mark::Refusal(Why::TooLarge),
+        Cause::WrongShape => Mark::Refusal(Why::Shape),
+        Cause::VariableTooMany => Mark::Refusal(Why::TooManyVars),
+        Cause::NoRoom => Mark::Refusal(Why::Full { need: 0 }),
+        Cause::RefusedPath => Mark::Path,
+        Cause::IdlePointer => Mark::Refusal(Why::Inactive),
+        Cause::WrongPlace => Mark::Refusal(Why::WrongType),
+        Cause::NumberBeyond => Mark::Refusal(Why::OutOfRange),
+        Cause::UnknownCache => Mark::Refusal(Why::NoCache),
+        Cause::RefusedKey => Mark::Key,
+        Cause::RefusedValue => Mark::Value,
+        Cause::PairTooMany => Mark::Refusal(Why::TooLarge),
     }
 }

@@ -9,6 +9,7 @@
 //     output               what is expected to be written, whose lines follow
 //     | LINE               a line of the file or of the output before it
 //     times N | LINE       such a line N times, with the numbers 0, 1, .. in place of each #; ` / ` parts several lines
+//     long N | LINE        such a line, with N letters x in place of each #
 //
 // A part with words, a status and an output is a row. One with files alone says which files all rows after it share.
 use crate::running::File;
@@ -83,6 +84,8 @@ impl Lines {
             self.add_text(line.as_str())
         } else if keyword == "times" {
             self.add_times(alloc, rest)
+        } else if keyword == "long" {
+            self.add_long(alloc, rest)
         } else if keyword == "file" {
             self.add_file(alloc, rest, 0)
         } else if keyword == "filled" {
@@ -144,6 +147,16 @@ impl Lines {
         };
         match count.parse::<u32>() {
             Ok(count) => self.add_text(numbered(alloc, count, line)?.as_str()),
+            Err(_) => Ok(false),
+        }
+    }
+
+    fn add_long(&mut self, alloc: Global, rest: &str) -> Result<bool, AllocError> {
+        let Some((count, line)) = rest.split_once(" | ") else {
+            return Ok(false);
+        };
+        match count.parse::<u32>() {
+            Ok(count) => self.add_text(lengthened(alloc, count, line)?.as_str()),
             Err(_) => Ok(false),
         }
     }
@@ -214,6 +227,17 @@ fn numbered(alloc: Global, count: u32, lines: &str) -> Result<String, AllocError
         let number = format!(in alloc; "{number}")?;
         push_lines(&mut text, lines, number.as_str())?;
     }
+    Ok(text)
+}
+
+// A line with so many letters in place of each `#`.
+fn lengthened(alloc: Global, count: u32, line: &str) -> Result<String, AllocError> {
+    let mut letters = String::new(alloc);
+    for _ in 0..count {
+        letters.push('x')?;
+    }
+    let mut text = String::new(alloc);
+    push_line(&mut text, line, letters.as_str())?;
     Ok(text)
 }
 

@@ -15,4 +15,4 @@ returns-in-Err-lines_of-clause-halted g c =
     let read = c.in-Ok-read_files.ensures.read words c.in-Ok.ensures.called in
     let with_script = subst (λ (s : List ℕ). Reads words told c.in-Ok.call (record { headers = found.headers.items; script = s })) (sym c.as_slice-2.ensures.bytes) read in
     let reads = subst (λ (h : List (List ℕ)). Reads words told c.in-Ok.call (record { headers = h; script = script })) (sym c.as_slice.ensures.value) with_script in
-    c.in-Err-lines_of.ensures.halted words told headers c.in-Ok-program_of.program reads c.in-Ok-program_of.ensures.declared
+    c.in-Err-lines_of.ensures.halted words told headers c.in-Ok-declared.declared.program reads c.in-Ok-declared.ensures.declared

@@ -1,4 +1,4 @@
-use Rattle.std.proofs.Common.{◌≡◌, ℕ, List, Option, refl, inl, subst, rules}
+use Rattle.std.proofs.Common.{◌≡◌, ℕ, List, Option, subst, rules}
 use Rattle.gt_io.specs.Held.{Held}
 use Rattle.gt_words.specs.declared.call.Script.{Script}
 use Rattle.gt_words.specs.Ranges.{HasHeaders}
@@ -10,7 +10,7 @@ use Rattle.gt_front.proofs.stages.read_files.Goals as goal
 pub returns-in-Generated-clause-halted : goal.returns-in-Generated-clause-halted
 returns-in-Generated-clause-halted g c =
     λ words called.
-    c.generated.ensures.halted words _ no_texts (inl (refl, c.args.call.now, called, (c.in-Generated.word, c.in-Generated.n, c.in-Generated.is))) called
+    c.generated.ensures.halted words _ no_texts (c.args.call.now, called, (c.in-Generated.word, c.in-Generated.n, c.in-Generated.is)) called
 
 pub returns-in-Err-clause-halted : goal.returns-in-Err-clause-halted
 returns-in-Err-clause-halted g c =

@@ -1,9 +1,52 @@
-use Rattle.gt_headers.proofs.SettlingLemmas.{declares_by, each_structure}
+use Rattle.std.proofs.Common.{subst}
+use Rattle.gt_options.specs.Settlements.{IsSettlement}
+use Rattle.gt_rules.specs.Faults.{Declares as DeclaresProgram}
+use Rattle.gt_headers.proofs.ReadingLemmas.{read_few}
+use Rattle.gt_headers.proofs.SettlingLemmas.{declares_by, roots_in, size_stop, structures_in}
 use Rattle.gt_headers.proofs.declaring.declare.Goals as goal
 
-pub untaken_file-requires-clause-structures : goal.untaken_file-requires-clause-structures
-untaken_file-requires-clause-structures c = each_structure c.args.texts.now c.in-Ok.settled.0 c.in-Ok.settled.1.program c.in-Ok.ensures.settles
+pub lay_out-requires-clause-few : goal.lay_out-requires-clause-few
+lay_out-requires-clause-few c =
+    read_few c.args.texts.now c.in-Ok.resolution.files.items c.deref.result.now c.deref.ensures.value c.in-Ok.ensures.read c.requires.few
 
-pub returns-clause-declared : goal.returns-clause-declared
-returns-clause-declared c =
-    declares_by c.args.texts.now c.in-Ok.settled.0 c.in-Ok.settled.1.program c.in-Ok.ensures.settles c.in-None.ensures
+pub lay_out-requires-clause-settled : goal.lay_out-requires-clause-settled
+lay_out-requires-clause-settled c =
+    let draft = c.in-Ok.resolution.draft in
+    let declares : DeclaresProgram draft c.in-Program.program = subst (IsSettlement draft) c.in-Program.is c.in_ok-program.ensures.settled in
+    c.declared_is_settled.ensures.settled draft c.in-Program.program c.in-Ok.ensures.sound declares
+
+pub lay_out-requires-clause-structures : goal.lay_out-requires-clause-structures
+lay_out-requires-clause-structures c =
+    let texts = c.args.texts.now in
+    let files = c.in-Ok.resolution.files.items in
+    let draft = c.in-Ok.resolution.draft in
+    let program = c.in-Program.program in
+    let declares : DeclaresProgram draft program = subst (IsSettlement draft) c.in-Program.is c.in_ok-program.ensures.settled in
+    structures_in texts files draft c.in-Ok.ensures.read c.in-Ok.ensures.resolved program declares c.deref.result.now c.deref.ensures.value
+
+pub lay_out-requires-clause-roots : goal.lay_out-requires-clause-roots
+lay_out-requires-clause-roots c =
+    let texts = c.args.texts.now in
+    let files = c.in-Ok.resolution.files.items in
+    let draft = c.in-Ok.resolution.draft in
+    let program = c.in-Program.program in
+    let declares : DeclaresProgram draft program = subst (IsSettlement draft) c.in-Program.is c.in_ok-program.ensures.settled in
+    roots_in texts files draft c.in-Ok.ensures.read c.in-Ok.ensures.resolved program declares c.deref.result.now c.deref.ensures.value
+
+pub returns-in-Ok-lay_out-clause-declared : goal.returns-in-Ok-lay_out-clause-declared
+returns-in-Ok-lay_out-clause-declared c =
+    let texts = c.args.texts.now in
+    let files = c.in-Ok.resolution.files.items in
+    let draft = c.in-Ok.resolution.draft in
+    let program = c.in-Program.program in
+    let declares : DeclaresProgram draft program = subst (IsSettlement draft) c.in-Program.is c.in_ok-program.ensures.settled in
+    declares_by texts files draft c.in-Ok.ensures.read c.in-Ok.ensures.resolved program declares c.deref.result.now c.deref.ensures.value c.in-Ok-lay_out.ensures.sized
+
+pub returns-clause-stopped : goal.returns-clause-stopped
+returns-clause-stopped c =
+    let texts = c.args.texts.now in
+    let files = c.in-Ok.resolution.files.items in
+    let draft = c.in-Ok.resolution.draft in
+    let program = c.in-Program.program in
+    let declares : DeclaresProgram draft program = subst (IsSettlement draft) c.in-Program.is c.in_ok-program.ensures.settled in
+    size_stop texts files draft c.in-Ok.ensures.read c.in-Ok.ensures.resolved program declares c.deref.result.now c.deref.ensures.value c.in-Err-lay_out.stop c.in-Err-lay_out.ensures.stopped

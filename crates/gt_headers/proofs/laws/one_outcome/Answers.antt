@@ -1,6 +1,6 @@
 use Rattle.gt_headers.proofs.ReadOutcomes.{one_reading, read_no_reading_fault, one_reading_fault}
 use Rattle.gt_headers.proofs.SoundLemmas.{sound_by}
-use Rattle.gt_headers.proofs.Outcomes.{one_declared, one_settled, one_first_fault, one_not_built, declared_no_fault, settled_no_fault, declared_built, fault_built, some_outcome}
+use Rattle.gt_headers.proofs.Outcomes.{one_declared, one_first_fault, declared_no_fault, some_outcome}
 use Rattle.gt_headers.proofs.laws.one_outcome.Goals as goal
 
 pub returns : goal.returns
@@ -17,12 +17,7 @@ returns c =
     let layout = c.one_layout.ensures in
     record {
       program = one_declared one none same resolved.not_both resolved.draft resolved.fault sound settlement settled layout;
-      settled = one_settled one none same resolved.not_both resolved.draft resolved.fault sound settlement settled layout;
       fault = one_first_fault one none same resolved.not_both resolved.draft resolved.fault sound settlement settled layout;
-      file = one_not_built one none same resolved.not_both resolved.draft resolved.fault sound settlement settled layout;
       no_fault = declared_no_fault one none same resolved.not_both resolved.draft resolved.fault sound settlement settled layout;
-      settled_no_fault = settled_no_fault one none same resolved.not_both resolved.draft resolved.fault sound settlement settled layout;
-      built = declared_built one none same resolved.not_both resolved.draft resolved.fault sound settlement settled layout;
-      fault_first = fault_built one none same resolved.not_both resolved.draft resolved.fault sound settlement settled layout;
       resolved = some_outcome one none same resolved.not_both resolved.draft resolved.fault sound settlement settled layout c.one_settlement.ensures.one;
     }

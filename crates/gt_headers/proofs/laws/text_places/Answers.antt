@@ -1,5 +1,5 @@
-use Rattle.gt_headers.proofs.FaultPlaces.{fault_within, untaken_within}
+use Rattle.gt_headers.proofs.FaultPlaces.{fault_within}
 use Rattle.gt_headers.proofs.laws.text_places.Goals as goal
 
 pub returns : goal.returns
-returns c = record { fault = fault_within; file = untaken_within }
+returns c = record { fault = fault_within }

@@ -1,4 +1,3 @@
-use Rattle.std.proofs.Common.{◌≡◌, ◌∙◌, refl, sym, ap, subst}
 use Rattle.gt_value.specs.Names.{kind_of}
 use Rattle.gt_next.specs.Making.{NextArray}
 use Rattle.gt_making.proofs.Asked.{leaves-so, as-array, not-negative, kind-may, kind-no-chars}

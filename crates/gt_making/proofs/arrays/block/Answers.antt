@@ -1,4 +1,3 @@
-use Rattle.std.proofs.Common.{◌≡◌, ◌∙◌, refl, sym, ap, subst}
 use Rattle.gt_next.specs.Making.{NextBlock}
 use Rattle.gt_making.proofs.Asked.{leaves-so, as-block}
 use Rattle.gt_making.proofs.Sizing.{raw-some}

@@ -1,4 +1,3 @@
-use Rattle.std.proofs.Common.{◌≡◌, ℕ, ℤ, List, refl}
 use Rattle.gt_script.specs.declared.command.Command.TheVariants as command
 use Rattle.gt_making.proofs.Asked.{goes}
 use Rattle.gt_making.proofs.arrays.make_block.Goals as goal

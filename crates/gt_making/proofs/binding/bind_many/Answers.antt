@@ -1,6 +1,5 @@
-use Rattle.std.proofs.Common.{◌≡◌, ◌∙◌, refl, sym, ap, subst, arith, ◌*◌, ℕ, Some}
+use Rattle.std.proofs.Common.{arith}
 use Rattle.gt_value.specs.Names.{kind_of}
-use Rattle.gt_next.specs.Making.{wanted, IsTooLarge}
 use Rattle.gt_making.specs.Binding.{MakesMany}
 use Rattle.gt_making.proofs.Sizing.{too-large, not-too-large, many-too-large}
 use Rattle.gt_making.proofs.Asked.{leaves-so}

@@ -1,4 +1,4 @@
-use Rattle.std.proofs.Common.{◌≡◌, ◌∙◌, ◌≤ℤ◌, sym, subst, arith, ℤ, ℕ, pos, rules}
+use Rattle.std.proofs.Common.{◌∙◌, ◌≤ℤ◌, sym, subst, ℤ, ℕ, pos, rules}
 use Rattle.std.specs.Int.{w128}
 use Rattle.std.proofs.lemmas.Int.{to_z-of_z}
 use Rattle.gt_making.proofs.Asked.{is-negative}

@@ -1,8 +1,7 @@
-use Rattle.std.proofs.Common.{◌≡◌, ◌∙◌, refl, sym, ap, subst, arith, ℕ, pos}
+use Rattle.std.proofs.Common.{◌∙◌, sym, subst, arith, pos}
 use Rattle.std.specs.Prelude.{option_map}
 use Rattle.gt_tree.specs.Blocks.{Nodes}
 use Rattle.gt_value.specs.declared.names.BlockKind.TheVariants as told
-use Rattle.gt_objects.specs.declared.objects.Known.{Known}
 use Rattle.gt_next.specs.Making.{HasCapacity, IsMisshapen, IsTooLarge, wanted}
 use Rattle.gt_making.specs.Binding.{MakesSingle}
 use Rattle.gt_making.proofs.Sizing.{too-large, not-too-large}

@@ -1,8 +1,7 @@
-use Rattle.std.proofs.Common.{◌≡◌, ◌∙◌, refl, sym, ap, subst, ℕ, ℤ, Some, None, pos}
-use Rattle.gt_next.specs.Making.{NextNew, IsNegative}
-use Rattle.gt_making.specs.Binding.{MakesSingle}
-use Rattle.gt_making.proofs.Asked.{leaves-so, kind-may, not-negative}
-use Rattle.gt_making.proofs.Single.{as-new, none-given, one-given}
+use Rattle.std.proofs.Common.{◌∙◌, ap, Some}
+use Rattle.gt_next.specs.Making.{NextNew}
+use Rattle.gt_making.proofs.Asked.{leaves-so, kind-may}
+use Rattle.gt_making.proofs.Single.{none-given, one-given}
 use Rattle.gt_making.proofs.singles.single.Goals as goal
 
 pub returns-in_default-clause-next : goal.returns-in_default-clause-next

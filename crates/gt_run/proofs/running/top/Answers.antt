@@ -8,15 +8,21 @@ use Rattle.gt_front.specs.declared.preparing.Halt.TheVariants as halt
 use Rattle.gt_front.specs.declared.refusal.FileWhy.TheVariants.{Fault}
 use Rattle.gt_front.specs.declared.refusal.Refusal.TheVariants.{File as InFile}
 use Rattle.gt_run.specs.Ended.{Ends}
-use Rattle.gt_run.proofs.Linked.{linked}
+use Rattle.gt_run.proofs.EndLemmas.{Ends-unanswered}
 use Rattle.gt_run.proofs.WellLemmas.{Ends-well}
 use Rattle.gt_run.proofs.running.top.Given.{Over}
 use Rattle.gt_run.proofs.running.top.Goals as goal
 
-pub run_ready-requires-clause-linked : goal.run_ready-requires-clause-linked
-run_ready-requires-clause-linked g c =
-    let asks = c.in-Ok.ensures.ready in
-    let settled = c.settles_is_settled.ensures.settled asks.texts.headers c.in-Ok.ready.program asks.declares.settles in linked c.in-Ok.ready.program settled asks.declares.takes
+pub run_ready-requires-clause-settled : goal.run_ready-requires-clause-settled
+run_ready-requires-clause-settled g c =
+    let asks = c.in-Ok.ensures.ready in c.declared_programs_are_settled.ensures.settled asks.texts.headers c.in-Ok.ready.program asks.declares
+
+pub returns-in-Ok-clause-unused : goal.returns-in-Ok-clause-unused
+returns-in-Ok-clause-unused g c =
+    let words = c.args.words.now in
+    let before = g.F.Files.told c.args.files.now in
+    let ended : Ends words before (g.K.Sink.written c.args.out.now) (g.K.Sink.written c.run_ready.new.out) c.run_ready.result c.run_ready.new.space = search rules in
+    Ends-unanswered words before _ _ c.run_ready.result c.run_ready.new.space ended
 
 pub returns-in-Ok-clause-complete : goal.returns-in-Ok-clause-complete
 returns-in-Ok-clause-complete g c = λ held told well no_file no_sink.

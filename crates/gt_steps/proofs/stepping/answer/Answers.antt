@@ -1,5 +1,6 @@
-use Rattle.std.proofs.Common.{IfOk, sym, subst}
+use Rattle.std.proofs.Common.{IfOk, ℕ, List, sym, subst}
 use Rattle.gt_script.specs.declared.command.Command.{Command}
+use Rattle.gt_next.specs.Making.{NextText}
 use Rattle.gt_next.specs.Next.{Next}
 use Rattle.gt_session.specs.Sessions.{Goes}
 use Rattle.gt_steps.proofs.Stepped.{stays_there}
@@ -16,6 +17,15 @@ returns-in-Array-clause-next c =
     subst
     (λ (command : Command). IfOk c.make_array.result (Goes (λ state answer t. Next c.args.s.now.schema.program c.args.s.now.schema.layouts state command answer t) c.args.s.now c.make_array.new.s))
     (sym c.in-Array.is) c.make_array.ensures.next
+
+pub returns-in-Text-clause-next : goal.returns-in-Text-clause-next
+returns-in-Text-clause-next c =
+    subst
+    (λ (command : Command). IfOk c.make_string.result (Goes (λ state answer t. Next c.args.s.now.schema.program c.args.s.now.schema.layouts state command answer t) c.args.s.now c.make_string.new.s))
+    (sym c.in-Text.is)
+    (subst
+    (λ (bytes : List ℕ). IfOk c.make_string.result (Goes (λ state answer t. NextText c.args.s.now.schema.program c.args.s.now.schema.layouts state c.in-Text.var bytes answer t) c.args.s.now c.make_string.new.s))
+    c.as_slice.ensures.bytes c.make_string.ensures.next)
 
 pub returns-in-Block-clause-next : goal.returns-in-Block-clause-next
 returns-in-Block-clause-next c =

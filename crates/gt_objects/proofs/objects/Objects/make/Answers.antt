@@ -1,9 +1,9 @@
-use Rattle.std.proofs.Common.{◌≡◌, ℕ, Err, Result, rules, subst}
+use Rattle.std.proofs.Common.{◌≡◌, ℕ, Err, Result, replicate, rules, subst}
 use Rattle.gt_tree.specs.FixedLaws.{MayHold}
 use Rattle.gt_objects.specs.declared.making.Made.{Made}
 use Rattle.gt_objects.specs.declared.making.MakeFail.{MakeFail}
 use Rattle.gt_objects.specs.declared.making.MakeFail.TheVariants.{Full}
-use Rattle.gt_objects.proofs.Added.{is_made}
+use Rattle.gt_objects.proofs.Added.{is_made, zero_is_new}
 use Rattle.gt_objects.proofs.Before.{heap_as_before, no_room}
 use Rattle.gt_objects.proofs.Listed.{rounded_listed}
 use Rattle.gt_objects.proofs.Taking.{ends_above, shelves_are, starts_below}
@@ -29,8 +29,8 @@ take_block-requires-clause-sized c = let ready = c.requires.ready in ends_above 
 
 pub returns-in-Ok-clause-made : goal.returns-in-Ok-clause-made
 returns-in-Ok-clause-made c = λ heap o is zero.
-    is_made c.args.program.now c.args.layouts.now c.requires.settled c.requires.laid c.requires.within c.args.self.now c.take_block.new.self heap is c.args.known o zero c.in-Ok.addr c.in-Some.size
-    c.in-Some.ensures.size c.in-Ok.ensures.taken
+    is_made c.args.program.now c.args.layouts.now c.requires.within c.args.self.now c.take_block.new.self heap is c.args.known o c.in-Ok.addr c.in-Some.size (replicate c.in-Some.size 0)
+    (zero_is_new c.args.program.now c.args.layouts.now c.requires.settled c.requires.laid heap.graph c.args.known o zero c.in-Some.size c.in-Some.ensures.size) c.in-Some.ensures.size c.in-Ok.ensures.taken
 
 pub returns-in-Err-Full-clause-full : goal.returns-in-Err-Full-clause-full
 returns-in-Err-Full-clause-full c = λ need e heap is room.

@@ -1,5 +1,0 @@
-use Rattle.gt_heap.proofs.AfterFlags.{After-flagged_graph}
-use Rattle.gt_heap.proofs.laws.after_flags.Goals as goal
-
-pub returns : goal.returns
-returns c = After-flagged_graph

@@ -1,5 +1,0 @@
-use Rattle.gt_heap.proofs.Closing.{IsClosed-AreMarks}
-use Rattle.gt_heap.proofs.laws.marks_are_closed.Goals as goal
-
-pub returns : goal.returns
-returns c = IsClosed-AreMarks

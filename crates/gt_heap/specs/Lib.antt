@@ -1,9 +1,0 @@
-pub mod Tree
-pub mod Values
-pub mod Graph
-pub mod Stands
-pub mod Kept
-pub mod Freed
-pub mod Heap
-pub mod Making
-pub mod PlainBytes
