@@ -20,3 +20,4 @@ struct GTY(()) vec {
 static GTY(()) struct node *head;
 static GTY(()) struct vec *all;
 static GTY((atomic)) void *bytes;
+static GTY((cache)) hash_map<struct node *, struct node *> *known;

@@ -3,7 +3,7 @@ ghost use Rattle.std.specs.Prelude.{◌≡◌, ◌++◌, ◌∷◌, [], IfOk, On
 ghost use Rattle.std.specs.String.{string_bytes};
 ghost use Rattle.gt_digits.specs.Digits.{decimal};
 ghost use Rattle.gt_show.specs.Shown.{number_text};
-ghost use Rattle.gt_next.specs.Texts.{answer_text as answer_text_of, text_of};
+ghost use Rattle.gt_next.specs.Texts.{answer_text as answer_text_of, end_of as end_of_answer, text_of};
 ghost use Rattle.gt_next.specs.declared.answer.Answer.TheVariants as Answer;
 ghost use Rattle.gt_next.specs.declared.answer.Why.TheVariants as Why;
 
@@ -13,7 +13,7 @@ use gt_script::Line;
 use gt_types::{Bytes, Copied};
 use std::alloc::{AllocError, Global};
 
-/// The text of a line's answer, which ends with a newline. Where the line is quiet, there is no text but of a refusal.
+/// The text of a line's answer, in which each line ends with a newline. Where the line is quiet, there is no text but of a refusal.
 pub fn text(alloc: Global, line: &Line, answer: &Answer) -> Result<Bytes, AllocError>
     ensures text { IfOk result (λ bytes. bytes ≡ text_of line.now answer.now) }
 {
@@ -21,11 +21,24 @@ pub fn text(alloc: Global, line: &Line, answer: &Answer) -> Result<Bytes, AllocE
         return Ok(Bytes::new(alloc));
     }
     let mut text = answer_text(alloc, answer)?;
-    text.push(b'\n')?;
+    text.append(end_of(answer))?;
     Ok(text)
 }
 
-// The line of an answer, without its end.
+// What ends an answer: a newline, but where its lines have theirs.
+fn end_of(answer: &Answer) -> &'static [u8]
+    ensures { result.now ≡ end_of_answer answer.now }
+{
+    match answer {
+        Answer::Tables(_) => b"",
+        Answer::Done | Answer::Made { .. } | Answer::Number(_) => b"\n",
+        Answer::Null | Answer::Ref { .. } | Answer::Shown(_) => b"\n",
+        Answer::Skipped | Answer::Collected { .. } | Answer::Heap(_) => b"\n",
+        Answer::Stats { .. } | Answer::Refused(_) => b"\n",
+    }
+}
+
+// The text of an answer, without its end.
 fn answer_text(alloc: Global, answer: &Answer) -> Result<Bytes, AllocError>
     ensures { IfOk result (λ bytes. bytes ≡ answer_text_of answer.now) }
 {
@@ -43,6 +56,7 @@ fn answer_text(alloc: Global, answer: &Answer) -> Result<Bytes, AllocError>
             dropped,
         } => collected_text(alloc, *kept, *freed, *dropped),
         Answer::Heap(text) => text.copy(alloc),
+        Answer::Tables(text) => text.copy(alloc),
         Answer::Stats {
             allocated,
             last,

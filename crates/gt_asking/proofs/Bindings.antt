@@ -87,7 +87,7 @@ module _ (session : Session) (told : Option Held) (s : State) (st : StandsFor se
           holds = record {
             schema = h.schema;
             heap = h.heap;
-            no_pairs = h.no_pairs;
+            pairs = h.pairs;
             variables = is;
             min_expand = h.min_expand;
             min_heapsize = h.min_heapsize;
@@ -111,7 +111,7 @@ module _ (session : Session) (told : Option Held) (s : State) (st : StandsFor se
           holds = record {
             schema = h.schema;
             heap = h.heap;
-            no_pairs = h.no_pairs;
+            pairs = h.pairs;
             variables = is;
             min_expand = h.min_expand;
             min_heapsize = h.min_heapsize;

@@ -1,5 +1,5 @@
 -- Which leaves may be written at a spot.
-use Rattle.std.proofs.Common.{◌≡◌, ℕ, Bool, true, false, refl, ap, sym, subst, ◌∙◌, Some, None}
+use Rattle.std.proofs.Common.{◌≡◌, ℕ, Bool, true, false, List, refl, ap, sym, subst, ◌∙◌, Some, None}
 use Rattle.std.specs.Prelude.{not, ◌&&◌}
 use Rattle.std.specs.Bool.{Decides}
 use Rattle.gt_types.specs.declared.types.Ty.{Ty}
@@ -13,6 +13,7 @@ use Rattle.gt_value.specs.declared.cursors.Cursor.{Cursor}
 use Rattle.gt_value.specs.declared.places.Place.{Place}
 use Rattle.gt_value.specs.declared.places.LeafContent.{LeafContent}
 use Rattle.gt_value.specs.declared.places.LeafContent.TheVariants as content
+use Rattle.gt_value.specs.declared.names.BlockKind.{BlockKind}
 use Rattle.gt_value.specs.Names.{kind_of}
 use Rattle.gt_value.specs.Places.{IsPlaceOfPart}
 use Rattle.gt_graph.specs.Objects.{Object, object_of}
@@ -21,6 +22,8 @@ use Rattle.gt_graph.specs.Good.{Heap}
 use Rattle.gt_objects.specs.declared.objects.Objects.{Objects}
 use Rattle.gt_objects.specs.declared.objects.Known.{Known}
 use Rattle.gt_objects.specs.Knowing.{IsKnownAt}
+use Rattle.gt_elements.specs.declared.parts.Element.{Element}
+use Rattle.gt_elements.specs.Elements.{IsFirstOf}
 use Rattle.gt_next.specs.Spots.{Spot, is_in_none}
 use Rattle.gt_next.specs.Leaves.{kind_named}
 use Rattle.gt_routes.specs.Reaching.{IsValueAt}
@@ -36,15 +39,24 @@ use Rattle.gt_asking.specs.Judging.{is_idle, is_beyond, IsFixedIn, IsIdleAt, Sui
 of-same : (a b : ℕ) → Of a ≡ Of b → a ≡ b
 of-same a b e = cc
 
-pub fixed-some : (heap : Heap) (address : ℕ) (owner : Owner) (known : Known) (r : Bool) → owner ≡ Of address → IsKnownAt heap.graph.objects address (Some known) → Decides r (kind_of known.kind ≡ Chars) → Decides r (IsFixedIn heap owner)
-fixed-some heap address owner known r is (o, there, k) d = (λ e. (address, o, is, there, k.kind ∙ d.0 e), back)
+fixed-of : (heap : Heap) (address : ℕ) (owner : Owner) (o : Object) (kind : BlockKind) (r : Bool) → owner ≡ Of address → object_of heap.graph.objects address ≡ Some o → o.kind ≡ kind_of kind → Decides r (kind_of kind ≡ Chars)
+    → Decides r (IsFixedIn heap owner)
+fixed-of heap address owner o kind r is there of_kind d = (λ e. (address, o, is, there, of_kind ∙ d.0 e), back)
   where
     back : IsFixedIn heap owner → r ≡ true
     back (id, x, own, found, chars) =
         let ids : address ≡ id = of-same address id (sym is ∙ own) in
         let here = subst (λ i. object_of heap.graph.objects i ≡ Some x) (sym ids) found in
         let same : o ≡ x = some-same (object_of heap.graph.objects address) o x there here in
-        d.1 (sym k.kind ∙ ap (λ (y : Object). y.kind) same ∙ chars)
+        d.1 (sym of_kind ∙ ap (λ (y : Object). y.kind) same ∙ chars)
+
+pub fixed-some : (heap : Heap) (address : ℕ) (owner : Owner) (known : Known) (r : Bool) → owner ≡ Of address → IsKnownAt heap.graph.objects address (Some known) → Decides r (kind_of known.kind ≡ Chars) → Decides r (IsFixedIn heap owner)
+fixed-some heap address owner known r is (o, there, k) d = fixed-of heap address owner o known.kind r is there k.kind d
+
+-- the element to which a path first leads is of what its object holds
+pub fixed-first : (program : Program) (layouts : Layouts) (objects : Objects) (heap : Heap) (owner : Owner) (path : List ℕ) (e : Element) (r : Bool) → IsFirstOf program layouts objects heap owner path e → Decides r (kind_of e.kind ≡ Chars)
+    → Decides r (IsFixedIn heap owner)
+fixed-first program layouts objects heap owner path e r f d = fixed-of heap f.address owner f.there.0 e.kind r f.owner_is f.there.1 f.there.2.kind d
 
 pub fixed-none : (heap : Heap) (address : ℕ) (owner : Owner) → owner ≡ Of address → object_of heap.graph.objects address ≡ None → Decides false (IsFixedIn heap owner)
 fixed-none heap address owner is none = (λ e. absurd (cc), back)

@@ -202,7 +202,7 @@ written-session session told s st stays path value leaf owner places new is take
         holds = record {
           schema = h.schema;
           heap = w.written.holds;
-          no_pairs = kept-pairs w.written.writes ∙ h.no_pairs;
+          pairs = kept-pairs w.written.writes ∙ h.pairs;
           variables = h.variables;
           min_expand = h.min_expand;
           min_heapsize = h.min_heapsize;

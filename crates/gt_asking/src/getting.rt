@@ -23,6 +23,7 @@ pub fn get(alloc: Global, s: &mut Session, var: &Word, path: &Route) -> Result<A
     ensures next { IfOk result (Goes (λ state answer t. NextGet s.old.schema.program state var.now path.now answer t) s.old s.new) }
     ensures refused { IfOk result (λ answer. KeepsBytes answer s.old s.new) }
     ensures unchanged { OnErr result (IsAsBefore s.old s.new) }
+    ensures space { OnErr result (s.new.objects.space ≡ s.old.objects.space) }
     ensures schema { s.new.schema ≡ s.old.schema }
 {
     let read = match reach(alloc, s, path) {
@@ -50,6 +51,7 @@ fn bind(s: &mut Session, var: &Word, addr: u64) -> Result<Answer, AllocError>
     ensures bound { IfOk result (Goes (λ state answer t. Answers state var.now (IsObject addr) answer t) s.old s.new) }
     ensures refused { IfOk result (λ answer. KeepsBytes answer s.old s.new) }
     ensures unchanged { OnErr result (IsAsBefore s.old s.new) }
+    ensures space { OnErr result (s.new.objects.space ≡ s.old.objects.space) }
     ensures schema { s.new.schema ≡ s.old.schema }
 {
     if s.vars.is_full(var) {

@@ -9,7 +9,7 @@ ghost use Rattle.gt_objects.specs.Holding.{IsHeapOf};
 ghost use Rattle.gt_elements.specs.Elements.{owner_of};
 ghost use Rattle.gt_next.specs.Leaves.{takes_numbers, is_in_range, kind_named};
 ghost use Rattle.gt_next.specs.declared.answer.Why.{Why};
-ghost use Rattle.gt_routes.specs.Reaching.{spot_of, IsEndAt, IsValueAt};
+ghost use Rattle.gt_routes.specs.Reaching.{spot_of, IsEndAt, IsFirstIn, IsValueAt};
 ghost use Rattle.gt_schema.specs.Schemas.{IsSchema};
 ghost use Rattle.gt_writes.specs.SpotWrites.{SpotTakes};
 ghost use Rattle.gt_asking.specs.Judging.{is_beyond, is_idle, IsFixedIn, SuitsAs, RefusesLeaf};
@@ -110,11 +110,15 @@ fn is_chars(kind: BlockKind) -> bool
 }
 
 // Whether a path leads into the characters of a string, which never change.
-fn is_fixed(schema: &Schema, objects: &Objects, owner: Owner) -> bool
+fn is_fixed(schema: &Schema, objects: &Objects, to: &Reached<'_>) -> bool
     requires ready { (heap : Heap) × IsHeapOf schema.now.program schema.now.layouts objects.now heap }
-    ensures fixed { (heap : Heap) → IsHeapOf schema.now.program schema.now.layouts objects.now heap → Decides result (IsFixedIn heap (owner_of owner)) }
+    requires first { (heap : Heap) → IsHeapOf schema.now.program schema.now.layouts objects.now heap → IsFirstIn schema.now.program schema.now.layouts objects.now heap to.now }
+    ensures fixed { (heap : Heap) → IsHeapOf schema.now.program schema.now.layouts objects.now heap → Decides result (IsFixedIn heap (owner_of to.now.owner)) }
 {
-    match owner {
+    if let Some(element) = to.first {
+        return is_chars(element.kind);
+    }
+    match to.owner {
         Owner::Statics => false,
         Owner::Object(addr) => match objects.known(addr) {
             Some(known) => is_chars(known.kind),
@@ -162,6 +166,7 @@ pub fn judge(schema: &Schema, objects: &Objects, to: &Reached<'_>, leaf: LeafCon
     requires schema { IsSchema schema.now }
     requires ready { (heap : Heap) × IsHeapOf schema.now.program schema.now.layouts objects.now heap }
     requires end { (heap : Heap) → IsHeapOf schema.now.program schema.now.layouts objects.now heap → IsEndAt schema.now.program schema.now.layouts objects.now heap (spot_of to.now) to.now.end }
+    requires first { (heap : Heap) → IsHeapOf schema.now.program schema.now.layouts objects.now heap → IsFirstIn schema.now.program schema.now.layouts objects.now heap to.now }
     ensures takes { result ≡ None → (heap : Heap) → IsHeapOf schema.now.program schema.now.layouts objects.now heap → SpotTakes schema.now.program heap.graph (spot_of to.now) leaf }
     ensures refused { (why : Why) → result ≡ Some why → (heap : Heap) → IsHeapOf schema.now.program schema.now.layouts objects.now heap → RefusesLeaf schema.now.program heap (spot_of to.now) leaf why }
 {
@@ -172,7 +177,7 @@ pub fn judge(schema: &Schema, objects: &Objects, to: &Reached<'_>, leaf: LeafCon
     if is_idle(schema, objects, to, at) {
         return Some(Why::Inactive);
     }
-    if is_fixed(schema, objects, to.owner) {
+    if is_fixed(schema, objects, to) {
         return Some(Why::WrongType);
     }
     if !suits(schema, objects, at.ty(), leaf) {

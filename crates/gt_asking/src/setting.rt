@@ -10,6 +10,7 @@ ghost use Rattle.gt_next.specs.Spots.{spot};
 ghost use Rattle.gt_next.specs.Paths.{Leads};
 ghost use Rattle.gt_next.specs.Leaves.{IsUnboundValue};
 ghost use Rattle.gt_next.specs.Next.{NextSet};
+ghost use Rattle.gt_routes.specs.Reaching.{IsFirstBy};
 ghost use Rattle.gt_routes.specs.declared.steps.WalkFail.TheVariants.{Refused};
 ghost use Rattle.gt_session.specs.Sessions.{Goes, IsAsBefore, IsSession, KeepsBytes, StandsFor};
 ghost use Rattle.gt_writes.specs.SpotWrites.{SpotTakes};
@@ -18,20 +19,21 @@ ghost use Rattle.gt_asking.specs.Judging.{IsGivenAs, RefusesAim};
 use crate::leaves::judge;
 use crate::paths::reach;
 use gt_determined::good_states_stay_good;
-use gt_elements::Owner;
+use gt_elements::{Element, Owner};
 use gt_next::{Answer, Why};
-use gt_routes::{Reached, WalkFail};
+use gt_routes::{Places, Reached, WalkFail};
 use gt_script::{Given, Route};
 use gt_session::Session;
 use gt_value::{LeafContent, ValueFail};
 use gt_writes::write;
 use std::alloc::{AllocError, Global};
 
-// Where a leaf may be written: into the static record or an object, and on by places in its value.
+// Where a leaf may be written, as `Reached` says it: into the static record or an object, and on by places in its value.
 #[derive(Drop)]
 struct Aim {
     owner: Owner,
-    places: Vec<u32>,
+    first: Option<Element>,
+    places: Places,
 }
 
 // What a value is as a leaf; None where it is a variable that is not bound.
@@ -52,6 +54,7 @@ fn leaf_given(s: &Session, value: &Given) -> Option<LeafContent>
 fn take_aim(alloc: Global, s: &Session, path: &Route, leaf: LeafContent) -> Result<Aim, WalkFail>
     requires session { IsSession s.now }
     ensures takes { IfOk result (λ aim. (heap : Heap) → IsHeapOf s.now.schema.program s.now.schema.layouts s.now.objects heap → SpotTakes s.now.schema.program heap.graph (spot (owner_of aim.owner) aim.places.items) leaf) }
+    ensures first { IfOk result (λ aim. (heap : Heap) → IsHeapOf s.now.schema.program s.now.schema.layouts s.now.objects heap → IsFirstBy s.now.schema.program s.now.schema.layouts s.now.objects heap (owner_of aim.owner) aim.places.items aim.first) }
     ensures leads { IfOk result (λ aim. (told : Option Held) (state : State) → StandsFor s.now told state → Leads s.now.schema.program state path.now (spot (owner_of aim.owner) aim.places.items)) }
     ensures refused { (why : Why) → result ≡ Err (Refused why) → (told : Option Held) (state : State) → StandsFor s.now told state → RefusesAim s.now.schema.program state path.now leaf why }
 {
@@ -62,8 +65,17 @@ fn take_aim(alloc: Global, s: &Session, path: &Route, leaf: LeafContent) -> Resu
     match judge(&s.schema, &s.objects, &to, leaf) {
         Some(why) => Err(WalkFail::Refused(why)),
         None => {
-            let Reached { owner, places, .. } = to;
-            Ok(Aim { owner, places })
+            let Reached {
+                owner,
+                first,
+                places,
+                ..
+            } = to;
+            Ok(Aim {
+                owner,
+                first,
+                places,
+            })
         }
     }
 }
@@ -79,6 +91,7 @@ pub fn set(
     ensures next { IfOk result (Goes (λ state answer t. NextSet s.old.schema.program state path.now value.now answer t) s.old s.new) }
     ensures refused { IfOk result (λ answer. KeepsBytes answer s.old s.new) }
     ensures unchanged { OnErr result (IsAsBefore s.old s.new) }
+    ensures space { OnErr result (s.new.objects.space ≡ s.old.objects.space) }
     ensures schema { s.new.schema ≡ s.old.schema }
 {
     let Some(leaf) = leaf_given(s, value) else {
@@ -95,7 +108,15 @@ pub fn set(
     };
     good_states_stay_good();
     let places = aimed.places.as_slice();
-    match write(alloc, &s.schema, &mut s.objects, aimed.owner, places, leaf) {
+    match write(
+        alloc,
+        &s.schema,
+        &mut s.objects,
+        aimed.owner,
+        places,
+        aimed.first,
+        leaf,
+    ) {
         Ok(()) => Ok(Answer::Done),
         Err(fail) => match fail {
             ValueFail::Shape => Ok(Answer::Refused(Why::Shape)),

@@ -102,8 +102,8 @@ fn push_chain(
     text.push(b'\n')
 }
 
-// Adds the names of the fields on a path, with dots between them. It goes as deep as the path is long.
-fn push_path(
+/// Adds the names of the fields on a path, with dots between them. It goes as deep as the path is long.
+pub fn push_path(
     text: &mut Bytes,
     program: &Program,
     fields: &[Field],
@@ -152,8 +152,8 @@ pub fn push_cache(text: &mut Bytes, program: &Program, c: &Cache) -> Result<(), 
     text.push(b'\n')
 }
 
-// Adds a name after a space.
-fn push_named(text: &mut Bytes, name: &Word) -> Result<(), AllocError>
+/// Adds a name after a space.
+pub fn push_named(text: &mut Bytes, name: &Word) -> Result<(), AllocError>
     ensures added { OnOk result (text.new ≡ text.old ++ 32 ∷ encode_utf8_all name.now) }
 {
     text.push(b' ')?;

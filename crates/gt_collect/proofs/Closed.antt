@@ -1,25 +1,27 @@
 -- What the marks of a collection leave marked leads to marked objects alone, once deletable roots are null; and what a sweep leaves then.
-use Rattle.std.proofs.Common.{◌≡◌, ◌≢◌, ℕ, ◌+◌, Bool, cond, List, [], ◌∷◌, Some, length, map, refl, ap, sym, subst, ◌∙◌, inl, inr, arith}
+use Rattle.std.proofs.Common.{◌≡◌, ◌≢◌, ℕ, ◌+◌, cond, List, [], ◌∷◌, Some, length, refl, ap, sym, subst, ◌∙◌, inl, inr, arith}
 use Rattle.std.specs.Prelude.{◌↔◌, IsTrue, All, AllPairs, Contains}
+use Rattle.std.specs.List.{AllZip}
 use Rattle.std.proofs.lemmas.Bool.{eq-eqb, ne_eqb}
-use Rattle.std.proofs.lemmas.List.Elements.{All-contains, All-cons, All-nil, All-weaker}
-use Rattle.gt_types.specs.declared.program.Cache.{Cache}
+use Rattle.std.proofs.lemmas.List.Elements.{All-contains, All-weaker}
 use Rattle.gt_types.specs.declared.program.Program.{Program}
 use Rattle.gt_layout.specs.declared.planes.Layouts.{Layouts}
 use Rattle.gt_tree.specs.Trees.{edges, all_edges}
 use Rattle.gt_tree.specs.Blocks.{Block}
-use Rattle.gt_graph.specs.Objects.{Object, Graph, object_of, blocks_of}
-use Rattle.gt_graph.specs.Good.{Heap, IsObject}
-use Rattle.gt_graph.specs.Kept.{CachesStay, PairsStay, PointsTo, ReachedFrom, ReachedWith, without_deletable}
+use Rattle.gt_graph.specs.Objects.{Object, Graph, object_of, blocks_of, pairs_in}
+use Rattle.gt_graph.specs.Good.{ArePairsOf, Heap, IsObject}
+use Rattle.gt_graph.specs.Kept.{PointsTo, ReachedFrom, ReachedWith, without_deletable}
 use Rattle.gt_graph.specs.Rounds.{AreRounds, IsOnlyFrom}
 use Rattle.gt_objects.specs.declared.objects.Objects.{Objects}
 use Rattle.gt_objects.specs.Holding.{IsHeapOf}
 use Rattle.gt_objects.specs.Marks.{IsClosed, is_marked, marked_in, swept}
 use Rattle.gt_objects.proofs.Items.{all_by, none_there, pairs_head, pairs_tail, there_cases}
 use Rattle.gt_objects.proofs.Naming.{object_of_block}
-use Rattle.gt_reach.specs.Marking.{AreMarked}
-use Rattle.gt_collect.specs.Collecting.{IsCollected, cleared_heap, no_pairs}
+use Rattle.gt_caches.specs.Pairs.{Entries, staying, with_pairs}
+use Rattle.gt_reach.specs.Marking.{IsKept}
+use Rattle.gt_collect.specs.Collecting.{IsCollected, cleared_heap}
 use Rattle.gt_collect.proofs.Cleared.{cleared_edges, each_named, static_named}
+use Rattle.gt_collect.proofs.Staying.{are_pairs, caches_lead, pairs_marked}
 
 -- one pointer further
 reached_on : {g : Graph} {from through to : ℕ} → ReachedFrom g from through → PointsTo g through to → ReachedFrom g from to
@@ -36,27 +38,29 @@ found_itself (p ∷ objects) o pairs there = elim (there_cases p objects o there
       ∙ found_itself objects o (pairs_tail (λ p q. p.id ≢ q.id) p objects pairs) later
 ]
 
-no_pairs_lead : (marks : ℕ → Bool) (caches : List Cache) → All (λ pairs. All (λ pair. IsTrue (marks pair.0) × IsTrue (marks pair.1)) pairs) (map (λ cache. let none : List (ℕ × ℕ) = [] in none) caches)
-no_pairs_lead marks [] = All-nil (λ pairs. All (λ pair. IsTrue (marks pair.0) × IsTrue (marks pair.1)) pairs)
-no_pairs_lead marks (c ∷ caches) =
-    All-cons (λ pairs. All (λ pair. IsTrue (marks pair.0) × IsTrue (marks pair.1)) pairs) [] (map (λ cache. []) caches) (All-nil (λ pair. IsTrue (marks pair.0) × IsTrue (marks pair.1))) (no_pairs_lead marks caches)
+module _ (program : Program) (layouts : Layouts) (before objects : Objects) (same : objects.pages ≡ before.pages) (heap : Heap) (is : IsHeapOf program layouts before heap) (caches : Entries)
+    (rounds : ℕ) (is_kept : IsKept program before caches heap rounds) where
+  abbrev values : List ℕ
+  values = is_kept.values
 
-none_stay : (program : Program) (g : Graph) (caches : List Cache) → CachesStay program g [] (map (λ cache. []) caches) (map (λ cache. []) caches) []
-none_stay program g [] = CachesStay.no_cache
-none_stay program g (c ∷ caches) = CachesStay.next_cache PairsStay.no_pair (none_stay program g caches)
+  -- the heap that is swept: deletable roots are null in it, and dropped pairs are gone
+  abbrev pub settled_heap : Heap
+  settled_heap = with_pairs (cleared_heap program heap) (staying caches)
 
-module _ (program : Program) (layouts : Layouts) (before objects : Objects) (same : objects.pages ≡ before.pages) (heap : Heap) (is : IsHeapOf program layouts before heap) (rounds : ℕ)
-    (marked : AreMarked program before heap rounds) (none : heap.graph.pairs ≡ no_pairs program) where
-  exact : (o : Object) → Contains heap.graph.objects o → IsTrue (is_marked objects o.id) ↔ ReachedWith program heap.graph [] o.id
-  exact o there = subst (λ p. IsTrue (is_marked (record before { pages = p }) o.id) ↔ ReachedWith program heap.graph [] o.id) (sym same) (marked.exact o there)
+  -- the pairs that stay are pairs of their caches
+  pub pairs_are : AllZip (ArePairsOf heap.graph.objects) program.caches (staying caches)
+  pairs_are = are_pairs program heap.graph heap.graph.objects program.caches is_kept.stay is.good.graph.pairs
+
+  exact : (o : Object) → Contains heap.graph.objects o → IsTrue (is_marked objects o.id) ↔ ReachedWith program heap.graph values o.id
+  exact o there = subst (λ p. IsTrue (is_marked (record before { pages = p }) o.id) ↔ ReachedWith program heap.graph values o.id) (sym same) (is_kept.marked.exact o there)
 
   -- a block that is reached is marked
-  named_marked : (id : ℕ) (b : Block) → blocks_of heap.graph.objects id ≡ Some b → ReachedWith program heap.graph [] id → IsTrue (is_marked objects id)
+  named_marked : (id : ℕ) (b : Block) → blocks_of heap.graph.objects id ≡ Some b → ReachedWith program heap.graph values id → IsTrue (is_marked objects id)
   named_marked id b e reached =
       let o = object_of_block heap.graph.objects id b e in
-      subst (λ n. IsTrue (is_marked objects n)) o.3 ((exact o.0 o.2).1 (subst (ReachedWith program heap.graph []) (sym o.3) reached))
+      subst (λ n. IsTrue (is_marked objects n)) o.3 ((exact o.0 o.2).1 (subst (ReachedWith program heap.graph values) (sym o.3) reached))
 
-  pub closed : IsClosed objects (cleared_heap program heap).graph
+  pub closed : IsClosed objects settled_heap.graph
   closed = record {
     objects_lead = λ o there stays. all_by (λ id. IsTrue (is_marked objects id)) (edges o.value) (λ id leads.
         let is_object = All-contains (IsObject program heap.graph) heap.graph.objects o is.good.graph.objects there in
@@ -67,33 +71,35 @@ module _ (program : Program) (layouts : Layouts) (before objects : Objects) (sam
         let root = cleared_edges program.roots heap.graph.statics is.good.graph.statics id leads in
         let its = static_named program.roots heap.graph.statics is.good.graph.statics id root in
         named_marked id its.0 its.1 (id, inl root, ReachedFrom.itself));
-    pairs_lead = subst (λ pairs. All (λ pairs. All (λ pair. IsTrue (is_marked objects pair.0) × IsTrue (is_marked objects pair.1)) pairs) pairs) (sym none) (no_pairs_lead (is_marked objects) program.caches);
+    pairs_lead =
+        pairs_marked program heap.graph (is_marked objects) values heap.graph.objects named_marked program.caches (staying caches) pairs_are
+        (caches_lead program heap.graph is_kept.stay values (λ id has. has));
   }
 
-  same_rounds : AreRounds program heap.graph (record heap.graph { objects = marked_in objects heap.graph.objects }) [] rounds
-  same_rounds = subst (λ p. AreRounds program heap.graph (record heap.graph { objects = marked_in (record before { pages = p }) heap.graph.objects }) [] rounds) (sym same) marked.rounds
+  same_rounds : AreRounds program heap.graph (record heap.graph { objects = marked_in objects heap.graph.objects }) values rounds
+  same_rounds = subst (λ p. AreRounds program heap.graph (record heap.graph { objects = marked_in (record before { pages = p }) heap.graph.objects }) values rounds) (sym same) is_kept.marked.rounds
 
   abbrev marked_graph : Graph
   marked_graph = record heap.graph { objects = marked_in objects heap.graph.objects }
 
-  still_only : (from : Object) (ids : List ℕ) → All (IsOnlyFrom program heap.graph (swept objects (cleared_heap program heap)).graph [] from) ids → All (IsOnlyFrom program heap.graph marked_graph [] from) ids
-  still_only from ids only = All-weaker (IsOnlyFrom program heap.graph (swept objects (cleared_heap program heap)).graph [] from) (IsOnlyFrom program heap.graph marked_graph [] from)
+  still_only : (from : Object) (ids : List ℕ) → All (IsOnlyFrom program heap.graph (swept objects settled_heap).graph values from) ids → All (IsOnlyFrom program heap.graph marked_graph values from) ids
+  still_only from ids only = All-weaker (IsOnlyFrom program heap.graph (swept objects settled_heap).graph values from) (IsOnlyFrom program heap.graph marked_graph values from)
       (λ id is. record { leads = is.leads; no_root = is.no_root; no_value = is.no_value; no_other = is.no_other }) ids only
 
-  pub collected : (kept freed : ℕ) → kept ≡ length (marked_in objects heap.graph.objects) → freed + length (marked_in objects heap.graph.objects) ≡ length heap.graph.objects
-      → IsCollected program heap (swept objects (cleared_heap program heap)) kept freed rounds
-  collected kept freed many rest = record {
+  pub collected : (kept freed dropped : ℕ) → kept ≡ length (marked_in objects heap.graph.objects) → freed + length (marked_in objects heap.graph.objects) ≡ length heap.graph.objects
+      → pairs_in (staying caches) + dropped ≡ pairs_in heap.graph.pairs → IsCollected program heap (swept objects settled_heap) kept freed dropped rounds
+  collected kept freed dropped many rest gone = record {
     after = record {
-      values = [];
-      stay = subst (λ pairs. CachesStay program heap.graph [] pairs pairs []) (sym none) (none_stay program heap.graph program.caches);
+      values = values;
+      stay = is_kept.stay;
       kept = is_marked objects;
       exact = exact;
       objects = refl;
       statics = refl;
       places = refl;
     };
-    pairs = none;
     kept_count = many;
     freed_count = omega (arith, many, rest);
+    dropped_count = gone;
     rounds = record { at_least = same_rounds.at_least; at_most = same_rounds.at_most; one = same_rounds.one; more = λ from ids there distinct many only. same_rounds.more from ids there distinct many (still_only from ids only) };
   }

@@ -1,4 +1,5 @@
 pub mod Bare
 pub mod Cleared
 pub mod Rooted
+pub mod Staying
 pub mod Closed

@@ -1,4 +1,4 @@
-//! The collection of a heap: the objects that its roots reach are kept, and the others are freed.
+//! The collection of a heap: the objects that its roots and the pairs that stay reach are kept, and the others are freed.
 #![tactic(auto)]
 
 mod clearing;

@@ -13,7 +13,7 @@ use Rattle.gt_next.specs.States.{State, IsGoodState}
 use Rattle.gt_next.specs.Next.{Next}
 use Rattle.gt_next.specs.Laws.{AreOneAnswer, AreOneState, IsCollection}
 use Rattle.gt_determined.proofs.PathEnds.{path-ends}
-use Rattle.gt_determined.proofs.Simples.{drop-one, heap-one, stats-one}
+use Rattle.gt_determined.proofs.Simples.{drop-one, heap-one, stats-one, tables-one}
 use Rattle.gt_determined.proofs.Caches.{find-one, put-one}
 use Rattle.gt_determined.proofs.Gets.{get-one, print-one}
 use Rattle.gt_determined.proofs.Sets.{set-one}
@@ -43,6 +43,7 @@ module _ (program : Program) (layouts : Layouts) (settled : Settled program) (la
       inr (IsCollection.force, subst (λ z. AreOneAnswer a z) (force-answer program layouts s good.heap.places a b t u x y) AreOneAnswer.same, inr (force-state program layouts s good.heap.places a b t u x y))
   alike a b t u command.Heap x y = inl (same a b t u (heap-one s t u a b x y))
   alike a b t u command.Stats x y = inl (same a b t u (stats-one s t u a b x y))
+  alike a b t u command.Tables x y = inl (same a b t u (tables-one program layouts s t u a b x y))
   alike a b t u c x y = absurd x
 
   pub answer-one : (a b : Answer) (t u : State) (c : Command) → Next program layouts s c a t → Next program layouts s c b u → AreOneAnswer a b

@@ -9,7 +9,7 @@ use Rattle.gt_next.specs.declared.answer.Answer.{Answer}
 use Rattle.gt_next.specs.States.{State, IsGoodState}
 use Rattle.gt_next.specs.Next.{Next}
 use Rattle.gt_next.specs.Laws.{IsOfBytes, IsCollection}
-use Rattle.gt_determined.proofs.Simples.{print-kept, heap-kept, stats-kept}
+use Rattle.gt_determined.proofs.Simples.{print-kept, heap-kept, stats-kept, tables-kept}
 use Rattle.gt_determined.proofs.Bound.{get-good, drop-good}
 use Rattle.gt_determined.proofs.Pairs.{put-good, find-good}
 use Rattle.gt_determined.proofs.Blocks.{new-good, array-good, text-good, block-good}
@@ -30,4 +30,5 @@ stays-good program layouts settled s t command.Collect a good bytes plain next =
 stays-good program layouts settled s t command.CollectForce a good bytes plain next = absurd (plain IsCollection.force)
 stays-good program layouts settled s t command.Heap a good bytes plain next = subst (λ x. IsGoodState program layouts x) (sym (heap-kept s t a next)) good
 stays-good program layouts settled s t command.Stats a good bytes plain next = subst (λ x. IsGoodState program layouts x) (sym (stats-kept s t a next)) good
+stays-good program layouts settled s t command.Tables a good bytes plain next = subst (λ x. IsGoodState program layouts x) (sym (tables-kept program layouts s t a next)) good
 stays-good program layouts settled s t c a good bytes plain next = absurd next

@@ -35,10 +35,10 @@ mod Keeping
 mod Collections
 mod Commands
 mod Bound
-mod Pairs
+pub mod Pairs
 mod Graphs
 mod Valued
 mod Written
 mod Blocks
 mod Goods
-mod Presence
+pub mod Presence

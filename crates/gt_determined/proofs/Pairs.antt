@@ -19,7 +19,7 @@ use Rattle.gt_next.specs.Caching.{value_of_key, paired, with_pair, with_pairs, I
 
 -- ---- lists
 
-zip-at : {A B : Type 0} (R : A → B → Type 0) (xs : List A) (ys : List B) (i : ℕ) (x : A) (y : B) → AllZip R xs ys → slice_get xs i ≡ Some x → slice_get ys i ≡ Some y → R x y
+pub zip-at : {A B : Type 0} (R : A → B → Type 0) (xs : List A) (ys : List B) (i : ℕ) (x : A) (y : B) → AllZip R xs ys → slice_get xs i ≡ Some x → slice_get ys i ≡ Some y → R x y
 zip-at R [] [] i x y h a b = absurd (cc)
 zip-at R [] (z ∷ ys) i x y h a b = absurd h
 zip-at R (w ∷ xs) [] i x y h a b = absurd h

@@ -74,21 +74,22 @@ member-or-refused s name type = at (meaning s.variables name) refl
 
 -- ---- find and put
 
-zip-there : {A B : Type 0} (R : A → B → Type 0) (xs : List A) (ys : List B) (i : ℕ) (x : A) → AllZip R xs ys → slice_get xs i ≡ Some x → (y : B) × (slice_get ys i ≡ Some y)
+pub zip-there : {A B : Type 0} (R : A → B → Type 0) (xs : List A) (ys : List B) (i : ℕ) (x : A) → AllZip R xs ys → slice_get xs i ≡ Some x → (y : B) × (slice_get ys i ≡ Some y)
 zip-there R [] [] i x h e = absurd (cc)
 zip-there R [] (y ∷ ys) i x h e = absurd h
 zip-there R (z ∷ xs) [] i x h e = absurd h
 zip-there R (z ∷ xs) (y ∷ ys) zero x h e = (y, refl)
 zip-there R (z ∷ xs) (y ∷ ys) (suc i) x h e = zip-there R xs ys i x h.1 e
 
-module _ (program : Program) (layouts : Layouts) (s : State) (good : IsGoodState program layouts s) (name key : List ℕ) where
+module _ (program : Program) (layouts : Layouts) (s : State) (good : IsGoodState program layouts s) (name : List ℕ) where
   -- a cache of the program has pairs in a good state
-  cache-there : (place : ℕ) → cache_of program name ≡ Some place → (cache : Cache) × (pairs : List (ℕ × ℕ)) × IsCacheAt program s name place cache pairs
+  pub cache-there : (place : ℕ) → cache_of program name ≡ Some place → (cache : Cache) × (pairs : List (ℕ × ℕ)) × IsCacheAt program s name place cache pairs
   cache-there place e =
       let cache = found-at (λ c. bytes_eq c.name name) program.caches place e in
       let pairs = zip-there (ArePairsOf s.heap.graph.objects) program.caches s.heap.graph.pairs place cache.0 good.heap.graph.pairs cache.1 in
       (cache.0, pairs.0, record { at = e; declared = cache.1; held = pairs.1 })
 
+module _ (program : Program) (layouts : Layouts) (s : State) (good : IsGoodState program layouts s) (name key : List ℕ) where
   pub find-there : SomeStep (NextFind program s name key)
   find-there = at (cache_of program name) refl
     where
@@ -102,7 +103,7 @@ module _ (program : Program) (layouts : Layouts) (s : State) (good : IsGoodState
 
       at : (found : Option ℕ) → cache_of program name ≡ found → SomeStep (NextFind program s name key)
       at None e = (_, _, NextFind.no_cache e)
-      at (Some place) e = let c = cache-there place e in of place c.0 c.1 c.2 (member-or-refused s key c.0.key)
+      at (Some place) e = let c = cache-there program layouts s good name place e in of place c.0 c.1 c.2 (member-or-refused s key c.0.key)
 
   module _ (value : List ℕ) where
     put-worth : (place k v : ℕ) (cache : Cache) (pairs : List (ℕ × ℕ)) → IsCacheAt program s name place cache pairs → IsMember s key cache.key k → IsMember s value cache.value v
@@ -122,4 +123,4 @@ module _ (program : Program) (layouts : Layouts) (s : State) (good : IsGoodState
       where
         at : (found : Option ℕ) → cache_of program name ≡ found → SomeStep (NextPut program s name key value)
         at None e = (_, _, NextPut.no_cache e)
-        at (Some place) e = let c = cache-there place e in put-at place c.0 c.1 c.2 (member-or-refused s key c.0.key) (member-or-refused s value c.0.value)
+        at (Some place) e = let c = cache-there program layouts s good name place e in put-at place c.0 c.1 c.2 (member-or-refused s key c.0.key) (member-or-refused s value c.0.value)

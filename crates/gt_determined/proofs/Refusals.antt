@@ -15,7 +15,7 @@ use Rattle.gt_next.specs.Making.{Wanted, Contents, Binds, NextNew, NextArray, Ne
 use Rattle.gt_next.specs.Caching.{NextPut, NextFind}
 use Rattle.gt_next.specs.Collecting.{NextCollect, NextForce, NextStats}
 use Rattle.gt_next.specs.Leaves.{Got}
-use Rattle.gt_next.specs.Next.{Next, NextSet, Answers, NextGet, NextDrop, NextPrint, NextHeap}
+use Rattle.gt_next.specs.Next.{Next, NextSet, Answers, NextGet, NextDrop, NextPrint, NextHeap, NextTables}
 
 module _ {program : Program} {layouts : Layouts} {s : State} where
   -- ---- blocks that are made
@@ -63,6 +63,9 @@ module _ {s : State} where
   stats next = elim next [ ]
 
 module _ {program : Program} {s : State} where
+  tables : {why : Why} {t : State} (layouts : Layouts) → NextTables program layouts s (Refused why) t → t ≡ s
+  tables layouts next = elim next [ ]
+
   -- ---- leaves and variables
 
   set : {why : Why} {t : State} {path : Route} {value : Given} → NextSet program s path value (Refused why) t → t ≡ s
@@ -116,4 +119,5 @@ unchanged program layouts s t why command.Collect next = collect next
 unchanged program layouts s t why command.CollectForce next = force next
 unchanged program layouts s t why command.Heap next = heap next
 unchanged program layouts s t why command.Stats next = stats next
+unchanged program layouts s t why command.Tables next = tables layouts next
 unchanged program layouts s t why c next = absurd next

@@ -1,4 +1,5 @@
--- That a command has an answer. It is proved for drop, heap, stats, put and find; for the other commands it is not yet.
+-- That a command has an answer. Here it is proved for drop, heap, stats, put and find; gt_total proves of the others that it cannot be
+-- that they have none.
 use Rattle.gt_types.specs.declared.program.Program.{Program}
 use Rattle.gt_layout.specs.declared.planes.Layouts.{Layouts}
 use Rattle.gt_script.specs.declared.command.Command.{Command}

@@ -1,4 +1,4 @@
--- That a good state stays good. It is proved for each command but the two that may collect, for which it is not yet.
+-- That a good state stays good. Here it is proved for each command but the two that may collect; gt_total has these too.
 use Rattle.gt_types.specs.declared.program.Program.{Program}
 use Rattle.gt_layout.specs.declared.planes.Layouts.{Layouts}
 use Rattle.gt_script.specs.declared.command.Command.{Command}

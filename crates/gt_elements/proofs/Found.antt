@@ -234,6 +234,16 @@ module _ (program : Program) (layouts : Layouts) (settled : Settled program) (la
         let many : q.count ≡ known.count = sym (ap (λ x. x.count) one) ∙ at.2.count in
         absurd (let no : 1 ≤ 0 = omega (arith, past, low, many) in omega (arith, no))
 
+    -- an element has a size
+    some_size : (size : ℕ) × Takes program layouts known.capacity (element_type program (kind_of known.kind)) size
+    some_size =
+        let p = placed_of is.good.places o there.0 in
+        let bytes = (is.good.places.sizes o p.0 there.0 p.1 p.2).1 in (
+          bytes.0,
+          subst (λ n. Takes program layouts n (element_type program (kind_of known.kind)) bytes.0) at.2.capacity
+              (subst (λ k. Takes program layouts o.capacity (element_type program k) bytes.0) at.2.kind bytes.1),
+        )
+
     module _ (place size : ℕ) (low : place < known.count) (takes : Takes program layouts known.capacity (element_type program (kind_of known.kind)) size) where
       its_takes : Takes program layouts o.capacity (element_type program o.kind) size
       its_takes =
@@ -255,3 +265,10 @@ module _ (program : Program) (layouts : Layouts) (settled : Settled program) (la
       pub known_element : IsElementAt program layouts heap objects.space address place (Some (record { kind = known.kind; addr = address + size * place; capacity = known.capacity }))
       known_element =
           (o, at.1, element_is o there.0 lies.0 lies.1 lies.2 size its_takes place its_low (record { kind = known.kind; addr = address + size * place; capacity = known.capacity }) at.2.kind at.2.capacity (ap (λ a. a + size * place) here))
+
+    -- the first element begins where its object does
+    pub known_first : (place : ℕ) → place ≡ 0 → place < known.count → IsElementAt program layouts heap objects.space address place (Some (record { kind = known.kind; addr = address; capacity = known.capacity }))
+    known_first place first low =
+        let size = some_size in
+        let begins : address + size.0 * place ≡ address = ap (λ i. address + size.0 * i) first ∙ omega arith in
+        subst (λ a. IsElementAt program layouts heap objects.space address place (Some (record { kind = known.kind; addr = a; capacity = known.capacity }))) begins (known_element place size.0 low size.1)

@@ -1,5 +1,5 @@
 -- The elements of objects, and what of a heap its bytes stand for.
-use Rattle.std.specs.Prelude.{◌≡◌, ◌<◌, ℕ, ◌+◌, ◌*◌, [], ◌∷◌, Option, Some, None}
+use Rattle.std.specs.Prelude.{◌≡◌, ◌<◌, ℕ, ◌+◌, ◌*◌, List, [], ◌∷◌, Option, Some, None}
 use Rattle.gt_types.specs.declared.program.Program.{Program}
 use Rattle.gt_layout.specs.declared.planes.Layouts.{Layouts}
 use Rattle.gt_space.specs.Range.{Range, IsInside}
@@ -36,6 +36,15 @@ pub record IsElementOf (program : Program) (layouts : Layouts) (heap : Heap) (ra
 abbrev pub IsElementAt : Program → Layouts → Heap → Range → ℕ → ℕ → Option Element → Type 0
 IsElementAt program layouts heap range address place None = (o : Object) → object_of heap.graph.objects address ≡ Some o → ¬ (place < o.count)
 IsElementAt program layouts heap range address place (Some e) = (o : Object) × (object_of heap.graph.objects address ≡ Some o) × IsElementOf program layouts heap range o place e
+
+-- the element to which a path in an object first leads
+pub record IsFirstOf (program : Program) (layouts : Layouts) (objects : Objects) (heap : Heap) (owner : graph.Owner) (path : List ℕ) (e : Element) : Type 0 where
+  pub address : ℕ
+  pub place : ℕ
+  pub rest : List ℕ
+  pub owner_is : owner ≡ graph.Of address
+  pub path_is : path ≡ place ∷ rest
+  pub there : IsElementAt program layouts heap objects.space address place (Some e)
 
 -- the static record lies in the space, and its bytes stand for the values of the roots, beside the objects
 pub record RootsStand (program : Program) (layouts : Layouts) (objects : Objects) (heap : Heap) : Type 0 where

@@ -1,15 +1,16 @@
 -- What one stage hands to the next, and why it stops.
-use Rattle.std.proofs.Common.{◌≡◌, ℕ, ◌+◌, ◌≤◌, List, [], ◌∷◌, ◌++◌, length, refl, ap, sym, ◌∙◌, Some, Option, append_assoc, arith}
+use Rattle.std.proofs.Common.{◌≡◌, ℕ, ◌+◌, ◌≤◌, List, [], ◌∷◌, ◌++◌, length, refl, ap, sym, subst, ◌∙◌, Some, Option, append_assoc, arith}
 use Rattle.std.specs.Prelude.{All}
 use Rattle.std.proofs.lemmas.List.Elements.{All-nil, All-cons}
 use Rattle.gt_io.specs.Held.{Held}
 use Rattle.gt_words.specs.declared.call.Call.{Call}
+use Rattle.gt_words.specs.declared.call.Script.{Script as ScriptWord}
 use Rattle.gt_words.specs.declared.call.Script.TheVariants.{File as FileWord}
 use Rattle.gt_words.specs.Calls.{call_of}
 use Rattle.gt_words.specs.Ranges.{HasHeaders}
 use Rattle.gt_front.specs.declared.TheConstants.{MAX_HEADER_BYTES}
 use Rattle.gt_front.specs.Texts.{File, Texts, script_file, headers_from, IsTextOf, AreTextsOf}
-use Rattle.gt_front.specs.Asks.{Reads}
+use Rattle.gt_front.specs.Asks.{AreTextsFor, Reads}
 use Rattle.gt_front.specs.Comes.{IsRefusedFile}
 use Rattle.gt_front.specs.Reading.{IsStopAt, IsStopIn, IsStopOf, AreHeadersRead}
 use Rattle.gt_front.specs.Stages.{AreWithin}
@@ -60,10 +61,11 @@ pub Reads-all : (words : List (List ℕ)) (told : Option Held) (call : Call) (na
     → call.script ≡ FileWord name → AreHeadersRead told call.headers headers → IsTextOf told (script_file name) script
     → Reads words told call (record { headers = headers; script = script })
 Reads-all words told call name headers script called is all one =
+    let texts : Texts = record { headers = headers; script = script } in
+    let T : ScriptWord → Type 0 = λ s. AreTextsFor told s call.headers texts in
     record {
-      name = name;
-      calls = record { called = called; script = is };
-      texts_are = AreTextsOf-push told (headers_from 1 call.headers) headers (script_file name) script all one;
+      called = called;
+      texts_are = subst T (sym is) (AreTextsOf-push told (headers_from 1 call.headers) headers (script_file name) script all one);
     }
 
 -- there is a text for each header
@@ -84,4 +86,4 @@ each_short told word (n ∷ names) (t ∷ texts) all =
 pub AreWithin-read : (told : Option Held) (call : Call) (name : List ℕ) (texts : List (List ℕ)) → HasHeaders (FileWord name) call.headers → AreHeadersRead told call.headers texts → AreWithin call texts
 AreWithin-read told call name texts has all =
     let each = each_header told 1 call.headers texts all in
-    record { each = each; few = omega (arith, each, has.1); short = each_short told 1 call.headers texts all }
+    record { each = λ other is. omega (arith, each); few = omega (arith, each, has.1); short = each_short told 1 call.headers texts all }

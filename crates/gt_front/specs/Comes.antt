@@ -1,12 +1,11 @@
 -- Which refusal comes first in the order of work: of the words; of the reading of each header and then of the script; of the
 -- headers; of the script.
-use Rattle.std.specs.Prelude.{◌≡◌, ℕ, ◌⊎◌, List, ◌∷◌, ◌++◌, Option, Some, None}
+use Rattle.std.specs.Prelude.{◌≡◌, ℕ, ◌⊎◌, List, ◌∷◌, ◌++◌, Option, None}
 use Rattle.std.specs.List.{AllByRecursion}
 use Rattle.gt_types.specs.declared.program.Program.{Program}
 use Rattle.gt_io.specs.Held.{Held}
 use Rattle.gt_io.specs.Reads.{Tells, TellsLonger}
 use Rattle.gt_words.specs.declared.call.Call.{Call}
-use Rattle.gt_words.specs.declared.call.Script.TheVariants.{Generated}
 use Rattle.gt_words.specs.Calls.{call_of}
 use Rattle.gt_script.specs.Outcome.{IsRefusedAt, IsTooLong}
 use Rattle.gt_headers.specs.Headers.{Declares, IsFirstFault}
@@ -43,16 +42,11 @@ abbrev pub IsScriptFault : List ℕ → (number line : ℕ) → Type 0
 IsScriptFault text number line =
     ((number ≡ SCRIPT_SYNTAX) × IsRefusedAt text line) ⊎ ((number ≡ SCRIPT_TOO_LONG) × (line ≡ 0) × IsTooLong text)
 
--- a generated script is not built so far
-abbrev pub IsGenerated : Call → Type 0
-IsGenerated call = (word : List ℕ) × (n : ℕ) × (call.script ≡ Generated word n)
-
--- What is refused first, where these are the texts of the files, if they are read. A generated script is refused directly
--- after the words.
+-- what is refused first, where these are the texts, if the files are read; which commands are not built is told by the layer above
 abbrev pub Comes : List (List ℕ) → Option Held → Texts → Refusal → Type 0
 Comes words told texts Words = call_of words ≡ None
 Comes words told texts (InFile word why) = (call : Call) × (name : List ℕ) × Calls words call name × IsRefusedFile told (files_in_order name call.headers) word why
 Comes words told texts (Header fault) = (call : Call) × Reads words told call texts × IsFirstFault texts.headers fault
-Comes words told texts NotBuilt = (call : Call) × (call_of words ≡ Some call) × IsGenerated call
+Comes words told texts NotBuilt = ⊥
 Comes words told texts (Script number line) = (call : Call) × Reads words told call texts × ((program : Program) × Declares texts.headers program)
     × IsScriptFault texts.script number line

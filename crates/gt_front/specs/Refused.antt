@@ -19,10 +19,15 @@ abbrev pub script_word : ScriptWord → List ℕ
 script_word (File name) = name
 script_word (Generated word n) = word
 
+-- the word of a header as given, counted from 0; a generated script has no such words, and its own stands for them
+abbrev pub header_word : ScriptWord → (headers : List (List ℕ)) → ℕ → Option (List ℕ)
+header_word (File name) headers i = slice_get headers i
+header_word (Generated word n) headers i = Some word
+
 -- the word at a place as given: the script's at 0, and the i-th header's at i
 abbrev pub word_at : Call → ℕ → Option (List ℕ)
 word_at call zero = Some (script_word call.script)
-word_at call (suc i) = slice_get call.headers i
+word_at call (suc i) = header_word call.script call.headers i
 
 -- what is said of a file that was not read
 abbrev pub why_text : FileWhy → List ℕ

@@ -1,6 +1,6 @@
-//! What comes before the first command, in the order of work: the arguments, the headers and the script read, the headers'
-//! faults, their program, and the lines of the script; or the refusal that comes first, with its line. The layer above uses
-//! `prepare`.
+//! What comes before the first command, in the order of work: the arguments; the headers and the script, of files or generated;
+//! the headers' faults, their program, and the lines of the script; or the refusal that comes first, with its line. The layer
+//! above uses `prepare`.
 #![tactic(auto)]
 
 mod places;

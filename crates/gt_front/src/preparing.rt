@@ -7,7 +7,7 @@ ghost use Rattle.gt_words.specs.Ranges.{IsInRange};
 ghost use Rattle.gt_front.specs.Asks.{Asks};
 ghost use Rattle.gt_front.specs.Halts.{Halts};
 
-use crate::stages::{called, declared, lines_of, read_files};
+use crate::stages::{called, declared, lines_of, read_texts};
 use crate::{FileWhy, Refusal};
 use gt_headers::Declared;
 use gt_io::Files;
@@ -33,9 +33,9 @@ pub enum Halt {
     Refused { refusal: Refusal, line: Bytes },
 }
 
-/// The order of work up to the first command: the arguments; each header read in order, and then the script; the faults of
-/// the headers and their program; the lines of the script. What is refused first ends it. The arguments come without the
-/// program's name. No file changes.
+/// The order of work up to the first command: the arguments; each header read in order, and then the script, or the header
+/// and the script that are generated; the faults of the headers and their program; the lines of the script. What is refused
+/// first ends it. The arguments come without the program's name. No file changes.
 pub fn prepare<F: Files>(alloc: Global, words: &[Word], files: &mut F) -> Result<Ready, Halt>
     ensures ready { IfOk result (λ ready. Asks words.now (F.told files.old) ready.call ready.program ready.lines) }
     ensures laid { IfOk result (λ ready. IsLaidOut ready.program ready.layouts) }
@@ -52,7 +52,7 @@ pub fn prepare<F: Files>(alloc: Global, words: &[Word], files: &mut F) -> Result
         Ok(call) => call,
         Err(halt) => return Err(halt),
     };
-    let found = match read_files(alloc, &call, files) {
+    let found = match read_texts(alloc, &call, files) {
         Ok(found) => found,
         Err(halt) => return Err(halt),
     };

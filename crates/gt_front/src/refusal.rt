@@ -11,7 +11,7 @@ pub enum Refusal {
     Script { number: u8, line: u32 },
     /// A file: 0 is the script, i the i-th header.
     File { word: u32, why: FileWhy },
-    /// The script asks for what is not built yet.
+    /// The script has a command that is not built yet.
     NotBuilt,
 }
 

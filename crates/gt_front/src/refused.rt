@@ -1,7 +1,8 @@
 // The one line of a refusal: the word as it was given, what is said of it, and a newline.
-ghost use Rattle.std.specs.Prelude.{◌≡◌, ◌≤◌, ◌++◌, All, IfOk, List, codes, length, ℕ, Some};
+ghost use Rattle.std.specs.Prelude.{◌≡◌, ◌≤◌, ◌-◌, ◌++◌, All, IfOk, List, codes, length, slice_get, ℕ, Some};
 ghost use Rattle.gt_words.specs.Calls.{call_of};
-ghost use Rattle.gt_front.specs.Refused.{IsFaultLine, IsLineOf, IsRefusalLine, fault_name, fault_text, script_text, script_word as script_word_of, why_text, word_at};
+ghost use Rattle.gt_front.specs.Refused.{IsFaultLine, IsLineOf, IsRefusalLine, fault_name, fault_text, script_text, why_text, word_at};
+ghost use Rattle.gt_front.specs.Stages.{HasWordAt};
 ghost use Rattle.gt_front.specs.Texts.{Texts};
 
 use crate::places::{Place, place_in};
@@ -18,7 +19,7 @@ pub fn words_line(alloc: Global) -> Result<Bytes, AllocError>
     Bytes::of(alloc, b"words: refused\n")
 }
 
-/// The line of a script that asks for what is not built yet.
+/// The line of a script with a command that is not built yet.
 pub fn not_built_line(alloc: Global, call: &Call) -> Result<Bytes, AllocError>
     ensures line { (words : List (List ℕ)) (texts : Texts) → call_of words ≡ Some call.now → IfOk result (IsRefusalLine words texts Refusal.NotBuilt) }
 {
@@ -34,7 +35,7 @@ pub fn fault_line(
 ) -> Result<Bytes, AllocError>
     requires counted { 1 ≤ fault.file }
     requires there { fault.file ≤ length texts.now }
-    requires each { length texts.now ≤ length call.now.headers }
+    requires each { HasWordAt call.now (length texts.now) }
     requires short { All (λ text. length text ≤ MAX_HEADER_BYTES) texts.now }
     ensures line { (words : List (List ℕ)) (script : List ℕ) → call_of words ≡ Some call.now
         → IfOk result (IsFaultLine words (record { headers = texts.now; script = script }) fault) }
@@ -53,10 +54,10 @@ pub fn script_line(alloc: Global, call: &Call, number: u8, line: u32) -> Result<
     file_line(alloc, call, 0, said.as_slice())
 }
 
-/// The line that begins with the argument of a file, 0 for the script and i for the i-th header, and goes on with this
-/// text.
+/// The line that begins with the argument at a place, 0 for the script and i for the i-th header, and goes on with this
+/// text. With a generated script, which has no headers, it begins with the script's.
 pub fn file_line(alloc: Global, call: &Call, word: u32, said: &[u8]) -> Result<Bytes, AllocError>
-    requires there { word ≤ length call.now.headers }
+    requires there { HasWordAt call.now word }
     ensures line { (words : List (List ℕ)) → call_of words ≡ Some call.now → IfOk result (IsLineOf words word said.now) }
 {
     let mut line = Bytes::of(alloc, word_at(call, word).as_str().as_bytes())?;
@@ -76,25 +77,27 @@ pub fn why_text(why: FileWhy) -> &'static [u8]
     }
 }
 
-// The word of a file as it was given.
+// The word at a place as it was given.
 fn word_at(call: &Call, word: u32) -> &Word
-    requires there { word ≤ length call.now.headers }
+    requires there { HasWordAt call.now word }
     ensures { word_at call.now word ≡ Some result.now }
 {
-    if word == 0 {
-        return script_word(&call.script);
-    }
-    &call.headers.as_slice()[word as usize - 1]
-}
-
-// The word of the script as it was given.
-fn script_word(script: &Script) -> &Word
-    ensures { result.now ≡ script_word_of script.now }
-{
-    match script {
-        Script::File(name) => name,
+    match &call.script {
+        Script::File(name) => file_word(name, call.headers.as_slice(), word),
         Script::Generated { word, .. } => word,
     }
+}
+
+// The name at a place, of the script or of a header.
+fn file_word<'a>(script: &'a Word, headers: &'a [Word], place: u32) -> &'a Word
+    requires there { place ≤ length headers.now }
+    ensures script { place ≡ 0 → result.now ≡ script.now }
+    ensures header { 1 ≤ place → slice_get headers.now (place - 1) ≡ Some result.now }
+{
+    if place == 0 {
+        return script;
+    }
+    &headers[place as usize - 1]
 }
 
 // What is said of a fault: its place in its text, and its number and name.

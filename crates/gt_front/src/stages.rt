@@ -1,5 +1,5 @@
 // The stages of the work up to the first command. Each gives what it is for, or why nothing runs.
-ghost use Rattle.std.specs.Prelude.{◌≡◌, ◌≤◌, IfErr, IfOk, IsErrOf, List, Option, Some, length, ℕ};
+ghost use Rattle.std.specs.Prelude.{◌≡◌, ◌≤◌, All, IfErr, IfOk, IsErrOf, List, Option, Some, length, ℕ};
 ghost use Rattle.gt_io.specs.Counts.{Rose};
 ghost use Rattle.gt_io.specs.Held.{Held};
 ghost use Rattle.gt_headers.specs.Headers.{Declares};
@@ -9,7 +9,7 @@ ghost use Rattle.gt_script.specs.Outcome.{Parsed};
 ghost use Rattle.gt_types.specs.declared.program.Program.{Program};
 ghost use Rattle.gt_words.specs.Calls.{call_of};
 ghost use Rattle.gt_words.specs.Ranges.{IsInRange};
-ghost use Rattle.gt_front.specs.Asks.{Calls, Reads};
+ghost use Rattle.gt_front.specs.Asks.{Calls, Reads, generated_texts};
 ghost use Rattle.gt_front.specs.Comes.{Comes};
 ghost use Rattle.gt_front.specs.Halts.{Halts};
 ghost use Rattle.gt_front.specs.Reading.{HasWord, IsStopOf};
@@ -19,8 +19,8 @@ ghost use Rattle.gt_front.specs.Texts.{Texts};
 
 use crate::preparing::Halt;
 use crate::reading::{ReadStop, read_file, read_headers};
-use crate::refused::{fault_line, file_line, not_built_line, script_line, why_text, words_line};
-use crate::{FileWhy, MAX_SCRIPT_BYTES, Refusal, SCRIPT_SYNTAX, SCRIPT_TOO_LONG};
+use crate::refused::{fault_line, file_line, script_line, why_text, words_line};
+use crate::{FileWhy, MAX_HEADER_BYTES, MAX_SCRIPT_BYTES, Refusal, SCRIPT_SYNTAX, SCRIPT_TOO_LONG};
 use gt_headers::{Declared, declare};
 use gt_io::Files;
 use gt_script::{Line, ScriptStop, parse_script};
@@ -28,7 +28,7 @@ use gt_types::{Bytes, List, Stop, Word};
 use gt_words::{Call, Script, read_words};
 use std::alloc::{AllocError, Global};
 
-/// The texts of the files that a call names.
+/// The texts of the headers and of the script.
 #[derive(Drop)]
 pub struct Found {
     pub headers: Vec<Bytes>,
@@ -49,8 +49,8 @@ pub fn called(alloc: Global, words: &[Word]) -> Result<Call, Halt>
     }
 }
 
-/// The texts of the files, read in their order.
-pub fn read_files<F: Files>(alloc: Global, call: &Call, files: &mut F) -> Result<Found, Halt>
+/// The texts that a call asks for: of the files, or those that are generated.
+pub fn read_texts<F: Files>(alloc: Global, call: &Call, files: &mut F) -> Result<Found, Halt>
     requires ranges { IsInRange call.now }
     ensures read { (words : List (List ℕ)) → call_of words ≡ Some call.now → IfOk result (λ found. Reads words (F.told files.old) call.now (texts_of found)) }
     ensures within { IfOk result (λ found. AreWithin call.now found.headers.items) }
@@ -60,10 +60,32 @@ pub fn read_files<F: Files>(alloc: Global, call: &Call, files: &mut F) -> Result
     ensures later { F.faults files.old ≤ F.faults files.new }
     ensures cause { (word : ℕ) (line : List ℕ) → IsErrOf result (Halt.Refused (Refusal.File word FileWhy.Fault) line) → Rose (F.faults files.old) (F.faults files.new) }
 {
-    let name = match &call.script {
-        Script::File(name) => name,
-        Script::Generated { .. } => return Err(generated(alloc, call)),
-    };
+    match &call.script {
+        Script::File(name) => read_files(alloc, call, name, files),
+        Script::Generated { n, .. } => match generated(alloc, *n) {
+            Ok(found) => Ok(found),
+            Err(_) => Err(Halt::Memory),
+        },
+    }
+}
+
+// The texts of the files, read in their order.
+fn read_files<F: Files>(
+    alloc: Global,
+    call: &Call,
+    name: &Word,
+    files: &mut F,
+) -> Result<Found, Halt>
+    requires ranges { IsInRange call.now }
+    requires script { call.now.script ≡ Script.File name.now }
+    ensures read { (words : List (List ℕ)) → call_of words ≡ Some call.now → IfOk result (λ found. Reads words (F.told files.old) call.now (texts_of found)) }
+    ensures within { IfOk result (λ found. AreWithin call.now found.headers.items) }
+    ensures short { IfOk result (λ found. length found.script ≤ MAX_SCRIPT_BYTES) }
+    ensures halted { (words : List (List ℕ)) → call_of words ≡ Some call.now → IfErr result (Halts words (F.told files.old)) }
+    ensures told { F.told files.new ≡ F.told files.old }
+    ensures later { F.faults files.old ≤ F.faults files.new }
+    ensures cause { (word : ℕ) (line : List ℕ) → IsErrOf result (Halt.Refused (Refusal.File word FileWhy.Fault) line) → Rose (F.faults files.old) (F.faults files.new) }
+{
     let headers = match read_headers(alloc, files, call.headers.as_slice()) {
         Ok(texts) => texts,
         Err(stop) => return Err(not_read(alloc, call, stop)),
@@ -112,13 +134,18 @@ pub fn lines_of(alloc: Global, call: &Call, text: &[u8]) -> Result<List<Line>, H
     }
 }
 
-// The halt at a generated script, which is not built so far.
-fn generated(alloc: Global, call: &Call) -> Halt
-    ensures halted { (words : List (List ℕ)) (told : Option Held) (texts : Texts)
-        → Comes words told texts Refusal.NotBuilt → call_of words ≡ Some call.now → Halts words told result }
-    ensures same { (other : Refusal) (bytes : List ℕ) → result ≡ Halt.Refused other bytes → other ≡ Refusal.NotBuilt }
+// The texts of a generated script of n nodes.
+fn generated(alloc: Global, n: u32) -> Result<Found, AllocError>
+    requires few { n ≤ 100000 }
+    ensures texts { IfOk result (λ found. texts_of found ≡ generated_texts n) }
+    ensures one { IfOk result (λ found. length found.headers.items ≡ 1) }
+    ensures within { IfOk result (λ found. All (λ text. length text ≤ MAX_HEADER_BYTES) found.headers.items) }
+    ensures short { IfOk result (λ found. length found.script ≤ MAX_SCRIPT_BYTES) }
 {
-    refused(Refusal::NotBuilt, not_built_line(alloc, call))
+    let mut headers = Vec::new(alloc);
+    headers.push(gt_generated::header(alloc)?)?;
+    let script = gt_generated::script(alloc, n)?;
+    Ok(Found { headers, script })
 }
 
 // The halt at a file that was not read.

@@ -1,4 +1,5 @@
-//! A failed read is told with its word, at each read in turn. What else comes first is in the rows of run_table.
+//! A failed read is told with its word, at each read in turn; a generated script is read without files. What else comes first is in
+//! the rows of run_table.
 use super::*;
 use gt_io::MemFiles;
 use gt_types::Word;
@@ -32,6 +33,25 @@ fn each_read_may_fail(rt: HostRuntime) -> Result<(), Fail> {
                 assert_eq!(rt; told.as_slice(), line.as_bytes());
             }
             _ => return Err("no refusal")?,
+        }
+    }
+    Ok(())
+}
+
+#[test]
+fn a_generated_script_is_read_without_files(rt: HostRuntime) -> Result<(), Fail> {
+    let alloc = rt.alloc();
+    for (word, lines) in [(":0", 3), (":3", 19)] {
+        let words = [Word::of(alloc, word)?];
+        let mut files = MemFiles::new(alloc, vec![in alloc; 1]?);
+        match prepare(alloc, &words, &mut files) {
+            Ok(ready) => {
+                assert_eq!(rt; ready.lines.len(), lines);
+                assert_eq!(rt; ready.program.structures.len(), 1);
+                assert_eq!(rt; ready.program.roots.len(), 3);
+                assert_eq!(rt; ready.program.caches.len(), 1);
+            }
+            Err(_) => return Err("refused")?,
         }
     }
     Ok(())

@@ -127,6 +127,13 @@ impl TailTypes {
         Ok(TailTypes { tails })
     }
 
+    /// For each structure, at its number, whether it is of a tail type.
+    pub fn as_slice(&self) -> &[bool]
+        ensures tails { result.now ≡ self.now.tails.items }
+    {
+        self.tails.as_slice()
+    }
+
     /// Whether a structure is of a tail type.
     pub fn has(&self, node: TypeId) -> bool
         requires there { (program : Program) × AreTailTypesOf program self.now × (node.0 < length program.structures) }

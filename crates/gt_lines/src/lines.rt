@@ -3,7 +3,7 @@ ghost use Rattle.std.specs.Prelude.{◌≡◌, ◌≤◌, [], All, IsErrOf};
 ghost use Rattle.gt_io.specs.Counts.{Rose};
 ghost use Rattle.gt_next.specs.States.{State};
 ghost use Rattle.gt_session.specs.Sessions.{StandsFor, IsSession};
-ghost use Rattle.gt_steps.specs.Built.{IsBuilt};
+ghost use Rattle.gt_next.specs.Laws.{IsBuilt};
 ghost use Rattle.gt_lines.specs.Lines.{RunsLine};
 ghost use Rattle.gt_lines.specs.Runs.{RunsLines};
 

@@ -3,7 +3,7 @@ ghost use Rattle.std.specs.Prelude.{◌≡◌, ◌≤◌, [], All};
 ghost use Rattle.gt_io.specs.Counts.{Rose};
 ghost use Rattle.gt_next.specs.States.{State};
 ghost use Rattle.gt_session.specs.Sessions.{StandsFor, IsSession};
-ghost use Rattle.gt_steps.specs.Built.{IsBuilt};
+ghost use Rattle.gt_next.specs.Laws.{IsBuilt};
 ghost use Rattle.gt_lines.specs.Scripts.{RunsScript};
 
 use crate::lines::{LinesEnd, run_lines};
@@ -14,7 +14,8 @@ use gt_session::Session;
 use gt_space::Space;
 use std::alloc::Global;
 
-/// Runs the lines of a script from a session, and leaves its bytes in the space. If memory runs out before the first answer, the space is as it came.
+/// Runs the lines of a script from a session, and leaves its bytes in the space. If memory runs out before the first answer, the space is
+/// as it came.
 pub fn run_script<F: Files, K: Sink>(
     alloc: Global,
     session: Session,

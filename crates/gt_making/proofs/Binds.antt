@@ -54,7 +54,7 @@ pub holds-with : (old : Session) (told : Option Held) (s : State) → Holds old 
 holds-with old told s holds objects heap is pairs v w same = record {
   schema = holds.schema;
   heap = is;
-  no_pairs = pairs ∙ holds.no_pairs;
+  pairs = pairs ∙ holds.pairs;
   variables = same;
   min_expand = holds.min_expand;
   min_heapsize = holds.min_heapsize;
@@ -148,6 +148,7 @@ pub record IsEnd (old : Session) (var : List ℕ) (w : Wanted) (contents : State
   pub binds : IfOk result (BindsIn old new var w contents)
   pub refused : IfOk result (λ answer. KeepsBytes answer old new)
   pub unchanged : OnErr result (IsAsBefore old new)
+  pub space : OnErr result (new.objects.space ≡ old.objects.space)
   pub schema : new.schema ≡ old.schema
 
 module _ (old : Session) (var : List ℕ) (w : Wanted) (contents : State → Contents) where
@@ -179,6 +180,7 @@ module _ (old : Session) (var : List ℕ) (w : Wanted) (contents : State → Con
           );
       refused = tt;
       unchanged = tt;
+      space = tt;
       schema = refl;
     }
     ended makes (Ends.full {need} {vars = back} takes) = record {
@@ -190,11 +192,13 @@ module _ (old : Session) (var : List ℕ) (w : Wanted) (contents : State → Con
           );
       refused = makes.bytes;
       unchanged = tt;
+      space = tt;
       schema = refl;
     }
     ended makes (Ends.memory {vars = back} takes) = record {
       binds = tt;
       refused = tt;
       unchanged = λ told s stands. record { holds = holds-still makes.unchanged back takes told s stands.holds; good = stands.good };
+      space = makes.bytes;
       schema = refl;
     }

@@ -38,6 +38,7 @@ fn array(s: &mut Session, var: &Word, ty: &TypeName, n: Number) -> Result<Answer
     ensures next { IfOk result (LeavesBy (λ state answer t. NextArray s.old.schema.program s.old.schema.layouts state var.now ty.now n answer t) s.old s.new) }
     ensures refused { IfOk result (λ answer. KeepsBytes answer s.old s.new) }
     ensures unchanged { OnErr result (IsAsBefore s.old s.new) }
+    ensures space { OnErr result (s.new.objects.space ≡ s.old.objects.space) }
     ensures schema { s.new.schema ≡ s.old.schema }
 {
     let Some(kind) = s.schema.names.kind(&s.schema.program, ty) else {
@@ -57,6 +58,7 @@ fn block(s: &mut Session, var: &Word, n: Number) -> Result<Answer, AllocError>
     ensures next { IfOk result (LeavesBy (λ state answer t. NextBlock s.old.schema.program s.old.schema.layouts state var.now n answer t) s.old s.new) }
     ensures refused { IfOk result (λ answer. KeepsBytes answer s.old s.new) }
     ensures unchanged { OnErr result (IsAsBefore s.old s.new) }
+    ensures space { OnErr result (s.new.objects.space ≡ s.old.objects.space) }
     ensures schema { s.new.schema ≡ s.old.schema }
 {
     let Some(count) = natural(n) else {
@@ -77,6 +79,7 @@ pub fn make_array(
     ensures next { IfOk result (Goes (λ state answer t. NextArray s.old.schema.program s.old.schema.layouts state var.now ty.now n answer t) s.old s.new) }
     ensures refused { IfOk result (λ answer. KeepsBytes answer s.old s.new) }
     ensures unchanged { OnErr result (IsAsBefore s.old s.new) }
+    ensures space { OnErr result (s.new.objects.space ≡ s.old.objects.space) }
     ensures schema { s.new.schema ≡ s.old.schema }
 {
     good_states_stay_good();
@@ -89,6 +92,7 @@ pub fn make_block(s: &mut Session, var: &Word, n: Number) -> Result<Answer, Allo
     ensures next { IfOk result (Goes (λ state answer t. NextBlock s.old.schema.program s.old.schema.layouts state var.now n answer t) s.old s.new) }
     ensures refused { IfOk result (λ answer. KeepsBytes answer s.old s.new) }
     ensures unchanged { OnErr result (IsAsBefore s.old s.new) }
+    ensures space { OnErr result (s.new.objects.space ≡ s.old.objects.space) }
     ensures schema { s.new.schema ≡ s.old.schema }
 {
     good_states_stay_good();

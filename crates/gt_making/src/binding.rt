@@ -62,6 +62,7 @@ pub fn bind_zeros(s: &mut Session, var: &Word, known: Known) -> Result<Answer, A
     ensures binds { IfOk result (BindsIn s.old s.new var.now (wanted_of known) (λ state. zeros s.old.schema.program state (wanted_of known))) }
     ensures refused { IfOk result (λ answer. KeepsBytes answer s.old s.new) }
     ensures unchanged { OnErr result (IsAsBefore s.old s.new) }
+    ensures space { OnErr result (s.new.objects.space ≡ s.old.objects.space) }
     ensures schema { s.new.schema ≡ s.old.schema }
 {
     if s.vars.is_full(var) {
@@ -88,6 +89,7 @@ pub fn bind_many(
     ensures many { IfOk result (LeavesBy (λ state answer t. MakesMany s.old.schema.program s.old.schema.layouts state var.now (kind_of kind) count answer t) s.old s.new) }
     ensures refused { IfOk result (λ answer. KeepsBytes answer s.old s.new) }
     ensures unchanged { OnErr result (IsAsBefore s.old s.new) }
+    ensures space { OnErr result (s.new.objects.space ≡ s.old.objects.space) }
     ensures schema { s.new.schema ≡ s.old.schema }
 {
     plain_zeros_are_there();

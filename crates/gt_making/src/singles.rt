@@ -64,6 +64,7 @@ fn bind_single(
     ensures single { IfOk result (LeavesBy (λ state answer t. MakesSingle s.old.schema.program s.old.schema.layouts state var.now node (option_map pos number) answer t) s.old s.new) }
     ensures refused { IfOk result (λ answer. KeepsBytes answer s.old s.new) }
     ensures unchanged { OnErr result (IsAsBefore s.old s.new) }
+    ensures space { OnErr result (s.new.objects.space ≡ s.old.objects.space) }
     ensures schema { s.new.schema ≡ s.old.schema }
 {
     blocks_have_a_greatest_size();
@@ -108,6 +109,7 @@ fn single(
     ensures next { IfOk result (LeavesBy (λ state answer t. NextNew s.old.schema.program s.old.schema.layouts state var.now ty.now n answer t) s.old s.new) }
     ensures refused { IfOk result (λ answer. KeepsBytes answer s.old s.new) }
     ensures unchanged { OnErr result (IsAsBefore s.old s.new) }
+    ensures space { OnErr result (s.new.objects.space ≡ s.old.objects.space) }
     ensures schema { s.new.schema ≡ s.old.schema }
 {
     let Some(node) = s.schema.names.node(&s.schema.program, ty) else {
@@ -136,6 +138,7 @@ pub fn make_single(
     ensures next { IfOk result (Goes (λ state answer t. NextNew s.old.schema.program s.old.schema.layouts state var.now ty.now n answer t) s.old s.new) }
     ensures refused { IfOk result (λ answer. KeepsBytes answer s.old s.new) }
     ensures unchanged { OnErr result (IsAsBefore s.old s.new) }
+    ensures space { OnErr result (s.new.objects.space ≡ s.old.objects.space) }
     ensures schema { s.new.schema ≡ s.old.schema }
 {
     good_states_stay_good();

@@ -19,6 +19,7 @@ fn string(s: &mut Session, var: &Word, text: &[u8]) -> Result<Answer, AllocError
     ensures next { IfOk result (LeavesBy (λ state answer t. NextText s.old.schema.program s.old.schema.layouts state var.now text.now answer t) s.old s.new) }
     ensures refused { IfOk result (λ answer. KeepsBytes answer s.old s.new) }
     ensures unchanged { OnErr result (IsAsBefore s.old s.new) }
+    ensures space { OnErr result (s.new.objects.space ≡ s.old.objects.space) }
     ensures schema { s.new.schema ≡ s.old.schema }
 {
     blocks_have_a_greatest_size();
@@ -41,6 +42,7 @@ pub fn make_string(s: &mut Session, var: &Word, text: &[u8]) -> Result<Answer, A
     ensures next { IfOk result (Goes (λ state answer t. NextText s.old.schema.program s.old.schema.layouts state var.now text.now answer t) s.old s.new) }
     ensures refused { IfOk result (λ answer. KeepsBytes answer s.old s.new) }
     ensures unchanged { OnErr result (IsAsBefore s.old s.new) }
+    ensures space { OnErr result (s.new.objects.space ≡ s.old.objects.space) }
     ensures schema { s.new.schema ≡ s.old.schema }
 {
     good_states_stay_good();

@@ -36,22 +36,11 @@ pub record PathsEndOnce (program : Program) (layouts : Layouts) : Type 0 where
 
 -- ---- commands
 
--- the commands that are built
-pub data IsBuilt : Command → Type 0 where
-  new : {var : _} {type : _} {n : _} → IsBuilt (command.New var type n)
-  array : {var : _} {type : _} {n : _} → IsBuilt (command.Array var type n)
-  text : {var : _} {bytes : _} → IsBuilt (command.Text var bytes)
-  block : {var : _} {n : _} → IsBuilt (command.Block var n)
-  set : {path : _} {value : _} → IsBuilt (command.Set path value)
-  get : {var : _} {path : _} → IsBuilt (command.Get var path)
-  drop : {var : _} → IsBuilt (command.Drop var)
-  print : {path : _} → IsBuilt (command.Print path)
-  put : {cache : _} {key : _} {value : _} → IsBuilt (command.Put cache key value)
-  find : {cache : _} {key : _} → IsBuilt (command.Find cache key)
-  collect : IsBuilt command.Collect
-  collect_force : IsBuilt command.CollectForce
-  heap : IsBuilt command.Heap
-  stats : IsBuilt command.Stats
+-- the commands that are built: all but those of images
+abbrev pub IsBuilt : Command → Type 0
+IsBuilt (command.Save file page) = ⊥
+IsBuilt (command.Load file) = ⊥
+IsBuilt c = Unit {0}
 
 -- the text of a command is of bytes; what a script says is so
 abbrev pub IsOfBytes : Command → Type 0
@@ -63,11 +52,7 @@ pub data AreOneAnswer : Answer → Answer → Type 0 where
   same : {a : Answer} → AreOneAnswer a a
   made : {address other size : ℕ} → AreOneAnswer (Made address size) (Made other size)
 
--- from a good state a command that is built has an answer
-abbrev pub AnswerIsThere : Program → Layouts → Type 0
-AnswerIsThere program layouts = (s : State) (c : Command) → IsGoodState program layouts s → IsBuilt c → (a : Answer) × (t : State) × Next program layouts s c a t
-
--- and no other
+-- from a good state a command has no two answers
 abbrev pub AnswerIsOne : Program → Layouts → Type 0
 AnswerIsOne program layouts = (s t u : State) (c : Command) (a b : Answer) → IsGoodState program layouts s → Next program layouts s c a t → Next program layouts s c b u → AreOneAnswer a b
 

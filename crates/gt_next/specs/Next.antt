@@ -11,11 +11,12 @@ use Rattle.gt_tree.specs.Trees.{Tree}
 use Rattle.gt_tree.specs.Scopes.{Typed}
 use Rattle.gt_show.specs.Shown.{Shows}
 use Rattle.gt_show.specs.BlockTexts.{ShowsBlock}
+use Rattle.gt_listing.specs.Listing.{IsListing}
 use Rattle.gt_graph.specs.Objects.{Object, Graph, blocks_of, elements_in}
 use Rattle.gt_graph.specs.Places.{address_in, ledger_of}
 use Rattle.gt_graph.specs.Changes.{Writes}
 use Rattle.gt_next.specs.declared.answer.Answer.{Answer}
-use Rattle.gt_next.specs.declared.answer.Answer.TheVariants.{Done, Number, Null, Ref, Shown, Heap, Refused}
+use Rattle.gt_next.specs.declared.answer.Answer.TheVariants.{Done, Number, Null, Ref, Shown, Heap, Tables, Refused}
 use Rattle.gt_next.specs.declared.answer.Why.{Why}
 use Rattle.gt_next.specs.declared.answer.Why.TheVariants.{Unbound, WrongType, Shape, TooManyVars}
 use Rattle.gt_next.specs.States.{State, meaning, with_variable, without_variable, IsFullOfVariables}
@@ -62,7 +63,7 @@ pub data NextGet (program : Program) (s : State) (var : List ℕ) (path : Route)
   reads : {at : Spot} {what : Standing} {got : Got} {answer : Answer} {t : State} → Leads program s path at → standing_at program s.heap.graph at ≡ Some what → Reads what got
       → Answers s var got answer t → NextGet program s var path answer t
 
--- ---- drop, print, heap
+-- ---- drop, print, heap, tables
 
 -- drop: an unbound variable; else it is bound no more
 pub data NextDrop (s : State) (var : List ℕ) : Answer → State → Type 0 where
@@ -84,9 +85,13 @@ pub data NextPrint (program : Program) (s : State) (path : Route) : Answer → S
 pub data NextHeap (s : State) : Answer → State → Type 0 where
   reports : NextHeap s (Heap (heap_text (ledger_of s.heap.places))) s
 
+-- tables: what the headers declare, with sizes and places
+pub data NextTables (program : Program) (layouts : Layouts) (s : State) : Answer → State → Type 0 where
+  lists : {text : List ℕ} → IsListing program layouts text → NextTables program layouts s (Tables text) s
+
 -- ---- all commands
 
--- from s, the machine may give this answer to the command and go on to t; `save`, `load` and `tables` come later
+-- from s, the machine may give this answer to the command and go on to t; `save` and `load` come later
 abbrev pub Next : Program → Layouts → State → Command → Answer → State → Type 0
 Next program layouts s (command.New var type n) answer t = NextNew program layouts s var type n answer t
 Next program layouts s (command.Array var type n) answer t = NextArray program layouts s var type n answer t
@@ -102,6 +107,7 @@ Next program layouts s command.Collect answer t = NextCollect program s answer t
 Next program layouts s command.CollectForce answer t = NextForce program s answer t
 Next program layouts s command.Heap answer t = NextHeap s answer t
 Next program layouts s command.Stats answer t = NextStats s answer t
+Next program layouts s command.Tables answer t = NextTables program layouts s answer t
 Next program layouts s command answer t = ⊥
 
 -- the machine may give these answers to these lines, one step after another, and go from s to t

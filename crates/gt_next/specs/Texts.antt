@@ -5,7 +5,7 @@ use Rattle.gt_script.specs.declared.command.Line.{Line}
 use Rattle.gt_show.specs.Shown.{number_text}
 use Rattle.gt_pages.specs.Ledger.{Block, Ledger, sizes}
 use Rattle.gt_next.specs.declared.answer.Answer.{Answer}
-use Rattle.gt_next.specs.declared.answer.Answer.TheVariants.{Done, Made, Number, Null, Ref, Shown, Skipped, Collected, Heap, Stats, Refused}
+use Rattle.gt_next.specs.declared.answer.Answer.TheVariants.{Done, Made, Number, Null, Ref, Shown, Skipped, Collected, Heap, Stats, Tables, Refused}
 use Rattle.gt_next.specs.declared.answer.Why.{Why}
 use Rattle.gt_next.specs.declared.answer.Why.TheVariants.{Unbound, NoType, NoField, WrongType, OutOfRange, BadIndex, Inactive, Shape, TooLarge, Full, NullStep, NoCache, TooManyVars}
 
@@ -25,7 +25,7 @@ why_text NullStep = codes "F11 NullStep"
 why_text NoCache = codes "F12 NoCache"
 why_text TooManyVars = codes "F17 TooManyVars"
 
--- the text of an answer, without the newline at its end
+-- the text of an answer, without the newline at its end; the lines of `tables` have theirs
 abbrev pub answer_text : Answer → List ℕ
 answer_text Done = codes "ok"
 answer_text (Made address size) = codes "made 0x" ++ hexadecimal address ++ codes " " ++ decimal size
@@ -37,6 +37,7 @@ answer_text Skipped = codes "skipped"
 answer_text (Collected kept freed dropped) =
     codes "collected kept " ++ decimal kept ++ codes " freed " ++ decimal freed ++ codes " dropped " ++ decimal dropped
 answer_text (Heap text) = text
+answer_text (Tables text) = text
 answer_text (Stats allocated last threshold image rounds) =
     codes "allocated " ++ decimal allocated ++ 10 ∷ [] ++ codes "last " ++ decimal last ++ 10 ∷ [] ++ codes "threshold " ++ decimal threshold ++ 10 ∷ []
     ++ codes "image " ++ decimal image ++ 10 ∷ [] ++ codes "rounds " ++ decimal rounds
@@ -47,9 +48,14 @@ abbrev pub is_refusal : Answer → Bool
 is_refusal (Refused why) = true
 is_refusal answer = false
 
--- the text of a line's answer: its line, which ends with a newline (10); where the line is quiet, nothing but a refusal
+-- what ends an answer: a newline (10), but where its lines have theirs
+abbrev pub end_of : Answer → List ℕ
+end_of (Tables text) = []
+end_of answer = 10 ∷ []
+
+-- the text of a line's answer: its lines, each with a newline at its end; where the line is quiet, nothing but a refusal
 abbrev pub text_of : Line → Answer → List ℕ
-text_of line answer = if line.quiet && not (is_refusal answer) then [] else answer_text answer ++ 10 ∷ []
+text_of line answer = if line.quiet && not (is_refusal answer) then [] else answer_text answer ++ end_of answer
 
 -- the texts of the answers to lines, one after another
 abbrev pub texts_of : List Line → List Answer → List ℕ

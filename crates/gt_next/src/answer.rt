@@ -31,6 +31,8 @@ pub enum Answer {
     },
     /// How many objects there are of each size, and the bytes of all.
     Heap(Bytes),
+    /// What the headers declare, with sizes and places: lines, each with its newline.
+    Tables(Bytes),
     /// The numbers of the collector: the bytes of all blocks, those after the last collection or load, the bytes from which `collect`
     /// collects, the pages of the image, and the rounds of the last collection.
     Stats {
@@ -79,6 +81,7 @@ impl Copied for Answer {
                 dropped: *dropped,
             }),
             Answer::Heap(text) => Ok(Answer::Heap(text.copy(alloc)?)),
+            Answer::Tables(text) => Ok(Answer::Tables(text.copy(alloc)?)),
             Answer::Stats {
                 allocated,
                 last,

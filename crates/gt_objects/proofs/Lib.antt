@@ -20,4 +20,5 @@ pub mod Taking
 pub mod Counts
 pub mod Walked
 pub mod Widths
+pub mod PlainSizes
 pub mod Characters

@@ -1,5 +1,5 @@
 // The blocks of a space, and how many there are of each size.
-ghost use Rattle.std.specs.Prelude.{◌≡◌, ◌↔◌, ℕ, ◌≤◌, false, [], map, filter, count_by, length, option_map, Contains, IfErr, IfOk, IsTrue, Some, None};
+ghost use Rattle.std.specs.Prelude.{◌≡◌, ◌↔◌, ℕ, ◌≤◌, false, [], map, filter, count_by, length, option_map, Contains, IfErr, IfOk, IsTrue, Some, None, is_some};
 ghost use Rattle.gt_space.specs.declared.TheConstants.{MIN_PAGES, MAX_PAGES};
 ghost use Rattle.gt_links.specs.Lists.{with_nodes};
 ghost use Rattle.gt_pages.specs.Ledger.{Place, Room, sizes};
@@ -87,6 +87,14 @@ impl CountedPages {
         ensures unchanged { result ≡ false → self.new ≡ self.old }
     {
         self.pages.mark(addr, 0, 0)
+    }
+
+    /// Whether the block that starts at an address is marked.
+    pub(crate) fn marked(&self, addr: u64) -> bool
+        requires start { StartsSome self.now.slots addr }
+        ensures marked { result ≡ is_some (mark_at self.now.slots addr) }
+    {
+        self.pages.marked_as(addr).is_some()
     }
 
     /// Frees the blocks that are not marked, and says how many these were. It takes no memory.

@@ -31,6 +31,14 @@ impl Objects {
         self.pages.mark(addr)
     }
 
+    /// Whether the object at an address is marked.
+    pub fn marked(&self, addr: u64) -> bool
+        requires there { (program : Program) × (layouts : Layouts) × (heap : Heap) × (o : Object) × IsHeapOf program layouts self.now heap × (object_of heap.graph.objects addr ≡ Some o) }
+        ensures marked { result ≡ is_marked self.now addr }
+    {
+        self.pages.marked(addr)
+    }
+
     /// Frees the objects that are not marked, and says how many these were: all that marked objects, roots and pairs name has to be
     /// marked. It takes no memory.
     pub fn sweep(&mut self) -> u32

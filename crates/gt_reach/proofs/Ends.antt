@@ -1,4 +1,4 @@
--- In the end what is marked is what the roots reach, and the rounds are those that a collection may take.
+-- In the end what is marked is what the roots and the values of pairs that stay reach, and the rounds are those that a collection may take.
 use Rattle.std.proofs.Common.{◌≡◌, ◌≢◌, ℕ, ◌+◌, ◌≤◌, Bool, true, false, cond, List, [], ◌∷◌, length, Option, Some, None, refl, sym, ap, subst, ◌∙◌, arith, inl, inr}
 use Rattle.std.specs.Prelude.{AllPairs, Contains, IsTrue, filter, ◌↔◌}
 use Rattle.std.proofs.lemmas.Bool.Decides.{eqb_tells}
@@ -12,7 +12,7 @@ use Rattle.gt_objects.specs.declared.objects.Objects.{Objects}
 use Rattle.gt_objects.specs.Marks.{is_marked, marked_in}
 use Rattle.gt_objects.proofs.Items.{none_there, first_there, later_there, pairs_head, pairs_tail, there_cases}
 use Rattle.gt_objects.proofs.Naming.{object_found, object_is}
-use Rattle.gt_reach.specs.Following.{IsFollowed, IsMarking, NamesMany, SomeNamesMany, rounds_of}
+use Rattle.gt_reach.specs.Following.{IsFollowed, IsMarkingDone, NamesMany, SomeNamesMany, rounds_of}
 use Rattle.gt_reach.proofs.Many.{fewer}
 
 -- of objects with names of their own, one has a name
@@ -55,7 +55,7 @@ module _ {X : Type 0} (p : X → Bool) where
   filtered_is [] x has = none_there x has
   filtered_is (y ∷ ys) x has = was_by (p y) x y ys refl (filtered_is ys x) has
 
-module _ (program : Program) (g : Graph) (objects : Objects) (many : Bool) (marking : IsMarking program g None objects [] many) where
+module _ (program : Program) (g : Graph) (values : List ℕ) (objects : Objects) (many : Bool) (marking : IsMarkingDone program g values objects many) where
   all_followed : (id : ℕ) → IsTrue (is_marked objects id) → IsFollowed g objects many id
   all_followed id m = elim (marking.followed id m) [
     | inl waits ↦ none_there id waits
@@ -68,11 +68,11 @@ module _ (program : Program) (g : Graph) (objects : Objects) (many : Bool) (mark
   way_marked from to (ReachedFrom.onward {through} (o, found, has) rest) m =
       way_marked through to rest (All-contains (λ e. IsTrue (is_marked objects e)) (edges o.value) through (all_followed from m o found).0 has)
 
-  reached_marked : (id : ℕ) → ReachedWith program g [] id → IsTrue (is_marked objects id)
+  pub reached_marked : (id : ℕ) → ReachedWith program g values id → IsTrue (is_marked objects id)
   reached_marked id (from, inl root, way) = way_marked from id way (marking.roots from root)
-  reached_marked id (from, inr none, way) = none_there from none
+  reached_marked id (from, inr stayed, way) = way_marked from id way (marking.stayed from stayed)
 
-  pub marks_exact : (o : Object) → Contains g.objects o → IsTrue (is_marked objects o.id) ↔ ReachedWith program g [] o.id
+  pub marks_exact : (o : Object) → Contains g.objects o → IsTrue (is_marked objects o.id) ↔ ReachedWith program g values o.id
   marks_exact o there = (marking.reached o.id, reached_marked o.id)
 
   abbrev kept : List Object
@@ -88,7 +88,7 @@ module _ (program : Program) (g : Graph) (objects : Objects) (many : Bool) (mark
       filter_there (λ p. is_marked objects p.id) g.objects o is.0 (ap (is_marked objects) is.1 ∙ m)
 
   -- where one names many that few others cover, these are not few
-  aside_there : (o : Object) → Contains kept o → (ids : List ℕ) → ((p : Object) → Contains kept p → IsNamedAside program g new [] p.id → Contains ids p.id)
+  aside_there : (o : Object) → Contains kept o → (ids : List ℕ) → ((p : Object) → Contains kept p → IsNamedAside program g new values p.id → Contains ids p.id)
       → (id : ℕ) → Contains (edges o.value) id → IsTrue (is_marked objects id) → (chain_target program o ≡ Some id → ⊥) → Contains ids id
   aside_there o there ids covers id has m other =
       let p = marking.named id m in
@@ -97,7 +97,7 @@ module _ (program : Program) (g : Graph) (objects : Objects) (many : Bool) (mark
       subst (λ n. Contains ids n) is.1 (covers p.0 (kept_there id p.0 p.1 m) (inr (inr (o, there, leads))))
 
   covered : (o : Object) → Contains kept o → ((id : ℕ) → Contains (edges o.value) id → IsTrue (is_marked objects id)) → (ids : List ℕ)
-      → ((p : Object) → Contains kept p → IsNamedAside program g new [] p.id → Contains ids p.id)
+      → ((p : Object) → Contains kept p → IsNamedAside program g new values p.id → Contains ids p.id)
       → (target : Option ℕ) → chain_target program o ≡ target → (extra : ℕ) × ((id : ℕ) → Contains (edges o.value) id → Contains (extra ∷ ids) id)
   covered o there marked ids covers None e =
       (0, λ id has. later_there 0 ids id (aside_there o there ids covers id has (marked id has) (λ is. let never : None ≡ Some id = sym e ∙ is in cc)))
@@ -109,7 +109,7 @@ module _ (program : Program) (g : Graph) (objects : Objects) (many : Bool) (mark
     ],
   )
 
-  not_few : SomeNamesMany g objects → (ids : List ℕ) → length ids ≤ 64 → ((p : Object) → Contains kept p → IsNamedAside program g new [] p.id → Contains ids p.id) → ⊥
+  not_few : SomeNamesMany g objects → (ids : List ℕ) → length ids ≤ 64 → ((p : Object) → Contains kept p → IsNamedAside program g new values p.id → Contains ids p.id) → ⊥
   not_few (id, o, found, m, names) ids few covers =
       let there = kept_there id o found m in
       let marked = (all_followed id m o found).0 in
@@ -128,11 +128,11 @@ module _ (program : Program) (g : Graph) (objects : Objects) (many : Bool) (mark
       let same : found.0 ≡ from = one_named g.objects distinct found.0 from found.2 was.0 found.3 in
       (all_followed from.id was.1 found.0 found.1).1 (subst (λ (o : Object). NamesMany (edges o.value)) (sym same) names)
 
-one_round : (program : Program) (g : Graph) (objects : Objects) (many : Bool) (marking : IsMarking program g None objects [] many)
+one_round : (program : Program) (g : Graph) (values : List ℕ) (objects : Objects) (many : Bool) (marking : IsMarkingDone program g values objects many)
     → (b : Bool) → many ≡ b → (ids : List ℕ) → length ids ≤ 64
-    → ((p : Object) → Contains (marked_in objects g.objects) p → IsNamedAside program g (record g { objects = marked_in objects g.objects }) [] p.id → Contains ids p.id) → rounds_of many ≡ 1
-one_round program g objects many marking true e ids few covers = absurd (not_few program g objects many marking (marking.wide e) ids few covers)
-one_round program g objects many marking false e ids few covers = ap rounds_of e
+    → ((p : Object) → Contains (marked_in objects g.objects) p → IsNamedAside program g (record g { objects = marked_in objects g.objects }) values p.id → Contains ids p.id) → rounds_of many ≡ 1
+one_round program g values objects many marking true e ids few covers = absurd (not_few program g values objects many marking (marking.wide e) ids few covers)
+one_round program g values objects many marking false e ids few covers = ap rounds_of e
 
 at_least_one : (many : Bool) → 1 ≤ rounds_of many
 at_least_one true = omega arith
@@ -142,20 +142,20 @@ at_most : (many : Bool) (n : ℕ) → (IsTrue many → 1 ≤ n) → rounds_of ma
 at_most true n some = let one = some refl in omega (arith, one)
 at_most false n some = omega arith
 
-pub rounds_right : (program : Program) (g : Graph) (objects : Objects) (many : Bool) → IsMarking program g None objects [] many → AllPairs (λ o p. o.id ≢ p.id) g.objects
-    → AreRounds program g (record g { objects = marked_in objects g.objects }) [] (rounds_of many)
-rounds_right program g objects many marking distinct = record {
+pub rounds_right : (program : Program) (g : Graph) (values : List ℕ) (objects : Objects) (many : Bool) → IsMarkingDone program g values objects many → AllPairs (λ o p. o.id ≢ p.id) g.objects
+    → AreRounds program g (record g { objects = marked_in objects g.objects }) values (rounds_of many)
+rounds_right program g values objects many marking distinct = record {
   at_least = at_least_one many;
-  at_most = at_most many (length (marked_in objects g.objects)) (λ t. some_kept program g objects many marking (marking.wide t));
-  one = λ ids few covers. one_round program g objects many marking many refl ids few covers;
+  at_most = at_most many (length (marked_in objects g.objects)) (λ t. some_kept program g values objects many marking (marking.wide t));
+  one = λ ids few covers. one_round program g values objects many marking many refl ids few covers;
   more = λ from ids there differ long only.
       let names : NamesMany (edges from.value) = record {
         ids = ids;
         distinct = differ;
         many = long;
-        named = λ id has. (All-contains (IsOnlyFrom program g (record g { objects = marked_in objects g.objects }) [] from) ids id only has).leads;
+        named = λ id has. (All-contains (IsOnlyFrom program g (record g { objects = marked_in objects g.objects }) values from) ids id only has).leads;
       } in
-      let seen = many_seen program g objects many marking distinct from there names in
+      let seen = many_seen program g values objects many marking distinct from there names in
       let two : rounds_of many ≡ 2 = ap rounds_of seen in
       omega (arith, two);
 }

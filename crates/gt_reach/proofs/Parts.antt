@@ -136,7 +136,7 @@ module _ (program : Program) (layouts : Layouts) (objects : Objects) (heap : Hea
   pub object_good : (id : ℕ) (o : Object) → object_of heap.graph.objects id ≡ Some o → IsObject program heap.graph o
   object_good id o found = All-contains (IsObject program heap.graph) heap.graph.objects o is.good.graph.objects (object_is heap.graph.objects id o found).0
 
-  block_named : (id : ℕ) → (b : Block) × (blocks_of heap.graph.objects id ≡ Some b) → IsNamed heap.graph.objects id
+  pub block_named : (id : ℕ) → (b : Block) × (blocks_of heap.graph.objects id ≡ Some b) → IsNamed heap.graph.objects id
   block_named id (b, e) = let o = object_of_block heap.graph.objects id b e in (o.0, o.1)
 
   -- what an object points to is an object

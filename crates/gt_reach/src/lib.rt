@@ -1,4 +1,4 @@
-//! Which objects of a heap its roots reach. What was found is followed, one object after another, from a list of work.
+//! Which objects of a heap a collection keeps. What was found is followed, one object after another, from a list of work.
 #![tactic(auto)]
 
 mod edges;
@@ -7,4 +7,4 @@ mod reading;
 mod rounds;
 mod steps;
 
-pub use marking::mark_reached;
+pub use marking::mark_kept;

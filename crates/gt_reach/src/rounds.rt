@@ -1,4 +1,4 @@
-// Whether an object names so many others that a marking may need one more round.
+// Whether an object names so many different blocks that a marking may need one more round.
 ghost use Rattle.std.specs.Prelude.{◌↔◌, IfOk, IsTrue};
 ghost use Rattle.gt_reach.specs.Following.{NamesMany};
 

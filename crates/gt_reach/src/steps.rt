@@ -15,8 +15,8 @@ use gt_objects::Objects;
 use gt_schema::Schema;
 use std::alloc::{AllocError, Global};
 
-// Marks the object at an address. If it was not marked before, it is to be followed.
-fn mark_one(objects: &mut Objects, addr: u64, work: &mut Vec<u64>) -> Result<(), AllocError>
+/// Marks the object at an address. If it was not marked before, it is to be followed.
+pub fn mark_one(objects: &mut Objects, addr: u64, work: &mut Vec<u64>) -> Result<(), AllocError>
     requires there { (program : Program) × (layouts : Layouts) × (heap : Heap) × IsHeapOf program layouts objects.old heap × IsNamed heap.graph.objects addr }
     ensures finds { OnOk result (Finds (addr ∷ []) objects.old objects.new work.old.items work.new.items) }
     ensures waiting { OnOk result ((list : List Object) → IsNamed list addr → waiting list objects.new work.new.items ≤ waiting list objects.old work.old.items) }

@@ -15,7 +15,7 @@ use Rattle.gt_next.specs.Paths.{Leads}
 use Rattle.gt_next.specs.Leaves.{Got, Reads, IsIdlePointer, IsSuited, RefusesValue, IsBeyond}
 use Rattle.gt_next.specs.Caching.{NextPut, NextFind}
 use Rattle.gt_next.specs.Collecting.{NextCollect, NextForce, NextStats}
-use Rattle.gt_next.specs.Next.{Next, NextSet, Answers, NextGet, NextDrop, NextPrint, NextHeap}
+use Rattle.gt_next.specs.Next.{Next, NextSet, Answers, NextGet, NextDrop, NextPrint, NextHeap, NextTables}
 use Rattle.gt_refusals.specs.declared.causes.Cause.TheVariants.{WrongShape, VariableTooMany, IdlePointer, WrongPlace, NumberBeyond}
 use Rattle.gt_refusals.specs.Refusals.{refusals_of, IsFirstOf}
 use Rattle.gt_refusals.proofs.Suiting.{suited}
@@ -86,6 +86,9 @@ module _ (program : Program) (layouts : Layouts) (s : State) where
   never-stats : {why : Why} {t : State} → NextStats s (Refused why) t → ⊥
   never-stats next = elim next [ ]
 
+  never-tables : {why : Why} {t : State} → NextTables program layouts s (Refused why) t → ⊥
+  never-tables next = elim next [ ]
+
 pub Next-IsFirstOf : (program : Program) (layouts : Layouts) (s t : State) (c : Command) (why : Why) → Next program layouts s c (Refused why) t → IsFirstOf program layouts s c (refusals_of c) why × (t ≡ s)
 Next-IsFirstOf program layouts s t (command.New var type n) why next = first-new program layouts s var type n why t next
 Next-IsFirstOf program layouts s t (command.Array var type n) why next = first-array program layouts s var type n why t next
@@ -101,4 +104,5 @@ Next-IsFirstOf program layouts s t command.Collect why next = absurd (never-coll
 Next-IsFirstOf program layouts s t command.CollectForce why next = absurd (never-force program layouts s next)
 Next-IsFirstOf program layouts s t command.Heap why next = absurd (never-heap program layouts s next)
 Next-IsFirstOf program layouts s t command.Stats why next = absurd (never-stats program layouts s next)
+Next-IsFirstOf program layouts s t command.Tables why next = absurd (never-tables program layouts s next)
 Next-IsFirstOf program layouts s t c why next = absurd next

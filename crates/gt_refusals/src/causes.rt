@@ -99,7 +99,7 @@ const PUT: [Cause; 4] = [
 const FIND: [Cause; 2] = [Cause::UnknownCache, Cause::RefusedKey];
 
 /// The causes for which a command is refused, from the one that is looked for first. A command that is never refused has none,
-/// and neither has one that is not built. It fails only if memory runs out.
+/// and so far neither have `save` and `load`. It fails only if memory runs out.
 pub fn refusals(alloc: Global, command: &Command) -> Result<List<Cause>, AllocError>
     ensures row { IfOk result (λ row. row ≡ refusals_of command.now) }
 {

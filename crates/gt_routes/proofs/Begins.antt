@@ -21,7 +21,7 @@ use Rattle.gt_value.specs.Cursors.{Frame, IsAt, IsNoPart, IsSomewhere}
 use Rattle.gt_next.specs.Spots.{typed_part, type_of_part}
 use Rattle.gt_next.specs.Paths.{way_to, way_on}
 use Rattle.gt_routes.specs.declared.steps.Step.{Step}
-use Rattle.gt_routes.specs.Steps.{IsIn, StandsAt, IsBegin}
+use Rattle.gt_routes.specs.Steps.{IsIn, StandsAt, IsBegin, along}
 use Rattle.gt_routes.proofs.TypedParts.{typed-after, typed-one, field-type}
 use Rattle.gt_routes.proofs.Fields.{fields-there, field-there, field-part}
 
@@ -171,7 +171,7 @@ module _ (program : Program) (settled : Settled program) (from : Cursor) (common
       }
 
 -- where the structure is reached
-pub way-ends : (program : Program) (from : Cursor) (common : TypeId) (member : ℕ) (to : Step) → IsOnWay program from common member to.places.items to.at → is_node common to.at.ty.now ≡ true
+pub way-ends : (program : Program) (from : Cursor) (common : TypeId) (member : ℕ) (to : Step) → IsOnWay program from common member (along to) to.at → is_node common to.at.ty.now ≡ true
     → (at : Frame) (value : Part) (path : List ℕ) (here : StandsAt at value path from) → at.program ≡ program → IsBegin at value path from common member to here
 way-ends program from common member to w e at value path here p =
     let on = w.on at value path here p in

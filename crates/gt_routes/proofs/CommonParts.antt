@@ -38,7 +38,7 @@ use Rattle.gt_next.specs.Spots.{typed_part, type_of_part}
 use Rattle.gt_next.specs.Paths.{StepsIn, RefusesIn, IsCommonMember, place_of}
 use Rattle.gt_next.specs.declared.answer.Why.TheVariants.{Inactive}
 use Rattle.gt_routes.specs.declared.steps.Step.{Step}
-use Rattle.gt_routes.specs.Steps.{IsIn, StandsAt, StepsTo, MadeOf, IsInactive, IsBegin, LeadsFrom, RefusedFrom}
+use Rattle.gt_routes.specs.Steps.{IsIn, StandsAt, StepsTo, MadeOf, IsInactive, IsBegin, LeadsFrom, RefusedFrom, along}
 use Rattle.gt_routes.proofs.TypedParts.{IsNamedIn, typed-after, typed-one, one-typed, field-type, whole-is}
 use Rattle.gt_routes.proofs.Fields.{part-type, node-there, place-is}
 use Rattle.gt_routes.proofs.Members.{alt-of, member-there}
@@ -203,7 +203,7 @@ module _ (at : Frame) (value : Part) (path : List ℕ) (c : Cursor) (here : Stan
         subst (λ t. BeginsWith at.program t common) types begins
 
     pub common-leads : (name : List ℕ) (place : ℕ) → place_of s name ≡ Some place → member_of here.here.p.tree ≢ Some place → (common : TypeId) → IsCommon at.program s common → (f : Field) → slice_get s.fields place ≡ Some f
-        → is_node common f.ty ≡ true → (to : Step) → ((there : StandsAt at value (path ++ member ∷ []) next) → IsBegin at value (path ++ member ∷ []) next common member to there) → StepsTo at value path c (Name name) to.at to.places.items here
+        → is_node common f.ty ≡ true → (to : Step) → ((there : StandsAt at value (path ++ member ∷ []) next) → IsBegin at value (path ++ member ∷ []) next common member to there) → StepsTo at value path c (Name name) to.at (along to) here
     common-leads name place found inactive common c_is f got e to begin =
         let m = is-member in
         let b = begin m.there in

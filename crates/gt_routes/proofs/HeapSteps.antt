@@ -1,5 +1,5 @@
 -- Steps from objects, and where paths start.
-use Rattle.std.proofs.Common.{◌≡◌, ◌<◌, ℕ, zero, suc, Bool, true, false, cond, List, [], ◌∷◌, refl, ap, sym, subst, ◌∙◌, arith, Option, Some}
+use Rattle.std.proofs.Common.{◌≡◌, ◌<◌, ℕ, zero, suc, Bool, true, false, cond, List, [], ◌∷◌, ◌++◌, refl, ap, sym, subst, ◌∙◌, arith, Option, Some}
 use Rattle.std.specs.Prelude.{◌==◌, option_map, not, find, Contains}
 use Rattle.std.proofs.lemmas.List.Elements.{All-contains}
 use Rattle.gt_types.specs.declared.types.TypeId.{TypeId}
@@ -19,15 +19,15 @@ use Rattle.gt_value.specs.Bytes.{StandsFor, StandForStatics}
 use Rattle.gt_value.specs.Places.{Part}
 use Rattle.gt_value.specs.Cursors.{frame, element_part, root_part, IsAt, IsAtRoot}
 use Rattle.gt_graph.specs.Objects.{Object, Graph, object_of}
-use Rattle.gt_graph.specs.Changes.{Statics, Of}
+use Rattle.gt_graph.specs.Changes.{Owner, Statics, Of}
 use Rattle.gt_graph.specs.Good.{Heap, IsObject, IsGraph}
 use Rattle.gt_objects.specs.declared.objects.Objects.{Objects}
 use Rattle.gt_objects.specs.Holding.{IsHeapOf}
 use Rattle.gt_elements.specs.declared.parts.Element.{Element}
-use Rattle.gt_elements.specs.Elements.{IsElementAt, RootsStand}
+use Rattle.gt_elements.specs.Elements.{IsElementAt, IsFirstOf, RootsStand}
 use Rattle.gt_next.specs.Spots.{Spot, spot, Whole, Value, standing_at, passes_none, is_in_none}
 use Rattle.gt_next.specs.Paths.{IsOne}
-use Rattle.gt_routes.specs.Reaching.{IsValueAt, IsElementEnd, holds_nodes}
+use Rattle.gt_routes.specs.Reaching.{IsValueAt, IsElementEnd, IsFirstBy, holds_nodes}
 use Rattle.gt_routes.proofs.TypedParts.{whole-is, whole-active}
 use Rattle.gt_routes.proofs.Passes.{one-of-none}
 use Rattle.gt_routes.proofs.SpotParts.{then-some, in-none, value-same}
@@ -50,6 +50,9 @@ pub whole-there : (program : Program) (g : Graph) (address : ℕ) (o : Object) �
 whole-there program g address o e = ap (λ x. x then (λ y. Some (Whole y))) e
 
 -- ---- elements
+
+abbrev pub some-element : Element → Option Element
+some-element e = Some e
 
 below-count : (trees : Trees) (i : ℕ) (tree : Tree) → part_of trees i [] ≡ Some tree → i < count trees
 below-count End i tree e = absurd (cc)
@@ -97,6 +100,20 @@ element-end program layouts objects heap address place e is (o, there, el) type 
       within = omega (arith, lt, fits.as_many);
       at = whole-stands program layouts objects heap (spot (Of address) (place ∷ [])) e.addr c (element_part g.statics type el.tree) at refl (standing_as ∙ ap (λ t. Some (Value (typed t el.tree))) (sym types)) inside;
     }
+
+-- the element that was entered is the one to which a path of one place leads
+pub first-entered : (program : Program) (layouts : Layouts) (objects : Objects) (heap : Heap) (address place : ℕ) (places : List ℕ) → places ≡ place ∷ [] → (entered e : Element)
+    → IsElementAt program layouts heap objects.space address place (Some entered) → some-element entered ≡ some-element e → IsFirstOf program layouts objects heap (Of address) places e
+first-entered program layouts objects heap address place places are entered e there same =
+    let one : entered ≡ e = cc in
+    record { address = address; place = place; rest = []; owner_is = refl; path_is = are; there = subst (λ x. IsElementAt program layouts heap objects.space address place (Some x)) one there }
+
+-- it is the same one further on
+pub first-further : (program : Program) (layouts : Layouts) (objects : Objects) (heap : Heap) (owner : Owner) (places path more : List ℕ) → more ≡ places ++ path → (first : Option Element)
+    → IsFirstBy program layouts objects heap owner places first → IsFirstBy program layouts objects heap owner more first
+first-further program layouts objects heap owner places path more are first known e same =
+    let f = known e same in
+    record { address = f.address; place = f.place; rest = f.rest ++ path; owner_is = f.owner_is; path_is = are ∙ ap (λ xs. xs ++ path) f.path_is; there = f.there }
 
 -- ---- roots
 

@@ -17,13 +17,11 @@ use Rattle.gt_value.proofs.StandingParts.{array-stands, tail-stands}
 use Rattle.gt_value.proofs.CursorPaths.{lies-on, lies-after}
 use Rattle.gt_next.specs.Spots.{element_at, element_of}
 use Rattle.gt_next.specs.Paths.{StepsIn, RefusesIn, is_some_type}
-use Rattle.std.specs.Prelude.{Result, Ok, Err, IfOk}
+use Rattle.std.specs.Prelude.{Result, Err}
 use Rattle.gt_script.specs.declared.command.Hop.{Hop}
 use Rattle.gt_next.specs.declared.answer.Why.{Why}
 use Rattle.gt_next.specs.declared.answer.Why.TheVariants.{BadIndex}
 use Rattle.gt_routes.specs.declared.steps.Step.{Step}
-use Rattle.gt_routes.specs.declared.steps.WalkFail.{WalkFail}
-use Rattle.gt_routes.specs.declared.steps.WalkFail.TheVariants.{Refused}
 use Rattle.gt_routes.specs.Steps.{StandsAt, StepsTo}
 use Rattle.gt_routes.proofs.TypedParts.{IsNamedIn, typed-after, one-typed}
 
@@ -108,12 +106,8 @@ module _ (at : Frame) (value : Part) (path : List ℕ) (c : Cursor) (here : Stan
           (subst (λ v. PartLies at.program at.layouts.structures here.here.p.scope here.here.p.holder here.here.p.active here.here.p.bit here.here.p.type v (place ∷ []) q) (sym is) (PartLies.tail e there PartLies.whole)))
       go x e trees is tree there some = let a = ap element_at e in let b = some.1 in absurd (cc)
 
-pub made-on : (r : Result Step WalkFail) (P Q : Step → Type 0) → ((x : Step) → P x → Q x) → IfOk r P → IfOk r Q
-made-on (Ok x) P Q h p = h x p
-made-on (Err e) P Q h p = tt
-
-abbrev pub failed : WalkFail → Result Step WalkFail
+abbrev pub failed : Why → Result Step Why
 failed e = Err e
 
-pub refused-as : (at : Frame) (p : Part) (hop : Hop) (here why : Why) → failed (Refused here) ≡ failed (Refused why) → RefusesIn at.program (typed p.type p.tree) hop here → RefusesIn at.program (typed p.type p.tree) hop why
+pub refused-as : (at : Frame) (p : Part) (hop : Hop) (here why : Why) → failed here ≡ failed why → RefusesIn at.program (typed p.type p.tree) hop here → RefusesIn at.program (typed p.type p.tree) hop why
 refused-as at p hop here why e h = let same : here ≡ why = cc in subst (λ w. RefusesIn at.program (typed p.type p.tree) hop w) same h

@@ -13,7 +13,6 @@ use Rattle.gt_next.specs.declared.answer.Why.{Why}
 use Rattle.gt_next.specs.declared.answer.Why.TheVariants.{WrongType}
 use Rattle.gt_next.specs.Spots.{element_of}
 use Rattle.gt_next.specs.Paths.{RefusesIn, is_some_type, is_suited}
-use Rattle.gt_routes.specs.declared.steps.WalkFail.TheVariants.{Refused}
 use Rattle.gt_routes.specs.Steps.{RefusedFrom}
 use Rattle.gt_routes.proofs.Rows.{failed}
 
@@ -40,5 +39,5 @@ is-structure (ty.Node other desc) node e = let same : other ≡ node = cc in (de
 is-structure type node e = absurd (cc)
 
 -- the same refusal by another name
-pub refused-by : (program : Program) (c : Cursor) (hop : Hop) (here why : Why) → failed (Refused here) ≡ failed (Refused why) → RefusedFrom program c hop here → RefusedFrom program c hop why
+pub refused-by : (program : Program) (c : Cursor) (hop : Hop) (here why : Why) → failed here ≡ failed why → RefusedFrom program c hop here → RefusedFrom program c hop why
 refused-by program c hop here why e h = let same : here ≡ why = cc in subst (λ w. RefusedFrom program c hop w) same h

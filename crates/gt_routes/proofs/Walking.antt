@@ -11,11 +11,12 @@ use Rattle.gt_next.specs.declared.answer.Why.{Why}
 use Rattle.gt_next.specs.Spots.{Spot}
 use Rattle.gt_next.specs.Paths.{Steps, RefusesStep, Walks, RefusesWalk}
 use Rattle.gt_routes.specs.declared.reaching.Reached.{Reached}
-use Rattle.gt_routes.specs.Reaching.{spot_of, IsEndAt}
+use Rattle.gt_routes.specs.Reaching.{spot_of, IsEndAt, IsFirstIn}
 
 -- the steps before a place lead to what stands here: what the others do from here, all do from the start
 pub record HasWalked (program : Program) (layouts : Layouts) (objects : Objects) (start : Spot) (hops : List Hop) (i : ℕ) (at : Reached) : Type 0 where
   pub ends : (heap : Heap) → IsHeapOf program layouts objects heap → IsEndAt program layouts objects heap (spot_of at) at.end
+  pub first : (heap : Heap) → IsHeapOf program layouts objects heap → IsFirstIn program layouts objects heap at
   pub leads : (heap : Heap) → IsHeapOf program layouts objects heap → (to : Spot) → Walks program heap.graph (spot_of at) (drop i hops) to → Walks program heap.graph start hops to
   pub refuses : (heap : Heap) → IsHeapOf program layouts objects heap → (why : Why) → RefusesWalk program heap.graph (spot_of at) (drop i hops) why → RefusesWalk program heap.graph start hops why
 
@@ -31,9 +32,11 @@ drop-end (y ∷ ys) zero le = absurd (omega (arith, le))
 drop-end (y ∷ ys) (suc i) le = drop-end ys i (omega (arith, le))
 
 module _ (program : Program) (layouts : Layouts) (objects : Objects) (start : Spot) (hops : List Hop) where
-  pub walked-none : (at : Reached) → spot_of at ≡ start → ((heap : Heap) → IsHeapOf program layouts objects heap → IsEndAt program layouts objects heap (spot_of at) at.end) → HasWalked program layouts objects start hops 0 at
-  walked-none at e ends = record {
+  pub walked-none : (at : Reached) → spot_of at ≡ start → ((heap : Heap) → IsHeapOf program layouts objects heap → IsEndAt program layouts objects heap (spot_of at) at.end)
+      → ((heap : Heap) → IsHeapOf program layouts objects heap → IsFirstIn program layouts objects heap at) → HasWalked program layouts objects start hops 0 at
+  walked-none at e ends first = record {
     ends = ends;
+    first = first;
     leads = λ heap is to w. subst (λ s. Walks program heap.graph s hops to) e w;
     refuses = λ heap is why r. subst (λ s. RefusesWalk program heap.graph s hops why) e r;
   }
@@ -41,9 +44,11 @@ module _ (program : Program) (layouts : Layouts) (objects : Objects) (start : Sp
   module _ (i : ℕ) (at : Reached) (w : HasWalked program layouts objects start hops i at) where
     module _ (hop : Hop) (item : slice_get hops i ≡ Some hop) where
       pub walked-more : (next : Reached) → ((heap : Heap) → IsHeapOf program layouts objects heap → Steps program heap.graph (spot_of at) hop (spot_of next))
-          → ((heap : Heap) → IsHeapOf program layouts objects heap → IsEndAt program layouts objects heap (spot_of next) next.end) → HasWalked program layouts objects start hops (i + 1) next
-      walked-more next steps ends = record {
+          → ((heap : Heap) → IsHeapOf program layouts objects heap → IsEndAt program layouts objects heap (spot_of next) next.end)
+          → ((heap : Heap) → IsHeapOf program layouts objects heap → IsFirstIn program layouts objects heap next) → HasWalked program layouts objects start hops (i + 1) next
+      walked-more next steps ends first = record {
         ends = ends;
+        first = first;
         leads = λ heap is to more. w.leads heap is to (subst (λ hs. Walks program heap.graph (spot_of at) hs to) (sym (drop-one hops i hop item)) (Walks.onward (steps heap is) more));
         refuses = λ heap is why r. w.refuses heap is why (subst (λ hs. RefusesWalk program heap.graph (spot_of at) hs why) (sym (drop-one hops i hop item)) (RefusesWalk.later (steps heap is) r));
       }

@@ -1,5 +1,5 @@
 -- Where a path leads in the objects of a heap.
-use Rattle.std.specs.Prelude.{◌≡◌, ◌<◌, ℕ, Bool, true, false, List, [], ◌∷◌, Some, not, slice_get}
+use Rattle.std.specs.Prelude.{◌≡◌, ◌<◌, ℕ, Bool, true, false, List, [], ◌∷◌, Option, Some, not, slice_get}
 use Rattle.gt_types.specs.declared.program.Program.{Program}
 use Rattle.gt_types.specs.declared.program.Root.{Root as RootOf}
 use Rattle.gt_layout.specs.declared.planes.Layouts.{Layouts}
@@ -14,7 +14,8 @@ use Rattle.gt_graph.specs.Objects.{Object, object_of}
 use Rattle.gt_graph.specs.Changes as graph
 use Rattle.gt_graph.specs.Good.{Heap}
 use Rattle.gt_objects.specs.declared.objects.Objects.{Objects}
-use Rattle.gt_elements.specs.Elements.{owner_of}
+use Rattle.gt_elements.specs.declared.parts.Element.{Element}
+use Rattle.gt_elements.specs.Elements.{owner_of, IsFirstOf}
 use Rattle.gt_next.specs.declared.answer.Why.{Why}
 use Rattle.gt_next.specs.Paths.{StepsIn, RefusesIn, Follows, Steps, RefusesStep}
 use Rattle.gt_next.specs.Spots.{Spot, spot, further, Whole, Value, standing_at, is_in_none}
@@ -56,6 +57,13 @@ pub record IsValueAt (program : Program) (layouts : Layouts) (objects : Objects)
 abbrev pub IsEndAt : Program → Layouts → Objects → Heap → Spot → End → Type 0
 IsEndAt program layouts objects heap at ends.Object = (o : Object) × (at ≡ spot (graph.Of o.id) []) × (standing_at program heap.graph at ≡ Some (Whole o))
 IsEndAt program layouts objects heap at (ends.Value c) = IsValueAt program layouts objects heap at c
+
+-- the element that is known of a path, if one is, is the one to which it first leads
+abbrev pub IsFirstBy : Program → Layouts → Objects → Heap → graph.Owner → List ℕ → Option Element → Type 0
+IsFirstBy program layouts objects heap owner path first = (e : Element) → first ≡ Some e → IsFirstOf program layouts objects heap owner path e
+
+abbrev pub IsFirstIn : Program → Layouts → Objects → Heap → Reached → Type 0
+IsFirstIn program layouts objects heap to = IsFirstBy program layouts objects heap (owner_of to.owner) to.places.items to.first
 
 -- ---- no promise: single steps
 

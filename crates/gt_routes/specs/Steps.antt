@@ -1,5 +1,5 @@
 -- Where a step leads within a value.
-use Rattle.std.specs.Prelude.{◌≡◌, ◌≢◌, ℕ, List, ◌∷◌, ◌++◌, Some}
+use Rattle.std.specs.Prelude.{◌≡◌, ◌≢◌, ℕ, List, ◌∷◌, ◌++◌, Some, replicate}
 use Rattle.gt_types.specs.declared.types.TypeId.{TypeId}
 use Rattle.gt_types.specs.declared.program.Program.{Program}
 use Rattle.gt_types.specs.declared.program.Structure.{Structure}
@@ -33,10 +33,14 @@ pub record StepsTo (at : Frame) (value : Part) (path : List ℕ) (c : Cursor) (h
   pub there : StandsAt at value (path ++ places) next
   pub steps : StepsIn at.program (typed here.here.p.type here.here.p.tree) hop places
 
+-- the places by which a step leads on, from the outside in
+abbrev pub along : Step → List ℕ
+along step = step.place ∷ replicate step.zeros 0
+
 -- a step has this cursor and these places
 pub record MadeOf (step : Step) (c : Cursor) (places : List ℕ) : Type 0 where
   pub at_is : step.at ≡ c
-  pub places_are : step.places.items ≡ places
+  pub places_are : along step ≡ places
 
 -- a member of a union has this name, and is not the active one
 pub record IsInactive (program : Program) (tree : Tree) (node : TypeId) (name : List ℕ) : Type 0 where
@@ -48,7 +52,7 @@ pub record IsInactive (program : Program) (tree : Tree) (node : TypeId) (name : 
 
 -- a step leads to where another cursor stands, wherever this one stands
 abbrev pub LeadsFrom : Program → Cursor → Hop → Step → Type 0
-LeadsFrom program c hop to = (at : Frame) (value : Part) (path : List ℕ) (here : StandsAt at value path c) → at.program ≡ program → StepsTo at value path c hop to.at to.places.items here
+LeadsFrom program c hop to = (at : Frame) (value : Part) (path : List ℕ) (here : StandsAt at value path c) → at.program ≡ program → StepsTo at value path c hop to.at (along to) here
 
 -- a step is refused, wherever a cursor stands
 abbrev pub RefusedFrom : Program → Cursor → Hop → Why → Type 0
@@ -57,6 +61,6 @@ RefusedFrom program c hop why = (at : Frame) (value : Part) (path : List ℕ) (h
 -- a cursor stands at the structure of a type with which the value at another begins, and these are the place of a member and the way there
 pub record IsBegin (at : Frame) (value : Part) (path : List ℕ) (c : Cursor) (common : TypeId) (member : ℕ) (to : Step) (here : StandsAt at value path c) : Type 0 where
   pub way : List ℕ
-  pub places_are : to.places.items ≡ member ∷ way
+  pub places_are : along to ≡ member ∷ way
   pub there : StandsAt at value (path ++ way) to.at
   pub found : way_to at.program common (Some here.here.p.type) here.here.p.tree ≡ Some way

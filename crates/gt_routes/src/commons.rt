@@ -12,15 +12,14 @@ ghost use Rattle.gt_tree.specs.Scopes.{is_node};
 ghost use Rattle.gt_value.specs.Places.{Part};
 ghost use Rattle.gt_value.specs.Cursors.{Frame};
 ghost use Rattle.gt_next.specs.declared.answer.Why.{Why};
-ghost use Rattle.gt_routes.specs.declared.steps.WalkFail.TheVariants.{Refused};
 ghost use Rattle.gt_routes.specs.Steps.{IsIn, StandsAt, IsInactive, IsBegin, LeadsFrom, RefusedFrom};
 
-use crate::steps::{Step, WalkFail, made};
+use crate::field_places::place_of_field;
+use crate::steps::{Step, made};
 use gt_fields::FieldNames;
 use gt_next::Why;
 use gt_types::{MAX_DEPTH, Program, Ty, TypeId, Word};
 use gt_value::{Cursor, common_structure};
-use std::alloc::Global;
 
 // Whether a type is this structure.
 fn is_node(node: TypeId, ty: &Ty) -> bool
@@ -34,33 +33,23 @@ fn is_node(node: TypeId, ty: &Ty) -> bool
 
 // From the active member of a union to the structure with which it begins: each step goes to the first part. At most MAX_DEPTH
 // structures lie one inside another.
-fn begin_of<'a>(
-    alloc: Global,
-    program: &Program,
-    at: Cursor<'a>,
-    member: u32,
-    common: TypeId,
-) -> Result<Step<'a>, WalkFail>
+fn begin_of<'a>(program: &Program, at: Cursor<'a>, member: u32, common: TypeId) -> Step<'a>
     requires settled { Settled program.now }
     requires stands { IsIn program.now at }
     requires begins { BeginsWith program.now at.ty.now common }
-    ensures begin { IfOk result (λ to. (frame : Frame) (value : Part) (path : List ℕ) (here : StandsAt frame value path at.entry) → frame.program ≡ program.now → IsBegin frame value path at.entry common member to here) }
-    ensures refused { (why : Why) → ¬ (result ≡ Err (Refused why)) }
+    ensures begin { (frame : Frame) (value : Part) (path : List ℕ) (here : StandsAt frame value path at.entry) → frame.program ≡ program.now → IsBegin frame value path at.entry common member result here }
 {
-    let mut places = Vec::new(alloc);
-    let Ok(()) = places.push(member) else {
-        return Err(WalkFail::Memory);
-    };
     let mut cursor = at;
-    'parts: for _ in 0..MAX_DEPTH + 1 {
+    'parts: for zeros in 0..MAX_DEPTH as u32 + 1 {
         if is_node(common, cursor.ty()) {
-            return Ok(Step { at: cursor, places });
+            return Step {
+                at: cursor,
+                place: member,
+                zeros,
+            };
         }
         let Some(next) = cursor.step(0) else {
             unreachable!()
-        };
-        let Ok(()) = places.push(0) else {
-            return Err(WalkFail::Memory);
         };
         cursor = next;
     }
@@ -70,13 +59,12 @@ fn begin_of<'a>(
 /// A step by the name of a member of a union that is not active. If the member is of the type of the common structure, it leads to the
 /// begin of the active member, or, where none is active, to the common structure that is kept. Else it is refused.
 pub fn common_step<'a>(
-    alloc: Global,
     program: &Program,
     fields: &FieldNames,
     at: Cursor<'a>,
     node: TypeId,
     name: &Word,
-) -> Result<Step<'a>, WalkFail>
+) -> Result<Step<'a>, Why>
     requires settled { Settled program.now }
     requires fields { AreNamesOf program.now.structures fields.now }
     requires stands { IsIn program.now at }
@@ -84,9 +72,9 @@ pub fn common_step<'a>(
     requires a_union { (s : Structure) → HasStructure program.now node s → s.is_union ≡ true }
     requires inactive { (frame : Frame) (value : Part) (path : List ℕ) (here : StandsAt frame value path at) → frame.program ≡ program.now → IsInactive frame.program here.here.p.tree node name.now }
     ensures leads { IfOk result (λ to. LeadsFrom program.now at.entry (Name name.now) to) }
-    ensures refused { (why : Why) → result ≡ Err (Refused why) → RefusedFrom program.now at.entry (Name name.now) why }
+    ensures refused { (why : Why) → result ≡ Err why → RefusedFrom program.now at.entry (Name name.now) why }
 {
-    let Some(place) = fields.place(node, name) else {
+    let Some(place) = place_of_field(program, fields, node, name) else {
         unreachable!()
     };
     let Some(structure) = program.structures.get(node.0 as usize) else {
@@ -96,19 +84,19 @@ pub fn common_step<'a>(
         unreachable!()
     };
     let Some(common) = common_structure(program, node, structure) else {
-        return Err(WalkFail::Refused(Why::Inactive));
+        return Err(Why::Inactive);
     };
     if !is_node(common, &field.ty) {
-        return Err(WalkFail::Refused(Why::Inactive));
+        return Err(Why::Inactive);
     }
     let Some(member) = at.member() else {
         let Some(next) = at.step(place) else {
             unreachable!()
         };
-        return made(alloc, next, place);
+        return Ok(made(next, place));
     };
     let Some(next) = at.step(member) else {
         unreachable!()
     };
-    begin_of(alloc, program, next, member, common)
+    Ok(begin_of(program, next, member, common))
 }

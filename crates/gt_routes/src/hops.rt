@@ -9,17 +9,15 @@ ghost use Rattle.gt_script.specs.declared.command.Hop.TheVariants.{Name};
 ghost use Rattle.gt_next.specs.Spots.{element_of};
 ghost use Rattle.gt_next.specs.Paths.{is_some_type};
 ghost use Rattle.gt_next.specs.declared.answer.Why.{Why};
-ghost use Rattle.gt_routes.specs.declared.steps.WalkFail.TheVariants.{Refused};
 ghost use Rattle.gt_routes.specs.Steps.{IsIn, LeadsFrom, RefusedFrom};
 
 use crate::commons::common_step;
-use crate::steps::{Step, WalkFail, element_step, field_step, member_step};
+use crate::steps::{Step, element_step, field_step, member_step};
 use gt_fields::FieldNames;
 use gt_next::Why;
 use gt_script::Hop;
 use gt_types::{Program, Ty, TypeId, Word};
 use gt_value::Cursor;
-use std::alloc::Global;
 
 // Whether a type is that of an array.
 fn has_elements(ty: &Ty) -> bool
@@ -46,57 +44,55 @@ fn structure_of(ty: &Ty) -> Option<TypeId>
 
 /// A step by a name in a value of a structure.
 pub fn name_step<'a>(
-    alloc: Global,
     program: &Program,
     fields: &FieldNames,
     at: Cursor<'a>,
     node: TypeId,
     name: &Word,
-) -> Result<Step<'a>, WalkFail>
+) -> Result<Step<'a>, Why>
     requires settled { Settled program.now }
     requires fields { AreNamesOf program.now.structures fields.now }
     requires stands { IsIn program.now at }
     requires node { (desc : Option Expr) × (at.ty.now ≡ Node node desc) }
     ensures leads { IfOk result (λ to. LeadsFrom program.now at.entry (Name name.now) to) }
-    ensures refused { (why : Why) → result ≡ Err (Refused why) → RefusedFrom program.now at.entry (Name name.now) why }
+    ensures refused { (why : Why) → result ≡ Err why → RefusedFrom program.now at.entry (Name name.now) why }
 {
     let Some(structure) = program.structures.get(node.0 as usize) else {
         unreachable!()
     };
     if !structure.is_union {
-        return field_step(alloc, program, fields, at, node, name);
+        return field_step(program, fields, at, node, name);
     }
-    match member_step(alloc, program, fields, at, node, name) {
+    match member_step(program, fields, at, node, name) {
         Ok(Some(step)) => Ok(step),
-        Ok(None) => common_step(alloc, program, fields, at, node, name),
-        Err(stop) => Err(stop),
+        Ok(None) => common_step(program, fields, at, node, name),
+        Err(why) => Err(why),
     }
 }
 
 /// A step in a value. One that does not suit the type is refused.
 pub fn local_step<'a>(
-    alloc: Global,
     program: &Program,
     fields: &FieldNames,
     at: Cursor<'a>,
     hop: &Hop,
-) -> Result<Step<'a>, WalkFail>
+) -> Result<Step<'a>, Why>
     requires settled { Settled program.now }
     requires fields { AreNamesOf program.now.structures fields.now }
     requires stands { IsIn program.now at }
     ensures leads { IfOk result (λ to. LeadsFrom program.now at.entry hop.now to) }
-    ensures refused { (why : Why) → result ≡ Err (Refused why) → RefusedFrom program.now at.entry hop.now why }
+    ensures refused { (why : Why) → result ≡ Err why → RefusedFrom program.now at.entry hop.now why }
 {
     match hop {
         Hop::Index(place) => {
             if !has_elements(at.ty()) {
-                return Err(WalkFail::Refused(Why::WrongType));
+                return Err(Why::WrongType);
             }
-            element_step(alloc, program, at, *place)
+            element_step(program, at, *place)
         }
         Hop::Name(name) => match structure_of(at.ty()) {
-            Some(node) => name_step(alloc, program, fields, at, node, name),
-            None => Err(WalkFail::Refused(Why::WrongType)),
+            Some(node) => name_step(program, fields, at, node, name),
+            None => Err(Why::WrongType),
         },
     }
 }

@@ -2,9 +2,10 @@
 #![tactic(auto)]
 
 mod commons;
+mod field_places;
 mod hops;
 mod reaching;
 mod steps;
 
 pub use reaching::{End, Reached, Start, walk};
-pub use steps::{Step, WalkFail, element_step, field_step, member_step};
+pub use steps::{Places, Step, WalkFail, element_step, field_step, member_step};

@@ -9,20 +9,21 @@ ghost use Rattle.gt_graph.specs.Objects.{Object, object_of};
 ghost use Rattle.gt_graph.specs.Changes.{Of};
 ghost use Rattle.gt_graph.specs.Good.{Heap};
 ghost use Rattle.gt_objects.specs.Holding.{IsHeapOf};
+ghost use Rattle.gt_objects.specs.Knowing.{IsKnownAt};
 ghost use Rattle.gt_script.specs.declared.command.Hop.TheVariants.{Name, Index};
-ghost use Rattle.gt_elements.specs.Elements.{owner_of};
+ghost use Rattle.gt_elements.specs.Elements.{owner_of, IsElementAt};
 ghost use Rattle.gt_next.specs.Spots.{spot};
 ghost use Rattle.gt_next.specs.Paths.{Steps, RefusesStep, Walks, RefusesWalk};
 ghost use Rattle.gt_schema.specs.Schemas.{IsSchema};
 ghost use Rattle.gt_routes.specs.declared.steps.WalkFail.TheVariants.{Refused};
 ghost use Rattle.gt_routes.specs.Steps.{StandsAt};
-ghost use Rattle.gt_routes.specs.Reaching.{start_of, spot_of, IsStart, IsValueAt, IsEndAt, IsElementEnd, LeadsWithin, StopsWithin, LeadsOn, StopsAt, holds_nodes};
+ghost use Rattle.gt_routes.specs.Reaching.{start_of, spot_of, IsStart, IsValueAt, IsEndAt, IsElementEnd, IsFirstBy, IsFirstIn, LeadsWithin, StopsWithin, LeadsOn, StopsAt, holds_nodes};
 
 use crate::hops::local_step;
-use crate::steps::WalkFail;
-use gt_elements::{Owner, element};
+use crate::steps::{Places, WalkFail, add_places};
+use gt_elements::{Element, Owner, element_of};
 use gt_next::Why;
-use gt_objects::Objects;
+use gt_objects::{Known, Objects};
 use gt_schema::Schema;
 use gt_script::Hop;
 use gt_space::Space;
@@ -44,11 +45,13 @@ pub enum End<'a> {
     Value(Cursor<'a>),
 }
 
-/// Where a path leads: into the static record or an object, and on by places in its value, from the outside in.
+/// Where a path leads: into the static record or an object, and on by places in its value, from the outside in. `first` is the element
+/// at the first of these places, where it is known already.
 #[derive(Drop)]
 pub struct Reached<'a> {
     pub owner: Owner,
-    pub places: Vec<u32>,
+    pub first: Option<Element>,
+    pub places: Places,
     pub end: End<'a>,
 }
 
@@ -79,29 +82,41 @@ fn target(space: &Space, at: Cursor<'_>) -> Option<u64>
     }
 }
 
-// The element at a place of an object; None where there is none.
-fn element_at<'a>(
+// An element of an object, and a cursor there.
+#[derive(Clone, Copy)]
+struct Entered<'a> {
+    element: Element,
+    at: Cursor<'a>,
+}
+
+// The element at a place of an object of which this is known.
+fn enter<'a>(
     schema: &'a Schema,
     objects: &'a Objects,
     address: u64,
+    known: Known,
     place: u32,
-) -> Option<Cursor<'a>>
+) -> Entered<'a>
     requires schema { IsSchema schema.now }
     requires ready { (heap : Heap) × IsHeapOf schema.now.program schema.now.layouts objects.now heap }
-    ensures element { MatchOption result ((heap : Heap) (o : Object) → IsHeapOf schema.now.program schema.now.layouts objects.now heap → object_of heap.graph.objects address ≡ Some o → ¬ (place < o.count)) (λ c. (heap : Heap) → IsHeapOf schema.now.program schema.now.layouts objects.now heap → IsElementEnd schema.now.program schema.now.layouts objects.now heap address place c) }
+    requires known { (heap : Heap) → IsHeapOf schema.now.program schema.now.layouts objects.now heap → IsKnownAt heap.graph.objects address (Some known) }
+    requires below { place < known.count }
+    ensures cursor { (heap : Heap) → IsHeapOf schema.now.program schema.now.layouts objects.now heap → IsElementEnd schema.now.program schema.now.layouts objects.now heap address place result.at }
+    ensures element { (heap : Heap) → IsHeapOf schema.now.program schema.now.layouts objects.now heap → IsElementAt schema.now.program schema.now.layouts heap objects.now.space address place (Some result.element) }
 {
-    let Some(found) = element(objects, &schema.program, &schema.layouts, address, place) else {
-        return None;
-    };
-    let ty = schema.types.get(found.kind);
-    Some(Cursor::at_element(
-        &schema.program,
-        &schema.layouts,
+    let program = &schema.program;
+    let layouts = &schema.layouts;
+    let element = element_of(objects, program, layouts, address, known, place);
+    let ty = schema.types.get(element.kind);
+    let at = Cursor::at_element(
+        program,
+        layouts,
         objects.space(),
         ty,
-        found.addr,
-        found.capacity,
-    ))
+        element.addr,
+        element.capacity,
+    );
+    Entered { element, at }
 }
 
 // Where a path starts.
@@ -116,12 +131,14 @@ fn begin<'a>(
     requires starts { (heap : Heap) → IsHeapOf schema.now.program schema.now.layouts objects.now heap → IsStart schema.now.program heap start }
     ensures start { IfOk result (λ to. spot_of to ≡ start_of start) }
     ensures ends { IfOk result (λ to. (heap : Heap) → IsHeapOf schema.now.program schema.now.layouts objects.now heap → IsEndAt schema.now.program schema.now.layouts objects.now heap (spot_of to) to.end) }
+    ensures first { IfOk result (λ to. (heap : Heap) → IsHeapOf schema.now.program schema.now.layouts objects.now heap → IsFirstIn schema.now.program schema.now.layouts objects.now heap to) }
     ensures refused { (why : Why) → ¬ (result ≡ Err (Refused why)) }
 {
-    let mut places = Vec::new(alloc);
+    let mut places = Places::new(alloc);
     match start {
         Start::Object(address) => Ok(Reached {
             owner: Owner::Object(address),
+            first: None,
             places,
             end: End::Object,
         }),
@@ -136,6 +153,7 @@ fn begin<'a>(
             };
             Ok(Reached {
                 owner: Owner::Statics,
+                first: None,
                 places,
                 end: End::Value(at),
             })
@@ -155,6 +173,7 @@ fn index_step<'a>(
     requires ready { (heap : Heap) × IsHeapOf schema.now.program schema.now.layouts objects.now heap }
     requires there { (heap : Heap) → IsHeapOf schema.now.program schema.now.layouts objects.now heap → (o : Object) × (object_of heap.graph.objects address ≡ Some o) }
     ensures leads { IfOk result (λ to. (heap : Heap) → IsHeapOf schema.now.program schema.now.layouts objects.now heap → LeadsOn schema.now.program schema.now.layouts objects.now heap (spot (Of address) []) (Index place) to) }
+    ensures first { IfOk result (λ to. (heap : Heap) → IsHeapOf schema.now.program schema.now.layouts objects.now heap → IsFirstIn schema.now.program schema.now.layouts objects.now heap to) }
     ensures refused { (why : Why) → result ≡ Err (Refused why) → (heap : Heap) → IsHeapOf schema.now.program schema.now.layouts objects.now heap → StopsAt schema.now.program heap (spot (Of address) []) (Index place) why }
 {
     let Some(known) = objects.known(address) else {
@@ -163,45 +182,47 @@ fn index_step<'a>(
     if place >= known.count as u64 {
         return Err(WalkFail::Refused(Why::BadIndex));
     }
-    let Some(at) = element_at(schema, objects, address, place as u32) else {
-        unreachable!()
-    };
-    let mut places = Vec::new(alloc);
+    let entered = enter(schema, objects, address, known, place as u32);
+    let mut places = Places::new(alloc);
     let Ok(()) = places.push(place as u32) else {
         return Err(WalkFail::Memory);
     };
     Ok(Reached {
         owner: Owner::Object(address),
+        first: Some(entered.element),
         places,
-        end: End::Value(at),
+        end: End::Value(entered.at),
     })
 }
 
 // A step in the value at some places of the static record or of an object. The places of the step are added to them.
 fn value_step<'a>(
-    alloc: Global,
     schema: &'a Schema,
     objects: &'a Objects,
     owner: Owner,
-    mut places: Vec<u32>,
+    first: Option<Element>,
+    mut places: Places,
     at: Cursor<'a>,
     hop: &Hop,
 ) -> Result<Reached<'a>, WalkFail>
     requires schema { IsSchema schema.now }
     requires ready { (heap : Heap) × IsHeapOf schema.now.program schema.now.layouts objects.now heap }
     requires stands { (heap : Heap) → IsHeapOf schema.now.program schema.now.layouts objects.now heap → IsValueAt schema.now.program schema.now.layouts objects.now heap (spot (owner_of owner) places.items) at }
+    requires first { (heap : Heap) → IsHeapOf schema.now.program schema.now.layouts objects.now heap → IsFirstBy schema.now.program schema.now.layouts objects.now heap (owner_of owner) places.items first }
     ensures leads { IfOk result (λ to. (heap : Heap) → IsHeapOf schema.now.program schema.now.layouts objects.now heap → LeadsWithin schema.now.program schema.now.layouts objects.now heap (spot (owner_of owner) places.items) hop.now to) }
+    ensures first { IfOk result (λ to. (heap : Heap) → IsHeapOf schema.now.program schema.now.layouts objects.now heap → IsFirstIn schema.now.program schema.now.layouts objects.now heap to) }
     ensures refused { (why : Why) → result ≡ Err (Refused why) → (heap : Heap) → IsHeapOf schema.now.program schema.now.layouts objects.now heap → StopsWithin schema.now.program heap (spot (owner_of owner) places.items) hop.now why }
 {
-    let step = match local_step(alloc, &schema.program, &schema.fields, at, hop) {
+    let step = match local_step(&schema.program, &schema.fields, at, hop) {
         Ok(step) => step,
-        Err(stop) => return Err(stop),
+        Err(why) => return Err(WalkFail::Refused(why)),
     };
-    let Ok(()) = places.extend_from_slice(&step.places) else {
+    let Ok(()) = add_places(&mut places, &step) else {
         return Err(WalkFail::Memory);
     };
     Ok(Reached {
         owner,
+        first,
         places,
         end: End::Value(step.at),
     })
@@ -227,6 +248,7 @@ fn single_step<'a>(
     requires name { (name : List ℕ) × (hop.now ≡ Name name) }
     requires there { (heap : Heap) → IsHeapOf schema.now.program schema.now.layouts objects.now heap → (o : Object) × (object_of heap.graph.objects address ≡ Some o) }
     ensures leads { IfOk result (λ to. (heap : Heap) → IsHeapOf schema.now.program schema.now.layouts objects.now heap → LeadsOn schema.now.program schema.now.layouts objects.now heap (spot (Of address) []) hop.now to) }
+    ensures first { IfOk result (λ to. (heap : Heap) → IsHeapOf schema.now.program schema.now.layouts objects.now heap → IsFirstIn schema.now.program schema.now.layouts objects.now heap to) }
     ensures refused { (why : Why) → result ≡ Err (Refused why) → (heap : Heap) → IsHeapOf schema.now.program schema.now.layouts objects.now heap → StopsAt schema.now.program heap (spot (Of address) []) hop.now why }
 {
     let Some(known) = objects.known(address) else {
@@ -238,22 +260,14 @@ fn single_step<'a>(
     if !holds_nodes(known.kind) {
         return Err(WalkFail::Refused(Why::WrongType));
     }
-    let Some(at) = element_at(schema, objects, address, 0) else {
-        unreachable!()
-    };
-    let mut places = Vec::new(alloc);
+    let entered = enter(schema, objects, address, known, 0);
+    let mut places = Places::new(alloc);
     let Ok(()) = places.push(0) else {
         return Err(WalkFail::Memory);
     };
-    value_step(
-        alloc,
-        schema,
-        objects,
-        Owner::Object(address),
-        places,
-        at,
-        hop,
-    )
+    let owner = Owner::Object(address);
+    let first = Some(entered.element);
+    value_step(schema, objects, owner, first, places, entered.at, hop)
 }
 
 // A step from an object as a whole.
@@ -268,6 +282,7 @@ fn object_step<'a>(
     requires ready { (heap : Heap) × IsHeapOf schema.now.program schema.now.layouts objects.now heap }
     requires there { (heap : Heap) → IsHeapOf schema.now.program schema.now.layouts objects.now heap → (o : Object) × (object_of heap.graph.objects address ≡ Some o) }
     ensures leads { IfOk result (λ to. (heap : Heap) → IsHeapOf schema.now.program schema.now.layouts objects.now heap → LeadsOn schema.now.program schema.now.layouts objects.now heap (spot (Of address) []) hop.now to) }
+    ensures first { IfOk result (λ to. (heap : Heap) → IsHeapOf schema.now.program schema.now.layouts objects.now heap → IsFirstIn schema.now.program schema.now.layouts objects.now heap to) }
     ensures refused { (why : Why) → result ≡ Err (Refused why) → (heap : Heap) → IsHeapOf schema.now.program schema.now.layouts objects.now heap → StopsAt schema.now.program heap (spot (Of address) []) hop.now why }
 {
     match hop {
@@ -287,8 +302,10 @@ fn step<'a>(
     requires schema { IsSchema schema.now }
     requires ready { (heap : Heap) × IsHeapOf schema.now.program schema.now.layouts objects.now heap }
     requires stands { (heap : Heap) → IsHeapOf schema.now.program schema.now.layouts objects.now heap → IsEndAt schema.now.program schema.now.layouts objects.now heap (spot_of from) from.end }
+    requires first { (heap : Heap) → IsHeapOf schema.now.program schema.now.layouts objects.now heap → IsFirstIn schema.now.program schema.now.layouts objects.now heap from }
     ensures leads { IfOk result (λ to. (heap : Heap) → IsHeapOf schema.now.program schema.now.layouts objects.now heap → Steps schema.now.program heap.graph (spot_of from.entry) hop.now (spot_of to)) }
     ensures ends { IfOk result (λ to. (heap : Heap) → IsHeapOf schema.now.program schema.now.layouts objects.now heap → IsEndAt schema.now.program schema.now.layouts objects.now heap (spot_of to) to.end) }
+    ensures first { IfOk result (λ to. (heap : Heap) → IsHeapOf schema.now.program schema.now.layouts objects.now heap → IsFirstIn schema.now.program schema.now.layouts objects.now heap to) }
     ensures refused { (why : Why) → result ≡ Err (Refused why) → (heap : Heap) → IsHeapOf schema.now.program schema.now.layouts objects.now heap → RefusesStep schema.now.program heap.graph (spot_of from.entry) hop.now why }
 {
     let at = match from.end {
@@ -301,7 +318,15 @@ fn step<'a>(
         }
     };
     if !is_pointer(at.ty()) {
-        return value_step(alloc, schema, objects, from.owner, from.places, at, hop);
+        return value_step(
+            schema,
+            objects,
+            from.owner,
+            from.first,
+            from.places,
+            at,
+            hop,
+        );
     }
     match target(objects.space(), at) {
         Some(address) => object_step(alloc, schema, objects, address, hop),
@@ -323,6 +348,7 @@ pub fn walk<'a>(
     requires starts { (heap : Heap) → IsHeapOf schema.now.program schema.now.layouts objects.now heap → IsStart schema.now.program heap start }
     ensures leads { IfOk result (λ to. (heap : Heap) → IsHeapOf schema.now.program schema.now.layouts objects.now heap → Walks schema.now.program heap.graph (start_of start) steps.now (spot_of to)) }
     ensures ends { IfOk result (λ to. (heap : Heap) → IsHeapOf schema.now.program schema.now.layouts objects.now heap → IsEndAt schema.now.program schema.now.layouts objects.now heap (spot_of to) to.end) }
+    ensures first { IfOk result (λ to. (heap : Heap) → IsHeapOf schema.now.program schema.now.layouts objects.now heap → IsFirstIn schema.now.program schema.now.layouts objects.now heap to) }
     ensures refused { (why : Why) → result ≡ Err (Refused why) → (heap : Heap) → IsHeapOf schema.now.program schema.now.layouts objects.now heap → RefusesWalk schema.now.program heap.graph (start_of start) steps.now why }
 {
     let mut at = begin(alloc, schema, objects, start)?;

@@ -1,5 +1,5 @@
 // Where a step of a path leads within a value.
-ghost use Rattle.std.specs.Prelude.{◌≡◌, ◌++◌, ◌∷◌, [], ℕ, List, Option, Some, None, Ok, Err, IfOk, true, false};
+ghost use Rattle.std.specs.Prelude.{◌≡◌, ◌++◌, ◌∷◌, [], ℕ, List, Option, Some, None, Ok, Err, IfOk, OnOk, true, false};
 ghost use Rattle.gt_types.specs.Settled.{Settled};
 ghost use Rattle.gt_types.specs.Contains.{HasStructure};
 ghost use Rattle.gt_types.specs.declared.expressions.Expr.{Expr};
@@ -12,14 +12,15 @@ ghost use Rattle.gt_value.specs.Places.{Part};
 ghost use Rattle.gt_value.specs.Cursors.{Frame};
 ghost use Rattle.gt_next.specs.Spots.{element_of};
 ghost use Rattle.gt_next.specs.Paths.{RefusesIn, is_some_type};
-ghost use Rattle.gt_routes.specs.declared.steps.WalkFail.TheVariants.{Refused};
-ghost use Rattle.gt_routes.specs.Steps.{IsIn, StandsAt, StepsTo, IsInactive, MadeOf};
+ghost use Rattle.gt_routes.specs.Steps.{IsIn, StandsAt, StepsTo, IsInactive, MadeOf, along};
 
+use crate::field_places::place_of_field;
 use gt_fields::FieldNames;
 use gt_next::Why;
 use gt_types::{Program, TypeId, Word};
 use gt_value::Cursor;
-use std::alloc::Global;
+use smallvec::SmallVec;
+use std::alloc::AllocError;
 
 /// Why a step leads nowhere: memory ran out, or it is refused.
 #[derive(Clone, Copy, Debug, PartialEq, Eq)]
@@ -28,97 +29,102 @@ pub enum WalkFail {
     Refused(Why),
 }
 
-/// Where a step leads within a value: a cursor there, and the places on the way.
-#[derive(Drop)]
+/// Where a step leads within a value: a cursor there, the place to which it goes first, and how often it then goes to the first part.
+#[derive(Clone, Copy)]
 pub struct Step<'a> {
     pub at: Cursor<'a>,
-    pub places: Vec<u32>,
+    pub place: u32,
+    pub zeros: u32,
 }
 
+/// The places of a path, from the outside in. They take memory only where there are more than eight.
+pub type Places = SmallVec<u32, 8>;
+
 // A step by one place.
-pub fn made<'a>(alloc: Global, at: Cursor<'a>, place: u32) -> Result<Step<'a>, WalkFail>
-    ensures made { IfOk result (λ step. MadeOf step at.entry (place ∷ [])) }
-    ensures refused { (why : Why) → ¬ (result ≡ Err (Refused why)) }
+pub fn made<'a>(at: Cursor<'a>, place: u32) -> Step<'a>
+    ensures made { MadeOf result at.entry (place ∷ []) }
 {
-    let mut places = Vec::new(alloc);
-    let Ok(()) = places.push(place) else {
-        return Err(WalkFail::Memory);
-    };
-    Ok(Step { at, places })
+    Step {
+        at,
+        place,
+        zeros: 0,
+    }
+}
+
+// Adds the places of a step to those of the path before it.
+pub fn add_places(places: &mut Places, step: &Step<'_>) -> Result<(), AllocError>
+    ensures added { OnOk result (places.new.items ≡ places.old.items ++ along step.now) }
+{
+    places.push(step.place)?;
+    for _ in 0..step.zeros {
+        places.push(0)?;
+    }
+    Ok(())
 }
 
 /// A step by a number in an array: to the element at this place. It is refused where there is no such element.
-pub fn element_step<'a>(
-    alloc: Global,
-    program: &Program,
-    at: Cursor<'a>,
-    place: u64,
-) -> Result<Step<'a>, WalkFail>
+pub fn element_step<'a>(program: &Program, at: Cursor<'a>, place: u64) -> Result<Step<'a>, Why>
     requires settled { Settled program.now }
     requires stands { IsIn program.now at }
     requires row { is_some_type (element_of at.ty.now) ≡ true }
-    ensures leads { IfOk result (λ to. (frame : Frame) (value : Part) (path : List ℕ) (here : StandsAt frame value path at.entry) → frame.program ≡ program.now → StepsTo frame value path at.entry (Index place) to.at to.places.items here) }
-    ensures refused { (why : Why) → result ≡ Err (Refused why) → (frame : Frame) (value : Part) (path : List ℕ) (here : StandsAt frame value path at.entry) → frame.program ≡ program.now → RefusesIn frame.program (typed here.here.p.type here.here.p.tree) (Index place) why }
+    ensures leads { IfOk result (λ to. (frame : Frame) (value : Part) (path : List ℕ) (here : StandsAt frame value path at.entry) → frame.program ≡ program.now → StepsTo frame value path at.entry (Index place) to.at (along to) here) }
+    ensures refused { (why : Why) → result ≡ Err why → (frame : Frame) (value : Part) (path : List ℕ) (here : StandsAt frame value path at.entry) → frame.program ≡ program.now → RefusesIn frame.program (typed here.here.p.type here.here.p.tree) (Index place) why }
 {
     let _ = program;
     if place >= at.count() as u64 {
-        return Err(WalkFail::Refused(Why::BadIndex));
+        return Err(Why::BadIndex);
     }
     match at.step(place as u32) {
-        Some(next) => made(alloc, next, place as u32),
-        None => Err(WalkFail::Refused(Why::BadIndex)),
+        Some(next) => Ok(made(next, place as u32)),
+        None => Err(Why::BadIndex),
     }
 }
 
 /// A step by a name in a value of a structure that is no union: to the field of this name. It is refused where there is none.
 pub fn field_step<'a>(
-    alloc: Global,
     program: &Program,
     fields: &FieldNames,
     at: Cursor<'a>,
     node: TypeId,
     name: &Word,
-) -> Result<Step<'a>, WalkFail>
+) -> Result<Step<'a>, Why>
     requires settled { Settled program.now }
     requires fields { AreNamesOf program.now.structures fields.now }
     requires stands { IsIn program.now at }
     requires node { (desc : Option Expr) × (at.ty.now ≡ Node node desc) }
     requires no_union { (s : Structure) → HasStructure program.now node s → s.is_union ≡ false }
-    ensures leads { IfOk result (λ to. (frame : Frame) (value : Part) (path : List ℕ) (here : StandsAt frame value path at.entry) → frame.program ≡ program.now → StepsTo frame value path at.entry (Name name.now) to.at to.places.items here) }
-    ensures refused { (why : Why) → result ≡ Err (Refused why) → (frame : Frame) (value : Part) (path : List ℕ) (here : StandsAt frame value path at.entry) → frame.program ≡ program.now → RefusesIn frame.program (typed here.here.p.type here.here.p.tree) (Name name.now) why }
+    ensures leads { IfOk result (λ to. (frame : Frame) (value : Part) (path : List ℕ) (here : StandsAt frame value path at.entry) → frame.program ≡ program.now → StepsTo frame value path at.entry (Name name.now) to.at (along to) here) }
+    ensures refused { (why : Why) → result ≡ Err why → (frame : Frame) (value : Part) (path : List ℕ) (here : StandsAt frame value path at.entry) → frame.program ≡ program.now → RefusesIn frame.program (typed here.here.p.type here.here.p.tree) (Name name.now) why }
 {
-    let _ = program;
-    let Some(place) = fields.place(node, name) else {
-        return Err(WalkFail::Refused(Why::NoField));
+    let Some(place) = place_of_field(program, fields, node, name) else {
+        return Err(Why::NoField);
     };
     match at.step(place) {
-        Some(next) => made(alloc, next, place),
-        None => Err(WalkFail::Refused(Why::NoField)),
+        Some(next) => Ok(made(next, place)),
+        None => Err(Why::NoField),
     }
 }
 
 /// A step by a name in a value of a union: to the active member, where it has this name. None where another member has it. It is
 /// refused where none has.
 pub fn member_step<'a>(
-    alloc: Global,
     program: &Program,
     fields: &FieldNames,
     at: Cursor<'a>,
     node: TypeId,
     name: &Word,
-) -> Result<Option<Step<'a>>, WalkFail>
+) -> Result<Option<Step<'a>>, Why>
     requires settled { Settled program.now }
     requires fields { AreNamesOf program.now.structures fields.now }
     requires stands { IsIn program.now at }
     requires node { (desc : Option Expr) × (at.ty.now ≡ Node node desc) }
     requires a_union { (s : Structure) → HasStructure program.now node s → s.is_union ≡ true }
-    ensures leads { (to : Step) → result ≡ Ok (Some to) → (frame : Frame) (value : Part) (path : List ℕ) (here : StandsAt frame value path at.entry) → frame.program ≡ program.now → StepsTo frame value path at.entry (Name name.now) to.at to.places.items here }
+    ensures leads { (to : Step) → result ≡ Ok (Some to) → (frame : Frame) (value : Part) (path : List ℕ) (here : StandsAt frame value path at.entry) → frame.program ≡ program.now → StepsTo frame value path at.entry (Name name.now) to.at (along to) here }
     ensures inactive { result ≡ Ok None → (frame : Frame) (value : Part) (path : List ℕ) (here : StandsAt frame value path at.entry) → frame.program ≡ program.now → IsInactive frame.program here.here.p.tree node name.now }
-    ensures refused { (why : Why) → result ≡ Err (Refused why) → (frame : Frame) (value : Part) (path : List ℕ) (here : StandsAt frame value path at.entry) → frame.program ≡ program.now → RefusesIn frame.program (typed here.here.p.type here.here.p.tree) (Name name.now) why }
+    ensures refused { (why : Why) → result ≡ Err why → (frame : Frame) (value : Part) (path : List ℕ) (here : StandsAt frame value path at.entry) → frame.program ≡ program.now → RefusesIn frame.program (typed here.here.p.type here.here.p.tree) (Name name.now) why }
 {
-    let _ = program;
-    let Some(place) = fields.place(node, name) else {
-        return Err(WalkFail::Refused(Why::NoField));
+    let Some(place) = place_of_field(program, fields, node, name) else {
+        return Err(Why::NoField);
     };
     let Some(member) = at.member() else {
         return Ok(None);
@@ -127,7 +133,7 @@ pub fn member_step<'a>(
         return Ok(None);
     }
     match at.step(place) {
-        Some(next) => Ok(Some(made(alloc, next, place)?)),
+        Some(next) => Ok(Some(made(next, place))),
         None => Ok(None),
     }
 }

@@ -15,7 +15,7 @@ use Rattle.gt_front.specs.declared.refusal.Refusal.{Refusal}
 use Rattle.gt_graph.specs.Stands.{Stands}
 use Rattle.gt_next.specs.declared.answer.Answer.{Answer}
 use Rattle.gt_next.specs.States.{State, IsGoodState}
-use Rattle.gt_steps.specs.Built.{IsBuilt}
+use Rattle.gt_next.specs.Laws.{IsBuilt}
 use Rattle.gt_lines.specs.Runs.{AddsAllBut, RanFirst, RunsLines}
 use Rattle.gt_lines.specs.Scripts.{LeavesSpace, RunsScript}
 use Rattle.gt_lines.specs.declared.lines.LinesEnd.{LinesEnd}

@@ -11,19 +11,21 @@ use Rattle.gt_script.specs.declared.stop.ScriptStop.{ScriptStop}
 use Rattle.gt_script.specs.declared.stop.ScriptStop.TheVariants.{ScriptSyntax, ScriptTooLong}
 use Rattle.gt_script.specs.Outcome.{Parsed}
 use Rattle.gt_words.specs.declared.call.Call.{Call}
+use Rattle.gt_words.specs.declared.call.Script.{Script as ScriptWord}
+use Rattle.gt_words.specs.declared.call.Script.TheVariants.{File as NamedFile, Generated}
 use Rattle.gt_words.specs.Calls.{call_of}
 use Rattle.gt_headers.specs.Headers.{Declares, IsFirstFault}
 use Rattle.gt_front.specs.Texts.{File, Texts, AreTextsOf, files_in_order}
-use Rattle.gt_front.specs.Asks.{Asks, Calls, Reads}
-use Rattle.gt_front.specs.Comes.{Comes, IsGenerated, IsThere, IsRefusedFile, IsRefusedFor, IsScriptFault}
+use Rattle.gt_front.specs.Asks.{Asks, AreTextsFor, Calls, Reads}
+use Rattle.gt_front.specs.Comes.{Comes, IsThere, IsRefusedFile, IsRefusedFor, IsScriptFault}
 use Rattle.gt_front.specs.declared.refusal.FileWhy.{FileWhy}
 use Rattle.gt_front.specs.declared.refusal.FileWhy.TheVariants.{Missing, TooLong, Fault}
 use Rattle.gt_front.specs.declared.refusal.Refusal.{Refusal}
 use Rattle.gt_front.specs.declared.refusal.Refusal.TheVariants.{Words, Header, Script, NotBuilt, File as InFile}
-use Rattle.gt_steps.specs.Built.{IsBuilt}
+use Rattle.gt_next.specs.Laws.{IsBuilt}
 use Rattle.gt_run.specs.Comes.{HasUnbuilt, IsRefusedFirst, IsTold}
-use Rattle.gt_run.specs.Complete.{AreHeld}
-use Rattle.gt_run.proofs.WellLemmas.{same_call, same_name, same_lines, no_generated, held_texts, parts, no_refusal, refused_file, OneOutcome, NoFault, no_script_fault}
+use Rattle.gt_run.specs.Complete.{AreHeld, AreThere}
+use Rattle.gt_run.proofs.WellLemmas.{same_call, same_name, same_lines, same_texts, no_refusal, refused_file, OneOutcome, NoFault, no_script_fault}
 
 -- texts that are told are held
 held_of_told : (held : Held) (files : List File) (texts : List (List ℕ)) → AreTextsOf (Some held) files texts → AreHeld held files texts
@@ -31,6 +33,11 @@ held_of_told held [] [] t = t
 held_of_told held [] (text ∷ texts) t = absurd t
 held_of_told held (file ∷ files) [] t = absurd t
 held_of_told held (file ∷ files) (text ∷ texts) t = (t.0.1 held refl, t.0.0, held_of_told held files texts t.1)
+
+-- and so are those that are told for a script
+there_of_told : (held : Held) (script : ScriptWord) (headers : List (List ℕ)) (texts : Texts) → AreTextsFor (Some held) script headers texts → AreThere held script headers texts
+there_of_told held (NamedFile name) headers texts t = held_of_told held (files_in_order name headers) (texts.headers ++ texts.script ∷ []) t
+there_of_told held (Generated word n) headers texts t = t
 
 -- a file that was read is refused only for a fault
 read_file : (held : Held) (file : File) (why : FileWhy) → IsThere (Some held) file → IsRefusedFor (Some held) file why → why ≡ Fault
@@ -103,13 +110,12 @@ same_pair a b e f = ap (λ headers. texts_of headers a.script) e ∙ ap (λ scri
 -- the texts that were read are the same
 same_read : (words : List (List ℕ)) (held : Held) (call other : Call) (texts others : Texts) → Reads words (Some held) call texts → Reads words (Some held) other others → texts ≡ others
 same_read words held call other texts others a b =
-    let F : List File → Type 0 = λ files. AreTextsOf (Some held) files (texts.headers ++ texts.script ∷ []) in
-    let order = same_files words call other a.name b.name a.calls b.calls in
-    let there = held_of_told held (files_in_order b.name other.headers) (others.headers ++ others.script ∷ []) b.texts_are in
-    let w = parts texts.headers others.headers texts.script others.script (held_texts held (Some held) refl (files_in_order b.name other.headers) _ _ there (subst F order a.texts_are)) in
+    let same : call ≡ other = same_call _ _ (sym a.called ∙ b.called) in
+    let T : Call → Type 0 = λ c. AreTextsFor (Some held) c.script c.headers texts in
+    let w = same_texts held (Some held) refl other.script other.headers others texts (there_of_told held other.script other.headers others b.texts_are) (subst T same a.texts_are) in
     same_pair texts others w.0 w.1
 
--- what is refused after the files are read
+-- what is refused once there are texts
 data Behind (texts : Texts) : Refusal → Type 0 where
   header : (fault : HeaderFault) → IsFirstFault texts.headers fault → Behind texts (Header fault)
   script : (number line : ℕ) (program : Program) → Declares texts.headers program → IsScriptFault texts.script number line → Behind texts (Script number line)
@@ -118,7 +124,6 @@ data Behind (texts : Texts) : Refusal → Type 0 where
 -- what is refused, by how far the work came
 data Place (words : List (List ℕ)) (held : Held) : Refusal → Type 0 where
   of_words : call_of words ≡ None → Place words held Words
-  of_generated : (call : Call) → call_of words ≡ Some call → IsGenerated call → Place words held NotBuilt
   of_file : (call : Call) (name : List ℕ) (word : ℕ) (why : FileWhy) → Calls words call name → IsRefusedFile (Some held) (files_in_order name call.headers) word why → (why ≡ Fault → ⊥) → Place words held (InFile word why)
   of_texts : (call : Call) (texts : Texts) (refusal : Refusal) → Reads words (Some held) call texts → Behind texts refusal → Place words held refusal
 
@@ -127,7 +132,7 @@ place_comes : (words : List (List ℕ)) (held : Held) (texts : Texts) (refusal :
 place_comes words held texts Words c t = of_words c
 place_comes words held texts (InFile word why) c t = of_file c.0 c.1 word why c.2 c.3 (no_fault_told word why t)
 place_comes words held texts (Header fault) c t = of_texts c.0 texts (Header fault) c.1 (header fault c.2)
-place_comes words held texts NotBuilt c t = of_generated c.0 c.1 c.2
+place_comes words held texts NotBuilt c t = absurd c
 place_comes words held texts (Script number line) c t = of_texts c.0 texts (Script number line) c.1 (script number line c.2.0 c.2.1 c.3)
 
 -- and so has that of a command that is not built
@@ -156,11 +161,6 @@ one_script one text number line other place (inr h) (inr k) = same_script number
 abbrev OneFault : Type 0
 OneFault = (texts : List (List ℕ)) (fault other : HeaderFault) → IsFirstFault texts fault → IsFirstFault texts other → fault ≡ other
 
--- a script in a file is not generated
-not_generated : (words : List (List ℕ)) (call other : Call) (name : List ℕ) → Calls words call name → call_of words ≡ Some other → IsGenerated other → ⊥
-not_generated words call other name calls e g =
-    no_generated call.script name g.0 g.1 calls.script (ap (λ (c : Call). c.script) (same_call _ _ (sym calls.called ∙ e)) ∙ g.2)
-
 -- words that ask for nothing have no call
 no_call : (words : List (List ℕ)) (call : Call) → call_of words ≡ None → call_of words ≡ Some call → ⊥
 no_call words call e f = absurd (cc)
@@ -169,9 +169,11 @@ no_call words call e f = absurd (cc)
 not_refused : (words : List (List ℕ)) (held : Held) (call other : Call) (name : List ℕ) (texts : Texts) (word : ℕ) (why : FileWhy)
     → Calls words call name → IsRefusedFile (Some held) (files_in_order name call.headers) word why → Reads words (Some held) other texts → why ≡ Fault
 not_refused words held call other name texts word why calls r reads =
-    let order = same_files words other call reads.name name reads.calls calls in
-    let F : List File → Type 0 = λ files. AreTextsOf (Some held) files (texts.headers ++ texts.script ∷ []) in
-    refused_file held (Some held) refl (files_in_order name call.headers) (texts.headers ++ texts.script ∷ []) (held_of_told held _ _ (subst F order reads.texts_are)) word why r
+    let same : other ≡ call = same_call _ _ (sym reads.called ∙ calls.called) in
+    let T : Call → Type 0 = λ c. AreTextsFor (Some held) c.script c.headers texts in
+    let S : ScriptWord → Type 0 = λ script. AreTextsFor (Some held) script call.headers texts in
+    refused_file held (Some held) refl (files_in_order name call.headers) (texts.headers ++ texts.script ∷ [])
+    (held_of_told held (files_in_order name call.headers) (texts.headers ++ texts.script ∷ []) (subst S calls.script (subst T same reads.texts_are))) word why r
 
 module _ (one : OneOutcome) (no_fault : NoFault) (one_fault : OneFault) where
   -- over the same texts one is refused
@@ -199,21 +201,14 @@ module _ (one : OneOutcome) (no_fault : NoFault) (one_fault : OneFault) where
     -- by how far the work came, one refusal is first
     one_place : (refusal other : Refusal) → Place words held refusal → Place words held other → refusal ≡ other
     one_place _ _ (of_words h) (of_words k) = refl
-    one_place _ _ (of_words h) (of_generated c k g) = absurd (no_call words c h k)
     one_place _ _ (of_words h) (of_file c n w y k r m) = absurd (no_call words c h k.called)
-    one_place _ _ (of_words h) (of_texts c t x k b) = absurd (no_call words c h k.calls.called)
-    one_place _ _ (of_generated c h g) (of_words k) = absurd (no_call words c k h)
-    one_place _ _ (of_generated c h g) (of_generated d k i) = refl
-    one_place _ _ (of_generated c h g) (of_file d n w y k r m) = absurd (not_generated words d c n k h g)
-    one_place _ _ (of_generated c h g) (of_texts d t x k b) = absurd (not_generated words d c k.name k.calls h g)
+    one_place _ _ (of_words h) (of_texts c t x k b) = absurd (no_call words c h k.called)
     one_place _ _ (of_file d n w y k r m) (of_words h) = absurd (no_call words d h k.called)
-    one_place _ _ (of_file d n w y k r m) (of_generated c h g) = absurd (not_generated words d c n k h g)
     one_place _ _ (of_file d n w y k r m) (of_file c j v z i s o) =
         let F : List File → Type 0 = λ files. IsRefusedFile (Some held) files w y in
         one_file held (files_in_order j c.headers) w v y z (subst F (same_files words d c n j k i) r) s m o
     one_place _ _ (of_file d n w y k r m) (of_texts c t x i b) = absurd (m (not_refused words held d c n t w y k r i))
-    one_place _ _ (of_texts d t x k b) (of_words h) = absurd (no_call words d h k.calls.called)
-    one_place _ _ (of_texts d t x k b) (of_generated c h g) = absurd (not_generated words d c k.name k.calls h g)
+    one_place _ _ (of_texts d t x k b) (of_words h) = absurd (no_call words d h k.called)
     one_place _ _ (of_texts d t x k b) (of_file c n w y i r m) = absurd (m (not_refused words held c d n t w y i r k))
     one_place _ _ (of_texts d t x k b) (of_texts c s z i a) =
         let B : Texts → Type 0 = λ texts. Behind texts x in
@@ -221,8 +216,7 @@ module _ (one : OneOutcome) (no_fault : NoFault) (one_fault : OneFault) where
 
     -- and none where the words and the files ask for lines that are all built
     none_place : (refusal : Refusal) (call : Call) (program : Program) (lines : List Line) → Asks words (Some held) call program lines → All (λ (line : Line). IsBuilt line.command) lines → Place words held refusal → ⊥
-    none_place _ call program lines asks built (of_words h) = no_call words call h asks.reads.calls.called
-    none_place _ call program lines asks built (of_generated c h g) = not_generated words call c asks.reads.name asks.reads.calls h g
+    none_place _ call program lines asks built (of_words h) = no_call words call h asks.reads.called
     none_place _ call program lines asks built (of_file d n w y k r m) = m (not_refused words held d call n asks.texts w y k r asks.reads)
     none_place _ call program lines asks built (of_texts d t x k b) =
         let B : Texts → Type 0 = λ texts. Behind texts x in

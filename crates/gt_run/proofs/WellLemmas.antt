@@ -16,16 +16,16 @@ use Rattle.gt_words.specs.declared.call.Script.{Script as ScriptWord}
 use Rattle.gt_words.specs.declared.call.Script.TheVariants.{File as NamedFile, Generated}
 use Rattle.gt_headers.specs.Headers.{Declares, IsFirstFault}
 use Rattle.gt_front.specs.Texts.{File, Texts, AreTextsOf, files_in_order}
-use Rattle.gt_front.specs.Asks.{Asks, Calls, Reads}
-use Rattle.gt_front.specs.Comes.{Comes, IsGenerated, IsRefusedFile, IsRefusedFor, IsScriptFault}
+use Rattle.gt_front.specs.Asks.{Asks, AreTextsFor, Calls, Reads}
+use Rattle.gt_front.specs.Comes.{Comes, IsRefusedFile, IsRefusedFor, IsScriptFault}
 use Rattle.gt_front.specs.declared.refusal.FileWhy.{FileWhy}
 use Rattle.gt_front.specs.declared.refusal.FileWhy.TheVariants.{Missing, TooLong, Fault}
 use Rattle.gt_front.specs.declared.refusal.Refusal.{Refusal}
 use Rattle.gt_front.specs.declared.refusal.Refusal.TheVariants.{Words, Header, Script, NotBuilt, File as InFile}
 use Rattle.gt_next.specs.Texts.{is_refusal}
-use Rattle.gt_steps.specs.Built.{IsBuilt}
+use Rattle.gt_next.specs.Laws.{IsBuilt}
 use Rattle.gt_run.specs.Comes.{HasUnbuilt, IsRefusedFirst}
-use Rattle.gt_run.specs.Complete.{AreHeld, IsWell}
+use Rattle.gt_run.specs.Complete.{AreHeld, AreThere, IsWell}
 use Rattle.gt_run.specs.Ended.{Ended, Ends, status_of, refusal_of}
 use Rattle.gt_run.specs.declared.ending.Ending.{Ending}
 use Rattle.gt_run.specs.declared.ending.Ending.TheVariants.{Finished, Refused, SinkFailed, NoMemory}
@@ -47,10 +47,6 @@ same_name script a b e f = cc
 pub same_lines : (a b : List Line) → ◌≡◌ {A = Result (List Line) ScriptStop} (Ok a) (Ok b) → a ≡ b
 same_lines a b e = cc
 
--- a script in a file is not generated
-pub no_generated : (script : ScriptWord) (name word : List ℕ) (n : ℕ) → script ≡ NamedFile name → script ≡ Generated word n → ⊥
-no_generated script name word n e f = cc
-
 -- each of the files is held
 held_one : (held : Held) (before : List File) (file : File) (after : List File) (texts : List (List ℕ)) → AreHeld held (before ++ file ∷ after) texts
     → (text : List ℕ) × (contents held file.name ≡ Some text) × (length text ≤ file.limit)
@@ -60,7 +56,7 @@ held_one held (f ∷ before) file after [] h = absurd h
 held_one held (f ∷ before) file after (text ∷ texts) h = held_one held before file after texts h.2
 
 -- the texts that are told are those that are held
-pub held_texts : (held : Held) (told : Option Held) → told ≡ Some held → (files : List File) (texts others : List (List ℕ)) → AreHeld held files texts → AreTextsOf told files others → others ≡ texts
+held_texts : (held : Held) (told : Option Held) → told ≡ Some held → (files : List File) (texts others : List (List ℕ)) → AreHeld held files texts → AreTextsOf told files others → others ≡ texts
 held_texts held told e [] [] [] h t = refl
 held_texts held told e [] [] (o ∷ others) h t = absurd t
 held_texts held told e [] (text ∷ texts) others h t = absurd h
@@ -72,7 +68,7 @@ held_texts held told e (file ∷ files) (text ∷ texts) (o ∷ others) h t =
     cc
 
 -- a list with one more at its end gives both
-pub parts : (xs ys : List (List ℕ)) (x y : List ℕ) → xs ++ x ∷ [] ≡ ys ++ y ∷ [] → (xs ≡ ys) × (x ≡ y)
+parts : (xs ys : List (List ℕ)) (x y : List ℕ) → xs ++ x ∷ [] ≡ ys ++ y ∷ [] → (xs ≡ ys) × (x ≡ y)
 parts [] [] x y e = (refl, cc)
 parts [] (b ∷ []) x y e = absurd (cc)
 parts [] (b ∷ c ∷ ys) x y e = absurd (cc)
@@ -84,6 +80,14 @@ parts (a ∷ xs) (b ∷ ys) x y e =
     let w = parts xs ys x y rest in
     let tail : xs ≡ ys = w.0 in
     (cc, w.1)
+
+-- the texts that were read for a script are those that are there
+pub same_texts : (held : Held) (told : Option Held) → told ≡ Some held → (script : ScriptWord) (headers : List (List ℕ)) (texts others : Texts)
+    → AreThere held script headers texts → AreTextsFor told script headers others → (others.headers ≡ texts.headers) × (others.script ≡ texts.script)
+same_texts held told e (NamedFile name) headers texts others there read =
+    parts others.headers texts.headers others.script texts.script (held_texts held told e (files_in_order name headers) _ _ there read)
+same_texts held told e (Generated word n) headers texts others there read =
+    let same : others ≡ texts = read ∙ sym there in (ap (λ (t : Texts). t.headers) same, ap (λ (t : Texts). t.script) same)
 
 -- a file that is held within its limit is refused only for a fault
 pub no_refusal : (held : Held) (told : Option Held) → told ≡ Some held → (file : File) (text : List ℕ) → contents held file.name ≡ Some text → length text ≤ file.limit
@@ -120,13 +124,9 @@ module _ (one : OneOutcome) (no_fault : NoFault) (words : List (List ℕ)) (held
   -- the texts that were read are those that are held
   read_texts : (call : Call) (texts : Texts) → Reads words told call texts → (texts.headers ≡ well.texts.headers) × (texts.script ≡ well.texts.script)
   read_texts call texts reads =
-      let same : call ≡ well.call = same_call _ _ (sym reads.calls.called ∙ well.calls.called) in
-      let name : reads.name ≡ well.name = same_name well.call.script _ _ (ap (λ (c : Call). c.script) (sym same) ∙ reads.calls.script) well.calls.script in
-      let order : files_in_order reads.name call.headers ≡ files_in_order well.name well.call.headers =
-      ap (λ n. files_in_order n call.headers) name ∙ ap (λ (c : Call). files_in_order well.name c.headers) same in
-      let F : List File → Type 0 = λ files. AreTextsOf told files (texts.headers ++ texts.script ∷ []) in
-      parts texts.headers well.texts.headers texts.script well.texts.script
-      (held_texts held told e (files_in_order well.name well.call.headers) _ _ well.there (subst F order reads.texts_are))
+      let same : call ≡ well.call = same_call _ _ (sym reads.called ∙ well.called) in
+      let T : Call → Type 0 = λ c. AreTextsFor told c.script c.headers texts in
+      same_texts held told e well.call.script well.call.headers well.texts texts well.there (subst T same reads.texts_are)
 
   -- so the headers that were read declare the program
   declares : (call : Call) (texts : Texts) → Reads words told call texts → Declares texts.headers well.program
@@ -150,23 +150,18 @@ module _ (one : OneOutcome) (no_fault : NoFault) (words : List (List ℕ)) (held
   -- the files that the words name are those that are held
   called_file : (call : Call) (name : List ℕ) → Calls words call name → (word : ℕ) (why : FileWhy) → IsRefusedFile told (files_in_order name call.headers) word why → why ≡ Fault
   called_file call name calls word why r =
-      let same : well.call ≡ call = same_call _ _ (sym well.calls.called ∙ calls.called) in
-      let named : well.name ≡ name = same_name call.script _ _ (ap (λ (c : Call). c.script) (sym same) ∙ well.calls.script) calls.script in
-      let order : files_in_order well.name well.call.headers ≡ files_in_order name call.headers =
-      ap (λ n. files_in_order n well.call.headers) named ∙ ap (λ (c : Call). files_in_order name c.headers) same in
-      let H : List File → Type 0 = λ files. AreHeld held files (well.texts.headers ++ well.texts.script ∷ []) in
-      refused_file held told e (files_in_order name call.headers) _ (subst H order well.there) word why r
-
-  -- the script is in a file
-  no_generated_call : (call : Call) → ◌≡◌ (Some call) (Some well.call) → IsGenerated call → ⊥
-  no_generated_call call f g = no_generated well.call.script well.name g.0 g.1 well.calls.script (ap (λ (c : Call). c.script) (sym (same_call _ _ f)) ∙ g.2)
+      let same : well.call ≡ call = same_call _ _ (sym well.called ∙ calls.called) in
+      let T : Call → Type 0 = λ c. AreThere held c.script c.headers well.texts in
+      let S : ScriptWord → Type 0 = λ script. AreThere held script call.headers well.texts in
+      refused_file held told e (files_in_order name call.headers) (well.texts.headers ++ well.texts.script ∷ [])
+      (subst S calls.script (subst T same well.there)) word why r
 
   -- up to the lines of the script, a refusal is one for a fault of a file
   Comes-well : (texts : Texts) (refusal : Refusal) → Comes words told texts refusal → IsReadFault refusal
-  Comes-well texts Words comes = let none : None ≡ Some well.call = sym comes ∙ well.calls.called in absurd (cc)
+  Comes-well texts Words comes = let none : None ≡ Some well.call = sym comes ∙ well.called in absurd (cc)
   Comes-well texts (InFile word why) comes = (word, ap (InFile word) (called_file comes.0 comes.1 comes.2 word why comes.3))
   Comes-well texts (Header fault) comes = absurd (no_fault texts.headers well.program fault (declares comes.0 texts comes.1) comes.2)
-  Comes-well texts NotBuilt comes = absurd (no_generated_call comes.0 (sym comes.1 ∙ well.calls.called) comes.2)
+  Comes-well texts NotBuilt comes = absurd comes
   Comes-well texts (Script number line) comes = absurd (no_script_fault one texts.script well.lines number line (parsed comes.0 texts comes.1) comes.3)
 
   -- and so it is behind them

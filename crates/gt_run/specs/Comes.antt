@@ -10,7 +10,7 @@ use Rattle.gt_front.specs.Comes.{Comes}
 use Rattle.gt_front.specs.declared.refusal.FileWhy.TheVariants.{Missing, TooLong, Fault}
 use Rattle.gt_front.specs.declared.refusal.Refusal.{Refusal}
 use Rattle.gt_front.specs.declared.refusal.Refusal.TheVariants.{Words, Header, Script, NotBuilt, File as InFile}
-use Rattle.gt_steps.specs.Built.{IsBuilt}
+use Rattle.gt_next.specs.Laws.{IsBuilt}
 
 -- one of the commands is not built so far
 abbrev pub HasUnbuilt : List Line → Type 0

@@ -13,7 +13,7 @@ use Rattle.gt_graph.specs.Stands.{Stands}
 use Rattle.gt_next.specs.declared.answer.Answer.{Answer}
 use Rattle.gt_next.specs.States.{State, IsOpening, IsGoodState}
 use Rattle.gt_next.specs.Next.{Run}
-use Rattle.gt_steps.specs.Built.{IsBuilt}
+use Rattle.gt_next.specs.Laws.{IsBuilt}
 
 -- the state from which a run begins under these settings
 abbrev pub Opens : Program → Settings → Option Held → State → Type 0

@@ -1,6 +1,6 @@
 // Whether the commands of a script are built so far.
 ghost use Rattle.std.specs.Prelude.{All, MatchBool};
-ghost use Rattle.gt_steps.specs.Built.{IsBuilt};
+ghost use Rattle.gt_next.specs.Laws.{IsBuilt};
 ghost use Rattle.gt_run.specs.Comes.{HasUnbuilt};
 
 use gt_script::Line;

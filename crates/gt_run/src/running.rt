@@ -14,7 +14,7 @@ ghost use Rattle.gt_front.specs.Refused.{IsRefusalLine};
 ghost use Rattle.gt_front.specs.Texts.{Texts};
 ghost use Rattle.gt_next.specs.States.{State};
 ghost use Rattle.gt_session.specs.Sessions.{IsSession, StandsFor};
-ghost use Rattle.gt_steps.specs.Built.{IsBuilt};
+ghost use Rattle.gt_next.specs.Laws.{IsBuilt};
 ghost use Rattle.gt_run.specs.Comes.{IsRefusedFirst, IsTold};
 ghost use Rattle.gt_run.specs.Complete.{IsWell};
 ghost use Rattle.gt_run.specs.Ended.{Ends, refusal_status};

@@ -1,8 +1,9 @@
 -- The state for which a new session stands.
-use Rattle.std.proofs.Common.{◌≡◌, ◌≤◌, ◌∙◌, ℕ, [], None, Some, Option, refl, ap, arith}
+use Rattle.std.proofs.Common.{◌≡◌, ◌≤◌, ◌∙◌, ℕ, List, [], ◌∷◌, None, Some, Option, length, map, replicate, refl, ap, sym, arith}
 use Rattle.std.specs.Ordering.{nat_cmp}
 use Rattle.std.specs.Cmp.Lexicographic.{slice_cmp}
 use Rattle.std.specs.FinMap as fin
+use Rattle.gt_types.specs.declared.program.Cache.{Cache}
 use Rattle.gt_space.specs.declared.TheConstants.{MAX_PAGES, MIN_PAGES}
 use Rattle.gt_tree.specs.Trees.{Trees}
 use Rattle.gt_tree.specs.Fits.{IsZeroRecord}
@@ -12,14 +13,20 @@ use Rattle.gt_objects.specs.Holding.{IsHeapOf, opening}
 use Rattle.gt_next.specs.declared.TheConstants.{MAX_MIN_EXPAND, MAX_MIN_HEAPSIZE}
 use Rattle.gt_next.specs.States.{IsOpening, State, count_of_variables, meaning, no_variables}
 use Rattle.gt_schema.specs.Schemas.{IsSchema}
+use Rattle.gt_caches.specs.Pairs.{pairs_of}
 use Rattle.gt_session.specs.declared.session.Session.{Session}
 use Rattle.gt_session.specs.Sessions.{StandsFor}
 
+-- so many caches without a pair have no pairs
+none-paired : (caches : List Cache) → map (λ cache. []) caches ≡ pairs_of (replicate (length caches) [])
+none-paired [] = refl
+none-paired (cache ∷ caches) = ap (λ pairs. [] ∷ pairs) (none-paired caches)
+
 pub opened : (session : Session) (pages : ℕ) (values : Trees) → IsZeroRecord session.schema.program (blocks_of []) values → IsSchema session.schema
     → IsHeapOf session.schema.program session.schema.layouts session.objects (opening session.schema.program pages values) → MIN_PAGES ≤ pages → pages ≤ MAX_PAGES
-    → session.min_expand ≤ MAX_MIN_EXPAND → session.min_heapsize ≤ MAX_MIN_HEAPSIZE → session.vars ≡ no_variables → session.last ≡ 0 → session.rounds ≡ 0 → (told : Option Held)
+    → session.min_expand ≤ MAX_MIN_EXPAND → session.min_heapsize ≤ MAX_MIN_HEAPSIZE → session.vars ≡ no_variables → session.caches ≡ replicate (length session.schema.program.caches) [] → session.last ≡ 0 → session.rounds ≡ 0 → (told : Option Held)
     → (s : State) × IsOpening session.schema.program pages session.min_expand session.min_heapsize told s × StandsFor session told s
-opened session pages values zero schema holds some few expand size none last rounds told = (
+opened session pages values zero schema holds some few expand size none no_pairs last rounds told = (
   record {
     heap = opening session.schema.program pages values;
     variables = session.vars;
@@ -45,7 +52,7 @@ opened session pages values zero schema holds some few expand size none last rou
     holds = record {
       schema = schema;
       heap = holds;
-      no_pairs = refl;
+      pairs = none-paired session.schema.program.caches ∙ ap pairs_of (sym no_pairs);
       variables = refl;
       min_expand = refl;
       min_heapsize = refl;

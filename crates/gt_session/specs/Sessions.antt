@@ -6,15 +6,15 @@ use Rattle.gt_next.specs.declared.answer.Answer.{Answer}
 use Rattle.gt_next.specs.declared.answer.Answer.TheVariants.{Refused}
 use Rattle.gt_next.specs.States.{State, IsGoodState}
 use Rattle.gt_schema.specs.Schemas.{IsSchema}
-use Rattle.gt_collect.specs.Collecting.{no_pairs}
+use Rattle.gt_caches.specs.Pairs.{pairs_of}
 use Rattle.gt_session.specs.declared.session.Session.{Session}
 
--- A session holds a state: its bytes, pages and directory are those of the heap, in which no cache has a pair so far; and the variables,
+-- A session holds a state: its bytes, pages and directory are those of the heap, and its caches have the pairs of it; and the variables,
 -- the numbers and the files are these.
 pub record Holds (session : Session) (told : Option Held) (s : State) : Type 0 where
   pub schema : IsSchema session.schema
   pub heap : IsHeapOf session.schema.program session.schema.layouts session.objects s.heap
-  pub no_pairs : s.heap.graph.pairs ≡ no_pairs session.schema.program
+  pub pairs : s.heap.graph.pairs ≡ pairs_of session.caches
   pub variables : s.variables ≡ session.vars
   pub min_expand : s.min_expand ≡ session.min_expand
   pub min_heapsize : s.min_heapsize ≡ session.min_heapsize

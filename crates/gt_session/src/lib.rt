@@ -1,4 +1,4 @@
-//! The session of a run: the schema, the objects, the variables and the numbers of the collector, and the state of the machine for which
+//! The session of a run: the schema, the objects, the caches, the variables and the numbers of the collector, and the state of the machine for which
 //! they stand.
 #![tactic(auto)]
 

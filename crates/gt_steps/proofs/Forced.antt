@@ -26,6 +26,7 @@ use Rattle.gt_next.specs.declared.answer.Answer.TheVariants.{Collected}
 use Rattle.gt_vars.specs.Held.{KeepsThose}
 use Rattle.gt_session.specs.declared.session.Session.{Session}
 use Rattle.gt_session.specs.Sessions.{IsAsBefore, StandsFor}
+use Rattle.gt_caches.specs.Pairs.{Entries, pairs_of}
 use Rattle.gt_collect.specs.Collecting.{IsCollected}
 
 -- the bytes of blocks
@@ -63,13 +64,13 @@ known_there : (objects : List Object) (id : ℕ) (known : Option Known) → IsKn
 known_there objects id None none = (λ never. absurd (cc), λ there. absurd (none-some there.0 (sym none ∙ there.1)))
 known_there objects id (Some known) is = (λ _. (is.0, is.1), λ _. refl)
 
-module _ (old : Session) (objects : Objects) (vars : Variables) (last kept freed rounds : ℕ) where
+module _ (old : Session) (objects : Objects) (caches : Entries) (vars : Variables) (last kept freed dropped rounds : ℕ) where
   -- the session after a collection
   abbrev pub collected : Session
-  collected = record old { objects = objects; vars = vars; last = last; rounds = rounds }
+  collected = record old { objects = objects; caches = caches; vars = vars; last = last; rounds = rounds }
 
   module _ (told : Option Held) (s : State) (stands : StandsFor old told s) (after : Heap) (holds : IsHeapOf old.schema.program old.schema.layouts objects after)
-      (is : IsCollected old.schema.program s.heap after kept freed rounds) (keeps : KeepsThose (λ id. IsTrue (is_some (known_in objects id))) old.vars vars)
+      (pairs : after.graph.pairs ≡ pairs_of caches) (is : IsCollected old.schema.program s.heap after kept freed dropped rounds) (keeps : KeepsThose (λ id. IsTrue (is_some (known_in objects id))) old.vars vars)
       (few : count_of_variables vars ≤ count_of_variables old.vars) (bytes : last ≡ sum (map (λ (b : Block). b.size) (ledger_of after.places).blocks)) where
     abbrev left : State
     left = record s { heap = after; variables = vars; last = last; rounds = rounds }
@@ -87,12 +88,12 @@ module _ (old : Session) (objects : Objects) (vars : Variables) (last kept freed
           λ both. k.1 (sym (means name) ∙ both.0, (there id).1 both.1),
         )
 
-    collects : Collects old.schema.program s kept freed 0 left
+    collects : Collects old.schema.program s kept freed dropped left
     collects = record {
       heap = is.after;
       kept_count = is.kept_count;
       freed_count = is.freed_count;
-      dropped_count = let none = ap pairs_in is.pairs in let before = ap pairs_in stands.holds.no_pairs in omega (arith, none, before);
+      dropped_count = is.dropped_count;
       variables = bound;
       rounds = is.rounds;
       rest = ap (λ n. let t : State = record s { heap = after; variables = vars; last = n; rounds = rounds } in t) bytes;
@@ -125,7 +126,7 @@ module _ (old : Session) (objects : Objects) (vars : Variables) (last kept freed
       holds = record {
         schema = stands.holds.schema;
         heap = holds;
-        no_pairs = is.pairs;
+        pairs = pairs;
         variables = refl;
         min_expand = stands.holds.min_expand;
         min_heapsize = stands.holds.min_heapsize;
@@ -136,17 +137,17 @@ module _ (old : Session) (objects : Objects) (vars : Variables) (last kept freed
       good = good;
     }
 
-    pub goes : (t : State) × NextForce old.schema.program s (Collected kept freed 0) t × StandsFor collected told t
+    pub goes : (t : State) × NextForce old.schema.program s (Collected kept freed dropped) t × StandsFor collected told t
     goes = (left, NextForce.collects collects, stands_now)
 
--- other bytes, pages and directory of the same heaps
-pub still : (old : Session) (objects : Objects) → ((heap : Heap) → IsHeapOf old.schema.program old.schema.layouts old.objects heap → IsHeapOf old.schema.program old.schema.layouts objects heap)
-    → IsAsBefore old (record old { objects = objects })
-still old objects heaps told s stands = record {
+-- other bytes, pages and directory of the same heaps, and other marks of the same pairs
+pub still : (old : Session) (objects : Objects) (caches : Entries) → ((heap : Heap) → IsHeapOf old.schema.program old.schema.layouts old.objects heap → IsHeapOf old.schema.program old.schema.layouts objects heap)
+    → pairs_of caches ≡ pairs_of old.caches → IsAsBefore old (record old { objects = objects; caches = caches })
+still old objects caches heaps same told s stands = record {
   holds = record {
     schema = stands.holds.schema;
     heap = heaps s.heap stands.holds.heap;
-    no_pairs = stands.holds.no_pairs;
+    pairs = stands.holds.pairs ∙ sym same;
     variables = stands.holds.variables;
     min_expand = stands.holds.min_expand;
     min_heapsize = stands.holds.min_heapsize;

@@ -1,10 +1,10 @@
 // Which commands are built so far.
 ghost use Rattle.std.specs.Bool.{Decides};
-ghost use Rattle.gt_steps.specs.Built.{IsBuilt};
+ghost use Rattle.gt_next.specs.Laws.{IsBuilt};
 
 use gt_script::Command;
 
-/// Whether `step` answers the command: all but `put`, `find`, `save`, `load` and `tables`.
+/// Whether `step` answers the command: all but `save` and `load`.
 pub fn is_built(command: &Command) -> bool
     ensures built { Decides result (IsBuilt command.now) }
 {
@@ -17,14 +17,14 @@ pub fn is_built(command: &Command) -> bool
         Command::Get { .. } => true,
         Command::Drop { .. } => true,
         Command::Print { .. } => true,
+        Command::Put { .. } => true,
+        Command::Find { .. } => true,
         Command::Collect => true,
         Command::CollectForce => true,
         Command::Heap => true,
         Command::Stats => true,
-        Command::Put { .. } => false,
-        Command::Find { .. } => false,
+        Command::Tables => true,
         Command::Save { .. } => false,
         Command::Load { .. } => false,
-        Command::Tables => false,
     }
 }

@@ -11,23 +11,24 @@ use gt_next::Answer;
 use gt_session::Session;
 use std::alloc::{AllocError, Global};
 
-/// Frees the objects that no root reaches which is not deletable, makes the pointers of deletable roots null, and unbinds the variables
-/// of freed objects. If memory runs out, nothing changes.
+/// Frees the objects that are not kept, drops the pairs of caches that do not stay, makes the pointers of deletable roots null, and unbinds
+/// the variables of freed objects. If memory runs out, nothing changes.
 pub fn collect_force(alloc: Global, s: &mut Session) -> Result<Answer, AllocError>
     requires session { IsSession s.old }
     ensures next { IfOk result (Goes (λ state answer t. NextForce s.old.schema.program state answer t) s.old s.new) }
     ensures refused { IfOk result (λ answer. KeepsBytes answer s.old s.new) }
     ensures unchanged { OnErr result (IsAsBefore s.old s.new) }
+    ensures space { OnErr result (s.new.objects.space ≡ s.old.objects.space) }
     ensures schema { s.new.schema ≡ s.old.schema }
 {
-    let done = free(alloc, &s.schema, &mut s.objects)?;
+    let done = free(alloc, &s.schema, &mut s.objects, &mut s.caches)?;
     s.vars.keep(&s.objects);
     s.last = s.objects.allocated();
     s.rounds = done.rounds;
     Ok(Answer::Collected {
         kept: done.kept,
         freed: done.freed,
-        dropped: 0,
+        dropped: done.dropped,
     })
 }
 
@@ -37,6 +38,7 @@ pub fn collect(alloc: Global, s: &mut Session) -> Result<Answer, AllocError>
     ensures next { IfOk result (Goes (λ state answer t. NextCollect s.old.schema.program state answer t) s.old s.new) }
     ensures refused { IfOk result (λ answer. KeepsBytes answer s.old s.new) }
     ensures unchanged { OnErr result (IsAsBefore s.old s.new) }
+    ensures space { OnErr result (s.new.objects.space ≡ s.old.objects.space) }
     ensures schema { s.new.schema ≡ s.old.schema }
 {
     if s.objects.allocated() < threshold_of(s) {

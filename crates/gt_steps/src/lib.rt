@@ -9,5 +9,5 @@ mod thresholds;
 
 pub use built::is_built;
 pub use collecting::{collect, collect_force};
-pub use reporting::{heap, stats};
+pub use reporting::{heap, stats, tables};
 pub use stepping::step;

@@ -1,16 +1,17 @@
-// The commands `heap` and `stats`.
+// The commands `heap`, `stats` and `tables`.
 ghost use Rattle.std.specs.Prelude.{◌≡◌, ◌++◌, IfOk, OnOk, Option, Contains, All};
 ghost use Rattle.gt_io.specs.Held.{Held};
 ghost use Rattle.gt_graph.specs.Places.{ledger_of};
 ghost use Rattle.gt_pages.specs.Ledger.{sizes};
 ghost use Rattle.gt_next.specs.States.{State};
-ghost use Rattle.gt_next.specs.Next.{NextHeap};
+ghost use Rattle.gt_next.specs.Next.{NextHeap, NextTables};
 ghost use Rattle.gt_next.specs.Collecting.{NextStats};
 ghost use Rattle.gt_next.specs.Texts.{heap_text, size_line, size_lines};
 ghost use Rattle.gt_session.specs.Sessions.{IsSession, StandsFor};
 
 use crate::collecting::threshold_of;
 use gt_digits::push_decimal;
+use gt_listing::list_program;
 use gt_next::Answer;
 use gt_pages::all_sizes;
 use gt_session::Session;
@@ -77,4 +78,19 @@ pub fn stats(s: &Session) -> Answer
         image: s.objects.image_pages(),
         rounds: s.rounds,
     }
+}
+
+/// What the headers declare, with sizes and places.
+pub fn tables(alloc: Global, s: &Session) -> Result<Answer, AllocError>
+    requires session { IsSession s.now }
+    ensures next { IfOk result (λ answer. (told : Option Held) (state : State) → StandsFor s.now told state → NextTables s.now.schema.program s.now.schema.layouts state answer state) }
+{
+    let schema = &s.schema;
+    let text = list_program(
+        alloc,
+        &schema.program,
+        &schema.layouts,
+        schema.tails.as_slice(),
+    )?;
+    Ok(Answer::Tables(text))
 }

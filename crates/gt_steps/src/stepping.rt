@@ -4,11 +4,12 @@ ghost use Rattle.gt_io.specs.Held.{Held};
 ghost use Rattle.gt_next.specs.States.{State};
 ghost use Rattle.gt_next.specs.Next.{Next};
 ghost use Rattle.gt_session.specs.Sessions.{Goes, IsAsBefore, IsSession, KeepsBytes, StandsFor};
-ghost use Rattle.gt_steps.specs.Built.{IsBuilt};
+ghost use Rattle.gt_next.specs.Laws.{IsBuilt};
 
 use crate::collecting::{collect, collect_force};
-use crate::reporting::{heap, stats};
+use crate::reporting::{heap, stats, tables};
 use gt_asking::{get, print, set, unbind};
+use gt_caching::{find, put};
 use gt_io::Files;
 use gt_making::{make_array, make_block, make_single, make_string};
 use gt_next::Answer;
@@ -32,6 +33,7 @@ pub fn step<F: Files>(
     // A refusal leaves the bytes as they were, too.
     ensures refused { IfOk result (λ answer. KeepsBytes answer s.old s.new) }
     ensures unchanged { OnErr result (IsAsBefore s.old s.new) }
+    ensures space { OnErr result (s.new.objects.space ≡ s.old.objects.space) }
     ensures session { IsSession s.new }
     ensures schema { s.new.schema ≡ s.old.schema }
     ensures files { files.new ≡ files.old }
@@ -46,6 +48,7 @@ fn answer(alloc: Global, s: &mut Session, command: &Command) -> Result<Answer, A
     ensures next { IfOk result (Goes (λ state answer t. Next s.old.schema.program s.old.schema.layouts state command.now answer t) s.old s.new) }
     ensures refused { IfOk result (λ answer. KeepsBytes answer s.old s.new) }
     ensures unchanged { OnErr result (IsAsBefore s.old s.new) }
+    ensures space { OnErr result (s.new.objects.space ≡ s.old.objects.space) }
     ensures schema { s.new.schema ≡ s.old.schema }
 {
     match command {
@@ -57,10 +60,13 @@ fn answer(alloc: Global, s: &mut Session, command: &Command) -> Result<Answer, A
         Command::Get { var, path } => get(alloc, s, var, path),
         Command::Drop { var } => Ok(unbind(s, var)),
         Command::Print { path } => print(alloc, s, path),
+        Command::Put { cache, key, value } => put(s, cache, key, value),
+        Command::Find { cache, key } => Ok(find(s, cache, key)),
         Command::Collect => collect(alloc, s),
         Command::CollectForce => collect_force(alloc, s),
         Command::Heap => heap(alloc, s),
         Command::Stats => Ok(stats(s)),
-        _ => unreachable!(),
+        Command::Tables => tables(alloc, s),
+        Command::Save { .. } | Command::Load { .. } => unreachable!(),
     }
 }

@@ -16,6 +16,7 @@ use Rattle.gt_total.proofs.Making.{ZerosAreThere, some_new, some_array, some_tex
 use Rattle.gt_total.proofs.Printing.{some_print}
 use Rattle.gt_total.proofs.Setting.{some_set}
 use Rattle.gt_total.proofs.Splits.{Never}
+use Rattle.gt_total.proofs.Tails.{some_tables}
 
 -- what was proved of the commands that are always answered
 pub record HavePlainAnswers (program : Program) (layouts : Layouts) : Type 0 where
@@ -31,17 +32,20 @@ module _ (program : Program) (layouts : Layouts) (settled : Settled program) (la
   there c has never = let step = has s good in never step.0 step.1 step.2
 
   pub some_answer : (c : Command) → IsBuilt c → ¬ Never (Next program layouts s c)
-  some_answer _ (IsBuilt.new {var} {type} {n}) never = some_new program layouts settled laid s good var type n never
-  some_answer _ (IsBuilt.array {var} {type} {n}) never = some_array program layouts settled laid s good var zeros type n never
-  some_answer _ (IsBuilt.text {var} {bytes}) never = some_text program layouts settled laid s good var bytes never
-  some_answer _ (IsBuilt.block {var} {n}) never = some_block program layouts settled laid s good var zeros n never
-  some_answer _ (IsBuilt.set {path} {value}) never = some_set program s path value (paths.ends s path good) never
-  some_answer _ (IsBuilt.get {var} {path}) never = some_get program s var path (paths.ends s path good) never
-  some_answer _ (IsBuilt.drop {var}) never = there (command.Drop var) (plain.drop var) never
-  some_answer _ (IsBuilt.print {path}) never = some_print program layouts settled s good path (paths.ends s path good) never
-  some_answer _ (IsBuilt.put {cache} {key} {value}) never = there (command.Put cache key value) (plain.put cache key value) never
-  some_answer _ (IsBuilt.find {cache} {key}) never = there (command.Find cache key) (plain.find cache key) never
-  some_answer _ IsBuilt.collect never = some_collect program layouts s good never
-  some_answer _ IsBuilt.collect_force never = some_force program layouts s good never
-  some_answer _ IsBuilt.heap never = there command.Heap plain.heap never
-  some_answer _ IsBuilt.stats never = there command.Stats plain.stats never
+  some_answer (command.New var type n) built never = some_new program layouts settled laid s good var type n never
+  some_answer (command.Array var type n) built never = some_array program layouts settled laid s good var zeros type n never
+  some_answer (command.Text var bytes) built never = some_text program layouts settled laid s good var bytes never
+  some_answer (command.Block var n) built never = some_block program layouts settled laid s good var zeros n never
+  some_answer (command.Set path value) built never = some_set program s path value (paths.ends s path good) never
+  some_answer (command.Get var path) built never = some_get program s var path (paths.ends s path good) never
+  some_answer (command.Drop var) built never = there (command.Drop var) (plain.drop var) never
+  some_answer (command.Print path) built never = some_print program layouts settled s good path (paths.ends s path good) never
+  some_answer (command.Put cache key value) built never = there (command.Put cache key value) (plain.put cache key value) never
+  some_answer (command.Find cache key) built never = there (command.Find cache key) (plain.find cache key) never
+  some_answer command.Collect built never = some_collect program layouts s good never
+  some_answer command.CollectForce built never = some_force program layouts s good never
+  some_answer command.Heap built never = there command.Heap plain.heap never
+  some_answer command.Stats built never = there command.Stats plain.stats never
+  some_answer command.Tables built never = some_tables program layouts s never
+  some_answer (command.Save file page) built never = elim built [ ]
+  some_answer (command.Load file) built never = elim built [ ]

@@ -16,4 +16,5 @@ mod Making
 mod FitTexts
 mod PartTexts
 mod Printing
+mod Tails
 mod Commands

@@ -18,7 +18,7 @@ use Rattle.gt_next.specs.Leaves.{Got, IsUnboundValue, RefusesValue}
 use Rattle.gt_next.specs.Making.{Wanted, Contents, IsMisshapen, Binds, NextNew, NextArray, NextText, NextBlock}
 use Rattle.gt_next.specs.Caching.{RefusesMember, IsMember, IsCacheAt, NextPut, NextFind}
 use Rattle.gt_next.specs.Collecting.{Collects, NextForce, NextCollect}
-use Rattle.gt_next.specs.Next.{Next, Answers, NextSet, NextGet, NextDrop, NextPrint, NextHeap}
+use Rattle.gt_next.specs.Next.{Next, Answers, NextSet, NextGet, NextDrop, NextPrint, NextHeap, NextTables}
 use Rattle.gt_next.specs.Laws.{AreOneState}
 
 -- the same with other rounds
@@ -146,6 +146,9 @@ module _ (program : Program) (layouts : Layouts) (s : State) where
   next_heap : (r q : ℕ) (a : Answer) (t : State) → NextHeap (with_rounds s r) a t → LeadsAlike (NextHeap (with_rounds s q) a) t
   next_heap r q a t NextHeap.reports = (with_rounds s q, NextHeap.reports, refl)
 
+  next_tables : (r q : ℕ) (a : Answer) (t : State) → NextTables program layouts (with_rounds s r) a t → LeadsAlike (NextTables program layouts (with_rounds s q) a) t
+  next_tables r q a t (NextTables.lists is) = (with_rounds s q, NextTables.lists is, refl)
+
   -- ---- caches
 
   refuses_member : (r q : ℕ) {name : List ℕ} {type : TypeId} {why : Why} → RefusesMember (with_rounds s r) name type why → RefusesMember (with_rounds s q) name type why
@@ -216,4 +219,5 @@ module _ (program : Program) (layouts : Layouts) (s : State) where
   moved r q command.CollectForce plain a t next = next_force r q a t next
   moved r q command.Heap plain a t next = next_heap r q a t next
   moved r q command.Stats plain a t next = absurd (cc)
+  moved r q command.Tables plain a t next = next_tables r q a t next
   moved r q c plain a t next = absurd next

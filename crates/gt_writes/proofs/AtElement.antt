@@ -24,13 +24,13 @@ use Rattle.gt_value.specs.declared.names.BlockKind.{BlockKind}
 use Rattle.gt_store.specs.Leaf.{IsLeafWritten}
 use Rattle.gt_leaf.specs.Writing.{is_number_leaf}
 use Rattle.gt_graph.specs.Objects.{Object, Graph, object_of, blocks_of}
-use Rattle.gt_graph.specs.Changes.{Of, Writes, AssignsElement}
+use Rattle.gt_graph.specs.Changes.{Owner, Of, Writes, AssignsElement}
 use Rattle.gt_graph.specs.Good.{Heap, IsObject}
 use Rattle.gt_objects.specs.declared.objects.Objects.{Objects}
 use Rattle.gt_objects.specs.Holding.{IsHeapOf}
 use Rattle.gt_objects.proofs.Naming.{mapped_some, object_is}
 use Rattle.gt_elements.specs.declared.parts.Element.{Element}
-use Rattle.gt_elements.specs.Elements.{IsElementOf, IsElementAt}
+use Rattle.gt_elements.specs.Elements.{IsElementOf, IsElementAt, IsFirstOf}
 use Rattle.gt_elements.specs.InHeap.{IsWrittenInHeap}
 use Rattle.gt_elements.proofs.InPlace.{in_heap}
 use Rattle.gt_next.specs.Leaves.{is_word_type}
@@ -44,6 +44,21 @@ use Rattle.gt_writes.proofs.LeafForms.{form_by, tree_means, one_tree}
 
 pub value_same : (x y : Typed) → Value x ≡ Value y → x ≡ y
 value_same x y e = cc
+
+of_same : (a b : ℕ) → Of a ≡ Of b → a ≡ b
+of_same a b e = cc
+
+place_same : (a b : ℕ) (xs ys : List ℕ) → a ∷ xs ≡ b ∷ ys → a ≡ b
+place_same a b xs ys e = cc
+
+-- the element to which a path first leads is the one at its first place
+pub first_there : (program : Program) (layouts : Layouts) (objects : Objects) (heap : Heap) (owner : Owner) (address : ℕ) → owner ≡ Of address → (path : List ℕ) (place : ℕ) (rest : List ℕ) → path ≡ place ∷ rest → (e : Element)
+    → IsFirstOf program layouts objects heap owner path e → IsElementAt program layouts heap objects.space address place (Some e)
+first_there program layouts objects heap owner address is path place rest split e f =
+    let addresses = of_same f.address address (sym f.owner_is ∙ is) in
+    let places = place_same f.place place f.rest rest (sym f.path_is ∙ split) in
+    subst (λ a. IsElementAt program layouts heap objects.space a place (Some e)) addresses
+    (subst (λ p. IsElementAt program layouts heap objects.space f.address p (Some e)) places f.there)
 
 module _ (program : Program) (layouts : Layouts) (objects : Objects) (heap : Heap) (is : IsHeapOf program layouts objects heap) (address place : ℕ) (rest : List ℕ) (o : Object) (found : object_of heap.graph.objects address ≡ Some o) where
   pub is_object : IsObject program heap.graph o

@@ -1,5 +1,5 @@
 // A leaf of an object, written.
-ghost use Rattle.std.specs.Prelude.{◌≡◌, ◌∷◌, Err, OnOk, OnErr};
+ghost use Rattle.std.specs.Prelude.{◌≡◌, ◌∷◌, Some, Err, OnOk, OnErr};
 ghost use Rattle.gt_tree.specs.Trees.{Tree};
 ghost use Rattle.gt_leaf.specs.declared.writing.LeafVerdict.TheVariants as LeafVerdict;
 ghost use Rattle.gt_leaf.specs.declared.writing.LeafVerdict.TheVariants.{InPlace};
@@ -8,6 +8,8 @@ ghost use Rattle.gt_value.specs.Places.{IsContentOf};
 ghost use Rattle.gt_value.specs.Bytes.{IsElement, IsRoomFor};
 ghost use Rattle.gt_value.specs.Values.{tree_of};
 ghost use Rattle.gt_value.specs.declared.values.ValueFail.TheVariants.{Shape};
+ghost use Rattle.gt_elements.specs.declared.parts.Element.{Element};
+ghost use Rattle.gt_elements.specs.Elements.{IsElementAt};
 ghost use Rattle.gt_graph.specs.Changes.{Of};
 ghost use Rattle.gt_graph.specs.Good.{Heap};
 ghost use Rattle.gt_objects.specs.Holding.{IsHeapOf};
@@ -99,6 +101,25 @@ fn judge_element(
     only_active(verdict, leaf)
 }
 
+// The element at a place of the object at an address: the one that is known already, or the one that is found.
+fn find_element(
+    schema: &Schema,
+    objects: &Objects,
+    addr: u64,
+    place: u32,
+    first: Option<Element>,
+) -> Option<Element>
+    requires schema { IsSchema schema.now }
+    requires ready { (heap : Heap) × IsHeapOf schema.now.program schema.now.layouts objects.now heap }
+    requires first { (e : Element) → first ≡ Some e → (heap : Heap) → IsHeapOf schema.now.program schema.now.layouts objects.now heap → IsElementAt schema.now.program schema.now.layouts heap objects.now.space addr place (Some e) }
+    ensures element { (heap : Heap) → IsHeapOf schema.now.program schema.now.layouts objects.now heap → IsElementAt schema.now.program schema.now.layouts heap objects.now.space addr place result }
+{
+    match first {
+        Some(known) => Some(known),
+        None => element(objects, &schema.program, &schema.layouts, addr, place),
+    }
+}
+
 /// Writes the leaf at a place and a path in the object at an address. `Shape` says that no value fits with it. At an error nothing changes.
 pub fn write_in_object(
     alloc: Global,
@@ -107,17 +128,19 @@ pub fn write_in_object(
     addr: u64,
     place: u32,
     rest: &[u32],
+    first: Option<Element>,
     leaf: LeafContent,
 ) -> Result<(), ValueFail>
     requires schema { IsSchema schema.now }
     requires ready { (heap : Heap) × IsHeapOf schema.now.program schema.now.layouts objects.old heap }
     requires may { (heap : Heap) → IsHeapOf schema.now.program schema.now.layouts objects.old heap → SpotTakes schema.now.program heap.graph (spot (Of addr) (place ∷ rest.now)) leaf }
+    requires first { (e : Element) → first ≡ Some e → (heap : Heap) → IsHeapOf schema.now.program schema.now.layouts objects.old heap → IsElementAt schema.now.program schema.now.layouts heap objects.old.space addr place (Some e) }
     ensures written { OnOk result ((heap : Heap) → IsHeapOf schema.now.program schema.now.layouts objects.old heap → IsWrittenAt schema.now.program schema.now.layouts heap (Of addr) (place ∷ rest.now) leaf objects.new) }
     ensures shape { result ≡ Err Shape → (heap : Heap) → IsHeapOf schema.now.program schema.now.layouts objects.old heap → MisfitsAt schema.now.program heap (Of addr) (place ∷ rest.now) leaf }
     ensures unchanged { OnErr result (objects.new ≡ objects.old) }
 {
     objects.sound();
-    let Some(here) = element(objects, &schema.program, &schema.layouts, addr, place) else {
+    let Some(here) = find_element(schema, objects, addr, place, first) else {
         return Err(ValueFail::Shape);
     };
     let ty = schema.types.get(here.kind);

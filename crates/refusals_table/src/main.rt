@@ -1,6 +1,6 @@
 //! The table of refusals: for each form of a command that is built, the causes for which it is refused, in the order in which they
 //! are looked for, as docs/SCRIPT.md shows them. Each line of the input is a form, ` = `, and a command of this form. A cause is named by
-//! the number that the text of its refusal has; one that has several refusals by a letter, P for a path.
+//! the number that the text of its refusal has; one that has several refusals by a letter: P a path, K a key, V a value.
 #![tactic(auto)]
 
 use gt_answers::text;

@@ -4,7 +4,7 @@ use Rattle.gt_next.specs.Paths.{Leads}
 use Rattle.gt_session.specs.Sessions.{StandsFor}
 use Rattle.gt_next.specs.Next.{NextSet}
 use Rattle.gt_next.specs.Spots.{spot}
-use Rattle.gt_elements.specs.Elements.{owner_of}
+use Rattle.gt_elements.specs.Elements.{owner_of, IsFirstOf}
 use Rattle.gt_writes.specs.SpotWrites.{SpotTakes}
 use Rattle.gt_asking.proofs.setting.set.Goals as goal
 
@@ -18,15 +18,20 @@ returns-in-Refused-clause-next c told s st =
 
 pub write-requires-clause-may : goal.write-requires-clause-may
 write-requires-clause-may c heap is =
-    subst (λ ps. SpotTakes c.args.s.now.schema.program heap.graph (spot (owner_of c.in-Ok.aimed.owner) ps) c.in-Some.leaf) (sym c.as_slice-places.ensures.value) (c.in-Ok.ensures.takes heap is)
+    subst (λ ps. SpotTakes c.args.s.now.schema.program heap.graph (spot (owner_of c.in-Ok.aimed.owner) ps) c.in-Some.leaf) (sym c.as_slice-places.ensures) (c.in-Ok.ensures.takes heap is)
+
+pub write-requires-clause-first : goal.write-requires-clause-first
+write-requires-clause-first c e known heap is =
+    let schema = c.args.s.now.schema in
+    subst (λ ps. IsFirstOf schema.program schema.layouts c.args.s.now.objects heap (owner_of c.in-Ok.aimed.owner) ps e) (sym c.as_slice-places.ensures) (c.in-Ok.ensures.first heap is e known)
 
 pub returns-in-Ok-write-clause-next : goal.returns-in-Ok-write-clause-next
 returns-in-Ok-write-clause-next c told s st =
     let schema = c.args.s.now.schema in
     let owner = owner_of c.in-Ok.aimed.owner in
     let leaf = c.in-Some.leaf in
-    let takes = subst (λ ps. SpotTakes schema.program s.heap.graph (spot owner ps) leaf) (sym c.as_slice-places.ensures.value) (c.in-Ok.ensures.takes s.heap st.holds.heap) in
-    let leads = subst (λ ps. Leads schema.program s c.args.path.now (spot owner ps)) (sym c.as_slice-places.ensures.value) (c.in-Ok.ensures.leads told s st) in
+    let takes = subst (λ ps. SpotTakes schema.program s.heap.graph (spot owner ps) leaf) (sym c.as_slice-places.ensures) (c.in-Ok.ensures.takes s.heap st.holds.heap) in
+    let leads = subst (λ ps. Leads schema.program s c.args.path.now (spot owner ps)) (sym c.as_slice-places.ensures) (c.in-Ok.ensures.leads told s st) in
     written-session c.args.s.now told s st (c.good_states_stay_good.ensures schema.program schema.layouts (record { settled = st.holds.schema.settled; laid = st.holds.schema.laid })) c.args.path.now c.args.value.now leaf owner c.as_slice-places.result.now c.write.new.objects
     (c.in-Some.ensures.given told s st) takes leads (c.in-Ok-write.ensures.written s.heap st.holds.heap)
 
@@ -35,8 +40,8 @@ returns-in-Shape-clause-next c told s st =
     let schema = c.args.s.now.schema in
     let owner = owner_of c.in-Ok.aimed.owner in
     let leaf = c.in-Some.leaf in
-    let takes = subst (λ ps. SpotTakes schema.program s.heap.graph (spot owner ps) leaf) (sym c.as_slice-places.ensures.value) (c.in-Ok.ensures.takes s.heap st.holds.heap) in
-    let leads = subst (λ ps. Leads schema.program s c.args.path.now (spot owner ps)) (sym c.as_slice-places.ensures.value) (c.in-Ok.ensures.leads told s st) in
+    let takes = subst (λ ps. SpotTakes schema.program s.heap.graph (spot owner ps) leaf) (sym c.as_slice-places.ensures) (c.in-Ok.ensures.takes s.heap st.holds.heap) in
+    let leads = subst (λ ps. Leads schema.program s c.args.path.now (spot owner ps)) (sym c.as_slice-places.ensures) (c.in-Ok.ensures.leads told s st) in
     let misfits = c.write.ensures.shape (c.in-Err-write.is ∙ ap Err c.in-Shape.is) s.heap st.holds.heap in
     let old = c.args.s.now in (
       s,

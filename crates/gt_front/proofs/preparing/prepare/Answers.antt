@@ -9,10 +9,10 @@ pub returns-in-Err-lines_of-clause-halted : goal.returns-in-Err-lines_of-clause-
 returns-in-Err-lines_of-clause-halted g c =
     let words = c.args.words.now in
     let told = g.F.Files.told c.args.files.now in
-    let found = c.in-Ok-read_files.found in
+    let found = c.in-Ok-read_texts.found in
     let headers = c.as_slice.result.now in
     let script = c.as_slice-2.result.now in
-    let read = c.in-Ok-read_files.ensures.read words c.in-Ok.ensures.called in
+    let read = c.in-Ok-read_texts.ensures.read words c.in-Ok.ensures.called in
     let with_script = subst (λ (s : List ℕ). Reads words told c.in-Ok.call (record { headers = found.headers.items; script = s })) (sym c.as_slice-2.ensures.bytes) read in
     let reads = subst (λ (h : List (List ℕ)). Reads words told c.in-Ok.call (record { headers = h; script = script })) (sym c.as_slice.ensures.value) with_script in
     c.in-Err-lines_of.ensures.halted words told headers c.in-Ok-declared.declared.program reads c.in-Ok-declared.ensures.declared

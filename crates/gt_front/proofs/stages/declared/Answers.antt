@@ -18,4 +18,4 @@ returns-in-Err-At-clause-halted c =
     λ words told script reads.
     let fault : IsFirstFault c.args.texts.now c.in-Err-At.fault = subst (IsHeaderStop c.args.texts.now) c.in-Err-At.field-0-is c.in-Err-At.ensures.stopped in
     c.refused.ensures.halted words told (record { headers = c.args.texts.now; script = script }) (c.args.call.now, reads, fault)
-    (c.fault_line.ensures.line words script reads.calls.called)
+    (c.fault_line.ensures.line words script reads.called)

@@ -39,5 +39,8 @@ returns-clause-refused c = (ends c).refused
 pub returns-clause-unchanged : goal.returns-clause-unchanged
 returns-clause-unchanged c = (ends c).unchanged
 
+pub returns-clause-space : goal.returns-clause-space
+returns-clause-space c = (ends c).space
+
 pub returns-clause-schema : goal.returns-clause-schema
 returns-clause-schema c = (ends c).schema

@@ -1,4 +1,4 @@
-use Rattle.std.proofs.Common.{◌≡◌, [], ◌∷◌, true, false, Some, sym, subst, ◌∙◌}
+use Rattle.std.proofs.Common.{◌≡◌, true, false, Some, sym, subst, ◌∙◌}
 use Rattle.std.specs.Prelude.{slice_get}
 use Rattle.gt_types.specs.Contains.{HasStructure}
 use Rattle.gt_script.specs.declared.command.Hop.TheVariants.{Name}
@@ -7,8 +7,7 @@ use Rattle.gt_next.specs.declared.answer.Why.TheVariants.{Inactive}
 use Rattle.gt_next.specs.Paths.{place_of}
 use Rattle.gt_types.specs.Settled.{Settled}
 use Rattle.gt_types.specs.Unions.{IsCommon}
-use Rattle.gt_routes.specs.Steps.{IsInactive, MadeOf, LeadsFrom, RefusedFrom}
-use Rattle.gt_routes.proofs.Rows.{made-on}
+use Rattle.gt_routes.specs.Steps.{IsInactive, RefusedFrom}
 use Rattle.gt_routes.proofs.Fields.{place-is}
 use Rattle.gt_routes.proofs.CommonParts as parts
 use Rattle.gt_routes.proofs.commons.common_step.Goals as goal
@@ -19,7 +18,7 @@ returns-in_default-common_structure-clause-refused c why e =
     let s = c.in-Some-get.structure.now in
     let name = c.args.name.now in
     let has : HasStructure program c.args.node s = sym c.in-Some-get.ensures.item in
-    let found : place_of s name ≡ Some c.in-Some.place = place-is program c.args.node s name (Some c.in-Some.place) has (c.in-Some.ensures.place program.structures c.requires.fields) in
+    let found : place_of s name ≡ Some c.in-Some.place = place-is program c.args.node s name (Some c.in-Some.place) has c.in-Some.ensures.place in
     let same : Inactive ≡ why = cc in
     subst (λ w. RefusedFrom program c.args.at (Name name) w) same
     (parts.none-from program c.requires.settled c.args.at c.args.node c.requires.node.0 c.requires.node.1 s has (c.requires.a_union s has) name c.in-Some.place found c.requires.inactive c.in_default-common_structure.ensures)
@@ -32,7 +31,7 @@ returns-then-not-is_node-clause-refused c why e =
     let name = c.args.name.now in
     let has : HasStructure program c.args.node s = sym c.in-Some-get.ensures.item in
     let got : slice_get s.fields c.in-Some.place ≡ Some f = sym c.in-Some-get-2.ensures.item in
-    let found : place_of s name ≡ Some c.in-Some.place = place-is program c.args.node s name (Some c.in-Some.place) has (c.in-Some.ensures.place program.structures c.requires.fields) in
+    let found : place_of s name ≡ Some c.in-Some.place = place-is program c.args.node s name (Some c.in-Some.place) has c.in-Some.ensures.place in
     let same : Inactive ≡ why = cc in
     let other : is_node c.in-Some-common_structure.common f.ty ≡ false = sym c.is_node.ensures ∙ c.if-not-is_node.true in
     subst (λ w. RefusedFrom program c.args.at (Name name) w) same
@@ -47,13 +46,10 @@ returns-in_default-member-clause-leads c =
     let name = c.args.name.now in
     let has : HasStructure program c.args.node s = sym c.in-Some-get.ensures.item in
     let got : slice_get s.fields c.in-Some.place ≡ Some f = sym c.in-Some-get-2.ensures.item in
-    let found : place_of s name ≡ Some c.in-Some.place = place-is program c.args.node s name (Some c.in-Some.place) has (c.in-Some.ensures.place program.structures c.requires.fields) in
+    let found : place_of s name ≡ Some c.in-Some.place = place-is program c.args.node s name (Some c.in-Some.place) has c.in-Some.ensures.place in
     let it : is_node c.in-Some-common_structure.common f.ty ≡ true = sym c.is_node.ensures ∙ c.if-not-is_node.false in
-    made-on c.made.result (λ to. MadeOf to c.in-Some-step.next (c.in-Some.place ∷ [])) (λ to. LeadsFrom program c.args.at (Name name) to)
-    (λ to made.
     parts.kept-from program c.requires.settled c.args.at c.args.node c.requires.node.0 c.requires.node.1 s has (c.requires.a_union s has) name c.in-Some.place found c.requires.inactive c.in-Some-common_structure.common
-    c.in-Some-common_structure.ensures f got it (λ at value path here. sym (c.in_default-member.ensures.member at value path here.here)) c.in-Some-step.next c.in-Some-step.ensures.part to made)
-    c.made.ensures.made
+    c.in-Some-common_structure.ensures f got it (λ at value path here. sym (c.in_default-member.ensures.member at value path here.here)) c.in-Some-step.next c.in-Some-step.ensures.part c.made.result c.made.ensures.made
 
 pub begin_of-requires-clause-stands : goal.begin_of-requires-clause-stands
 begin_of-requires-clause-stands c =
@@ -61,7 +57,7 @@ begin_of-requires-clause-stands c =
     let s = c.in-Some-get.structure.now in
     let name = c.args.name.now in
     let has : HasStructure program c.args.node s = sym c.in-Some-get.ensures.item in
-    let found : place_of s name ≡ Some c.in-Some.place = place-is program c.args.node s name (Some c.in-Some.place) has (c.in-Some.ensures.place program.structures c.requires.fields) in
+    let found : place_of s name ≡ Some c.in-Some.place = place-is program c.args.node s name (Some c.in-Some.place) has c.in-Some.ensures.place in
     parts.member-in program c.requires.settled c.args.at c.args.node c.requires.node.0 c.requires.node.1 s has (c.requires.a_union s has) name c.in-Some.place found c.requires.stands c.in-Some-common_structure.common
     c.in-Some-common_structure.ensures c.in-Some-member.member (λ at value path here. sym (c.in-Some-member.ensures.member at value path here.here)) c.in-Some-step-2.next c.in-Some-step-2.ensures.part
 
@@ -71,7 +67,7 @@ begin_of-requires-clause-begins c =
     let s = c.in-Some-get.structure.now in
     let name = c.args.name.now in
     let has : HasStructure program c.args.node s = sym c.in-Some-get.ensures.item in
-    let found : place_of s name ≡ Some c.in-Some.place = place-is program c.args.node s name (Some c.in-Some.place) has (c.in-Some.ensures.place program.structures c.requires.fields) in
+    let found : place_of s name ≡ Some c.in-Some.place = place-is program c.args.node s name (Some c.in-Some.place) has c.in-Some.ensures.place in
     parts.member-begins-in program c.requires.settled c.args.at c.args.node c.requires.node.0 c.requires.node.1 s has (c.requires.a_union s has) name c.in-Some.place found c.requires.stands c.in-Some-common_structure.common
     c.in-Some-common_structure.ensures c.in-Some-member.member (λ at value path here. sym (c.in-Some-member.ensures.member at value path here.here)) c.in-Some-step-2.next c.in-Some-step-2.ensures.part
 
@@ -86,13 +82,10 @@ returns-clause-leads c =
     let member = c.in-Some-member.member in
     let has : HasStructure program c.args.node s = sym c.in-Some-get.ensures.item in
     let got : slice_get s.fields c.in-Some.place ≡ Some f = sym c.in-Some-get-2.ensures.item in
-    let found : place_of s name ≡ Some c.in-Some.place = place-is program c.args.node s name (Some c.in-Some.place) has (c.in-Some.ensures.place program.structures c.requires.fields) in
+    let found : place_of s name ≡ Some c.in-Some.place = place-is program c.args.node s name (Some c.in-Some.place) has c.in-Some.ensures.place in
     let it : is_node common f.ty ≡ true = sym c.is_node.ensures ∙ c.if-not-is_node.false in
-    made-on c.begin_of.result _ (λ to. LeadsFrom program c.args.at (Name name) to)
-    (λ to begin.
     parts.common-from program c.requires.settled c.args.at c.args.node c.requires.node.0 c.requires.node.1 s has (c.requires.a_union s has) name c.in-Some.place found c.requires.inactive common c.in-Some-common_structure.ensures f got it member
-    (λ at value path here. sym (c.in-Some-member.ensures.member at value path here.here)) next c.in-Some-step-2.ensures.part to begin)
-    c.begin_of.ensures.begin
+    (λ at value path here. sym (c.in-Some-member.ensures.member at value path here.here)) next c.in-Some-step-2.ensures.part c.begin_of.result c.begin_of.ensures.begin
 
 pub unreachable-requires : goal.unreachable-requires
 unreachable-requires c =
@@ -100,14 +93,14 @@ unreachable-requires c =
     let s = c.requires.stands in
     let inactive = c.requires.inactive s.at s.value s.path s.stands s.program_is in
     let here = subst (λ x. IsInactive x s.stands.here.p.tree c.args.node c.args.name.now) s.program_is inactive in
-    parts.place-missing program c.args.node c.args.name.now s.stands.here.p.tree here (sym (c.in_default.ensures.place program.structures c.requires.fields))
+    parts.place-missing program c.args.node c.args.name.now s.stands.here.p.tree here (sym c.in_default.ensures.place)
 
 pub unreachable-requires-in_default-get-2 : goal.unreachable-requires-in_default-get-2
 unreachable-requires-in_default-get-2 c =
     let program = c.args.program.now in
     let s = c.in-Some-get.structure.now in
     let has : HasStructure program c.args.node s = sym c.in-Some-get.ensures.item in
-    let found : place_of s c.args.name.now ≡ Some c.in-Some.place = place-is program c.args.node s c.args.name.now (Some c.in-Some.place) has (c.in-Some.ensures.place program.structures c.requires.fields) in
+    let found : place_of s c.args.name.now ≡ Some c.in-Some.place = place-is program c.args.node s c.args.name.now (Some c.in-Some.place) has c.in-Some.ensures.place in
     parts.field-missing s c.args.name.now c.in-Some.place found (sym c.in_default-get-2.ensures.item)
 
 pub unreachable-requires-in_default-step : goal.unreachable-requires-in_default-step

@@ -1,6 +1,5 @@
 use Rattle.std.proofs.Common.{subst, sym, ◌≡◌, ◌∙◌, ap}
 use Rattle.std.specs.Prelude.{Ok, Err}
-use Rattle.gt_routes.specs.declared.steps.WalkFail.TheVariants.{Refused}
 use Rattle.gt_types.specs.Settled.{Settled}
 use Rattle.gt_types.specs.Contains.{HasStructure}
 use Rattle.gt_routes.proofs.Fields.{structure-there}
@@ -13,7 +12,7 @@ pub returns-in-Ok-Some-clause-leads : goal.returns-in-Ok-Some-clause-leads
 returns-in-Ok-Some-clause-leads c = c.member_step.ensures.leads c.in-Ok-Some.step (c.in-Ok-Some.is ∙ ap Ok c.in-Ok-Some.field-0-is)
 
 pub returns-in-Err-clause-refused : goal.returns-in-Err-clause-refused
-returns-in-Err-clause-refused c why e = let same : c.in-Err.stop ≡ Refused why = cc in c.member_step.ensures.refused why (c.in-Err.is ∙ ap Err same)
+returns-in-Err-clause-refused c why e = let same : c.in-Err.why ≡ why = cc in c.member_step.ensures.refused why (c.in-Err.is ∙ ap Err same)
 
 pub unreachable-requires : goal.unreachable-requires
 unreachable-requires c =

@@ -1,9 +1,9 @@
-use Rattle.std.proofs.Common.{arith, ◌≡◌, ℕ, false, [], ◌∷◌, ◌++◌, ap, sym, subst, ◌∙◌}
+use Rattle.std.proofs.Common.{◌≡◌, ℕ, false, [], ◌∷◌, ◌++◌, ap, sym, subst, ◌∙◌}
 use Rattle.gt_graph.specs.Changes.{Of}
 use Rattle.gt_next.specs.declared.answer.Why.TheVariants.{WrongType}
 use Rattle.gt_next.specs.Spots.{spot}
 use Rattle.gt_routes.specs.Reaching.{IsValueAt, StopsAt, holds_nodes}
-use Rattle.gt_routes.proofs.HeapSteps.{none-there}
+use Rattle.gt_routes.proofs.HeapSteps.{none-there, first-entered}
 use Rattle.gt_routes.proofs.Singles.{not-single, single-leads, single-stops, leads-on}
 use Rattle.gt_routes.proofs.reaching.single_step.Goals as goal
 
@@ -29,15 +29,15 @@ returns-then-not-holds_nodes-clause-refused c why e heap is =
 pub value_step-requires-clause-stands : goal.value_step-requires-clause-stands
 value_step-requires-clause-stands c heap is =
     let schema = c.args.schema.now in
-    let there = c.in-Some-element_at.ensures.element heap is in
-    let items : c.push.new.self.items ≡ 0 ∷ [] = c.in-Ok.ensures.items ∙ ap (λ (xs : Rattle.std.specs.Prelude.List ℕ). xs ++ 0 ∷ []) c.new-places.ensures.items in
-    subst (λ xs. IsValueAt schema.program schema.layouts c.args.objects.now heap (spot (Of c.args.address) xs) c.in-Some-element_at.at) (sym items) there.at
+    let there = c.enter-entered.ensures.cursor heap is in
+    let items : c.push.new.self.items ≡ 0 ∷ [] = c.in-Ok.ensures.ok ∙ ap (λ (xs : Rattle.std.specs.Prelude.List ℕ). xs ++ 0 ∷ []) c.new-places.ensures.items in
+    subst (λ xs. IsValueAt schema.program schema.layouts c.args.objects.now heap (spot (Of c.args.address) xs) c.enter-entered.result.at) (sym items) there.at
 
 pub returns-clause-leads : goal.returns-clause-leads
 returns-clause-leads c =
     let schema = c.args.schema.now in
     let name = c.requires.name in
-    let items : c.push.new.self.items ≡ 0 ∷ [] = c.in-Ok.ensures.items ∙ ap (λ (xs : Rattle.std.specs.Prelude.List ℕ). xs ++ 0 ∷ []) c.new-places.ensures.items in
+    let items : c.push.new.self.items ≡ 0 ∷ [] = c.in-Ok.ensures.ok ∙ ap (λ (xs : Rattle.std.specs.Prelude.List ℕ). xs ++ 0 ∷ []) c.new-places.ensures.items in
     leads-on c.value_step.result _ _
     (λ to leads heap is.
     let known = c.in-Some.ensures.known schema.program schema.layouts heap is in
@@ -49,7 +49,7 @@ pub returns-clause-refused : goal.returns-clause-refused
 returns-clause-refused c why e heap is =
     let schema = c.args.schema.now in
     let name = c.requires.name in
-    let items : c.push.new.self.items ≡ 0 ∷ [] = c.in-Ok.ensures.items ∙ ap (λ (xs : Rattle.std.specs.Prelude.List ℕ). xs ++ 0 ∷ []) c.new-places.ensures.items in
+    let items : c.push.new.self.items ≡ 0 ∷ [] = c.in-Ok.ensures.ok ∙ ap (λ (xs : Rattle.std.specs.Prelude.List ℕ). xs ++ 0 ∷ []) c.new-places.ensures.items in
     let known = c.in-Some.ensures.known schema.program schema.layouts heap is in
     single-stops schema.program heap c.args.address known.0 c.args.hop.now name.0 name.1 known.1 c.in-Some.known.kind known.2.kind (sym c.holds_nodes.ensures ∙ c.if-not-holds_nodes.false) (known.2.count ∙ c.if-known-ne1.false) c.push.new.self.items items why
     (c.value_step.ensures.refused why e heap is)
@@ -61,9 +61,8 @@ unreachable-requires c =
     let there = (c.requires.there heap c.requires.ready.1).1 in
     cc
 
-pub unreachable-requires-in_default-element_at : goal.unreachable-requires-in_default-element_at
-unreachable-requires-in_default-element_at c =
-    let heap = c.requires.ready.0 in
-    let known = c.in-Some.ensures.known c.args.schema.now.program c.args.schema.now.layouts heap c.requires.ready.1 in
-    let count = known.2.count in
-    c.in_default-element_at.ensures.element heap known.0 c.requires.ready.1 known.1 (omega (arith, c.if-known-ne1.false, count))
+pub value_step-requires-clause-first : goal.value_step-requires-clause-first
+value_step-requires-clause-first c heap is e same =
+    let schema = c.args.schema.now in
+    let items : c.push.new.self.items ≡ 0 ∷ [] = c.in-Ok.ensures.ok ∙ ap (λ (xs : Rattle.std.specs.Prelude.List ℕ). xs ++ 0 ∷ []) c.new-places.ensures.items in
+    first-entered schema.program schema.layouts c.args.objects.now heap c.args.address 0 c.push.new.self.items items c.enter-entered.result.element e (c.enter-entered.ensures.element heap is) same

@@ -4,9 +4,10 @@ use Rattle.gt_elements.specs.Elements.{owner_of}
 use Rattle.gt_tree.specs.Scopes.{typed}
 use Rattle.gt_next.specs.Spots.{spot, further}
 use Rattle.gt_next.specs.Paths.{StepsIn, RefusesIn}
-use Rattle.gt_routes.specs.declared.steps.WalkFail.TheVariants.{Refused}
+use Rattle.gt_routes.specs.Steps.{along}
 use Rattle.gt_routes.specs.Reaching.{IsValueAt}
 use Rattle.gt_routes.proofs.SpotParts.{value-further}
+use Rattle.gt_routes.proofs.HeapSteps.{first-further}
 use Rattle.gt_routes.proofs.reaching.value_step.Goals as goal
 
 pub local_step-requires-clause-stands : goal.local_step-requires-clause-stands
@@ -18,7 +19,7 @@ pub returns-in-Err-clause-refused : goal.returns-in-Err-clause-refused
 returns-in-Err-clause-refused c why e heap is =
     let v = c.requires.stands heap is in
     let p = v.here.here.p in
-    let same : c.in-Err.stop ≡ Refused why = cc in
+    let same : c.in-Err.why ≡ why = cc in
     let refused = c.local_step.ensures.refused why (c.in-Err.is ∙ ap Err same) v.frame v.value v.path v.here v.program_is in
     (typed p.type p.tree, v.standing, subst (λ x. RefusesIn x (typed p.type p.tree) c.args.hop.now why) v.program_is refused)
 
@@ -26,12 +27,12 @@ pub returns-clause-leads : goal.returns-clause-leads
 returns-clause-leads c heap is =
     let program = c.args.schema.now.program in
     let at = spot (owner_of c.args.owner) c.args.places.items in
-    let places = c.in-Ok.step.places.items in
+    let places = along c.in-Ok.step in
     let v = c.requires.stands heap is in
     let p = v.here.here.p in
     let steps = c.in-Ok.ensures.leads v.frame v.value v.path v.here v.program_is in
-    let items : c.extend_from_slice.new.self.items ≡ c.args.places.items ++ places = c.in-Ok-extend_from_slice.ensures.items ∙ ap (λ xs. c.args.places.items ++ xs) c.deref.ensures.value in
-    let spots : spot (owner_of c.args.owner) c.extend_from_slice.new.self.items ≡ further at places = ap (spot (owner_of c.args.owner)) items in
+    let items : c.add_places.new.places.items ≡ c.args.places.items ++ places = c.in-Ok-add_places.ensures.added in
+    let spots : spot (owner_of c.args.owner) c.add_places.new.places.items ≡ further at places = ap (spot (owner_of c.args.owner)) items in
     let value = value-further program c.args.schema.now.layouts c.args.objects.now heap at c.args.at c.in-Ok.step.at c.args.hop.now places c.requires.schema.settled v steps in
     record {
       t = typed p.type p.tree;
@@ -41,3 +42,8 @@ returns-clause-leads c heap is =
       spot_is = spots;
       ends = subst (λ s. IsValueAt program c.args.schema.now.layouts c.args.objects.now heap s c.in-Ok.step.at) (sym spots) value;
     }
+
+pub returns-clause-first : goal.returns-clause-first
+returns-clause-first c heap is =
+    let schema = c.args.schema.now in
+    first-further schema.program schema.layouts c.args.objects.now heap (owner_of c.args.owner) c.args.places.items (along c.in-Ok.step) c.add_places.new.places.items c.in-Ok-add_places.ensures.added c.args.first (c.requires.first heap is)

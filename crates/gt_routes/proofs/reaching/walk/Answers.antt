@@ -16,7 +16,7 @@ returns-in-Err-clause-refused c why e heap is =
 pub loop-hop-preserved : goal.loop-hop-preserved
 loop-hop-preserved c =
     let schema = c.args.schema.now in
-    walked-more schema.program schema.layouts c.args.objects.now (start_of c.args.start) c.args.steps.now c.loop-hop.hop-index c.loop-hop.at c.loop-hop.invariant c.hop-item.result (slice_get-get_or c.args.steps.now c.loop-hop.hop-index c.hop-item.result c.loop-hop-test.true ∙ ap Some (sym c.hop-item.is)) c.in-Ok.next c.in-Ok.ensures.leads c.in-Ok.ensures.ends
+    walked-more schema.program schema.layouts c.args.objects.now (start_of c.args.start) c.args.steps.now c.loop-hop.hop-index c.loop-hop.at c.loop-hop.invariant c.hop-item.result (slice_get-get_or c.args.steps.now c.loop-hop.hop-index c.hop-item.result c.loop-hop-test.true ∙ ap Some (sym c.hop-item.is)) c.in-Ok.next c.in-Ok.ensures.leads c.in-Ok.ensures.ends c.in-Ok.ensures.first
 
 pub returns-clause-leads : goal.returns-clause-leads
 returns-clause-leads c heap is =

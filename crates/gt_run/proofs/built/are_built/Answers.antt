@@ -3,7 +3,7 @@ use Rattle.std.specs.Prelude.{All}
 use Rattle.std.proofs.lemmas.List.{take_all}
 use Rattle.std.proofs.lemmas.List.Elements.{All-more}
 use Rattle.gt_script.specs.declared.command.Line.{Line}
-use Rattle.gt_steps.specs.Built.{IsBuilt}
+use Rattle.gt_next.specs.Laws.{IsBuilt}
 use Rattle.gt_run.proofs.built.are_built.Goals as goal
 
 pub loop-line-preserved : goal.loop-line-preserved

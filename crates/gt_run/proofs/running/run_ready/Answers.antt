@@ -3,7 +3,7 @@ use Rattle.gt_types.specs.declared.program.Program.{Program}
 use Rattle.gt_space.specs.Range.{Range}
 use Rattle.gt_script.specs.declared.command.Line.{Line}
 use Rattle.gt_front.specs.Asks.{Asks}
-use Rattle.gt_steps.specs.Built.{IsBuilt}
+use Rattle.gt_next.specs.Laws.{IsBuilt}
 use Rattle.gt_run.specs.Comes.{HasUnbuilt}
 use Rattle.gt_run.specs.Ended.{Ends}
 use Rattle.gt_run.specs.Runs.{Opens}
@@ -16,7 +16,7 @@ returns-then-not-are_built-clause-ended g c = λ words asks.
     let U : List Line → Type 0 = λ lines. HasUnbuilt lines in
     let told = g.F.Files.told c.args.files.now in
     let E : Range → Type 0 = λ range. Ends words told (g.K.Sink.written c.args.out.now) (g.K.Sink.written c.refuse_unbuilt.new.out) c.refuse_unbuilt.result range in
-    subst E (sym c.requires.empty) (c.refuse_unbuilt.ensures.ended words told asks.texts asks.reads.calls.called
+    subst E (sym c.requires.empty) (c.refuse_unbuilt.ensures.ended words told asks.texts asks.reads.called
     (inr (refl, c.args.ready.call, c.args.ready.program, c.args.ready.lines, asks, subst U same unbuilt)))
 
 pub run_lines-requires-clause-session : goal.run_lines-requires-clause-session

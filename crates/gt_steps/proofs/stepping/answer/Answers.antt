@@ -80,3 +80,21 @@ returns-in-Stats-clause-next c =
     subst
     (λ (command : Command). Goes (λ state answer t. Next c.args.s.now.schema.program c.args.s.now.schema.layouts state command answer t) c.args.s.now c.args.s.now c.stats.result)
     (sym c.in-Stats.is) (λ told s stands. (s, c.stats.ensures.next told s stands, stands))
+
+pub returns-in-Put-clause-next : goal.returns-in-Put-clause-next
+returns-in-Put-clause-next c =
+    subst
+    (λ (command : Command). IfOk c.put.result (Goes (λ state answer t. Next c.args.s.now.schema.program c.args.s.now.schema.layouts state command answer t) c.args.s.now c.put.new.s))
+    (sym c.in-Put.is) c.put.ensures.next
+
+pub returns-in-Find-clause-next : goal.returns-in-Find-clause-next
+returns-in-Find-clause-next c =
+    subst
+    (λ (command : Command). Goes (λ state answer t. Next c.args.s.now.schema.program c.args.s.now.schema.layouts state command answer t) c.args.s.now c.args.s.now c.find.result)
+    (sym c.in-Find.is) (λ told s stands. (s, c.find.ensures.next told s stands, stands))
+
+pub returns-in-Tables-clause-next : goal.returns-in-Tables-clause-next
+returns-in-Tables-clause-next c =
+    subst
+    (λ (command : Command). IfOk c.tables.result (Goes (λ state answer t. Next c.args.s.now.schema.program c.args.s.now.schema.layouts state command answer t) c.args.s.now c.args.s.now))
+    (sym c.in-Tables.is) (stays_there _ c.args.s.now c.tables.result c.tables.ensures.next)

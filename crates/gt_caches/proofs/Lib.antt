@@ -1,0 +1,5 @@
+pub mod Entries
+pub mod Totals
+pub mod Sweeps
+pub mod Places
+pub mod Heaps

@@ -1,0 +1,7 @@
+-- The entries of a cache that stay.
+use Rattle.std.specs.Prelude.{List, filter}
+use Rattle.gt_caches.specs.Pairs.{Entry}
+
+-- the entries that stay, in their order
+abbrev pub staying_in : List Entry → List Entry
+staying_in entries = filter (λ e. e.stays) entries

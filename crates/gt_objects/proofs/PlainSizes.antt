@@ -1,0 +1,162 @@
+-- The size of a structure without room at its end is that of its plane.
+use Rattle.std.proofs.Common.{◌≡◌, ◌≤◌, ℕ, ◌+◌, ◌*◌, List, [], ◌∷◌, refl, ap, sym, subst, ◌∙◌, arith, Some}
+use Rattle.std.specs.Prelude.{All, slice_get}
+use Rattle.std.proofs.lemmas.List.Elements.{All-nil, All-cons, All-head, All-tail}
+use Rattle.gt_types.specs.declared.expressions.Expr.{Expr}
+use Rattle.gt_types.specs.declared.types.TypeId.{TypeId}
+use Rattle.gt_types.specs.declared.types.Ty.{Ty, out-Ty}
+use Rattle.gt_types.specs.declared.types.Ty.TheFolds.{fold_out-Ty, map-Ty}
+use Rattle.gt_types.specs.declared.types.Ty.TheOpen as part
+use Rattle.gt_types.specs.declared.types.Ty.TheOpen.{Ty-F}
+use Rattle.gt_types.specs.declared.types.Ty.TheVariants as ty
+use Rattle.gt_types.specs.declared.types.Ty.TheVariants.{outs-Bits}
+use Rattle.gt_types.specs.declared.program.Field.{Field}
+use Rattle.gt_types.specs.declared.program.Structure.{Structure}
+use Rattle.gt_types.specs.declared.program.Program.{Program}
+use Rattle.gt_types.specs.Contains.{HasStructure}
+use Rattle.gt_types.specs.Settled.{Settled}
+use Rattle.gt_types.specs.Tails.{elements_at, elements_of, tail_of}
+use Rattle.gt_layout.specs.declared.planes.Extent.{Extent}
+use Rattle.gt_layout.specs.declared.planes.Layouts.{Layouts}
+use Rattle.gt_layout.specs.declared.planes.Plane.{Plane}
+use Rattle.gt_layout.specs.declared.planes.Spot.{Spot}
+use Rattle.gt_layout.specs.declared.storages.Storage.{Storage}
+use Rattle.gt_layout.specs.declared.storages.Storage.TheVariants.{Bytes, Bits}
+use Rattle.gt_layout.specs.Storages.{extent_at, extent_of, extent_of_plane, extent_step, storage_of, storages_of}
+use Rattle.gt_layout.specs.Places.{Follow, Lie, Overlap, begin_at, end_at, end_of, ends, spot_of}
+use Rattle.gt_layout.specs.Planes.{AreLaidOut, IsLaidOut, IsSize}
+use Rattle.gt_layout.specs.Capacity.{SizeAt, MemberEnds, last_offset}
+use Rattle.gt_tree.proofs.Sizes.{sizes-one}
+use Rattle.gt_tree.proofs.Types.{extent-node}
+
+-- ---- structs that end in an array
+
+tail-extent : (planes : List Plane) (type elem : Ty) (count : Expr) → out-Ty type ≡ part.Tail count elem → (extent_of planes type).size ≡ 0
+tail-extent planes type elem count e = ap (λ (x : Extent). x.size) (fold_out-Ty Extent (extent_step planes) type ∙ ap (λ y. extent_step planes (map-Ty Ty Extent (extent_of planes) y)) e)
+
+tail-type : (x : Ty-F Ty) (elem : Ty) → elements_at x ≡ Some elem → (count : Expr) × (x ≡ part.Tail count elem)
+tail-type (part.Tail count inner) elem e = let same : inner ≡ elem = cc in (count, ap (part.Tail count) same)
+tail-type x elem e = absurd (cc)
+
+tail-storage : (planes : List Plane) (type elem : Ty) → elements_of type ≡ Some elem → storage_of planes type ≡ Bytes (extent_of planes type)
+tail-storage planes (ty.Bits unit count) elem e = let o = ap elements_at (outs-Bits unit count) in absurd (cc)
+tail-storage planes type elem e = refl
+
+-- where bytes begin is told by their byte alone
+byte-begin : (storage : Storage) (e : Extent) (s : Spot) → storage ≡ Bytes e → s ≡ spot_of storage (begin_at s) → begin_at s ≡ 8 * s.offset
+byte-begin storage e s is lies =
+    let spot = subst (λ x. s ≡ spot_of x (begin_at s)) is lies in
+    let bit : s.bit ≡ 0 = ap (λ (x : Spot). x.bit) spot in
+    omega (arith, bit)
+
+grows : (storage : Storage) (begin : ℕ) → begin ≤ end_of storage begin
+grows (Bytes e) begin = omega arith
+grows (Bits unit count) begin = omega arith
+
+-- no field of such a struct ends after its last one begins, which takes no bytes
+record LastEnds (from : ℕ) (fields : List Storage) (spots : List Spot) : Type 0 where
+  after : from ≤ 8 * last_offset spots
+  inside : All (λ end. end ≤ 8 * last_offset spots) (ends fields spots)
+  least : (bound : ℕ) → All (λ end. end ≤ bound) (ends fields spots) → 8 * last_offset spots ≤ bound
+
+last-ends : (planes : List Plane) (fs : List Field) (spots : List Spot) (from : ℕ) (elem : Ty) → tail_of fs ≡ Some elem → Follow from (storages_of planes fs) spots → LastEnds from (storages_of planes fs) spots
+last-ends planes [] spots from elem t h = absurd (cc)
+last-ends planes (f ∷ []) [] from elem t h = absurd h
+last-ends planes (f ∷ []) (s ∷ []) from elem t h =
+    let storage = storage_of planes f.ty in
+    let found = tail-type (out-Ty f.ty) elem t in
+    let is = tail-storage planes f.ty elem t in
+    let none = tail-extent planes f.ty elem found.0 found.1 in
+    let begins = byte-begin storage (extent_of planes f.ty) s is h.1 in
+    let ends_there : end_at storage s ≡ 8 * s.offset = ap (λ x. end_of x (begin_at s)) is ∙ ap (λ n. begin_at s + 8 * n) none ∙ omega (arith, begins) in
+    let after = h.0.after in
+    record {
+      after = omega (arith, after, begins);
+      inside = All-cons (λ end. end ≤ 8 * s.offset) (end_at storage s) [] (omega (arith, ends_there)) (All-nil (λ end. end ≤ 8 * s.offset));
+      least = λ bound all. let le : end_at storage s ≤ bound = All-head (λ end. end ≤ bound) (end_at storage s) [] all in omega (arith, le, ends_there);
+    }
+last-ends planes (f ∷ []) (s ∷ r ∷ ss) from elem t h = absurd h.2
+last-ends planes (f ∷ g ∷ fs) [] from elem t h = absurd h
+last-ends planes (f ∷ g ∷ fs) (s ∷ []) from elem t h = absurd h.2
+last-ends planes (f ∷ g ∷ fs) (s ∷ r ∷ ss) from elem t h =
+    let storage = storage_of planes f.ty in
+    let rest = last-ends planes (g ∷ fs) (r ∷ ss) (end_at storage s) elem t h.2 in
+    let after = h.0.after in
+    let own : begin_at s ≤ end_at storage s = grows storage (begin_at s) in
+    let top = last_offset (r ∷ ss) in
+    let others = ends (storages_of planes (g ∷ fs)) (r ∷ ss) in
+    let later : end_at storage s ≤ 8 * top = rest.after in
+    record {
+      after = omega (arith, after, own, later);
+      inside = All-cons (λ end. end ≤ 8 * top) (end_at storage s) others later rest.inside;
+      least = λ bound all. rest.least bound (All-tail (λ end. end ≤ bound) (end_at storage s) others all);
+    }
+
+-- ---- sizes
+
+same-size : (align : ℕ) (mine its : List ℕ) (a b : ℕ) → ((n : ℕ) → All (λ end. end ≤ n) mine → All (λ end. end ≤ n) its) → ((n : ℕ) → All (λ end. end ≤ n) its → All (λ end. end ≤ n) mine) → IsSize align mine a → IsSize align its b → a ≡ b
+same-size align mine its a b to from x y =
+    let p : a ≤ b = x.least b (record { whole = y.room.whole; inside = from (8 * b) y.room.inside }) in
+    let q : b ≤ a = y.least a (record { whole = x.room.whole; inside = to (8 * a) x.room.inside }) in
+    omega (arith, p, q)
+
+all-below : (xs : List ℕ) (m n : ℕ) → m ≤ n → All (λ end. end ≤ m) xs → All (λ end. end ≤ n) xs
+all-below [] m n le h = All-nil (λ end. end ≤ n)
+all-below (x ∷ xs) m n le h =
+    let first : x ≤ m = All-head (λ end. end ≤ m) x xs h in
+    All-cons (λ end. end ≤ n) x xs (omega (arith, first, le)) (all-below xs m n le (All-tail (λ end. end ≤ m) x xs h))
+
+-- a struct that ends in an array without elements
+tail-sized : (planes : List Plane) (fs : List Field) (plane : Plane) (elem : Ty) (n size : ℕ) → tail_of fs ≡ Some elem → Follow 0 (storages_of planes fs) plane.fields → IsSize plane.align (ends (storages_of planes fs) plane.fields) plane.size
+    → IsSize plane.align (8 * (last_offset plane.fields + 0 * n) ∷ []) size → size ≡ plane.size
+tail-sized planes fs plane elem n size t follow whole sized =
+    let last = last-ends planes fs plane.fields 0 elem t follow in
+    let top = last_offset plane.fields in
+    let one = 8 * (top + 0 * n) in
+    let all = ends (storages_of planes fs) plane.fields in
+    same-size plane.align (one ∷ []) all size plane.size
+    (λ bound h. let le : one ≤ bound = All-head (λ end. end ≤ bound) one [] h in all-below all (8 * top) bound (omega (arith, le)) last.inside)
+    (λ bound h. let le = last.least bound h in All-cons (λ end. end ≤ bound) one [] (omega (arith, le)) (All-nil (λ end. end ≤ bound)))
+    sized whole
+
+other-begin : (planes : List Plane) (type : Ty) (s : Spot) → s ≡ record { offset = 0; bit = 0 } → end_at (storage_of planes type) s ≡ end_of (storage_of planes type) 0
+other-begin planes type s e = ap (λ x. end_at (storage_of planes type) x) e
+
+module _ (program : Program) (planes : List Plane) (laid : AreLaidOut program planes) where
+  mutual
+    pub plain-size : (node : TypeId) (size : ℕ) → SizeAt program planes 0 node size → size ≡ (extent_at planes node.0).size
+    plain-size node size (SizeAt.of_struct {s} {plane} has got struct none) = ap (λ o. (extent_of_plane o).size) (sym got)
+    plain-size node size (SizeAt.of_tail {s} {plane} {elem} has got struct tail sized) =
+        let its = laid.each node.0 s plane has got in
+        let follow = subst (λ b. Lie b (storages_of planes s.fields) plane.fields) struct its.places in
+        tail-sized planes s.fields plane elem (extent_of planes elem).size size tail follow its.size sized ∙ ap (λ o. (extent_of_plane o).size) (sym got)
+    plain-size node size (SizeAt.of_union {s} {plane} {ends = own} has got union members sized) =
+        let its = laid.each node.0 s plane has got in
+        let overlap = subst (λ b. Lie b (storages_of planes s.fields) plane.fields) union its.places in
+        let same = member-ends s.fields own plane.fields members overlap in
+        same-size plane.align own own size plane.size (λ n h. h) (λ n h. h) sized (subst (λ es. IsSize plane.align es plane.size) (sym same) its.size) ∙ ap (λ o. (extent_of_plane o).size) (sym got)
+
+    member-ends : (fs : List Field) (own : List ℕ) (spots : List Spot) → MemberEnds program planes 0 fs own → Overlap (storages_of planes fs) spots → own ≡ ends (storages_of planes fs) spots
+    member-ends [] own [] MemberEnds.none h = refl
+    member-ends [] own (s ∷ ss) MemberEnds.none h = absurd h
+    member-ends (f ∷ fs) own [] m h = absurd h
+    member-ends (f ∷ fs) [] (s ∷ ss) m h = elim m [ ]
+    member-ends (f ∷ fs) (own ∷ owns) (s ∷ ss) (MemberEnds.of_structure {node} {desc} {size} type sized rest) h =
+        let inner = plain-size node size sized in
+        let storage : storage_of planes f.ty ≡ Bytes (extent_at planes node.0) = ap (storage_of planes) type ∙ ap Bytes (extent-node planes node desc) in
+        let here : end_at (storage_of planes f.ty) s ≡ 8 * (extent_at planes node.0).size = other-begin planes f.ty s h.0 ∙ ap (λ x. end_of x 0) storage ∙ omega arith in
+        let end : own ≡ end_at (storage_of planes f.ty) s = ap (λ n. 8 * n) inner ∙ sym here in
+        let others = member-ends fs owns ss rest h.1 in
+        ap (λ x. x ∷ owns) end ∙ ap (λ xs. end_at (storage_of planes f.ty) s ∷ xs) others
+    member-ends (f ∷ fs) (own ∷ owns) (s ∷ ss) (MemberEnds.of_field plain rest) h =
+        let end : own ≡ end_at (storage_of planes f.ty) s = sym (other-begin planes f.ty s h.0) in
+        let others = member-ends fs owns ss rest h.1 in
+        ap (λ x. x ∷ owns) end ∙ ap (λ xs. end_at (storage_of planes f.ty) s ∷ xs) others
+
+-- without room at its end a structure takes the size of its plane
+pub plain-sized : (program : Program) (layouts : Layouts) → Settled program → IsLaidOut program layouts → (node : TypeId) (s : Structure) → HasStructure program node s → (capacity : ℕ) → capacity ≡ 0 → (plane : Plane)
+    → slice_get layouts.structures node.0 ≡ Some plane → SizeAt program layouts.structures capacity node plane.size
+plain-sized program layouts settled laid node s has capacity none plane got =
+    let one = sizes-one program layouts settled laid 0 node s has in
+    let same : one.0 ≡ plane.size = plain-size program layouts.structures laid.structures node one.0 one.1 ∙ ap (λ o. (extent_of_plane o).size) got in
+    subst (λ n. SizeAt program layouts.structures n node plane.size) (sym none) (subst (λ z. SizeAt program layouts.structures 0 node z) same one.1)
