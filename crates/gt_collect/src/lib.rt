@@ -3,6 +3,5 @@
 
 mod clearing;
 mod collecting;
-mod nulls;
 
 pub use collecting::{Collected, collect};

@@ -18,8 +18,8 @@ pub data ReachedFrom (g : Graph) : ℕ → ℕ → Type 0 where
   itself : {id : ℕ} → ReachedFrom g id id
   onward : {from through to : ℕ} → PointsTo g from through → ReachedFrom g through to → ReachedFrom g from to
 
--- an object is reached from one that a root names which is not deletable, or from one of these, which are the values of the pairs that
--- stayed so far
+-- an object is reached from one that a root names, where the root is not deletable, or from one of these, which are the values of the
+-- pairs that stayed so far
 abbrev pub ReachedWith : Program → Graph → List ℕ → ℕ → Type 0
 ReachedWith program g values to = (from : ℕ) × (Contains (static_edges program.roots g.statics) from ⊎ Contains values from) × ReachedFrom g from to
 

@@ -67,7 +67,7 @@ abbrev pub IsNamedAside : Program → (old new : Graph) → List ℕ → ℕ →
 IsNamedAside program old new values id =
     Contains (static_edges program.roots old.statics) id ⊎ (Contains values id ⊎ ((o : Object) × Contains new.objects o × LeadsAside program o id))
 
--- a kept object names another, which no root that is not deletable, no value of a pair that stays and no other kept object names
+-- a kept object names another, which no root that is not deletable and no other kept object names, and which is no value of a pair that stays
 pub record IsOnlyFrom (program : Program) (old new : Graph) (values : List ℕ) (from : Object) (id : ℕ) : Type 0 where
   pub leads : Contains (edges from.value) id
   pub no_root : ¬ Contains (static_edges program.roots old.statics) id

@@ -6,7 +6,7 @@ use Rattle.gt_pages.specs.Slots.{Slot, StartsSome, is_marked}
 use Rattle.gt_walk.specs.declared.tables.Tables.{Tables}
 use Rattle.gt_walk.specs.Rows.{Edge, edges_of}
 
--- how the elements of a block are walked: by which walk, and how many there are
+-- how the elements of a block are walked: by which walk, and how many of them, which are none of characters
 pub record Walked : Type 0 where
   pub walk : ℕ
   pub count : ℕ

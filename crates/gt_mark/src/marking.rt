@@ -14,8 +14,8 @@ use gt_walk::{EdgeSink, Tables, visit};
 
 /// Marks the block that starts at an address, which is walked by this walk with so many elements, and all blocks that edges reach from
 /// there. The answer is the number of rounds: one, and one more for each pass over blocks for which the stack of 64 had no room. It
-/// takes no memory, and its time is linear in the newly marked blocks and their edges, and for each pass in the pages from the first
-/// to the last block that was left to it.
+/// takes no memory, and its time is linear in the newly marked blocks and in the elements and rows that are walked in them, and for each
+/// pass in the pages from the first to the last block that was left to it.
 pub fn mark_from(
     tables: &Tables,
     space: &Space,

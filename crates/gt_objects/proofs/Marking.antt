@@ -1,15 +1,19 @@
 -- Blocks with other marks, and those that are marked, are of the same heap.
-use Rattle.std.proofs.Common.{◌≡◌, ◌≢◌, ℕ, ◌+◌, ◌<◌, ◌==◌, ◌||◌, ◌↔◌, Bool, true, false, not, cond, List, [], ◌∷◌, Option, Some, None, is_some, is_none, length, map, count_by, refl, sym, ap, subst, ◌∙◌, inl, inr, arith}
-use Rattle.std.specs.Prelude.{IsTrue, if◌then◌else◌, find, filter, AllPairs, Contains, option_and_then}
-use Rattle.std.proofs.lemmas.Bool.{cases_Bool, cases_eq, eq-eqb, eqb-true, false≢true, ne_eqb}
+use Rattle.std.proofs.Common.{◌≡◌, ℕ, ◌+◌, ◌<◌, ◌==◌, Bool, not, cond, List, [], ◌∷◌, Option, Some, None, is_some, is_none, length, map, count_by, refl, sym, ap, subst, ◌∙◌, inl, inr, arith}
+use Rattle.std.specs.Prelude.{find, filter, All, AllPairs, Contains, option_and_then}
+use Rattle.std.proofs.lemmas.Bool.{eq-eqb, ne_eqb}
 use Rattle.std.proofs.lemmas.List.{length-map}
-use Rattle.std.proofs.lemmas.List.Elements.{All-contains}
+use Rattle.std.proofs.lemmas.List.Elements.{All-contains, All-cons, All-nil}
 use Rattle.gt_types.specs.declared.program.Program.{Program}
 use Rattle.gt_layout.specs.declared.planes.Layouts.{Layouts}
 use Rattle.gt_entries.specs.declared.marks.Mark.{Mark}
 use Rattle.gt_pages.specs.Ledger.{Block, Ledger, PageRange}
-use Rattle.gt_pages.specs.Slots.{Slot, StartsSome, block_of, is_marked as has_mark, is_unmarked, mark_at, unmarked, with_mark, with_mark_at}
+use Rattle.gt_pages.specs.Slots.{Slot, StartsSome, block_of, is_marked as has_mark, is_unmarked, unmarked, with_mark}
 use Rattle.gt_pages.specs.Contents as pages
+use Rattle.gt_space.specs.Range.{Range}
+use Rattle.gt_walk.specs.declared.tables.Tables.{Tables}
+use Rattle.gt_mark.specs.Marks.{Marks, mark_after, own_mark}
+use Rattle.gt_mark.specs.Reached.{Walks}
 use Rattle.gt_graph.specs.Objects.{Object, object_of}
 use Rattle.gt_graph.specs.Places.{Placed, ledger_of}
 use Rattle.gt_graph.specs.Good.{Heap}
@@ -30,114 +34,24 @@ mark_found found = option_and_then (λ s. s.mark) found
 
 -- ---- no marks
 
-pub none_marked : (slots : List Slot) (address : ℕ) → mark_at (map unmarked slots) address ≡ None
-none_marked [] address = refl
-none_marked (s ∷ slots) address = elim (cases_Bool (s.address == address)) as (λ _. mark_at (map unmarked (s ∷ slots)) address ≡ None) [
-  | inl here ↦ ap (λ b. mark_found (cond b (Some (unmarked s)) (find (starts_at address) (map unmarked slots)))) here
-  | inr other ↦ ap (λ b. mark_found (cond b (Some (unmarked s)) (find (starts_at address) (map unmarked slots)))) other ∙ none_marked slots address
-]
+pub none_marked : (slots : List Slot) → All (λ s. s.mark ≡ None) (map unmarked slots)
+none_marked [] = All-nil (λ s. s.mark ≡ None)
+none_marked (s ∷ slots) = All-cons (λ t. t.mark ≡ None) (unmarked s) (map unmarked slots) refl (none_marked slots)
 
 pub blocks_unmarked : (slots : List Slot) → map block_of (map unmarked slots) ≡ map block_of slots
 blocks_unmarked [] = refl
 blocks_unmarked (s ∷ slots) = ap (λ bs. block_of s ∷ bs) (blocks_unmarked slots)
 
--- ---- one mark more
+-- blocks stay the same where each keeps its address and its size
+pub blocks_remarked : (f : Slot → Slot) → ((s : Slot) → block_of (f s) ≡ block_of s) → (slots : List Slot) → map block_of (map f slots) ≡ map block_of slots
+blocks_remarked f same [] = refl
+blocks_remarked f same (s ∷ slots) = ap (λ b. b ∷ map block_of (map f slots)) (same s) ∙ ap (λ bs. block_of s ∷ bs) (blocks_remarked f same slots)
 
-block_marked : (b : Bool) (mark : Option Mark) (s : Slot) → block_of (if b then with_mark mark s else s) ≡ block_of s
-block_marked true mark s = refl
-block_marked false mark s = refl
-
-pub blocks_marked : (slots : List Slot) (address : ℕ) (mark : Option Mark) → map block_of (with_mark_at slots address mark) ≡ map block_of slots
-blocks_marked [] address mark = refl
-blocks_marked (s ∷ slots) address mark =
-    ap (λ b. b ∷ map block_of (with_mark_at slots address mark)) (block_marked (s.address == address) mark s) ∙ ap (λ bs. block_of s ∷ bs) (blocks_marked slots address mark)
-
-abbrev with_that : Bool → Mark → Slot → Slot
-with_that b mark s = if b then with_mark (Some mark) s else s
-
-address_with : (b : Bool) (mark : Mark) (s : Slot) → (with_that b mark s).address ≡ s.address
-address_with true mark s = refl
-address_with false mark s = refl
-
-step_find : (address : ℕ) (s : Slot) (rest : List Slot) (b : Bool) → s.address == address ≡ b → mark_at (s ∷ rest) address ≡ cond b s.mark (mark_at rest address)
-step_find address s rest true h = ap (λ c. mark_found (cond c (Some s) (find (starts_at address) rest))) h
-step_find address s rest false h = ap (λ c. mark_found (cond c (Some s) (find (starts_at address) rest))) h
-
-other_mark : (slots : List Slot) (x address : ℕ) (mark : Mark) → address ≢ x → mark_at (with_mark_at slots x (Some mark)) address ≡ mark_at slots address
-other_mark [] x address mark apart = refl
-other_mark (s ∷ slots) x address mark apart =
-    let u : Slot = with_that (s.address == x) mark s in
-    let at : u.address ≡ s.address = address_with (s.address == x) mark s in
-    elim (cases_Bool (s.address == address)) as (λ _. mark_at (with_mark_at (s ∷ slots) x (Some mark)) address ≡ mark_at (s ∷ slots) address) [
-      | inl equal ↦
-          let here : s.address ≡ address = eqb-true s.address address equal in
-          step_find address u (with_mark_at slots x (Some mark)) true (ap (λ n. n == address) at ∙ equal)
-          ∙ ap (λ b. (with_that b mark s).mark) (ne_eqb s.address x (λ same. apart (sym here ∙ same)))
-          ∙ sym (step_find address s slots true equal)
-      | inr other ↦
-          step_find address u (with_mark_at slots x (Some mark)) false (ap (λ n. n == address) at ∙ other)
-          ∙ other_mark slots x address mark apart
-          ∙ sym (step_find address s slots false other)
-    ]
-
-same_mark : (slots : List Slot) (x : ℕ) (mark : Mark) → StartsSome slots x → mark_at (with_mark_at slots x (Some mark)) x ≡ Some mark
-same_mark [] x mark start = none_there start.0 start.1
-same_mark (s ∷ slots) x mark start =
-    let u : Slot = with_that (s.address == x) mark s in
-    let at : u.address ≡ s.address = address_with (s.address == x) mark s in
-    elim (cases_Bool (s.address == x)) as (λ _. mark_at (with_mark_at (s ∷ slots) x (Some mark)) x ≡ Some mark) [
-      | inl equal ↦ step_find x u (with_mark_at slots x (Some mark)) true (ap (λ n. n == x) at ∙ equal) ∙ ap (λ b. (with_that b mark s).mark) equal
-      | inr other ↦
-          step_find x u (with_mark_at slots x (Some mark)) false (ap (λ n. n == x) at ∙ other)
-          ∙ same_mark slots x mark (elim (there_cases s slots start.0 start.1) as (λ _. StartsSome slots x) [
-            | inl is ↦ absurd (false≢true (sym other ∙ eq-eqb s.address x (ap (λ t. t.address) is ∙ start.2)))
-            | inr later ↦ (start.0, later, start.2)
-          ])
-    ]
-
-or_true : (a : Bool) → (a || true) ≡ true
-or_true true = refl
-or_true false = refl
-
-or_false : (a : Bool) → (a || false) ≡ a
-or_false true = refl
-or_false false = refl
-
--- one more address is marked
-pub marked_more : (slots : List Slot) (x : ℕ) (mark : Mark) → StartsSome slots x → (address : ℕ)
-    → is_some (mark_at (with_mark_at slots x (Some mark)) address) ≡ (is_some (mark_at slots address) || (address == x))
-marked_more slots x mark start address = elim (cases_eq address x) as (λ _. is_some (mark_at (with_mark_at slots x (Some mark)) address) ≡ (is_some (mark_at slots address) || (address == x))) [
-  | inl same ↦
-      ap (λ a. is_some (mark_at (with_mark_at slots x (Some mark)) a)) same ∙ ap is_some (same_mark slots x mark start)
-      ∙ sym (or_true (is_some (mark_at slots address))) ∙ sym (ap (λ b. is_some (mark_at slots address) || b) (eq-eqb address x same))
-  | inr apart ↦
-      ap is_some (other_mark slots x address mark apart)
-      ∙ sym (or_false (is_some (mark_at slots address))) ∙ sym (ap (λ b. is_some (mark_at slots address) || b) (ne_eqb address x apart))
-]
-
--- where an address is marked, one more mark there is none
-pub marked_known : (slots : List Slot) (x : ℕ) → mark_at slots x ≢ None → (address : ℕ) → is_some (mark_at slots address) ≡ (is_some (mark_at slots address) || (address == x))
-marked_known slots x some address = elim (cases_eq address x) as (λ _. is_some (mark_at slots address) ≡ (is_some (mark_at slots address) || (address == x))) [
-  | inl same ↦
-      let marked : is_some (mark_at slots address) ≡ true = ap (λ a. is_some (mark_at slots a)) same ∙ is_there (mark_at slots x) some in
-      marked ∙ sym (ap (λ b. b || (address == x)) marked)
-  | inr apart ↦ sym (or_false (is_some (mark_at slots address))) ∙ sym (ap (λ b. is_some (mark_at slots address) || b) (ne_eqb address x apart))
-]
-  where
-    is_there : (m : Option Mark) → m ≢ None → is_some m ≡ true
-    is_there None some = absurd (some refl)
-    is_there (Some m) some = refl
-
-none_is : (m : Option Mark) → is_some m ≡ false → m ≡ None
-none_is None e = refl
-none_is (Some m) e = absurd (false≢true (sym e))
-
--- an address is fresh where it is not marked
-pub fresh_is : (b : Bool) (m : Option Mark) → (IsTrue b ↔ (m ≡ None)) → IsTrue b ↔ (is_some m ≡ false)
-fresh_is b m is = (λ h. ap is_some (is.0 h), λ e. is.1 (none_is m e))
-
-pub some_is : (b : Bool) (m : Option Mark) → (IsTrue b ↔ (m ≡ None)) → b ≡ false → m ≢ None
-some_is b m is no_b none = false≢true (sym no_b ∙ is.1 none)
+-- what marking leaves has the same blocks
+pub blocks_after : (tables : Tables) (space : Range) (walks : Walks) (starts : List ℕ) (old new : pages.Contents) → Marks tables space walks starts old new → map block_of new.slots ≡ map block_of old.slots
+blocks_after tables space walks starts old new m =
+    ap (λ c. map block_of c.slots) m.marked
+    ∙ blocks_remarked (λ s. with_mark (mark_after (m.reached s.address) (m.pending s.address) (own_mark walks s.address) s.mark) s) (λ s. refl) old.slots
 
 -- ---- the heap
 

@@ -1,14 +1,19 @@
 // The blocks of a space, and how many there are of each size.
-ghost use Rattle.std.specs.Prelude.{◌≡◌, ◌↔◌, ℕ, ◌≤◌, false, [], map, filter, count_by, length, option_map, Contains, IfErr, IfOk, IsTrue, Some, None, is_some};
+ghost use Rattle.std.specs.Prelude.{◌≡◌, ◌↔◌, ℕ, ◌≤◌, false, [], ◌∷◌, All, map, filter, count_by, length, option_map, Contains, IfErr, IfOk, IsTrue, Some, None, is_some};
 ghost use Rattle.gt_space.specs.declared.TheConstants.{MIN_PAGES, MAX_PAGES};
 ghost use Rattle.gt_links.specs.Lists.{with_nodes};
 ghost use Rattle.gt_pages.specs.Ledger.{Place, Room, sizes};
 ghost use Rattle.gt_pages.specs.Slots.{StartsSome, block_of, is_marked, is_unmarked, mark_at, new_mark, next_slot, owner_of, slot_at, unmarked, with_mark_at, with_slot};
 ghost use Rattle.gt_pages.specs.Contents.{AreLaidOut, KeepsPages, cached_list, empty_contents, ledger_of, with_slots};
+ghost use Rattle.gt_mark.specs.Marks.{Marks};
+ghost use Rattle.gt_mark.specs.Reached.{Walks, CanMark, NamesBlock, root_edges, root_targets};
+ghost use Rattle.gt_mark.specs.Rounds.{AreRounds};
 ghost use Rattle.gt_objects.specs.Totals.{AreTotals, bytes_of, count_of};
 
 use crate::totals::Totals;
 use gt_pages::{Pages, SlotFail};
+use gt_space::Space;
+use gt_walk::Tables;
 use std::alloc::{AllocError, Global};
 use std::marker::Model;
 
@@ -79,14 +84,33 @@ impl CountedPages {
         self.pages.clear_marks();
     }
 
-    /// Marks the block that starts at an address, and says whether it was not marked before. Where it was, nothing changes.
-    pub(crate) fn mark(&mut self, addr: u64) -> bool
-        requires start { StartsSome self.old.slots addr }
-        ensures fresh { IsTrue result ↔ (mark_at self.old.slots addr ≡ None) }
-        ensures marked { IsTrue result → self.new ≡ with_slots self.old (with_mark_at self.old.slots addr (Some (new_mark 0 0))) }
-        ensures unchanged { result ≡ false → self.new ≡ self.old }
+    /// Marks the block that starts at an address, and all that edges reach from there, as `gt_mark::mark_from` does.
+    pub(crate) fn mark_from(
+        &mut self,
+        tables: &Tables,
+        space: &Space,
+        addr: u64,
+        walk: u32,
+        count: u32,
+    ) -> u32
+        requires ready { (walks : Walks) × (walks addr ≡ record { walk = walk; count = count }) × CanMark tables.now space.now walks self.old.slots (addr ∷ []) }
+        ensures marked { (walks : Walks) → walks addr ≡ record { walk = walk; count = count } → CanMark tables.now space.now walks self.old.slots (addr ∷ [])
+            → Marks tables.now space.now walks (addr ∷ []) self.old self.new }
+        ensures rounds { (walks : Walks) → walks addr ≡ record { walk = walk; count = count } → CanMark tables.now space.now walks self.old.slots (addr ∷ [])
+            → AreRounds tables.now space.now walks (addr ∷ []) self.old.slots self.new.slots result }
     {
-        self.pages.mark(addr, 0, 0)
+        gt_mark::mark_from(tables, space, &mut self.pages, addr, walk, count)
+    }
+
+    /// Marks the blocks that roots name, and all that edges reach from there, as `gt_mark::mark_roots` does.
+    pub(crate) fn mark_roots(&mut self, tables: &Tables, space: &Space) -> u32
+        requires ready { (walks : Walks) × All (NamesBlock self.old.slots walks) (root_edges tables.now space.now) × CanMark tables.now space.now walks self.old.slots (root_targets tables.now space.now) }
+        ensures marked { (walks : Walks) → All (NamesBlock self.old.slots walks) (root_edges tables.now space.now) → CanMark tables.now space.now walks self.old.slots (root_targets tables.now space.now)
+            → Marks tables.now space.now walks (root_targets tables.now space.now) self.old self.new }
+        ensures rounds { (walks : Walks) → All (NamesBlock self.old.slots walks) (root_edges tables.now space.now) → CanMark tables.now space.now walks self.old.slots (root_targets tables.now space.now)
+            → AreRounds tables.now space.now walks (root_targets tables.now space.now) self.old.slots self.new.slots result }
+    {
+        gt_mark::mark_roots(tables, space, &mut self.pages)
     }
 
     /// Whether the block that starts at an address is marked.

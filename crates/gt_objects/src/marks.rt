@@ -1,5 +1,5 @@
 //! Marks of objects, and the freeing of those without one.
-ghost use Rattle.std.specs.Prelude.{◌≡◌, ◌+◌, ◌||◌, ◌==◌, ◌↔◌, ℕ, Some, IsTrue, false, length};
+ghost use Rattle.std.specs.Prelude.{◌≡◌, ◌+◌, ℕ, [], ◌∷◌, Some, None, All, length};
 ghost use Rattle.gt_types.specs.declared.program.Program.{Program};
 ghost use Rattle.gt_types.specs.Settled.{Settled};
 ghost use Rattle.gt_layout.specs.declared.planes.Layouts.{Layouts};
@@ -7,28 +7,48 @@ ghost use Rattle.gt_graph.specs.Objects.{Object, object_of};
 ghost use Rattle.gt_graph.specs.Good.{Heap};
 ghost use Rattle.gt_objects.specs.Holding.{IsHeapOf};
 ghost use Rattle.gt_objects.specs.Marks.{is_marked, marked_in, swept, IsClosed};
+ghost use Rattle.gt_mark.specs.Marks.{Marks};
+ghost use Rattle.gt_mark.specs.Reached.{Walks, CanMark, NamesBlock, root_edges, root_targets};
+ghost use Rattle.gt_mark.specs.Rounds.{AreRounds};
 
 use crate::objects::Objects;
+use gt_walk::Tables;
 
 impl Objects {
-    /// Takes all marks away.
+    /// Takes all marks away, and releases the cached entries of pages.
     pub fn clear_marks(&mut self)
-        ensures none { (address : ℕ) → is_marked self.new address ≡ false }
+        ensures none { All (λ s. s.mark ≡ None) self.new.pages.slots }
         ensures heap { (program : Program) (layouts : Layouts) (heap : Heap) → IsHeapOf program layouts self.old heap → IsHeapOf program layouts self.new heap }
         ensures bytes { self.new.space ≡ self.old.space }
     {
         self.pages.clear_marks();
     }
 
-    /// Marks the object at an address, and says whether it was not marked before.
-    pub fn mark(&mut self, addr: u64) -> bool
-        requires there { (program : Program) × (layouts : Layouts) × (heap : Heap) × (o : Object) × IsHeapOf program layouts self.old heap × (object_of heap.graph.objects addr ≡ Some o) }
-        ensures fresh { IsTrue result ↔ (is_marked self.old addr ≡ false) }
-        ensures marked { (address : ℕ) → is_marked self.new address ≡ (is_marked self.old address || (address == addr)) }
+    /// Marks the object at an address, which is walked by this walk with so many elements, and all objects that edges of walker tables
+    /// reach from there. Gives the rounds. It takes no memory.
+    pub fn mark_from(&mut self, tables: &Tables, addr: u64, walk: u32, count: u32) -> u32
+        requires ready { (walks : Walks) × (walks addr ≡ record { walk = walk; count = count }) × CanMark tables.now self.old.space walks self.old.pages.slots (addr ∷ []) }
+        ensures marked { (walks : Walks) → walks addr ≡ record { walk = walk; count = count } → CanMark tables.now self.old.space walks self.old.pages.slots (addr ∷ [])
+            → Marks tables.now self.old.space walks (addr ∷ []) self.old.pages self.new.pages }
+        ensures rounds { (walks : Walks) → walks addr ≡ record { walk = walk; count = count } → CanMark tables.now self.old.space walks self.old.pages.slots (addr ∷ [])
+            → AreRounds tables.now self.old.space walks (addr ∷ []) self.old.pages.slots self.new.pages.slots result }
         ensures heap { (program : Program) (layouts : Layouts) (heap : Heap) → IsHeapOf program layouts self.old heap → IsHeapOf program layouts self.new heap }
         ensures bytes { self.new.space ≡ self.old.space }
     {
-        self.pages.mark(addr)
+        self.pages.mark_from(tables, &self.space, addr, walk, count)
+    }
+
+    /// Marks the objects that roots name, and all objects that edges of walker tables reach from there. Gives the rounds. It takes no memory.
+    pub fn mark_roots(&mut self, tables: &Tables) -> u32
+        requires ready { (walks : Walks) × All (NamesBlock self.old.pages.slots walks) (root_edges tables.now self.old.space) × CanMark tables.now self.old.space walks self.old.pages.slots (root_targets tables.now self.old.space) }
+        ensures marked { (walks : Walks) → All (NamesBlock self.old.pages.slots walks) (root_edges tables.now self.old.space) → CanMark tables.now self.old.space walks self.old.pages.slots (root_targets tables.now self.old.space)
+            → Marks tables.now self.old.space walks (root_targets tables.now self.old.space) self.old.pages self.new.pages }
+        ensures rounds { (walks : Walks) → All (NamesBlock self.old.pages.slots walks) (root_edges tables.now self.old.space) → CanMark tables.now self.old.space walks self.old.pages.slots (root_targets tables.now self.old.space)
+            → AreRounds tables.now self.old.space walks (root_targets tables.now self.old.space) self.old.pages.slots self.new.pages.slots result }
+        ensures heap { (program : Program) (layouts : Layouts) (heap : Heap) → IsHeapOf program layouts self.old heap → IsHeapOf program layouts self.new heap }
+        ensures bytes { self.new.space ≡ self.old.space }
+    {
+        self.pages.mark_roots(tables, &self.space)
     }
 
     /// Whether the object at an address is marked.

@@ -1,9 +1,9 @@
 //! Leaves and values written in the bytes of a space, by whoever knows that they stand for a heap then.
-ghost use Rattle.std.specs.Prelude.{◌≡◌, ◌≤◌, ◌-◌};
+ghost use Rattle.std.specs.Prelude.{◌≡◌, ◌≤◌, ◌-◌, replicate};
 ghost use Rattle.gt_types.specs.Settled.{Settled};
 ghost use Rattle.gt_layout.specs.Planes.{IsLaidOut};
 ghost use Rattle.gt_layout.specs.Excess.{IsWithin};
-ghost use Rattle.gt_space.specs.Range.{IsInside, KeepsAddresses};
+ghost use Rattle.gt_space.specs.Range.{IsInside, KeepsAddresses, with_bytes};
 ghost use Rattle.gt_tree.specs.Trees.{Trees, Rec};
 ghost use Rattle.gt_value.specs.Bytes.{IsRoomFor};
 ghost use Rattle.gt_value.specs.Places.{HasBits};
@@ -50,6 +50,16 @@ impl Objects {
         ensures rest { self.new ≡ record self.old { space = self.new.space } }
     {
         gt_store::store(program, layouts, &mut self.space, ty, addr, capacity, value);
+    }
+
+    /// Makes the eight bytes at an address zero.
+    pub fn clear_word(&mut self, addr: u64)
+        requires inside { IsInside self.old.space addr 8 }
+        ensures bytes { self.new.space ≡ with_bytes self.old.space addr (replicate 8 0) }
+        ensures addresses { KeepsAddresses self.old.space self.new.space }
+        ensures rest { self.new ≡ record self.old { space = self.new.space } }
+    {
+        self.space.fill(addr, 8, 0);
     }
 
     /// Writes values of the roots, as `gt_store::store_statics` does.

@@ -1,8 +1,2 @@
-pub mod Values
-pub mod Parts
-pub mod Waits
-pub mod Finding
-pub mod Going
-pub mod Turns
-pub mod Many
-pub mod Ends
+pub mod Tracing
+pub mod Pairing

@@ -9,8 +9,8 @@ use Rattle.gt_objects.specs.declared.objects.Objects.{Objects}
 use Rattle.gt_objects.specs.Marks.{is_marked, marked_in}
 use Rattle.gt_caches.specs.Pairs.{Entries, staying}
 
--- Exactly the objects are marked that are reached from roots which are not deletable and from these values of pairs, and these are rounds
--- of a collection that keeps them.
+-- Exactly the objects are marked that are reached from these values of pairs or from the roots that are not deletable, and these are
+-- rounds of a collection that keeps them.
 pub record AreMarked (program : Program) (objects : Objects) (heap : Heap) (values : List ℕ) (times : ℕ) : Type 0 where
   pub exact : (o : Object) → Contains heap.graph.objects o → IsTrue (is_marked objects o.id) ↔ ReachedWith program heap.graph values o.id
   pub rounds : AreRounds program heap.graph (record heap.graph { objects = marked_in objects heap.graph.objects }) values times

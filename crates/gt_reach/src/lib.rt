@@ -1,10 +1,7 @@
-//! Which objects of a heap a collection keeps. What was found is followed, one object after another, from a list of work.
+//! Which objects of a heap a collection keeps: those that the marker reaches by walker tables.
 #![tactic(auto)]
 
-mod edges;
 mod marking;
-mod reading;
-mod rounds;
-mod steps;
+mod turns;
 
-pub use marking::mark_kept;
+pub use turns::mark_kept;

@@ -7,6 +7,7 @@ use Rattle.gt_held.specs.Tails.{AreTailTypesOf}
 use Rattle.gt_kinds.specs.Names.{AreNamesOf}
 use Rattle.gt_fields.specs.FieldNames as fields
 use Rattle.gt_leaf.specs.Tables.{IsTableOf}
+use Rattle.gt_edges.specs.Tables.{AreTables}
 use Rattle.gt_schema.specs.declared.schema.Schema.{Schema}
 
 -- The program is one that headers can declare, the layouts are its own, and the rest was made of it.
@@ -19,3 +20,4 @@ pub record IsSchema (schema : Schema) : Type 0 where
   pub names : AreNamesOf schema.program schema.names
   pub fields : fields.AreNamesOf schema.program.structures schema.fields
   pub reads : IsTableOf schema.program schema.reads
+  pub tables : AreTables schema.program schema.layouts schema.tables

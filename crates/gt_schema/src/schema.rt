@@ -8,6 +8,7 @@ ghost use Rattle.gt_held.specs.Types.{AreElementTypesOf};
 ghost use Rattle.gt_held.specs.Tails.{AreTailTypesOf};
 ghost use Rattle.gt_kinds.specs.Names.{AreNamesOf};
 ghost use Rattle.gt_leaf.specs.Tables.{IsTableOf};
+ghost use Rattle.gt_edges.specs.Tables.{AreTables};
 ghost use Rattle.gt_schema.specs.Schemas.{IsSchema};
 
 use gt_fields::FieldNames;
@@ -15,11 +16,13 @@ use gt_held::{ElementTypes, TailTypes};
 use gt_kinds::ProgramNames;
 use gt_layout::Layouts;
 use gt_leaf::Reads;
+use gt_tables::build;
 use gt_types::Program;
+use gt_walk::Tables;
 use std::alloc::{AllocError, Global};
 
 /// A program and its layouts, the types of the elements of its blocks, which structures are of a tail type, its names, the names of its
-/// fields, and which leaves its expressions read.
+/// fields, which leaves its expressions read, and its walker tables.
 #[derive(Drop)]
 pub struct Schema {
     pub program: Program,
@@ -29,6 +32,7 @@ pub struct Schema {
     pub names: ProgramNames,
     pub fields: FieldNames,
     pub reads: Reads,
+    pub tables: Tables,
 }
 
 // The types and the names of a program.
@@ -39,11 +43,12 @@ struct Named {
     names: ProgramNames,
 }
 
-// The names of its fields, and which leaves its expressions read.
+// The names of its fields, which leaves its expressions read, and its walker tables.
 #[derive(Drop)]
 struct Fielded {
     fields: FieldNames,
     reads: Reads,
+    tables: Tables,
 }
 
 // The names of a program.
@@ -81,14 +86,22 @@ impl Named {
 }
 
 impl Fielded {
-    fn of(alloc: Global, program: &Program) -> Result<Fielded, AllocError>
+    fn of(alloc: Global, program: &Program, layouts: &Layouts) -> Result<Fielded, AllocError>
         requires settled { Settled program.now }
+        requires laid { IsLaidOut program.now layouts.now }
+        requires within { IsWithin program.now layouts.now }
         ensures fields { IfOk result (λ fielded. fields.AreNamesOf program.now.structures fielded.fields) }
         ensures reads { IfOk result (λ fielded. IsTableOf program.now fielded.reads) }
+        ensures tables { IfOk result (λ fielded. AreTables program.now layouts.now fielded.tables) }
     {
         let fields = fields_of(alloc, program)?;
         let reads = Reads::of(alloc, program)?;
-        Ok(Fielded { fields, reads })
+        let tables = build(alloc, program, layouts)?;
+        Ok(Fielded {
+            fields,
+            reads,
+            tables,
+        })
     }
 }
 
@@ -107,7 +120,11 @@ impl Schema {
             tails,
             names,
         } = Named::of(alloc, &program)?;
-        let Fielded { fields, reads } = Fielded::of(alloc, &program)?;
+        let Fielded {
+            fields,
+            reads,
+            tables,
+        } = Fielded::of(alloc, &program, &layouts)?;
         Ok(Schema {
             program,
             layouts,
@@ -116,6 +133,7 @@ impl Schema {
             names,
             fields,
             reads,
+            tables,
         })
     }
 }

@@ -1,5 +1,5 @@
 -- What a collection leaves of a state.
-use Rattle.std.proofs.Common.{◌≡◌, ◌↔◌, ◌<◌, ◌≤◌, ℕ, ◌+◌, List, [], ◌∷◌, Option, Some, None, IsTrue, is_some, inl, inr, length, map, sum, refl, ap, sym, subst, ◌∙◌, arith}
+use Rattle.std.proofs.Common.{◌≡◌, ◌↔◌, ◌<◌, ◌≤◌, ℕ, ◌+◌, List, [], ◌∷◌, Option, Some, None, IsTrue, is_some, inl, inr, map, sum, refl, ap, sym, ◌∙◌, arith}
 use Rattle.std.specs.Prelude.{AllPairs, Contains}
 use Rattle.std.proofs.lemmas.Option.{none-some}
 use Rattle.std.proofs.lemmas.List.Elements.{All-contains}
@@ -9,7 +9,7 @@ use Rattle.gt_layout.specs.declared.planes.Layouts.{Layouts}
 use Rattle.gt_io.specs.Held.{Held}
 use Rattle.gt_space.specs.Laws.{IsApart}
 use Rattle.gt_pages.specs.Ledger.{AreApart, Block, page_address}
-use Rattle.gt_graph.specs.Objects.{Object, object_of, pairs_in}
+use Rattle.gt_graph.specs.Objects.{Object, object_of}
 use Rattle.gt_graph.specs.Places.{Placed, Places, ArePlacesOf, ledger_of}
 use Rattle.gt_graph.specs.Good.{Heap}
 use Rattle.gt_objects.specs.declared.objects.Known.{Known}
@@ -25,7 +25,7 @@ use Rattle.gt_next.specs.Collecting.{Collects, KeepsBound, NextForce}
 use Rattle.gt_next.specs.declared.answer.Answer.TheVariants.{Collected}
 use Rattle.gt_vars.specs.Held.{KeepsThose}
 use Rattle.gt_session.specs.declared.session.Session.{Session}
-use Rattle.gt_session.specs.Sessions.{IsAsBefore, StandsFor}
+use Rattle.gt_session.specs.Sessions.{StandsFor}
 use Rattle.gt_caches.specs.Pairs.{Entries, pairs_of}
 use Rattle.gt_collect.specs.Collecting.{IsCollected}
 
@@ -139,21 +139,3 @@ module _ (old : Session) (objects : Objects) (caches : Entries) (vars : Variable
 
     pub goes : (t : State) × NextForce old.schema.program s (Collected kept freed dropped) t × StandsFor collected told t
     goes = (left, NextForce.collects collects, stands_now)
-
--- other bytes, pages and directory of the same heaps, and other marks of the same pairs
-pub still : (old : Session) (objects : Objects) (caches : Entries) → ((heap : Heap) → IsHeapOf old.schema.program old.schema.layouts old.objects heap → IsHeapOf old.schema.program old.schema.layouts objects heap)
-    → pairs_of caches ≡ pairs_of old.caches → IsAsBefore old (record old { objects = objects; caches = caches })
-still old objects caches heaps same told s stands = record {
-  holds = record {
-    schema = stands.holds.schema;
-    heap = heaps s.heap stands.holds.heap;
-    pairs = stands.holds.pairs ∙ sym same;
-    variables = stands.holds.variables;
-    min_expand = stands.holds.min_expand;
-    min_heapsize = stands.holds.min_heapsize;
-    last = stands.holds.last;
-    rounds = stands.holds.rounds;
-    files = stands.holds.files;
-  };
-  good = stands.good;
-}

@@ -10,11 +10,6 @@ use Rattle.gt_next.specs.Collecting.{NextCollect, NextForce, NextStats, allocate
 use Rattle.gt_session.specs.declared.session.Session.{Session}
 use Rattle.gt_session.specs.Sessions.{Goes, IsAsBefore, IsSession, StandsFor}
 
--- what holds holds where memory ran out
-pub on_err : {T : Type 0} {P : Type 0} (result : Result T AllocError) → P → OnErr result P
-on_err (Ok x) holds = tt
-on_err (Err e) holds = holds
-
 module _ (N : State → Answer → State → Type 0) (old new : Session) where
   -- the new session stands for some state
   pub stays : (result : Result Answer AllocError) → IfOk result (Goes N old new) → OnErr result (IsAsBefore old new) → IsSession old → IsSession new
@@ -42,10 +37,9 @@ threshold_is session told s stands result e =
     ∙ ap (λ n. max s.last (s.min_heapsize * 1024) + max s.last (s.min_heapsize * 1024) * n / 100) (sym stands.holds.min_expand)
 
 -- where the threshold is reached, a collection is what `collect` does
-pub collects_then : (old new : Session) (result : Result Answer AllocError) → ((told : Option Held) (s : State) → StandsFor old told s → threshold s ≤ allocated s)
-    → IfOk result (Goes (λ s answer t. NextForce old.schema.program s answer t) old new) → IfOk result (Goes (λ s answer t. NextCollect old.schema.program s answer t) old new)
-collects_then old new (Ok answer) enough goes = λ told s stands. let next = goes told s stands in (next.0, NextCollect.collects (enough told s stands) next.1, next.2)
-collects_then old new (Err e) enough goes = tt
+pub collects_then : (old new : Session) (answer : Answer) → ((told : Option Held) (s : State) → StandsFor old told s → threshold s ≤ allocated s)
+    → Goes (λ s answer t. NextForce old.schema.program s answer t) old new answer → Goes (λ s answer t. NextCollect old.schema.program s answer t) old new answer
+collects_then old new answer enough goes = λ told s stands. let next = goes told s stands in (next.0, NextCollect.collects (enough told s stands) next.1, next.2)
 
 -- the numbers of the collector
 pub stats_are : (s : State) (a l t i r : ℕ) → a ≡ allocated s → l ≡ s.last → t ≡ threshold s → i ≡ s.heap.places.image.count → r ≡ s.rounds → NextStats s (Stats a l t i r) s

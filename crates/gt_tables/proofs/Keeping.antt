@@ -2,7 +2,7 @@
 use Rattle.std.specs.Global.{Vec}
 use Rattle.std.proofs.Common.{◌≡◌, ◌∙◌, ℕ, ◌+◌, ◌-◌, ◌≤◌, Bool, true, false, cond, List, [], ◌∷◌, ◌++◌, length, refl, ap, sym, subst, Option, Some, None, Ok, Err, get_or, ◌⊎◌, inl, inr, arith}
 use Rattle.std.specs.Prelude.{IfSome, IfOk, OnOk, All, flat_map}
-use Rattle.std.specs.Option.{option_map}
+use Rattle.std.specs.Option.{option_map, option_cmp}
 use Rattle.std.specs.Ordering.{nat_cmp, ordering_then, is_eq}
 use Rattle.std.specs.declared.cmp.Ordering.{Ordering}
 use Rattle.std.specs.declared.cmp.Ordering.TheVariants.{Less, Equal, Greater}
@@ -21,10 +21,11 @@ use Rattle.gt_walk.specs.declared.rows.WalkRow.TheVariants as row
 use Rattle.gt_walk.specs.declared.tables.Tables.{Tables}
 use Rattle.gt_walk.specs.Rows.{rows_of}
 use Rattle.gt_walk.specs.Nested.{parts_in}
+use Rattle.gt_tables.specs.declared.sources.Site.{Site}
 use Rattle.gt_tables.specs.declared.sources.Part.{Part}
 use Rattle.gt_tables.specs.declared.parts.Parts.{Parts}
-use Rattle.gt_tables.specs.Numbers.{first_part}
-use Rattle.gt_tables.specs.Building.{part_cmp, HaveWalks, PartsWithin, IsWalkOf, IsRow, AreRows, IsPointerRow, Shallow, AreParts, Grows, Keeps}
+use Rattle.gt_edges.specs.Numbers.{first_part}
+use Rattle.gt_tables.specs.Building.{site_cmp, part_cmp, HaveWalks, PartsWithin, IsWalkOf, IsRow, AreRows, IsPointerRow, Shallow, AreParts, Grows, Keeps}
 use Rattle.gt_tables.proofs.Growing.{fewer, length-tables, nests-of, append-assoc, rows-grow, rows-deeper, row-grows, row-deeper, row-sub, row-rep, row-tail, row-pointer, row-switch, walk-grows, IsArm}
 
 -- ---- results
@@ -36,6 +37,14 @@ on-ok P Q (Err e) f h = tt
 pub if-ok : {X E : Type 0} (P Q : X → Type 0) (r : _) → ((x : X) → P x → Q x) → IfOk {E = E} r P → IfOk {E = E} r Q
 if-ok P Q (Ok x) f h = f x h
 if-ok P Q (Err e) f h = tt
+
+pub if-both : {X E : Type 0} (P Q R : X → Type 0) (r : _) → ((x : X) → P x → Q x → R x) → IfOk {E = E} r P → IfOk {E = E} r Q → IfOk {E = E} r R
+if-both P Q R (Ok x) f g h = f x g h
+if-both P Q R (Err e) f g h = tt
+
+pub on-both : {X E : Type 0} (P Q : X → Type 0) (R : Type 0) (r : _) → ((x : X) → P x → Q x → R) → IfOk {E = E} r P → IfOk {E = E} r Q → OnOk {E = E} r R
+on-both P Q R (Ok x) f g h = f x g h
+on-both P Q R (Err e) f g h = tt
 
 -- ---- parts grow
 
@@ -80,10 +89,10 @@ module _ (first : ℕ) (walks : List (List WalkRow)) (deep deeper : ℕ → Type
   tail-some offset size len None is = tt
   tail-some offset size len (Some r) is = row-tail first walks deeper offset len size r (row-deeper first walks deep deeper r more is)
 
-  pub tail-row : {E : Type 0} (offset size : ℕ) (o : Option WalkRow) (r : _) → IfSome o (IsRow first walks deep)
-      → IfOk {E = E} r (λ made. (len : RowExpr) × (made ≡ option_map (row.Tail offset len size) o)) → IfOk {E = E} r (λ made. IfSome made (IsRow first walks deeper))
-  tail-row offset size o r is =
-      if-ok (λ made. (len : RowExpr) × (made ≡ option_map (row.Tail offset len size) o)) (λ made. IfSome made (IsRow first walks deeper)) r
+  pub tail-row : {E : Type 0} (also : RowExpr → Type 0) (offset size : ℕ) (o : Option WalkRow) (r : _) → IfSome o (IsRow first walks deep)
+      → IfOk {E = E} r (λ made. (len : RowExpr) × (made ≡ option_map (row.Tail offset len size) o) × also len) → IfOk {E = E} r (λ made. IfSome made (IsRow first walks deeper))
+  tail-row also offset size o r is =
+      if-ok (λ made. (len : RowExpr) × (made ≡ option_map (row.Tail offset len size) o) × also len) (λ made. IfSome made (IsRow first walks deeper)) r
       (λ made e. subst (λ m. IfSome m (IsRow first walks deeper)) (sym e.1) (tail-some offset size e.0 o is))
 
 module _ (first : ℕ) (walks : List (List WalkRow)) (deep : ℕ → Type 0) where
@@ -103,14 +112,15 @@ module _ (first : ℕ) (walks : List (List WalkRow)) (deep : ℕ → Type 0) whe
       → made ≡ option_map (row.Sub offset) walk → IfSome walk (IsWalkOf program first walks node) → IfSome made (IsRow first walks deep)
   sub-row program node offset deeper walk made e is = subst (λ m. IfSome m (IsRow first walks deep)) (sym e) (sub-some program node offset deeper walk is)
 
-  pub switch-some : (arms : Vec Arm) (o : Option WalkRow) → All (IsArm first walks deep) arms.items → IfSome o (λ made. (value : RowExpr) × (made ≡ row.Switch value arms)) → IfSome o (IsRow first walks deep)
-  switch-some arms None all is = tt
-  switch-some arms (Some r) all is = subst (IsRow first walks deep) (sym is.1) (row-switch first walks deep is.0 arms all)
+  pub switch-some : (also : RowExpr → Type 0) (arms : Vec Arm) (o : Option WalkRow) → All (IsArm first walks deep) arms.items → IfSome o (λ made. (value : RowExpr) × (made ≡ row.Switch value arms) × also value)
+      → IfSome o (IsRow first walks deep)
+  switch-some also arms None all is = tt
+  switch-some also arms (Some r) all is = subst (IsRow first walks deep) (sym is.1) (row-switch first walks deep is.0 arms all)
 
 -- ---- the walk that is added
 
 module _ (program : Program) (first : ℕ) (walks : List (List WalkRow)) (node : ℕ) (rows : List WalkRow) where
-  rows-there : (tables : Tables) → HaveWalks first (walks ++ rows ∷ []) tables → rows_of tables (first + length walks) ≡ rows
+  pub rows-there : (tables : Tables) → HaveWalks first (walks ++ rows ∷ []) tables → rows_of tables (first + length walks) ≡ rows
   rows-there tables h =
       let here : first + length walks - first ≡ length walks = omega arith in
       let far : first ≤ first + length walks = omega arith in
@@ -155,6 +165,57 @@ pub put-known : (p : Part) (part : Option Part) (walk : Option ℕ) (old new : B
 put-known p part walk old new is updates q n there = elim (put-cases p q walk n (get part_cmp old q) (get part_cmp new q) (is_at (part_cmp p) q) refl (updates q) there) [
   | inl h ↦ inl h
   | inr h ↦ inr (p, is, h.0, h.1)
+]
+
+-- ---- parts that compare equal are equal
+
+is-eq-rest : (o rest : Ordering) → is_eq (ordering_then o rest) ≡ true → rest ≡ Equal
+is-eq-rest Less rest e = absurd (cc)
+is-eq-rest Equal Less e = absurd (cc)
+is-eq-rest Equal Equal e = refl
+is-eq-rest Equal Greater e = absurd (cc)
+is-eq-rest Greater rest e = absurd (cc)
+
+is-eq-of : (o : Ordering) → o ≡ Equal → is_eq o ≡ true
+is-eq-of o e = ap is_eq e
+
+exact-option : {X : Type 0} (R : X → X → Ordering) → ((a b : X) → R a b ≡ Equal → a ≡ b) → (a b : Option X) → option_cmp R a b ≡ Equal → a ≡ b
+exact-option R exact None None e = refl
+exact-option R exact None (Some b) e = absurd (cc)
+exact-option R exact (Some a) None e = absurd (cc)
+exact-option R exact (Some a) (Some b) e = ap Some (exact a b e)
+
+exact-site : (a b : Site) → site_cmp a b ≡ Equal → a ≡ b
+exact-site a b e =
+    let is = is-eq-of (site_cmp a b) e in
+    let container = exact_unsigned a.container b.container (is-eq-first (nat_cmp a.container b.container) (nat_cmp a.field b.field) is) in
+    let field = exact_unsigned a.field b.field (is-eq-rest (nat_cmp a.container b.container) (nat_cmp a.field b.field) is) in
+    let one : a ≡ record { container = b.container; field = a.field } = ap (λ (n : ℕ). record { container = n; field = a.field }) container in
+    one ∙ ap (λ (n : ℕ). record { container = b.container; field = n }) field
+
+exact-part : (p q : Part) → is_at (part_cmp p) q ≡ true → p ≡ q
+exact-part p q is =
+    let node = exact_unsigned p.node q.node (is-eq-first (nat_cmp p.node q.node) _ is) in
+    let rest = is-eq-of _ (is-eq-rest (nat_cmp p.node q.node) (ordering_then (option_cmp site_cmp p.site q.site) (option_cmp nat_cmp p.outermost q.outermost)) is) in
+    let site = exact-option site_cmp exact-site p.site q.site (is-eq-first (option_cmp site_cmp p.site q.site) (option_cmp nat_cmp p.outermost q.outermost) rest) in
+    let outermost = exact-option nat_cmp exact_unsigned p.outermost q.outermost (is-eq-rest (option_cmp site_cmp p.site q.site) (option_cmp nat_cmp p.outermost q.outermost) rest) in
+    let one : p ≡ record { node = q.node; site = p.site; outermost = p.outermost } = ap (λ (n : ℕ). record { node = n; site = p.site; outermost = p.outermost }) node in
+    let two : p ≡ record { node = q.node; site = q.site; outermost = p.outermost } = one ∙ ap (λ (s : Option Site). record { node = q.node; site = s; outermost = p.outermost }) site in
+    two ∙ ap (λ (o : Option ℕ). record { node = q.node; site = q.site; outermost = o }) outermost
+
+same-cases : (p q : Part) (walk w : Option ℕ) (old new : Option (Option ℕ)) (b : Bool) → is_at (part_cmp p) q ≡ b → new ≡ cond b (Some walk) old → new ≡ Some w → (old ≡ Some w) ⊎ ((p ≡ q) × (walk ≡ w))
+same-cases p q walk w old new true at is there =
+    let got : Some walk ≡ Some w = sym is ∙ there in
+    let same : walk ≡ w = cc in
+    inr (exact-part p q at, same)
+same-cases p q walk w old new false at is there = inl (sym is ∙ there)
+
+-- what is known of a part after one was put in is what was known, or what was put in under this very part
+pub put-kept : (p : Part) (part : Option Part) (walk : Option ℕ) (old new : BTreeMap Part (Option ℕ)) → part ≡ Some p → ((q : Part) → get part_cmp new q ≡ cond (is_at (part_cmp p) q) (Some walk) (get part_cmp old q))
+    → (q : Part) (w : Option ℕ) → get part_cmp new q ≡ Some w → (get part_cmp old q ≡ Some w) ⊎ ((part ≡ Some q) × (walk ≡ w))
+put-kept p part walk old new is updates q w there = elim (same-cases p q walk w (get part_cmp old q) (get part_cmp new q) (is_at (part_cmp p) q) refl (updates q) there) [
+  | inl h ↦ inl h
+  | inr h ↦ inr (is ∙ ap Some h.0, h.1)
 ]
 
 at-some : (part : Option Part) (p : Part) (id : ℕ) → part ≡ Some p → IfSome part (λ p. p.node ≡ id) → p.node ≡ id

@@ -22,11 +22,11 @@ use Rattle.gt_walk.specs.declared.tables.CacheWalks.{CacheWalks}
 use Rattle.gt_walk.specs.declared.tables.Tables.{Tables}
 use Rattle.gt_walk.specs.Nested.{HaveOneNote, IsWalk, IsNested}
 use Rattle.gt_tables.specs.declared.parts.Parts.{Parts}
-use Rattle.gt_tables.specs.Numbers.{first_part, walk_of}
+use Rattle.gt_edges.specs.Numbers.{first_part, walk_of}
 use Rattle.std.specs.List.{filter}
 use Rattle.gt_types.specs.declared.program.Root.{Root}
-use Rattle.gt_tables.specs.Edges.{has_walk}
-use Rattle.gt_tables.specs.Tables.{cache_walks, AreNumbered}
+use Rattle.gt_edges.specs.Edges.{has_walk}
+use Rattle.gt_edges.specs.Tables.{cache_walks, AreNumbered}
 use Rattle.gt_tables.specs.Building.{part_cmp, HaveWalks, IsWalkOf, AreRows, Shallow, AreParts, Grows, IsThere, EndAsBlocks, number_of_walks}
 use Rattle.gt_tables.proofs.RowForms.{ptr-note, ptr-names, ptr-parts}
 use Rattle.gt_tables.proofs.Growing.{fewer, length-tables, nests-of, rows-note, rows-add, rows-grow, row-pointer, walk-grows}
@@ -155,7 +155,7 @@ numbered-of program tables walks parts is long ends roots caches =
 
 -- ---- how many roots have walks
 
-count-one : (r : Root) (rest : List Root) (b : Bool) → r.deletable ≡ b → length (filter has_walk (r ∷ rest)) ≡ number_of_walks b + length (filter has_walk rest)
+pub count-one : (r : Root) (rest : List Root) (b : Bool) → r.deletable ≡ b → length (filter has_walk (r ∷ rest)) ≡ number_of_walks b + length (filter has_walk rest)
 count-one r rest true e = ap (λ b. length (cond (not b) (r ∷ filter has_walk rest) (filter has_walk rest))) e ∙ (omega arith)
 count-one r rest false e = ap (λ b. length (cond (not b) (r ∷ filter has_walk rest) (filter has_walk rest))) e ∙ (omega arith)
 

@@ -1,7 +1,7 @@
-pub mod Numbers
-pub mod Notes
-pub mod Edges
-pub mod Deletable
 pub mod Sharing
-pub mod Tables
 pub mod Building
+pub mod Leaves
+pub mod Naming
+pub mod Chains
+pub mod RootWords
+pub mod Counting

@@ -1,4 +1,4 @@
--- How many walks of parts there are: each part has one. No contract cites this yet: it is not proved of what `build` makes.
+-- How many walks of parts there are: each part has one.
 use Rattle.std.specs.Prelude.{◌≡◌, ◌≢◌, ◌≤◌, ◌⊎◌, ℕ, ◌+◌, ◌*◌, true, List, ◌++◌, length, Option, Some, None, IsSome, IfSome, All, AllPairs, Any, slice_get, filter_map}
 use Rattle.gt_types.specs.declared.expressions.Base.TheVariants.{Outermost}
 use Rattle.gt_types.specs.declared.expressions.Expr.{Expr}
@@ -12,7 +12,7 @@ use Rattle.gt_types.specs.Shapes.{innermost}
 use Rattle.gt_types.specs.Contains.{HasStructure, ContainsStructure, held_by}
 use Rattle.gt_types.specs.Paths.{paths_of, IsInner, own_expressions}
 use Rattle.gt_walk.specs.declared.tables.Tables.{Tables}
-use Rattle.gt_tables.specs.Numbers.{first_part}
+use Rattle.gt_edges.specs.Numbers.{first_part}
 
 -- where a structure lies by value: in which structure, and in which field of it
 pub record Site : Type 0 where

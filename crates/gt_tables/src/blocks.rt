@@ -1,9 +1,10 @@
 // The walks of blocks.
-ghost use Rattle.std.specs.Prelude.{◌≡◌, ◌<◌, ◌+◌, ◌⊎◌, [], ◌∷◌, List, None, false, length, IfOk, OnOk, All};
+ghost use Rattle.std.specs.Prelude.{◌≡◌, ◌<◌, ◌+◌, ◌⊎◌, [], ◌∷◌, ◌++◌, ℕ, List, None, false, length, IfOk, OnOk, All};
 ghost use Rattle.gt_walk.specs.declared.rows.Count.TheVariants as count;
 ghost use Rattle.gt_walk.specs.declared.rows.WalkRow.{WalkRow};
 ghost use Rattle.gt_walk.specs.declared.rows.WalkRow.TheVariants as row;
-ghost use Rattle.gt_tables.specs.Building.{IsSource, first_of, AreRows, AreParts, Grows, Shallow, EndAsBlocks};
+ghost use Rattle.gt_tables.specs.Building.{IsSource, first_of, AreRows, AreParts, Grows, Shallow, EndAsBlocks, AreServed, ServesWalk, ServesWalks, ServesPointers, IsPointerWalk};
+ghost use Rattle.gt_tables.specs.Counting.{Counted};
 
 use crate::chains::chain_offset;
 use crate::forms::note;
@@ -22,8 +23,12 @@ fn standing_rows(
 ) -> Result<Vec<WalkRow>, AllocError>
     requires source { IsSource source.now }
     requires parts { AreParts source.now.program.now parts.old }
+    requires served { AreServed source.now parts.old }
     requires there { id.0 < length source.now.program.now.structures }
     ensures grows { OnOk result (Grows source.now.program.now parts.old parts.new) }
+    ensures counted { OnOk result ((n : ℕ) → Counted source.now.program.now parts.old n → Counted source.now.program.now parts.new n) }
+    ensures served { OnOk result (AreServed source.now parts.new) }
+    ensures serves { IfOk result (λ rows. ServesWalk source.now parts.new.walks.items id rows.items) }
     ensures rows { IfOk result (λ rows. AreRows (first_of source.now) parts.new.walks.items Shallow rows.items) }
 {
     let structure = &source.program.structures.as_slice()[id.0 as usize];
@@ -55,6 +60,7 @@ fn pointer_rows(source: &Source<'_>, id: TypeId) -> Result<Vec<WalkRow>, AllocEr
     requires source { IsSource source.now }
     requires there { id.0 < source.now.structures }
     ensures rows { IfOk result (λ rows. (walks : List (List WalkRow)) → AreRows (first_of source.now) walks Shallow rows.items) }
+    ensures serves { IfOk result (λ rows. IsPointerWalk source.now.program.now id rows.items) }
 {
     if source.may_stand(id) {
         pointing_rows(source, id.0, 1)
@@ -67,7 +73,11 @@ fn pointer_rows(source: &Source<'_>, id: TypeId) -> Result<Vec<WalkRow>, AllocEr
 fn standing_walks(source: &Source<'_>, parts: &mut Parts) -> Result<Vec<List<WalkRow>>, AllocError>
     requires source { IsSource source.now }
     requires parts { AreParts source.now.program.now parts.old }
+    requires served { AreServed source.now parts.old }
     ensures grows { OnOk result (Grows source.now.program.now parts.old parts.new) }
+    ensures counted { OnOk result ((n : ℕ) → Counted source.now.program.now parts.old n → Counted source.now.program.now parts.new n) }
+    ensures served { OnOk result (AreServed source.now parts.new) }
+    ensures serves { IfOk result (λ walks. ServesWalks source.now parts.new.walks.items walks.items) }
     ensures walks { IfOk result (λ walks. All (AreRows (first_of source.now) parts.new.walks.items Shallow) walks.items) }
     ensures long { IfOk result (λ walks. length walks.items ≡ source.now.structures) }
 {
@@ -84,6 +94,8 @@ fn add_pointer_walks(source: &Source<'_>, walks: &mut Vec<List<WalkRow>>) -> Res
     requires source { IsSource source.now }
     ensures walks { OnOk result ((parts : List (List WalkRow)) → All (AreRows (first_of source.now) parts Shallow) walks.old.items → All (AreRows (first_of source.now) parts Shallow) walks.new.items) }
     ensures long { OnOk result (length walks.new.items ≡ length walks.old.items + source.now.structures) }
+    ensures kept { OnOk result ((more : List (List WalkRow)) × (walks.new.items ≡ walks.old.items ++ more)) }
+    ensures pointers { OnOk result (ServesPointers source.now.program.now (length walks.old.items) walks.new.items) }
 {
     for i in 0..source.structures {
         let rows = pointer_rows(source, TypeId(i))?;
@@ -96,7 +108,12 @@ fn add_pointer_walks(source: &Source<'_>, walks: &mut Vec<List<WalkRow>>) -> Res
 pub fn block_walks(source: &Source<'_>, parts: &mut Parts) -> Result<Vec<List<WalkRow>>, AllocError>
     requires source { IsSource source.now }
     requires parts { AreParts source.now.program.now parts.old }
+    requires served { AreServed source.now parts.old }
     ensures grows { OnOk result (Grows source.now.program.now parts.old parts.new) }
+    ensures counted { OnOk result ((n : ℕ) → Counted source.now.program.now parts.old n → Counted source.now.program.now parts.new n) }
+    ensures served { OnOk result (AreServed source.now parts.new) }
+    ensures serves { IfOk result (λ walks. ServesWalks source.now parts.new.walks.items walks.items) }
+    ensures pointers { IfOk result (λ walks. ServesPointers source.now.program.now (length source.now.program.now.structures) walks.items) }
     ensures walks { IfOk result (λ walks. All (AreRows (first_of source.now) parts.new.walks.items Shallow) walks.items) }
     ensures long { IfOk result (λ walks. length walks.items ≡ first_of source.now) }
     ensures ends { IfOk result (λ walks. EndAsBlocks source.now.program.now walks.items) }

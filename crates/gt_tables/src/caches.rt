@@ -1,6 +1,6 @@
 // The walks that caches name.
 ghost use Rattle.std.specs.Prelude.{◌≡◌, map, IfOk};
-ghost use Rattle.gt_tables.specs.Tables.{cache_walks};
+ghost use Rattle.gt_edges.specs.Tables.{cache_walks};
 
 use gt_types::{Cache, Program};
 use gt_walk::CacheWalks;

@@ -1,4 +1,9 @@
 // Expressions of options as rows have them: over numbers at places.
+ghost use Rattle.std.specs.Prelude.{IfOk};
+ghost use Rattle.gt_edges.specs.Walks.{IsRowExpr, IsDescExpr};
+ghost use Rattle.gt_tables.specs.Building.{IsSource, around_of};
+ghost use Rattle.gt_tables.specs.Leaves.{IsRead, IsTranslated};
+
 use crate::paths::{path_leaf, root_leaf};
 use crate::sources::{Around, Source};
 use gt_types::{Boxed, Expr, List};
@@ -6,7 +11,9 @@ use gt_walk::{RowExpr, RowLeaf};
 use std::alloc::AllocError;
 
 // The read of a number, which is added to the leaves. Where there is no number, that of a leaf that there is not.
-fn read_of(leaves: &mut Vec<RowLeaf>, leaf: Option<RowLeaf>) -> Result<Expr, AllocError> {
+fn read_of(leaves: &mut Vec<RowLeaf>, leaf: Option<RowLeaf>) -> Result<Expr, AllocError>
+    ensures { IfOk result (IsRead leaves.old.items leaves.new.items leaf) }
+{
     let Some(leaf) = leaf else {
         return Ok(Expr::Root(u32::MAX));
     };
@@ -25,7 +32,10 @@ fn translate(
     around: Around,
     e: &Expr,
     leaves: &mut Vec<RowLeaf>,
-) -> Result<Expr, AllocError> {
+) -> Result<Expr, AllocError>
+    requires source { IsSource source.now }
+    ensures { IfOk result (IsTranslated source.now around leaves.old.items leaves.new.items e.now) }
+{
     let alloc = source.alloc;
     match e {
         Expr::Int(n) => Ok(Expr::Int(*n)),
@@ -51,7 +61,10 @@ fn translate(
 }
 
 // An expression where it stands in some structures.
-pub fn row_expr(source: &Source<'_>, around: Around, e: &Expr) -> Result<RowExpr, AllocError> {
+pub fn row_expr(source: &Source<'_>, around: Around, e: &Expr) -> Result<RowExpr, AllocError>
+    requires source { IsSource source.now }
+    ensures is { IfOk result (IsRowExpr source.now.program.now source.now.layouts.now (around_of around) e.now) }
+{
     let mut leaves = Vec::new(source.alloc);
     let expr = translate(source, around, e, &mut leaves)?;
     Ok(RowExpr {
@@ -65,7 +78,10 @@ pub fn desc_expr(
     source: &Source<'_>,
     around: Around,
     desc: &Option<Expr>,
-) -> Result<RowExpr, AllocError> {
+) -> Result<RowExpr, AllocError>
+    requires source { IsSource source.now }
+    ensures is { IfOk result (IsDescExpr source.now.program.now source.now.layouts.now (around_of around) desc.now) }
+{
     match desc {
         Some(desc) => row_expr(source, around, desc),
         None => Ok(RowExpr {

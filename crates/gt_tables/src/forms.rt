@@ -1,5 +1,7 @@
 // Rows of each form.
-ghost use Rattle.std.specs.Prelude.{◌≡◌, ◌++◌, [], ◌∷◌, IfOk, IfSome, OnOk, option_to_list, option_map};
+ghost use Rattle.std.specs.Prelude.{◌≡◌, ◌≢◌, ◌++◌, [], ◌∷◌, None, All, IfOk, IfSome, OnOk, option_to_list, option_map};
+ghost use Rattle.gt_edges.specs.Walks.{IsRowExpr, IsDescExpr};
+ghost use Rattle.gt_tables.specs.Building.{IsSource, around_of};
 ghost use Rattle.gt_walk.specs.declared.rows.RowExpr.{RowExpr};
 ghost use Rattle.gt_walk.specs.declared.rows.Arm.{out-Arm};
 ghost use Rattle.gt_walk.specs.declared.rows.WalkRow.TheVariants as row;
@@ -69,7 +71,8 @@ pub fn counted(
     size: u32,
     elem: Option<WalkRow>,
 ) -> Result<Option<WalkRow>, AllocError>
-    ensures { IfOk result (λ made. (count : RowExpr) × (made ≡ option_map (row.Tail offset count size) elem)) }
+    requires source { IsSource source.now }
+    ensures { IfOk result (λ made. (count : RowExpr) × (made ≡ option_map (row.Tail offset count size) elem) × (elem ≢ None → IsRowExpr source.now.program.now source.now.layouts.now (around_of around) len.now count)) }
 {
     let Some(elem) = elem else {
         return Ok(None);
@@ -103,7 +106,9 @@ pub fn switch_row(
     desc: &Option<Expr>,
     arms: Vec<Arm>,
 ) -> Result<Option<WalkRow>, AllocError>
-    ensures { IfOk result (λ r. IfSome r (λ made. (value : RowExpr) × (made ≡ row.Switch value arms))) }
+    requires source { IsSource source.now }
+    ensures row { IfOk result (λ r. IfSome r (λ made. (value : RowExpr) × (made ≡ row.Switch value arms) × IsDescExpr source.now.program.now source.now.layouts.now (around_of inner) desc.now value)) }
+    ensures none { IfOk result (λ r. r ≡ None → All (λ a. (out-Arm a).row ≡ None) arms.items) }
 {
     if !arms.iter().any(|arm| arm.row.is_some()) {
         return Ok(None);

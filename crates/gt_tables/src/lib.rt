@@ -1,4 +1,4 @@
-//! The walker tables of a program: a walk for each kind of block, each root, and each structure that lies in another, with a row for
+//! The walker tables of a program: a walk for each kind of block, for each root that is not deletable, and for each structure that lies in another, with a row for
 //! each pointer and each part that has one. The layer above asks for all of them with [`build`], and visits them with `gt_walk`.
 #![tactic(auto)]
 

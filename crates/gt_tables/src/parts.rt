@@ -1,7 +1,8 @@
 // The walks of parts and roots, and which parts have one already.
-ghost use Rattle.std.specs.Prelude.{◌≡◌, ◌⊎◌, ◌+◌, ◌++◌, [], ◌∷◌, ℕ, length, Some, None, IfOk, IfSome, OnOk};
+ghost use Rattle.std.specs.Prelude.{◌≡◌, ◌≤◌, ◌⊎◌, ◌+◌, ◌++◌, [], ◌∷◌, ℕ, Option, length, Some, None, IfOk, IfSome, OnOk};
 ghost use Rattle.std.specs.BTreeMap.{get};
 ghost use Rattle.gt_tables.specs.Building.{part_cmp, Keeps};
+ghost use Rattle.gt_tables.specs.Counting.{Stays};
 ghost use Rattle.gt_tables.specs.declared.sources.Part.{Part};
 
 use crate::sources::Part;
@@ -30,7 +31,8 @@ impl Parts {
 
     // The walk of a part that was looked at, or that it has no edges.
     pub fn get(&self, part: Option<Part>) -> Option<Option<u32>>
-        ensures { IfSome result (λ walk. (p : Part) × (part ≡ Some p) × (get part_cmp self.now.known p ≡ Some walk)) }
+        ensures known { IfSome result (λ walk. (p : Part) × (part ≡ Some p) × (get part_cmp self.now.known p ≡ Some walk)) }
+        ensures unknown { result ≡ None → (p : Part) → part ≡ Some p → get part_cmp self.now.known p ≡ None }
     {
         match part {
             Some(part) => self.known.get(&part).copied(),
@@ -58,7 +60,9 @@ impl Parts {
         part: Option<Part>,
         rows: Vec<WalkRow>,
     ) -> Result<Option<u32>, AllocError>
-        ensures { IfOk result (λ walk. Keeps first part rows.items self.old self.new walk) }
+        ensures keeps { IfOk result (λ walk. Keeps first part rows.items self.old self.new walk) }
+        ensures bare { IfOk result (λ walk. walk ≡ None → length rows.items ≤ 1) }
+        ensures stays { OnOk result (Stays part self.old self.new) }
     {
         if rows.len() > 1 {
             let walk = self.add(first, rows)?;
@@ -73,6 +77,8 @@ impl Parts {
     fn know(&mut self, part: Option<Part>, walk: Option<u32>) -> Result<(), AllocError>
         ensures walks { self.new.walks ≡ self.old.walks }
         ensures known { OnOk result ((q : Part) (n : ℕ) → get part_cmp self.new.known q ≡ Some (Some n) → (get part_cmp self.old.known q ≡ Some (Some n)) ⊎ ((p : Part) × (part ≡ Some p) × (q.node ≡ p.node) × (walk ≡ Some n))) }
+        ensures kept { OnOk result ((q : Part) (w : Option ℕ) → get part_cmp self.new.known q ≡ Some w → (get part_cmp self.old.known q ≡ Some w) ⊎ ((part ≡ Some q) × (walk ≡ w))) }
+        ensures stays { OnOk result (Stays part self.old self.new) }
     {
         match part {
             Some(part) => {

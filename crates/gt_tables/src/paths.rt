@@ -1,18 +1,25 @@
 // Where the numbers lie that expressions read.
-ghost use Rattle.std.specs.Prelude.{◌≡◌};
+ghost use Rattle.std.specs.Prelude.{◌≡◌, ◌<◌, ◌^◌, Some, None, IfSome, MatchOption};
 ghost use Rattle.std.specs.Str.{bytes_eq};
 ghost use Rattle.std.specs.List.{position_from};
+ghost use Rattle.gt_types.specs.Contains.{itself};
+ghost use Rattle.gt_layout.specs.Storages.{bytes_of};
+ghost use Rattle.gt_layout.specs.Places.{begin_at};
+ghost use Rattle.gt_tree.specs.Numbers.{is_signed};
+ghost use Rattle.gt_value.specs.Reading.{place, shape, shape_of};
+ghost use Rattle.gt_edges.specs.Walks.{node_at, field_named, place_named, leaf_at, path_leaf, root_leaf};
+ghost use Rattle.gt_tables.specs.Building.{IsSource, around_of};
 
 use crate::sources::{Around, Source};
+use gt_layout::Spot;
 use gt_types::{Base, Field, Scalar, Ty, TypeId, Width, Word};
 use gt_walk::{Origin, RowLeaf};
 
-// A field: its type, and the byte and the bit at which it begins.
+// A type at a bit, which is counted from the begin of a structure.
 #[derive(Clone, Copy)]
 struct Cell<'a> {
     ty: &'a Ty,
-    offset: u32,
-    bit: u8,
+    at: u64,
 }
 
 // How a number is held: with a sign or without, in so many bits.
@@ -22,16 +29,37 @@ struct Shape {
     width: u8,
 }
 
-fn width_of(width: Width) -> u8 {
-    match width {
-        Width::W1 => 8,
-        Width::W2 => 16,
-        Width::W4 => 32,
-        Width::W8 => 64,
+impl Around {
+    // The structure at which a path begins.
+    fn node(self, base: Base) -> Option<TypeId>
+        ensures { result ≡ node_at (around_of self) base }
+    {
+        match base {
+            Base::Here => self.here,
+            Base::Outer => self.outer,
+            Base::Outermost => self.outermost,
+        }
     }
 }
 
-fn is_signed(scalar: Scalar) -> bool {
+fn bytes_of(scalar: Scalar) -> u8
+    ensures is { result ≡ bytes_of scalar }
+    ensures small { result < 9 }
+{
+    match scalar {
+        Scalar::Bool => 1,
+        Scalar::Int { width, .. } => match width {
+            Width::W1 => 1,
+            Width::W2 => 2,
+            Width::W4 => 4,
+            Width::W8 => 8,
+        },
+    }
+}
+
+fn is_signed(scalar: Scalar) -> bool
+    ensures { result ≡ is_signed scalar }
+{
     match scalar {
         Scalar::Bool => false,
         Scalar::Int { signed, .. } => signed,
@@ -39,19 +67,36 @@ fn is_signed(scalar: Scalar) -> bool {
 }
 
 // How a number of a type is held; None where it is the type of no number.
-fn shape_of(ty: &Ty) -> Option<Shape> {
+fn shape_of(ty: &Ty) -> Option<Shape>
+    ensures { MatchOption result (shape_of ty.now ≡ None) (λ s. shape_of ty.now ≡ Some (shape s.signed s.width)) }
+{
     match ty {
         Ty::Num(scalar) => Some(Shape {
             signed: is_signed(*scalar),
-            width: match scalar {
-                Scalar::Bool => 8,
-                Scalar::Int { width, .. } => width_of(*width),
-            },
+            width: 8 * bytes_of(*scalar),
         }),
-        Ty::Bits { unit, count } => Some(Shape {
+        Ty::Bits { unit, count } if *count >= 1 && *count <= 64 => Some(Shape {
             signed: is_signed(*unit),
             width: *count,
         }),
+        _ => None,
+    }
+}
+
+// The first bit of a field, from the begin of its structure.
+fn begin_at(spot: &Spot) -> u64
+    ensures begin { result ≡ begin_at spot.now }
+    ensures small { result < 2 ^ 36 }
+{
+    8 * spot.offset as u64 + spot.bit as u64
+}
+
+// The structure that a type is.
+fn node_of(ty: &Ty) -> Option<TypeId>
+    ensures { result ≡ itself ty.now }
+{
+    match ty {
+        Ty::Node { id, .. } => Some(*id),
         _ => None,
     }
 }
@@ -64,73 +109,72 @@ fn find_field(fields: &[Field], name: &Word) -> Option<usize>
 }
 
 // The field of a name in a structure.
-fn step<'a>(source: &Source<'a>, node: TypeId, name: &Word) -> Option<Cell<'a>> {
+fn step<'a>(source: &Source<'a>, node: TypeId, name: &Word) -> Option<Cell<'a>>
+    ensures is { MatchOption result (field_named source.now.program.now source.now.layouts.now.structures node name.now ≡ None) (λ c. field_named source.now.program.now source.now.layouts.now.structures node name.now ≡ Some (place c.ty.now c.at)) }
+    ensures small { IfSome result (λ c. c.at < 2 ^ 36) }
+{
     let structure = source.program.structures.get(node.0 as usize)?;
     let plane = source.layouts.structures.get(node.0 as usize)?;
-    let place = find_field(structure.fields.as_slice(), name)?;
-    let field = structure.fields.get(place)?;
-    let spot = plane.fields.get(place)?;
+    let i = find_field(structure.fields.as_slice(), name)?;
+    let field = structure.fields.get(i)?;
+    let spot = plane.fields.get(i)?;
     Some(Cell {
         ty: &field.ty,
-        offset: spot.offset,
-        bit: spot.bit,
+        at: begin_at(spot),
     })
 }
 
 // The field to which names lead from a structure.
-fn walk<'a>(source: &Source<'a>, from: TypeId, steps: &[Word]) -> Option<Cell<'a>> {
+fn walk<'a>(source: &Source<'a>, from: TypeId, steps: &[Word]) -> Option<Cell<'a>>
+    requires source { IsSource source.now }
+    ensures is { MatchOption result (place_named source.now.program.now source.now.layouts.now.structures from steps.now ≡ None) (λ c. place_named source.now.program.now source.now.layouts.now.structures from steps.now ≡ Some (place c.ty.now c.at)) }
+    ensures small { IfSome result (λ c. c.at < 2 ^ 35) }
+{
     let [first, rest @ ..] = steps else {
         return None;
     };
     let mut cell = step(source, from, first)?;
     for name in rest {
-        let Ty::Node { id, .. } = cell.ty else {
-            return None;
-        };
-        let next = step(source, *id, name)?;
+        let next = step(source, node_of(cell.ty)?, name)?;
         cell = Cell {
             ty: next.ty,
-            offset: cell.offset.checked_add(next.offset)?,
-            bit: next.bit,
+            at: cell.at + next.at,
         };
     }
     Some(cell)
 }
 
-fn leaf_of(cell: Cell<'_>, origin: Origin) -> Option<RowLeaf> {
-    let shape = shape_of(cell.ty)?;
+// The leaf of the number at a place, where it is one.
+fn leaf_of(origin: Origin, ty: &Ty, at: u64) -> Option<RowLeaf>
+    requires small { at < 2 ^ 35 }
+    ensures { result ≡ leaf_at origin (place ty.now at) }
+{
+    let shape = shape_of(ty)?;
     Some(RowLeaf {
         origin,
-        offset: cell.offset,
-        bit: cell.bit,
+        offset: (at / 8) as u32,
+        bit: (at % 8) as u8,
         signed: shape.signed,
         width: shape.width,
     })
 }
 
 // The number to which a path leads from a structure around; None where there is none.
-pub fn path_leaf(
-    source: &Source<'_>,
-    around: Around,
-    base: Base,
-    steps: &[Word],
-) -> Option<RowLeaf> {
-    let from = match base {
-        Base::Here => around.here,
-        Base::Outer => around.outer,
-        Base::Outermost => around.outermost,
-    }?;
-    leaf_of(walk(source, from, steps)?, Origin::Inside(base))
+pub fn path_leaf(source: &Source<'_>, around: Around, base: Base, steps: &[Word]) -> Option<RowLeaf>
+    requires source { IsSource source.now }
+    ensures leaf { result ≡ path_leaf source.now.program.now source.now.layouts.now (around_of around) base steps.now }
+{
+    let cell = walk(source, around.node(base)?, steps)?;
+    leaf_of(Origin::Inside(base), cell.ty, cell.at)
 }
 
 // The number of a root, which lies at its address; None where it is no number.
-pub fn root_leaf(source: &Source<'_>, place: u32) -> Option<RowLeaf> {
+pub fn root_leaf(source: &Source<'_>, place: u32) -> Option<RowLeaf>
+    requires source { IsSource source.now }
+    ensures leaf { result ≡ root_leaf source.now.program.now source.now.layouts.now place }
+{
     let root = source.program.roots.get(place as usize)?;
     let spot = source.layouts.statics.fields.get(place as usize)?;
-    let cell = Cell {
-        ty: &root.ty,
-        offset: source.start.checked_add(spot.offset)?,
-        bit: spot.bit,
-    };
-    leaf_of(cell, Origin::Zero)
+    let at = 8 * source.start as u64 + begin_at(spot);
+    leaf_of(Origin::Zero, &root.ty, at)
 }

@@ -1,8 +1,12 @@
 // Rows of pointers.
-ghost use Rattle.std.specs.Prelude.{◌≡◌, ◌<◌, IfOk, IfSome};
+ghost use Rattle.std.specs.Prelude.{◌≡◌, ◌<◌, ℕ, Option, Some, None, IfOk, IfSome};
+ghost use Rattle.gt_types.specs.declared.expressions.Expr.{Expr};
+ghost use Rattle.gt_edges.specs.Walks.{Around as Nodes};
 ghost use Rattle.gt_walk.specs.declared.rows.Count.{Count};
 ghost use Rattle.gt_walk.specs.declared.rows.WalkRow.TheVariants as row;
-ghost use Rattle.gt_tables.specs.Building.{IsSource, IsPointerRow, first_of};
+ghost use Rattle.gt_types.specs.declared.types.Ty.TheVariants as ty;
+ghost use Rattle.gt_edges.specs.Walks.{IsPointerRow as ServesPointer, IsTarget, target_walk as walk_of_target};
+ghost use Rattle.gt_tables.specs.Building.{IsSource, IsPointerRow, first_of, around_of};
 
 use crate::expressions::row_expr;
 use crate::sources::{Around, Source};
@@ -13,7 +17,8 @@ use std::alloc::AllocError;
 // A string: its characters are not walked.
 pub fn string_row(source: &Source<'_>, offset: u32) -> WalkRow
     requires source { IsSource source.now }
-    ensures { IsPointerRow (first_of source.now) result }
+    ensures row { IsPointerRow (first_of source.now) result }
+    ensures serves { (around : Nodes) (len : Option Expr) → ServesPointer source.now.program.now source.now.layouts.now around (ty.Str len) offset (Some result) }
 {
     row_to(offset, source.bare_walk(), Count::Fixed(0), false)
 }
@@ -21,7 +26,10 @@ pub fn string_row(source: &Source<'_>, offset: u32) -> WalkRow
 // The walk of the blocks to which a pointer leads; None where the program has no such structure.
 fn target_walk(source: &Source<'_>, target: Target) -> Option<u32>
     requires source { IsSource source.now }
-    ensures { IfSome result (λ walk. walk < first_of source.now) }
+    ensures walk { IfSome result (λ walk. walk < first_of source.now) }
+    ensures is { IfSome result (λ walk. walk ≡ walk_of_target source.now.program.now target) }
+    ensures there { IfSome result (λ walk. IsTarget source.now.program.now target) }
+    ensures missing { result ≡ None → ¬ IsTarget source.now.program.now target }
 {
     match target {
         Target::Node(id) if id.0 < source.structures => Some(id.0),
@@ -53,7 +61,8 @@ pub fn pointer_row(
     offset: u32,
 ) -> Result<Option<WalkRow>, AllocError>
     requires source { IsSource source.now }
-    ensures { IfOk result (λ row. IfSome row (IsPointerRow (first_of source.now))) }
+    ensures row { IfOk result (λ row. IfSome row (IsPointerRow (first_of source.now))) }
+    ensures serves { IfOk result (ServesPointer source.now.program.now source.now.layouts.now (around_of around) (ty.Ptr target kind.now reorder) offset) }
 {
     let Some(target) = target else {
         return match kind {

@@ -1,10 +1,12 @@
 // The walks of roots.
-ghost use Rattle.std.specs.Prelude.{◌≡◌, ◌≤◌, ◌+◌, length, IfOk, OnOk, All};
+ghost use Rattle.std.specs.Prelude.{◌≡◌, ◌≤◌, ◌+◌, ◌*◌, ◌++◌, [], ◌∷◌, ℕ, true, false, length, IfOk, OnOk, All, Contains};
 ghost use Rattle.std.specs.List.{filter};
 ghost use Rattle.gt_types.specs.Shapes.{dimensions};
 ghost use Rattle.gt_layout.specs.Progress.{HoldsWithinDepth};
-ghost use Rattle.gt_tables.specs.Building.{IsSource, first_of, AreRows, AreParts, Grows, Shallow, IsThere, number_of_walks};
-ghost use Rattle.gt_tables.specs.Edges.{has_walk};
+ghost use Rattle.gt_types.specs.Contains.{HasStructure};
+ghost use Rattle.gt_tables.specs.Building.{IsSource, first_of, AreRows, AreParts, Grows, Shallow, IsThere, number_of_walks, AreServed, ServesRoot, ServesRoots, IsWalkOfRoot};
+ghost use Rattle.gt_tables.specs.Counting.{Counted};
+ghost use Rattle.gt_edges.specs.Edges.{has_walk};
 
 use crate::forms::{add_row, note};
 use crate::parts::Parts;
@@ -26,7 +28,12 @@ fn root_rows(
     requires parts { AreParts source.now.program.now parts.old }
     requires shallow { HoldsWithinDepth source.now.program.now root.now.ty 33 }
     requires flat { dimensions root.now.ty ≤ 4 }
+    requires served { AreServed source.now parts.old }
+    requires root { Contains source.now.program.now.roots root.now }
     ensures grows { OnOk result (Grows source.now.program.now parts.old parts.new) }
+    ensures counted { OnOk result ((n : ℕ) → Counted source.now.program.now parts.old n → Counted source.now.program.now parts.new (n + 1)) }
+    ensures served { OnOk result (AreServed source.now parts.new) }
+    ensures serves { IfOk result (λ rows. ServesRoot source.now parts.new.walks.items root.now address rows.items) }
     ensures rows { IfOk result (λ rows. AreRows (first_of source.now) parts.new.walks.items Shallow rows.items) }
 {
     let mut rows = note(source.alloc, source.layouts.statics.size, None)?;
@@ -48,8 +55,14 @@ fn add_root(
     requires parts { AreParts source.now.program.now parts.old }
     requires shallow { HoldsWithinDepth source.now.program.now root.now.ty 33 }
     requires flat { dimensions root.now.ty ≤ 4 }
+    requires served { AreServed source.now parts.old }
+    requires root { Contains source.now.program.now.roots root.now }
     requires roots { All (IsThere (first_of source.now) parts.old.walks.items) roots.old.items }
     ensures grows { OnOk result (Grows source.now.program.now parts.old parts.new) }
+    ensures counted { OnOk result ((n : ℕ) → Counted source.now.program.now parts.old (n + 2 * length roots.old.items) → Counted source.now.program.now parts.new (n + 2 * length roots.new.items)) }
+    ensures served { OnOk result (AreServed source.now parts.new) }
+    ensures serves { OnOk result (root.now.deletable ≡ false → (walk : ℕ) × (roots.new.items ≡ roots.old.items ++ walk ∷ []) × IsWalkOfRoot source.now parts.new.walks.items root.now address walk) }
+    ensures skips { OnOk result (root.now.deletable ≡ true → roots.new.items ≡ roots.old.items) }
     ensures roots { OnOk result (All (IsThere (first_of source.now) parts.new.walks.items) roots.new.items) }
     ensures count { OnOk result (length roots.new.items ≡ length roots.old.items + number_of_walks root.now.deletable) }
 {
@@ -66,7 +79,10 @@ fn add_root(
 pub fn root_walks(source: &Source<'_>, parts: &mut Parts) -> Result<Vec<u32>, AllocError>
     requires source { IsSource source.now }
     requires parts { AreParts source.now.program.now parts.old }
+    requires served { AreServed source.now parts.old }
     ensures grows { OnOk result (Grows source.now.program.now parts.old parts.new) }
+    ensures counted { IfOk result (λ roots. (n : ℕ) → Counted source.now.program.now parts.old n → Counted source.now.program.now parts.new (n + 2 * length roots.items)) }
+    ensures serves { IfOk result (λ roots. ServesRoots source.now parts.new.walks.items (length source.now.program.now.roots) roots.items) }
     ensures roots { IfOk result (λ roots. All (IsThere (first_of source.now) parts.new.walks.items) roots.items) }
     ensures count { IfOk result (λ roots. length roots.items ≡ length (filter has_walk source.now.program.now.roots)) }
 {

@@ -1,10 +1,14 @@
 // The rows of types, and the walks of the parts that they hold.
-ghost use Rattle.std.specs.Prelude.{◌≡◌, ◌≤◌, ◌<◌, ◌^◌, ℕ, length, IfOk, IfSome, OnOk, All};
+ghost use Rattle.std.specs.Prelude.{◌≡◌, ◌≤◌, ◌<◌, ◌^◌, ℕ, length, Some, IfOk, IfSome, OnOk, All};
+ghost use Rattle.gt_types.specs.declared.program.Structure.{Structure};
 ghost use Rattle.gt_types.specs.Shapes.{dimensions};
 ghost use Rattle.gt_types.specs.Contains.{HasStructure};
 ghost use Rattle.gt_layout.specs.Progress.{IsWithinDepth, HoldsWithinDepth};
 ghost use Rattle.gt_walk.specs.declared.rows.Arm.{out-Arm};
-ghost use Rattle.gt_tables.specs.Building.{IsSource, first_of, IsWalkOf, IsRow, AreRows, AreParts, Grows};
+ghost use Rattle.gt_types.specs.declared.types.Ty.TheVariants as ty;
+ghost use Rattle.gt_tree.specs.LeafLaws.{IsTypeIn};
+ghost use Rattle.gt_tables.specs.Building.{IsSource, first_of, IsWalkOf, IsRow, AreRows, AreParts, Grows, IsAround, IsPlaced, AreServed, ServesType, ServesPart, ServesStructure, ServesMembers, AddsFields};
+ghost use Rattle.gt_tables.specs.Counting.{Counts, with_site};
 
 use crate::forms::{add_row, arm, counted, note, repeated, sub_row, switch_row};
 use crate::parts::Parts;
@@ -28,9 +32,15 @@ pub fn type_row(
 ) -> Result<Option<WalkRow>, AllocError>
     requires source { IsSource source.now }
     requires parts { AreParts source.now.program.now parts.old }
+    requires served { AreServed source.now parts.old }
+    requires placed { IsPlaced source.now.program.now lies ty.now }
+    requires typed { IsTypeIn source.now.program.now ty.now }
     requires shallow { HoldsWithinDepth source.now.program.now ty.now depth }
     requires flat { dimensions ty.now ≤ 4 }
     ensures grows { OnOk result (Grows source.now.program.now parts.old parts.new) }
+    ensures served { OnOk result (AreServed source.now parts.new) }
+    ensures counts { OnOk result (Counts source.now.program.now (HoldsWithinDepth source.now.program.now ty.now) (with_site lies.site) parts.old parts.new) }
+    ensures serves { IfOk result (ServesType source.now parts.new.walks.items lies.around ty.now offset) }
     ensures row { IfOk result (λ row. IfSome row (IsRow (first_of source.now) parts.new.walks.items (HoldsWithinDepth source.now.program.now ty.now))) }
 {
     match ty {
@@ -70,9 +80,14 @@ fn part_walk(
 ) -> Result<Option<u32>, AllocError>
     requires source { IsSource source.now }
     requires parts { AreParts source.now.program.now parts.old }
+    requires served { AreServed source.now parts.old }
+    requires placed { IsPlaced source.now.program.now lies (ty.Node id desc.now) }
     requires there { id.0 < length source.now.program.now.structures }
     requires shallow { IsWithinDepth source.now.program.now id.0 depth }
     ensures grows { OnOk result (Grows source.now.program.now parts.old parts.new) }
+    ensures served { OnOk result (AreServed source.now parts.new) }
+    ensures counts { OnOk result (Counts source.now.program.now (HoldsWithinDepth source.now.program.now (ty.Node id desc.now)) (with_site lies.site) parts.old parts.new) }
+    ensures serves { IfOk result (ServesPart source.now parts.new.walks.items lies.around id desc.now) }
     ensures walk { IfOk result (λ walk. IfSome walk (IsWalkOf source.now.program.now (first_of source.now) parts.new.walks.items id.0)) }
 {
     let part = source.part_of(lies, id);
@@ -97,9 +112,15 @@ pub fn structure_rows(
 ) -> Result<Vec<WalkRow>, AllocError>
     requires source { IsSource source.now }
     requires parts { AreParts source.now.program.now parts.old }
+    requires served { AreServed source.now parts.old }
+    requires around { IsAround inner }
+    requires here { inner.here ≡ Some id }
     requires there { id.0 < length source.now.program.now.structures }
     requires shallow { IsWithinDepth source.now.program.now id.0 depth }
     ensures grows { OnOk result (Grows source.now.program.now parts.old parts.new) }
+    ensures served { OnOk result (AreServed source.now parts.new) }
+    ensures counts { OnOk result (Counts source.now.program.now (IsWithinDepth source.now.program.now id.0) (λ n. n) parts.old parts.new) }
+    ensures serves { IfOk result (λ rows. ServesStructure source.now parts.new.walks.items inner id desc.now chain rows.items) }
     ensures rows { IfOk result (λ rows. AreRows (first_of source.now) parts.new.walks.items (IsWithinDepth source.now.program.now id.0) rows.items) }
 {
     let structure = &source.program.structures.as_slice()[id.0 as usize];
@@ -131,6 +152,10 @@ fn add_fields(
 ) -> Result<(), AllocError>
     requires source { IsSource source.now }
     requires parts { AreParts source.now.program.now parts.old }
+    requires served { AreServed source.now parts.old }
+    requires around { IsAround inner }
+    requires here { inner.here ≡ Some id }
+    requires fields { (s : Structure) × HasStructure source.now.program.now id s × (s.fields ≡ fields.now) }
     requires few { length fields.now < 2 ^ 32 }
     requires spots { length spots.now ≡ length fields.now }
     requires shallow { All (λ f. HoldsWithinDepth source.now.program.now f.ty depth) fields.now }
@@ -138,6 +163,9 @@ fn add_fields(
     requires deep { (most : ℕ) → IsWithinDepth source.now.program.now id.0 most → All (λ f. HoldsWithinDepth source.now.program.now f.ty most) fields.now }
     requires rows { AreRows (first_of source.now) parts.old.walks.items (IsWithinDepth source.now.program.now id.0) rows.old.items }
     ensures grows { OnOk result (Grows source.now.program.now parts.old parts.new) }
+    ensures served { OnOk result (AreServed source.now parts.new) }
+    ensures counts { OnOk result (Counts source.now.program.now (IsWithinDepth source.now.program.now id.0) (λ n. n) parts.old parts.new) }
+    ensures adds { OnOk result (AddsFields source.now parts.new.walks.items inner fields.now spots.now rows.old.items rows.new.items) }
     ensures rows { OnOk result (AreRows (first_of source.now) parts.new.walks.items (IsWithinDepth source.now.program.now id.0) rows.new.items) }
 {
     for (i, field) in fields.iter().enumerate() {
@@ -160,11 +188,18 @@ fn union_arms(
 ) -> Result<Vec<Arm>, AllocError>
     requires source { IsSource source.now }
     requires parts { AreParts source.now.program.now parts.old }
+    requires served { AreServed source.now parts.old }
+    requires around { IsAround inner }
+    requires here { inner.here ≡ Some id }
+    requires fields { (s : Structure) × HasStructure source.now.program.now id s × (s.fields ≡ fields.now) }
     requires few { length fields.now < 2 ^ 32 }
     requires shallow { All (λ f. HoldsWithinDepth source.now.program.now f.ty depth) fields.now }
     requires flat { All (λ f. dimensions f.ty ≤ 4) fields.now }
     requires deep { (most : ℕ) → IsWithinDepth source.now.program.now id.0 most → All (λ f. HoldsWithinDepth source.now.program.now f.ty most) fields.now }
     ensures grows { OnOk result (Grows source.now.program.now parts.old parts.new) }
+    ensures served { OnOk result (AreServed source.now parts.new) }
+    ensures counts { OnOk result (Counts source.now.program.now (IsWithinDepth source.now.program.now id.0) (λ n. n) parts.old parts.new) }
+    ensures serves { IfOk result (λ arms. ServesMembers source.now parts.new.walks.items inner fields.now arms.items) }
     ensures arms { IfOk result (λ arms. All (λ a. IfSome (out-Arm a).row (IsRow (first_of source.now) parts.new.walks.items (IsWithinDepth source.now.program.now id.0))) arms.items) }
 {
     let mut arms = Vec::new(source.alloc);

@@ -1,6 +1,9 @@
 // What walks are made of, and where in structures they are made.
-ghost use Rattle.std.specs.Prelude.{◌≡◌, ◌+◌, ◌*◌, ◌<◌, ◌^◌, IfSome};
-ghost use Rattle.gt_tables.specs.Building.{IsSource, first_of};
+ghost use Rattle.std.specs.Prelude.{◌≡◌, ◌+◌, ◌*◌, ◌<◌, ◌^◌, Some, None, IfSome, slice_get};
+ghost use Rattle.std.specs.Bool.{Decides};
+ghost use Rattle.gt_types.specs.Paths.{MayStand};
+ghost use Rattle.gt_tables.specs.Building.{IsSource, first_of, part_of, part_at, depends, outermost_if, around_of, flag_at};
+ghost use Rattle.gt_edges.specs.Walks.{inside, outside, first_of as first_of_node};
 
 use gt_layout::Layouts;
 use gt_types::{List, Program, TypeId};
@@ -51,7 +54,9 @@ pub struct Part {
 
 impl Around {
     // Outside every structure.
-    pub fn outside() -> Around {
+    pub fn outside() -> Around
+        ensures { around_of result ≡ outside }
+    {
         Around {
             here: None,
             outer: None,
@@ -60,7 +65,9 @@ impl Around {
     }
 
     // Inside a structure.
-    pub fn enter(self, node: TypeId) -> Around {
+    pub fn enter(self, node: TypeId) -> Around
+        ensures { around_of result ≡ inside (around_of self) node }
+    {
         Around {
             here: Some(node),
             outer: self.here,
@@ -76,6 +83,8 @@ impl Lies {
     // In a field of the innermost structure.
     pub fn in_field(inner: Around, node: TypeId, field: usize) -> Lies
         requires few { field < 2 ^ 32 }
+        ensures around { result.around ≡ inner }
+        ensures site { result.site ≡ Some (record { container = node.0; field = field }) }
     {
         Lies {
             around: inner,
@@ -87,7 +96,10 @@ impl Lies {
     }
 
     // In a root.
-    pub fn in_root() -> Lies {
+    pub fn in_root() -> Lies
+        ensures around { around_of result.around ≡ outside }
+        ensures site { result.site ≡ None }
+    {
         Lies {
             around: Around::outside(),
             site: None,
@@ -96,7 +108,9 @@ impl Lies {
 }
 
 // What is known of the structure of a number.
-fn is_set(flags: &List<bool>, number: u32) -> bool {
+fn is_set(flags: &List<bool>, number: u32) -> bool
+    ensures { result ≡ flag_at flags.now number }
+{
     match flags.get(number as usize) {
         Some(flag) => *flag,
         None => false,
@@ -138,7 +152,10 @@ impl Source<'_> {
     }
 
     // Whether a structure may stand alone: it names no structure that contains it, and a union has a `desc` of its own.
-    pub fn may_stand(&self, id: TypeId) -> bool {
+    pub fn may_stand(&self, id: TypeId) -> bool
+        requires source { IsSource self.now }
+        ensures { Decides result (MayStand self.now.program.now id) }
+    {
         match self.program.structures.get(id.0 as usize) {
             Some(s) => !is_set(self.inner, id.0) && (!s.is_union || s.desc.is_some()),
             None => false,
@@ -146,34 +163,49 @@ impl Source<'_> {
     }
 
     // Whether the rows of a structure depend on where it lies: a union has its `desc` from there.
-    fn depends_on_site(&self, id: TypeId) -> bool {
+    fn depends_on_site(&self, id: TypeId) -> bool
+        ensures { result ≡ depends self.now id (slice_get self.now.program.now.structures id.0) }
+    {
         match self.program.structures.get(id.0 as usize) {
             Some(s) => s.is_union || is_set(self.inner, id.0),
             None => false,
         }
     }
 
-    // The part that a structure by value is. None of a union that is a root, which has its `desc` from there.
-    pub fn part_of(&self, lies: Lies, id: TypeId) -> Option<Part>
-        ensures node { IfSome result (λ part. part.node ≡ id.0) }
+    // The outermost structure around what lies there, where a structure reads it.
+    fn outermost_read(&self, lies: Lies, id: TypeId, reader: u32) -> Option<u32>
+        ensures { result ≡ outermost_if (flag_at self.now.readers.now reader) (Some (first_of_node (around_of lies.around).outermost id)) }
     {
-        let site = if self.depends_on_site(id) {
-            Some(lies.site?)
-        } else {
-            None
-        };
+        match lies.around.enter(id).outermost {
+            Some(outermost) if is_set(self.readers, reader) => Some(outermost.0),
+            _ => None,
+        }
+    }
+
+    // The part that a structure is at a site, or where none is told.
+    fn part_at(&self, lies: Lies, id: TypeId, site: Option<Site>) -> Part
+        ensures { result ≡ part_at self.now lies id site }
+    {
         let reader = match site {
             Some(site) => site.container,
             None => id.0,
         };
-        let outermost = match lies.around.enter(id).outermost {
-            Some(outermost) if is_set(self.readers, reader) => Some(outermost.0),
-            _ => None,
-        };
-        Some(Part {
+        Part {
             node: id.0,
             site,
-            outermost,
-        })
+            outermost: self.outermost_read(lies, id, reader),
+        }
+    }
+
+    // The part that a structure by value is. None of a union that is a root, which has its `desc` from there.
+    pub fn part_of(&self, lies: Lies, id: TypeId) -> Option<Part>
+        ensures node { IfSome result (λ part. part.node ≡ id.0) }
+        ensures part { result ≡ part_of self.now lies id }
+    {
+        if !self.depends_on_site(id) {
+            return Some(self.part_at(lies, id, None));
+        }
+        let site = lies.site?;
+        Some(self.part_at(lies, id, Some(site)))
     }
 }

@@ -18,7 +18,7 @@ use Rattle.gt_objects.proofs.Items.{first_there, later_there, none_there, there_
 use Rattle.gt_objects.proofs.Filtered.{kept_there}
 use Rattle.gt_objects.proofs.Naming.{object_of_block}
 use Rattle.gt_collect.proofs.Cleared.{each_named}
-use Rattle.gt_reach.proofs.Many.{fewer}
+use Rattle.gt_total.proofs.Fewer.{fewer}
 use Rattle.gt_next.specs.States.{State, Variables, IsGoodState, meaning}
 use Rattle.gt_next.specs.Collecting.{Collects, KeepsBound, NextCollect, NextForce, allocated, threshold}
 use Rattle.gt_next.specs.Texts.{allocated_of}

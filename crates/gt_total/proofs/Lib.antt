@@ -5,6 +5,7 @@ mod Goods
 mod Moved
 mod Runs
 mod Splits
+mod Fewer
 mod Collections
 mod Getting
 mod Words

@@ -39,7 +39,7 @@ pub record Frame : Type 0 where
   pub outer : Option ℕ
   pub outermost : Option ℕ
 
--- An element of a block is the innermost structure and the outermost (rows of pointers and strings have no expressions that tell).
+-- An element of a block is the innermost structure and the outermost (in a block of pointers or strings no row has an expression, so it does not matter there).
 -- At address 0 are the roots, in no structure.
 abbrev pub frame_at : ℕ → Frame
 frame_at zero = record { at = 0; here = None; outer = None; outermost = None }
@@ -148,7 +148,7 @@ row_edges range walks = fold-WalkRow Gives (Active × Option Gives) (row_step ra
 
 -- ---- the edges of walks
 
--- no walk has more parts inside one another
+-- no more walks stand one inside another
 abbrev pub MOST_NESTED : ℕ
 MOST_NESTED = 34
 

@@ -17,7 +17,7 @@ use gt_space::Space;
 use gt_types::Active;
 use sqlite_items::at;
 
-// No walk has more parts inside one another.
+// No more walks stand one inside another.
 const MOST_NESTED: u32 = 34;
 
 // The tables, and the space in which edges are looked for.

@@ -60,13 +60,13 @@ returns-in-Print-clause-next c =
 pub returns-in-Collect-clause-next : goal.returns-in-Collect-clause-next
 returns-in-Collect-clause-next c =
     subst
-    (λ (command : Command). IfOk c.collect.result (Goes (λ state answer t. Next c.args.s.now.schema.program c.args.s.now.schema.layouts state command answer t) c.args.s.now c.collect.new.s))
+    (λ (command : Command). Goes (λ state answer t. Next c.args.s.now.schema.program c.args.s.now.schema.layouts state command answer t) c.args.s.now c.collect.new.s c.collect.result)
     (sym c.in-Collect.is) c.collect.ensures.next
 
 pub returns-in-CollectForce-clause-next : goal.returns-in-CollectForce-clause-next
 returns-in-CollectForce-clause-next c =
     subst
-    (λ (command : Command). IfOk c.collect_force.result (Goes (λ state answer t. Next c.args.s.now.schema.program c.args.s.now.schema.layouts state command answer t) c.args.s.now c.collect_force.new.s))
+    (λ (command : Command). Goes (λ state answer t. Next c.args.s.now.schema.program c.args.s.now.schema.layouts state command answer t) c.args.s.now c.collect_force.new.s c.collect_force.result)
     (sym c.in-CollectForce.is) c.collect_force.ensures.next
 
 pub returns-in-Heap-clause-next : goal.returns-in-Heap-clause-next

@@ -1,12 +1,13 @@
-use Rattle.std.proofs.Common.{◌≡◌, ◌∙◌, ◌<◌, ap, sym, subst, arith, List, [], ◌∷◌, ◌++◌, None, false}
+use Rattle.std.proofs.Common.{◌≡◌, ◌∙◌, ◌<◌, ap, sym, subst, arith, List, [], ◌∷◌, ◌++◌, length, None, false}
 use Rattle.gt_walk.specs.declared.rows.Count.TheVariants as count
 use Rattle.gt_walk.specs.declared.rows.WalkRow.{WalkRow}
 use Rattle.gt_walk.specs.declared.rows.WalkRow.TheVariants as row
 use Rattle.gt_tree.specs.Blocks.{Chars}
-use Rattle.gt_tables.specs.Numbers.{walk_of}
-use Rattle.gt_tables.specs.Building.{first_of, AreRows, Shallow}
-use Rattle.gt_tables.proofs.Growing.{rows-note}
+use Rattle.gt_edges.specs.Numbers.{walk_of}
+use Rattle.gt_tables.specs.Building.{first_of, AreRows, Shallow, ServesPointers}
+use Rattle.gt_tables.proofs.Growing.{append-assoc, rows-note}
 use Rattle.gt_tables.proofs.Wholes.{list-add, rows-pointing}
+use Rattle.gt_tables.proofs.ServingBlocks.{walks-front, points-front}
 use Rattle.gt_tables.proofs.blocks.block_walks.Goals as goal
 
 pub returns-clause-walks : goal.returns-clause-walks
@@ -35,3 +36,28 @@ returns-clause-ends c =
           ∙ ap (λ (s : List WalkRow). (front ++ s ∷ []) ++ c.of-2.result ∷ []) strings
           ∙ ap (λ (b : List WalkRow). (front ++ (row.Note 8 None ∷ row.Ptr 0 (walk_of program Chars) (count.Fixed 0) false ∷ []) ∷ []) ++ b ∷ []) none;
     }
+
+-- what stands before the last two walks stands in all
+all-walks : {X : Type 0} (xs ys zs : List X) (x y : X) → ys ≡ xs ++ x ∷ [] → zs ≡ ys ++ y ∷ [] → zs ≡ xs ++ (x ∷ y ∷ [])
+all-walks xs ys zs x y first second = second ∙ ap (λ l. l ++ y ∷ []) first ∙ append-assoc xs (x ∷ []) (y ∷ [])
+
+pub returns-clause-serves : goal.returns-clause-serves
+returns-clause-serves c =
+    let source = c.args.source.now in
+    let parts = c.standing_walks.new.parts.walks.items in
+    let kept = c.in_ok-add_pointer_walks.ensures.kept in
+    let pointers = c.add_pointer_walks.new.walks.items in
+    let long : length c.in_ok-walks.walks.items ≡ length source.program.now.structures = c.in_ok-walks.ensures.long ∙ c.requires.source.count in
+    let more = c.of.result ∷ c.of-2.result ∷ [] in
+    let is = all-walks pointers c.push.new.self.items c.push-2.new.self.items c.of.result c.of-2.result c.in_ok-push.ensures.items c.in_ok-push-2.ensures.items in
+    walks-front source parts c.in_ok-walks.walks.items (kept.0 ++ more) c.push-2.new.self.items (is ∙ ap (λ l. l ++ more) kept.1 ∙ append-assoc c.in_ok-walks.walks.items kept.0 more) long c.in_ok-walks.ensures.serves
+
+pub returns-clause-pointers : goal.returns-clause-pointers
+returns-clause-pointers c =
+    let program = c.args.source.now.program.now in
+    let pointers = c.add_pointer_walks.new.walks.items in
+    let more = c.of.result ∷ c.of-2.result ∷ [] in
+    let is = all-walks pointers c.push.new.self.items c.push-2.new.self.items c.of.result c.of-2.result c.in_ok-push.ensures.items c.in_ok-push-2.ensures.items in
+    let long : length c.in_ok-walks.walks.items ≡ length program.structures = c.in_ok-walks.ensures.long ∙ c.requires.source.count in
+    points-front program (length program.structures) pointers more c.push-2.new.self.items is (omega (arith, long, c.in_ok-add_pointer_walks.ensures.long, c.requires.source.count))
+    (subst (λ n. ServesPointers program n pointers) long c.in_ok-add_pointer_walks.ensures.pointers)

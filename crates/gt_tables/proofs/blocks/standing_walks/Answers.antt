@@ -1,8 +1,11 @@
-use Rattle.std.proofs.Common.{sym, subst, arith, List}
+use Rattle.std.proofs.Common.{length, ap, sym, subst, arith, List}
+use Rattle.std.specs.Prelude.{All}
+use Rattle.std.proofs.lemmas.List.Elements.{All-nil}
 use Rattle.gt_walk.specs.declared.rows.WalkRow.{WalkRow}
-use Rattle.gt_tables.specs.Building.{first_of, AreRows, Shallow}
-use Rattle.gt_tables.proofs.Keeping.{grows-on}
+use Rattle.gt_tables.specs.Building.{first_of, AreRows, Shallow, ServesWalk}
+use Rattle.gt_tables.proofs.Keeping.{grows-not, grows-on}
 use Rattle.gt_tables.proofs.Wholes.{list-add, list-on, one-longer}
+use Rattle.gt_tables.proofs.ServingBlocks.{each-none, each-step, each-all}
 use Rattle.gt_tables.proofs.blocks.standing_walks.Goals as goal
 
 pub loop-i-preserved : goal.loop-i-preserved
@@ -12,9 +15,30 @@ loop-i-preserved c =
     let walks = c.standing_rows.new.parts.walks.items in
     record {
       grows = grows-on program c.args.parts.now c.loop-i.parts c.standing_rows.new.parts c.loop-i.invariant.grows c.in_ok-rows.ensures.grows;
+      served = c.in_ok-rows.ensures.served;
+      counted = λ n h. c.in_ok-rows.ensures.counted n (c.loop-i.invariant.counted n h);
+      serves =
+          each-step c.args.source.now c.loop-i.parts c.standing_rows.new.parts c.in_ok-rows.ensures.grows c.loop-i.walks.items c.push.new.self.items c.of.result (record { 0 = c.loop-i.i })
+          (sym c.loop-i.invariant.long) c.in_ok-push.ensures.items
+          (subst (ServesWalk c.args.source.now walks (record { 0 = c.loop-i.i })) (sym c.of.ensures.items) c.in_ok-rows.ensures.serves) c.loop-i.invariant.serves;
       walks =
           list-add first walks c.loop-i.walks.items c.push.new.self.items c.of.result c.in_ok-push.ensures.items
           (list-on first program c.loop-i.parts c.standing_rows.new.parts c.in_ok-rows.ensures.grows c.loop-i.walks.items c.loop-i.invariant.walks)
           (subst (AreRows first walks Shallow) (sym c.of.ensures.items) c.in_ok-rows.ensures.rows);
       long = omega (arith, one-longer (List WalkRow) c.loop-i.walks.items c.push.new.self.items c.of.result c.in_ok-push.ensures.items, c.loop-i.invariant.long);
+    }
+
+pub returns-clause-serves : goal.returns-clause-serves
+returns-clause-serves c = each-all c.args.source.now c.loop-i.parts.walks.items c.loop-i.walks.items c.loop-i.invariant.serves
+
+pub loop-i-init : goal.loop-i-init
+loop-i-init c =
+    let P = AreRows (first_of c.args.source.now) c.args.parts.now.walks.items Shallow in
+    record {
+      grows = grows-not c.args.source.now.program.now c.args.parts.now c.requires.parts;
+      served = c.requires.served;
+      counted = λ n h. h;
+      serves = each-none c.args.source.now c.args.parts.now.walks.items c.new-walks.result.items c.new-walks.ensures.items;
+      walks = subst (All P) (sym c.new-walks.ensures.items) (All-nil P);
+      long = ap length c.new-walks.ensures.items;
     }

@@ -1,11 +1,16 @@
-use Rattle.std.proofs.Common.{◌≡◌, length}
+use Rattle.std.proofs.Common.{◌≡◌, ℕ, length}
 use Rattle.std.specs.Prelude.{All}
-use Rattle.gt_tables.specs.Building.{first_of, AreRows, Grows, Shallow}
+use Rattle.gt_tables.specs.Building.{first_of, AreRows, Grows, Shallow, AreServed}
+use Rattle.gt_tables.specs.Counting.{Counted}
+use Rattle.gt_tables.proofs.ServingBlocks.{EachServes}
 use Rattle.gt_tables.proofs.blocks.standing_walks.Given as goal
 
 abbrev pub invariant-loop-i : goal.invariant-loop-i
 invariant-loop-i l = record {
   grows : Grows l.source.program.now l.fn.parts l.parts;
+  served : AreServed l.source l.parts;
+  counted : (n : ℕ) → Counted l.source.program.now l.fn.parts n → Counted l.source.program.now l.parts n;
+  serves : EachServes l.source l.parts.walks.items l.walks.items;
   walks : All (AreRows (first_of l.source) l.parts.walks.items Shallow) l.walks.items;
   long : length l.walks.items ≡ l.i;
 }

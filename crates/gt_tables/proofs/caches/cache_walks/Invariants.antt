@@ -1,5 +1,5 @@
 use Rattle.std.proofs.Common.{◌≡◌, ◌++◌, map, drop}
-use Rattle.gt_tables.specs.Tables.{cache_walks}
+use Rattle.gt_edges.specs.Tables.{cache_walks}
 use Rattle.gt_tables.proofs.caches.cache_walks.Given as goal
 
 abbrev pub invariant-loop-cache : goal.invariant-loop-cache

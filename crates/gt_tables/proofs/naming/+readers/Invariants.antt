@@ -1,4 +1,5 @@
-use Rattle.std.proofs.Common.{◌≡◌, ◌+◌, ◌*◌, length}
+use Rattle.std.proofs.Common.{◌+◌, ◌*◌, length}
+use Rattle.gt_tables.specs.Naming.{IsSoFar}
 use Rattle.gt_tables.proofs.naming.+readers.Given as goal
 
 abbrev pub decreases-reads : goal.decreases-reads
@@ -8,4 +9,4 @@ abbrev pub decreases-held_reads : goal.decreases-held_reads
 decreases-held_reads l = 2 * l.depth
 
 abbrev pub invariant-reads-loop-field : goal.invariant-reads-loop-field
-invariant-reads-loop-field l = length l.known.items ≡ length l.fn.known.items
+invariant-reads-loop-field l = IsSoFar l.program l.initial.found l.field-items l.field-index l.found l.known.items (length l.fn.known.items)

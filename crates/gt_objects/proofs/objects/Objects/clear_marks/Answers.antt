@@ -1,10 +1,11 @@
-use Rattle.std.proofs.Common.{◌∙◌, ap, is_some, map}
-use Rattle.gt_pages.specs.Slots.{block_of, mark_at}
+use Rattle.std.proofs.Common.{◌≡◌, ◌∙◌, ap, sym, subst, map, None}
+use Rattle.std.specs.Prelude.{All}
+use Rattle.gt_pages.specs.Slots.{block_of}
 use Rattle.gt_objects.proofs.Marking.{blocks_unmarked, heap_marked, none_marked}
 use Rattle.gt_objects.proofs.objects.Objects.clear_marks.Goals as goal
 
 pub returns-clause-none : goal.returns-clause-none
-returns-clause-none c = λ address. ap (λ p. is_some (mark_at p.slots address)) c.clear_marks.ensures.cleared ∙ ap is_some (none_marked c.args.self.now.pages.slots address)
+returns-clause-none c = subst (All (λ s. s.mark ≡ None)) (sym (ap (λ p. p.slots) c.clear_marks.ensures.cleared)) (none_marked c.args.self.now.pages.slots)
 
 pub returns-clause-heap : goal.returns-clause-heap
 returns-clause-heap c = λ program layouts heap is.

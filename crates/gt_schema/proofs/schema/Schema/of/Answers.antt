@@ -12,6 +12,7 @@ returns c = record {
     names = c.in_ok-types.ensures.names;
     fields = c.in_ok-fields.ensures.fields;
     reads = c.in_ok-fields.ensures.reads;
+    tables = c.in_ok-fields.ensures.tables;
   };
   program = refl;
   layouts = refl;

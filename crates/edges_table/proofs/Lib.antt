@@ -1,0 +1,2 @@
+pub mod FewFields
+pub mod Sites

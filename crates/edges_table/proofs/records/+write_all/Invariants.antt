@@ -1,0 +1,4 @@
+use Rattle.edges_table.proofs.records.+write_all.Given as goal
+
+abbrev pub decreases-write_all : goal.decreases-write_all
+decreases-write_all l = l.writes

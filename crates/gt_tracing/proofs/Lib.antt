@@ -1,0 +1,15 @@
+pub mod Blocks
+pub mod Starting
+pub mod Reaching
+pub mod Rounds
+pub mod EdgeLists
+pub mod Sizes
+pub mod Named
+pub mod Leaves
+pub mod Elements
+pub mod Fields
+pub mod Roots
+pub mod ChainSteps
+pub mod ChainLeaf
+pub mod Aside
+pub mod Traced
