@@ -125,17 +125,20 @@ module _ (program : Program) (layouts : Layouts) (objects : Objects) (heap : Hea
   }
 
   -- how many are left
+  pub marked_left : length (marked_in objects heap.graph.objects) ≡ length (filter has_mark objects.pages.slots)
+  marked_left =
+      let placed : List Placed = filter (λ p. is_marked objects p.id) heap.places.placed in
+      let named : map (λ p. p.id) placed ≡ map (λ o. o.id) (marked_in objects heap.graph.objects) =
+      map_kept (λ p. p.id) (is_marked objects) heap.places.placed ∙ ap (filter (is_marked objects)) is.good.places.names ∙ sym (map_kept (λ o. o.id) (is_marked objects) heap.graph.objects) in
+      sym (length-map (marked_in objects heap.graph.objects) (λ o. o.id)) ∙ sym (ap length named) ∙ length-map placed (λ p. p.id)
+      ∙ sym (length-map placed (λ p. p.block)) ∙ sym (ap length blocks_left) ∙ length-map (filter has_mark objects.pages.slots) block_of
+
   pub count_left : count_by is_unmarked objects.pages.slots + length (marked_in objects heap.graph.objects) ≡ length heap.graph.objects
   count_left =
       let all : length heap.graph.objects ≡ length objects.pages.slots =
       sym (length-map heap.graph.objects (λ o. o.id)) ∙ sym (ap length is.good.places.names) ∙ length-map heap.places.placed (λ p. p.id)
       ∙ sym (length-map heap.places.placed (λ p. p.block)) ∙ sym (ap length blocks_are) ∙ length-map objects.pages.slots block_of in
-      let placed : List Placed = filter (λ p. is_marked objects p.id) heap.places.placed in
-      let named : map (λ p. p.id) placed ≡ map (λ o. o.id) (marked_in objects heap.graph.objects) =
-      map_kept (λ p. p.id) (is_marked objects) heap.places.placed ∙ ap (filter (is_marked objects)) is.good.places.names ∙ sym (map_kept (λ o. o.id) (is_marked objects) heap.graph.objects) in
-      let left : length (marked_in objects heap.graph.objects) ≡ length (filter has_mark objects.pages.slots) =
-      sym (length-map (marked_in objects heap.graph.objects) (λ o. o.id)) ∙ sym (ap length named) ∙ length-map placed (λ p. p.id)
-      ∙ sym (length-map placed (λ p. p.block)) ∙ sym (ap length blocks_left) ∙ length-map (filter has_mark objects.pages.slots) block_of in
+      let left = marked_left in
       let both = count_kept has_mark is_unmarked (λ s. none_or s.mark) objects.pages.slots in
       omega (arith, all, left, both)
     where

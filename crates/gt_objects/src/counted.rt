@@ -121,6 +121,13 @@ impl CountedPages {
         self.pages.marked_as(addr).is_some()
     }
 
+    /// How many blocks are marked.
+    pub(crate) fn marked_len(&self) -> u32
+        ensures len { result ≡ length (filter is_marked self.now.slots) }
+    {
+        marked_totals(&self.pages).len()
+    }
+
     /// Frees the blocks that are not marked, and says how many these were. It takes no memory.
     pub(crate) fn sweep(&mut self) -> u32
         ensures kept { self.new.slots ≡ filter is_marked self.old.slots }

@@ -59,6 +59,13 @@ impl Objects {
         self.pages.marked(addr)
     }
 
+    /// How many objects are marked. It takes no memory, and its time is linear in them and in the pages in use.
+    pub fn marked_len(&self) -> u32
+        ensures len { (program : Program) (layouts : Layouts) (heap : Heap) → IsHeapOf program layouts self.now heap → result ≡ length (marked_in self.now heap.graph.objects) }
+    {
+        self.pages.marked_len()
+    }
+
     /// Frees the objects that are not marked, and says how many these were: all that marked objects, roots and pairs name has to be
     /// marked. It takes no memory.
     pub fn sweep(&mut self) -> u32

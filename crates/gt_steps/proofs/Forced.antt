@@ -91,9 +91,9 @@ module _ (old : Session) (objects : Objects) (caches : Entries) (vars : Variable
     collects : Collects old.schema.program s kept freed dropped left
     collects = record {
       heap = is.after;
-      kept_count = is.kept_count;
-      freed_count = is.freed_count;
-      dropped_count = is.dropped_count;
+      kept_count = is.counts.kept_count;
+      freed_count = is.counts.freed_count;
+      dropped_count = is.counts.dropped_count;
       variables = bound;
       rounds = is.rounds;
       rest = ap (λ n. let t : State = record s { heap = after; variables = vars; last = n; rounds = rounds } in t) bytes;
