@@ -35,7 +35,7 @@ held_of_told held (file ∷ files) [] t = absurd t
 held_of_told held (file ∷ files) (text ∷ texts) t = (t.0.1 held refl, t.0.0, held_of_told held files texts t.1)
 
 -- and so are those that are told for a script
-there_of_told : (held : Held) (script : ScriptWord) (headers : List (List ℕ)) (texts : Texts) → AreTextsFor (Some held) script headers texts → AreThere held script headers texts
+there_of_told : (held : Held) (script : ScriptWord) (headers : List (List ℕ)) (texts : Texts) → AreTextsFor (Some held) script headers texts → AreThere script (Some held) headers texts
 there_of_told held (NamedFile name) headers texts t = held_of_told held (files_in_order name headers) (texts.headers ++ texts.script ∷ []) t
 there_of_told held (Generated word n) headers texts t = t
 
@@ -112,7 +112,7 @@ same_read : (words : List (List ℕ)) (held : Held) (call other : Call) (texts o
 same_read words held call other texts others a b =
     let same : call ≡ other = same_call _ _ (sym a.called ∙ b.called) in
     let T : Call → Type 0 = λ c. AreTextsFor (Some held) c.script c.headers texts in
-    let w = same_texts held (Some held) refl other.script other.headers others texts (there_of_told held other.script other.headers others b.texts_are) (subst T same a.texts_are) in
+    let w = same_texts (Some held) other.script other.headers others texts (there_of_told held other.script other.headers others b.texts_are) (subst T same a.texts_are) in
     same_pair texts others w.0 w.1
 
 -- what is refused once there are texts

@@ -82,11 +82,12 @@ parts (a ∷ xs) (b ∷ ys) x y e =
     (cc, w.1)
 
 -- the texts that were read for a script are those that are there
-pub same_texts : (held : Held) (told : Option Held) → told ≡ Some held → (script : ScriptWord) (headers : List (List ℕ)) (texts others : Texts)
-    → AreThere held script headers texts → AreTextsFor told script headers others → (others.headers ≡ texts.headers) × (others.script ≡ texts.script)
-same_texts held told e (NamedFile name) headers texts others there read =
-    parts others.headers texts.headers others.script texts.script (held_texts held told e (files_in_order name headers) _ _ there read)
-same_texts held told e (Generated word n) headers texts others there read =
+pub same_texts : (told : Option Held) (script : ScriptWord) (headers : List (List ℕ)) (texts others : Texts)
+    → AreThere script told headers texts → AreTextsFor told script headers others → (others.headers ≡ texts.headers) × (others.script ≡ texts.script)
+same_texts (Some held) (NamedFile name) headers texts others there read =
+    parts others.headers texts.headers others.script texts.script (held_texts held (Some held) refl (files_in_order name headers) _ _ there read)
+same_texts None (NamedFile name) headers texts others there read = absurd there
+same_texts told (Generated word n) headers texts others there read =
     let same : others ≡ texts = read ∙ sym there in (ap (λ (t : Texts). t.headers) same, ap (λ (t : Texts). t.script) same)
 
 -- a file that is held within its limit is refused only for a fault
@@ -107,6 +108,12 @@ refused_file held told e files texts there word why r =
     let one = held_one held r.before r.file r.after texts (subst H r.split there) in
     no_refusal held told e r.file one.0 one.1 one.2 why r.refused
 
+-- and so it is with the files of a script that is in a file
+pub refused_named : (told : Option Held) (name : List ℕ) (headers : List (List ℕ)) (texts : Texts) → AreThere (NamedFile name) told headers texts
+    → (word : ℕ) (why : FileWhy) → IsRefusedFile told (files_in_order name headers) word why → why ≡ Fault
+refused_named (Some held) name headers texts there word why r = refused_file held (Some held) refl (files_in_order name headers) (texts.headers ++ texts.script ∷ []) there word why r
+refused_named None name headers texts there word why r = absurd there
+
 -- each script has one outcome
 abbrev pub OneOutcome : Type 0
 OneOutcome = (text : List ℕ) (outcome other : Result (List Line) ScriptStop) → IsOutcome text outcome → IsOutcome text other → outcome ≡ other
@@ -120,13 +127,13 @@ pub no_script_fault : OneOutcome → (text : List ℕ) (lines : List Line) (numb
 no_script_fault one text lines number line parsed (inl h) = let e = one text (Ok lines) (Err (ScriptSyntax line)) parsed h.1 in absurd (cc)
 no_script_fault one text lines number line parsed (inr h) = let e = one text (Ok lines) (Err ScriptTooLong) parsed h.2 in absurd (cc)
 
-module _ (one : OneOutcome) (no_fault : NoFault) (words : List (List ℕ)) (held : Held) (told : Option Held) (e : told ≡ Some held) (well : IsWell words held) where
-  -- the texts that were read are those that are held
+module _ (one : OneOutcome) (no_fault : NoFault) (words : List (List ℕ)) (told : Option Held) (well : IsWell words told) where
+  -- the texts that were read are those that are there
   read_texts : (call : Call) (texts : Texts) → Reads words told call texts → (texts.headers ≡ well.texts.headers) × (texts.script ≡ well.texts.script)
   read_texts call texts reads =
       let same : call ≡ well.call = same_call _ _ (sym reads.called ∙ well.called) in
       let T : Call → Type 0 = λ c. AreTextsFor told c.script c.headers texts in
-      same_texts held told e well.call.script well.call.headers well.texts texts well.there (subst T same reads.texts_are)
+      same_texts told well.call.script well.call.headers well.texts texts well.there (subst T same reads.texts_are)
 
   -- so the headers that were read declare the program
   declares : (call : Call) (texts : Texts) → Reads words told call texts → Declares texts.headers well.program
@@ -151,10 +158,9 @@ module _ (one : OneOutcome) (no_fault : NoFault) (words : List (List ℕ)) (held
   called_file : (call : Call) (name : List ℕ) → Calls words call name → (word : ℕ) (why : FileWhy) → IsRefusedFile told (files_in_order name call.headers) word why → why ≡ Fault
   called_file call name calls word why r =
       let same : well.call ≡ call = same_call _ _ (sym well.called ∙ calls.called) in
-      let T : Call → Type 0 = λ c. AreThere held c.script c.headers well.texts in
-      let S : ScriptWord → Type 0 = λ script. AreThere held script call.headers well.texts in
-      refused_file held told e (files_in_order name call.headers) (well.texts.headers ++ well.texts.script ∷ [])
-      (subst S calls.script (subst T same well.there)) word why r
+      let T : Call → Type 0 = λ c. AreThere c.script told c.headers well.texts in
+      let S : ScriptWord → Type 0 = λ script. AreThere script told call.headers well.texts in
+      refused_named told name call.headers well.texts (subst S calls.script (subst T same well.there)) word why r
 
   -- up to the lines of the script, a refusal is one for a fault of a file
   Comes-well : (texts : Texts) (refusal : Refusal) → Comes words told texts refusal → IsReadFault refusal
@@ -164,7 +170,7 @@ module _ (one : OneOutcome) (no_fault : NoFault) (words : List (List ℕ)) (held
   Comes-well texts NotBuilt comes = absurd comes
   Comes-well texts (Script number line) comes = absurd (no_script_fault one texts.script well.lines number line (parsed comes.0 texts comes.1) comes.3)
 
-  -- and so it is behind them
+  -- and so it is after them
   pub refused_well : (texts : Texts) (refusal : Refusal) → IsRefusedFirst words told texts refusal → IsReadFault refusal
   refused_well texts refusal (inl comes) = Comes-well texts refusal comes
   refused_well texts refusal (inr unbuilt) = absurd (no_unbuilt unbuilt.1 unbuilt.2 unbuilt.3 unbuilt.4 unbuilt.5)

@@ -62,7 +62,7 @@ pub fn top<F: Files, K: Sink>(
     ensures sink_cause { result.status ≡ 4 → Rose (K.faults out.old) (K.faults out.new) }
 
     // Where all is well, the script is run to its end, or memory runs out.
-    ensures complete { (held : Held) → F.told files.old ≡ Some held → IsWell words.now held
+    ensures complete { IsWell words.now (F.told files.old)
         → (Rose (F.faults files.old) (F.faults files.new) → ⊥) → (Rose (K.faults out.old) (K.faults out.new) → ⊥)
         → (result.status ≡ 0) ⊎ (result.status ≡ 1) ⊎ (result.status ≡ 9) }
 
@@ -88,7 +88,7 @@ pub fn top<F: Files, K: Sink>(
 
 // Where all is well, nothing is refused first but a file whose reading failed. It does nothing: its clause is a law.
 fn well_is_not_refused()
-    ensures { (words : List (List ℕ)) (held : Held) (told : Option Held) (texts : Texts) (refusal : Refusal) → told ≡ Some held → IsWell words held → IsRefusedFirst words told texts refusal → (word : ℕ) × (refusal ≡ Refusal.File word FileWhy.Fault) }
+    ensures { (words : List (List ℕ)) (told : Option Held) (texts : Texts) (refusal : Refusal) → IsWell words told → IsRefusedFirst words told texts refusal → (word : ℕ) × (refusal ≡ Refusal.File word FileWhy.Fault) }
 {
     gt_script::one_outcome();
     headers_outcome();

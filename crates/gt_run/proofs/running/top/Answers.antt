@@ -25,12 +25,12 @@ returns-in-Ok-clause-unused g c =
     Ends-unanswered words before _ _ c.run_ready.result c.run_ready.new.space ended
 
 pub returns-in-Ok-clause-complete : goal.returns-in-Ok-clause-complete
-returns-in-Ok-clause-complete g c = λ held told well no_file no_sink.
+returns-in-Ok-clause-complete g c = λ well no_file no_sink.
     let words = c.args.words.now in
     let before = g.F.Files.told c.args.files.now in
     let ended : Ends words before (g.K.Sink.written c.args.out.now) (g.K.Sink.written c.run_ready.new.out) c.run_ready.result c.run_ready.new.space = search rules in
     let file_rose : (word : ℕ) → c.run_ready.result.refusal ≡ Some (InFile word Fault) → Rose (g.F.Files.faults c.args.files.now) (g.F.Files.faults c.run_ready.new.files) = search rules in
-    Ends-well words before _ _ c.run_ready.result c.run_ready.new.space _ _ (λ texts refusal first. c.well_is_not_refused.ensures words held before texts refusal told well first) no_file no_sink
+    Ends-well words before _ _ c.run_ready.result c.run_ready.new.space _ _ (λ texts refusal first. c.well_is_not_refused.ensures words before texts refusal well first) no_file no_sink
     file_rose c.run_ready.ensures.cause ended
 
 pub returns-in-Ok-clause-refused : goal.returns-in-Ok-clause-refused
@@ -58,11 +58,11 @@ pub returns-in-Err-Refused-clause-ended : goal.returns-in-Err-Refused-clause-end
 returns-in-Err-Refused-clause-ended g c = refused_ends g c
 
 pub returns-in-Err-Refused-clause-complete : goal.returns-in-Err-Refused-clause-complete
-returns-in-Err-Refused-clause-complete g c = λ held told well no_file no_sink.
+returns-in-Err-Refused-clause-complete g c = λ well no_file no_sink.
     let words = c.args.words.now in
     let before = g.F.Files.told c.args.files.now in
     let file_rose : (word : ℕ) → c.refused_outcome.result.refusal ≡ Some (InFile word Fault) → Rose (g.F.Files.faults c.args.files.now) (g.F.Files.faults c.prepare.new.files) = search rules in
-    Ends-well words before _ _ c.refused_outcome.result c.args.space.now _ _ (λ texts refusal first. c.well_is_not_refused.ensures words held before texts refusal told well first) no_file no_sink
+    Ends-well words before _ _ c.refused_outcome.result c.args.space.now _ _ (λ texts refusal first. c.well_is_not_refused.ensures words before texts refusal well first) no_file no_sink
     file_rose c.refused_outcome.ensures.cause (refused_ends g c)
 
 pub returns-in-Err-Refused-clause-refused : goal.returns-in-Err-Refused-clause-refused
