@@ -1,6 +1,6 @@
 -- What the marks of a collection leave marked leads to marked objects alone, once deletable roots are null; and what a sweep leaves then.
 use Rattle.std.proofs.Common.{◌≡◌, ◌≢◌, ℕ, ◌+◌, cond, List, [], ◌∷◌, Some, length, refl, ap, sym, subst, ◌∙◌, inl, inr, arith}
-use Rattle.std.specs.Prelude.{◌↔◌, IsTrue, All, AllPairs, Contains}
+use Rattle.std.specs.Prelude.{IsTrue, All, AllPairs, Contains}
 use Rattle.std.specs.List.{AllZip}
 use Rattle.std.proofs.lemmas.Bool.{eq-eqb, ne_eqb}
 use Rattle.std.proofs.lemmas.List.Elements.{All-contains, All-weaker}
@@ -11,7 +11,7 @@ use Rattle.gt_tree.specs.Blocks.{Block}
 use Rattle.gt_graph.specs.Objects.{Object, Graph, object_of, blocks_of, pairs_in}
 use Rattle.gt_graph.specs.Good.{ArePairsOf, Heap, IsObject}
 use Rattle.gt_graph.specs.Kept.{PointsTo, ReachedFrom, ReachedWith, without_deletable}
-use Rattle.gt_graph.specs.Rounds.{AreRounds, IsOnlyFrom}
+use Rattle.gt_graph.specs.Rounds.{IsOnlyFrom}
 use Rattle.gt_objects.specs.declared.objects.Objects.{Objects}
 use Rattle.gt_objects.specs.Holding.{IsHeapOf}
 use Rattle.gt_objects.specs.Marks.{IsClosed, is_marked, marked_in, swept}
@@ -119,8 +119,27 @@ module _ (program : Program) (layouts : Layouts) (before objects : Objects) (sam
   }
 
   -- the marks are those of the pages, which are the same
+  same_mark : (id : ℕ) → is_marked objects id ≡ is_marked before id
+  same_mark id = ap (λ p. is_marked (record before { pages = p }) id) same
+
+  abbrev Marked : Objects → ℕ → Type 0
+  Marked holder id = IsTrue (is_marked holder id)
+
+  still : (ids : List ℕ) → All (Marked before) ids → All (Marked objects) ids
+  still ids all = All-weaker (Marked before) (Marked objects) (λ id marked. subst IsTrue (sym (same_mark id)) marked) ids all
+
+  abbrev Both : Objects → ℕ × ℕ → Type 0
+  Both holder pair = IsTrue (is_marked holder pair.0) × IsTrue (is_marked holder pair.1)
+
+  still_pairs : (pairs : List (ℕ × ℕ)) → All (Both before) pairs → All (Both objects) pairs
+  still_pairs pairs all = All-weaker (Both before) (Both objects) (λ pair marked. (subst IsTrue (sym (same_mark pair.0)) marked.0, subst IsTrue (sym (same_mark pair.1)) marked.1)) pairs all
+
   pub closed : IsClosed objects settled_heap.graph
-  closed = subst (λ p. IsClosed (record before { pages = p }) settled_heap.graph) (sym same) closed_before
+  closed = record {
+    objects_lead = λ o there stays. still (edges o.value) (closed_before.objects_lead o there (subst IsTrue (same_mark o.id) stays));
+    roots_lead = still (all_edges (without_deletable program.roots heap.graph.statics)) closed_before.roots_lead;
+    pairs_lead = All-weaker (λ pairs. All (Both before) pairs) (λ pairs. All (Both objects) pairs) still_pairs (staying caches) closed_before.pairs_lead;
+  }
 
   pub same_swept : swept objects settled_heap ≡ finished_heap program before caches heap
   same_swept = ap (λ p. swept (record before { pages = p }) settled_heap) same

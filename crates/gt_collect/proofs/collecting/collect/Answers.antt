@@ -1,4 +1,4 @@
-use Rattle.std.proofs.Common.{◌∙◌, sym, subst}
+use Rattle.std.proofs.Common.{◌∙◌, sym}
 use Rattle.gt_collect.specs.Finishing.{finished_heap}
 use Rattle.gt_collect.proofs.Closed.{can_finish, collected}
 use Rattle.gt_collect.proofs.collecting.collect.Goals as goal

@@ -56,7 +56,7 @@ returns-clause-heap c = λ heap is held can.
     let few : pairs_in (staying caches) ≤ MAX_PAIRS = omega (arith, total, all, ap pairs_in held) in
     let settled = settled_heap program layouts before objects same heap is caches can in
     let standing = c.pairs_may_change.ensures program layouts objects (cleared_heap program heap) (staying caches) cleared (pairs_are program layouts before objects same heap is caches can) few in
-    subst (λ h. IsHeapOf program layouts c.sweep-freed.new.objects h) (same_swept program layouts before objects same heap is caches can)
+    subst (λ h. IsHeapOf program layouts c.sweep-freed.new.self h) (same_swept program layouts before objects same heap is caches can)
     (c.sweep-freed.ensures.swept program layouts settled c.requires.schema.settled standing (closed program layouts before objects same heap is caches can))
 
 pub returns-clause-counts : goal.returns-clause-counts
