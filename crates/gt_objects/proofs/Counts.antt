@@ -155,30 +155,3 @@ few_blocks c laid =
     let s = there_mapped block_of c.slots b there in
     subst (λ b. 8 ≤ b.size) s.2 (size_bounds s.0.size (laid.listed s.0 s.1)).0) in
     record { many = omega (arith, pages, all, eight); bytes = omega (arith, pages, all) }
-
--- so are some of them
-pub few_kept : (keeps : Slot → Bool) (slots : List Slot) → AreFew (map block_of slots) → AreFew (map block_of (filter keeps slots))
-few_kept keeps slots few =
-    let less = fewer slots in
-    let many = few.many in
-    let bytes = few.bytes in
-    record { many = omega (arith, less.0, many); bytes = omega (arith, less.1, bytes) }
-  where
-    fewer : (slots : List Slot) → (length (map block_of (filter keeps slots)) ≤ length (map block_of slots)) × (bytes_of (map block_of (filter keeps slots)) ≤ bytes_of (map block_of slots))
-    fewer [] = (omega arith, omega arith)
-    fewer (s ∷ slots) =
-        let rest = fewer slots in
-        let all = bytes_first (block_of s) (map block_of slots) in
-        elim (cases_Bool (keeps s)) as (λ _. (length (map block_of (filter keeps (s ∷ slots))) ≤ length (map block_of (s ∷ slots))) × (bytes_of (map block_of (filter keeps (s ∷ slots))) ≤ bytes_of (map block_of (s ∷ slots)))) [
-          | inl stays ↦
-              let kept = first_kept keeps s slots stays in
-              let long : length (map block_of (filter keeps (s ∷ slots))) ≡ suc (length (map block_of (filter keeps slots))) = ap (λ ss. length (map block_of ss)) kept in
-              let bytes : bytes_of (map block_of (filter keeps (s ∷ slots))) ≡ bytes_of (block_of s ∷ map block_of (filter keeps slots)) = ap (λ ss. bytes_of (map block_of ss)) kept in
-              let first = bytes_first (block_of s) (map block_of (filter keeps slots)) in
-              (omega (arith, rest.0, long), omega (arith, rest.1, bytes, first, all))
-          | inr goes ↦
-              let kept = first_freed keeps s slots goes in
-              let long : length (map block_of (filter keeps (s ∷ slots))) ≡ length (map block_of (filter keeps slots)) = ap (λ ss. length (map block_of ss)) kept in
-              let bytes : bytes_of (map block_of (filter keeps (s ∷ slots))) ≡ bytes_of (map block_of (filter keeps slots)) = ap (λ ss. bytes_of (map block_of ss)) kept in
-              (omega (arith, rest.0, long), omega (arith, rest.1, bytes, all))
-        ]
