@@ -311,8 +311,19 @@ fn visit_element<S: EdgeSink>(source: &Source<'_>, rows: &[WalkRow], at: u64, si
     }
 }
 
-// The edges of elements of a block, each after the one before it.
+// The edges of the one element of a block.
 #[inline(always)]
+fn visit_single<S: EdgeSink>(source: &Source<'_>, rows: &[WalkRow], place: u64, sink: &mut S)
+    requires can { CanTake S.takes S.leaves sink.old (element_edges source.now.tables.now source.now.space.now rows.now place) }
+    ensures took { Took S.leaves sink.old (element_edges source.now.tables.now source.now.space.now rows.now place) sink.new }
+{
+    if place < end_of(source.space) {
+        visit_element(source, rows, place, sink);
+    }
+}
+
+// The edges of elements of a block, each after the one before it.
+#[inline(never)]
 fn visit_block<S: EdgeSink>(source: &Source<'_>, rows: &[WalkRow], elements: Elements, sink: &mut S)
     requires can { CanTake S.takes S.leaves sink.old (run_edges (element_edges source.now.tables.now source.now.space.now rows.now) elements.place elements.size elements.n) }
     ensures took { Took S.leaves sink.old (run_edges (element_edges source.now.tables.now source.now.space.now rows.now) elements.place elements.size elements.n) sink.new }
@@ -346,6 +357,11 @@ pub fn visit<S: EdgeSink>(
         return;
     };
     let rows = rows.as_slice();
-    let elements = Elements::new(addr, size_in_note(rows), count);
-    visit_block(&Source { tables, space }, rows, elements, sink);
+    let source = Source { tables, space };
+    if count == 1 {
+        visit_single(&source, rows, addr, sink);
+    } else {
+        let elements = Elements::new(addr, size_in_note(rows), count);
+        visit_block(&source, rows, elements, sink);
+    }
 }
