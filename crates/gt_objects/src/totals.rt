@@ -31,8 +31,9 @@ impl Totals {
     pub(crate) fn of_marked(marked: MarkedTotals) -> Totals
         ensures { (blocks : List Block) → AreMarkedTotals marked blocks → AreTotals result blocks }
     {
+        let counts = marked.counts;
         Totals {
-            counts: marked.counts,
+            counts,
             blocks: marked.blocks,
             bytes: marked.bytes,
         }
