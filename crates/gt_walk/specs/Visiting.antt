@@ -6,7 +6,7 @@ use Rattle.gt_walk.specs.Rows.{Edge, edge, Frame, frame_at, Gives, word_at, row_
 use Rattle.gt_walk.specs.declared.rows.Arm.{Arm, out-Arm}
 use Rattle.gt_walk.specs.declared.rows.Count.{Count}
 use Rattle.gt_walk.specs.declared.rows.Count.TheVariants.{Fixed, Length}
-use Rattle.gt_walk.specs.declared.rows.WalkRow.{WalkRow, out-WalkRow}
+use Rattle.gt_walk.specs.declared.rows.WalkRow.{WalkRow}
 use Rattle.gt_walk.specs.declared.rows.WalkRow.TheOpen.{WalkRow-F, Note, Ptr}
 use Rattle.gt_walk.specs.declared.tables.Tables.{Tables}
 use Rattle.gt_walk.specs.declared.visiting.Elements.{Elements}

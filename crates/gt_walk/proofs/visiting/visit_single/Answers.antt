@@ -1,4 +1,4 @@
-use Rattle.std.proofs.Common.{◌≡◌, ◌+◌, ◌≤◌, length, refl, arith}
+use Rattle.std.proofs.Common.{◌+◌, ◌≤◌, length, refl, arith}
 use Rattle.gt_walk.proofs.Taking.{took-none}
 use Rattle.gt_walk.proofs.Visits.{element-silent}
 use Rattle.gt_walk.proofs.visiting.visit_single.Goals as goal
