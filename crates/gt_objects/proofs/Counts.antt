@@ -1,6 +1,6 @@
 -- How many blocks there are of each size, where there is one more, and where some are left out.
 use Rattle.std.proofs.Common.{◌≡◌, ℕ, suc, ◌+◌, ◌*◌, ◌<◌, ◌≤◌, ◌==◌, Bool, true, false, cond, List, [], ◌∷◌, ◌++◌, Some, option_map, length, map, set, refl, sym, ap, subst, ◌∙◌, inl, inr, arith}
-use Rattle.std.specs.Prelude.{filter, slice_get, AllPairs, Contains}
+use Rattle.std.specs.Prelude.{slice_get, AllPairs, Contains}
 use Rattle.std.proofs.lemmas.Bool.{cases_Bool, cases_eq, eq-eqb, ne_eqb}
 use Rattle.std.proofs.lemmas.List.Elements.{All-contains}
 use Rattle.std.proofs.lemmas.List.Sums.{sum_by-cons}
@@ -8,7 +8,7 @@ use Rattle.std.proofs.lemmas.Option.{slice_get-map, slice_get_within}
 use Rattle.gt_layout.proofs.Laying.{get-set_same, get-set_other}
 use Rattle.gt_space.specs.Laws.{IsApart}
 use Rattle.gt_pages.specs.Ledger.{AreApart, Block, page_address, sizes}
-use Rattle.gt_pages.specs.Slots.{Slot, block_of}
+use Rattle.gt_pages.specs.Slots.{block_of}
 use Rattle.gt_pages.specs.Contents.{AreLaidOut, Contents, ledger_of}
 use Rattle.gt_pages.proofs.PlaceLemmas.{one_number}
 use Rattle.gt_graph.specs.Changes.{Inserts}

@@ -1,4 +1,4 @@
-use Rattle.std.proofs.Common.{◌≡◌, length, count_by, ap, ◌∙◌}
+use Rattle.std.proofs.Common.{length, count_by, ap, ◌∙◌}
 use Rattle.gt_bits.specs.Sets.{members}
 use Rattle.gt_entries.specs.Cells.{is_marked}
 use Rattle.gt_entries.proofs.CellLemmas.{count_marked}
