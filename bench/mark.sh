@@ -1,9 +1,9 @@
 #!/usr/bin/env bash
 # Marks and sweeps a list, a tree, eight arrays that name 1,000,000 blocks, levels of 67 blocks of which each leads to the next by its
-# last pointer, and 2,000,000 links off the chain field; each beside a tenth of it. What is timed is the difference of two runs: the
-# one makes the heap and tests that it can be marked, the other clears, marks and sweeps it besides. The list is timed beside a small allocator in
-# C too, which walks by an explicit stack and keeps a bit for each place. All runs have a stack of 16 MiB. Run by hand, from any folder; the
-# program around gt_mark is written and built in a copy of the crates that it needs.
+# last pointer, and 2,000,000 links off the chain field; each beside a tenth of it. A collection is the mean of so many in one process, after a first
+# one. Each tests before that blocks can be marked; a second process makes these tests alone, and their time is taken off. The list is timed beside a
+# small allocator in C too, which walks by an explicit stack and keeps a bit for each place. All runs have a stack of 16 MiB. Run by hand, from any
+# folder; the program around gt_mark is written and built in a copy of the crates that it needs.
 . "$(dirname "$0")/shared.sh"
 crates="gt_types gt_layout gt_space gt_tree gt_unions gt_value gt_walk gt_links gt_bits gt_entries gt_pages gt_mark sample_heap"
 copy_crates $crates
@@ -11,8 +11,9 @@ program=$work/crates/time_mark
 mkdir -p "$program/src"
 echo 'time_mark: gt_types gt_walk sample_heap' >>"$work/crates.txt"
 cat >"$program/src/main.rt" <<'RT'
-//! Makes a heap, and marks and sweeps it. The words are `check` or `collect`, the shape of the heap, and how many blocks it has; what
-//! is printed is how many blocks there were, or were freed, and how many rounds the marker needed.
+//! Makes a heap, and marks and sweeps it. The words are `check` or `collect`, the shape of the heap, how many blocks it has, and how
+//! many times this is done; what is printed is whether blocks can be marked, or how many blocks the last collection freed and how many rounds
+//! the marker needed.
 #![tactic(auto)]
 
 use gt_types::{Boxed, List};
@@ -151,43 +152,66 @@ fn shape(alloc: Global, heap: &mut SampleHeap, what: &str, n: u64) -> Result<Vec
     Ok(starts)
 }
 
+// Tests so many times whether blocks can be marked from these.
+fn check(heap: &SampleHeap, starts: &[u64], times: u64) -> bool {
+    let mut can = true;
+    for _ in 0..times {
+        can = heap.can_mark(starts);
+    }
+    can
+}
+
+// So many collections, one after another: how many blocks the last one freed, and its rounds.
+fn collect(heap: &mut SampleHeap, starts: &[u64], times: u64) -> Option<(u32, u32)> {
+    let mut last = (0, 0);
+    for _ in 0..times {
+        heap.clear_marks();
+        let rounds = heap.mark_each(starts)?;
+        last = (heap.sweep(), rounds);
+    }
+    Some(last)
+}
+
 fn main(rt: HostRuntime) -> io::Result<()> {
     let alloc = rt.alloc();
     let mut words = env::args(&rt)?;
     let _ = words.next();
-    let (Some(mode), Some(what), Some(count)) = (words.next(), words.next(), words.next()) else {
+    let (Some(mode), Some(what), Some(count), Some(times)) =
+        (words.next(), words.next(), words.next(), words.next())
+    else {
         return Ok(());
     };
     let n = count.as_str().parse::<u64>().unwrap_or(0);
+    let times = times.as_str().parse::<u64>().unwrap_or(1);
     let node_bytes = if what.as_str() == "list" { 24 } else { 16 };
     let mut heap = SampleHeap::new(alloc, tables(alloc, node_bytes)?, 16384)?;
     let starts = shape(alloc, &mut heap, what.as_str(), n)?;
     if mode.as_str() != "collect" {
-        return println!(rt; "{}", heap.can_mark(&starts));
+        return println!(rt; "{}", check(&heap, &starts, times));
     }
-    heap.clear_marks();
-    let Some(rounds) = heap.mark_each(&starts) else {
-        return println!(rt; "cannot be marked");
-    };
-    let freed = heap.sweep();
-    println!(rt; "freed {freed} rounds {rounds}")
+    match collect(&mut heap, &starts, times) {
+        Some((freed, rounds)) => println!(rt; "freed {freed} rounds {rounds}"),
+        None => println!(rt; "cannot be marked"),
+    }
 }
 RT
 build_small
 : >"$program/stdin"
 build_copied $crates
-(cd "$program" && quiet rt run -- check list 1)
+(cd "$program" && quiet rt run -- check list 1 1)
 ours=$program/out/time_mark
 ulimit -s 16384
 
-# The seconds of marking and sweeping a shape.
-collects() { minus "$(seconds 7 "$ours" collect "$@")" "$(seconds 7 "$ours" check "$@")"; }
+# The seconds of one time more of what a command does so many times: the mean of ten, after a first one.
+each() { awk -v a="$(seconds 7 "$@" 11)" -v b="$(seconds 7 "$@" 1)" 'BEGIN { printf "%.9f\n", (a - b) / 10 }'; }
+# The seconds of a collection of a shape.
+collects() { minus "$(each "$ours" collect "$@")" "$(each "$ours" check "$@")"; }
 for shape in list tree arrays levels links; do
   most=1000000
   [ $shape != links ] || most=2000000
-  "$ours" collect $shape $most | grep -q '^freed' || { echo "$shape: cannot be marked" >&2; exit 2; }
+  "$ours" collect $shape $most 1 | grep -q '^freed' || { echo "$shape: cannot be marked" >&2; exit 2; }
   row "marked and swept: $shape" $most "$(collects $shape $most)" 'a tenth' "$(collects $shape $((most / 10)))" 12
 done
 for n in 100000 1000000; do
-  row 'marked and swept: list' $n "$(collects list $n)" 'in C' "$(minus "$(seconds 7 "$work/small" collect $n)" "$(seconds 7 "$work/small" make $n)")" 3
+  row 'marked and swept: list' $n "$(collects list $n)" 'in C' "$(each "$work/small" collect $n)" 3
 done

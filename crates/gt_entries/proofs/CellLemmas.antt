@@ -7,10 +7,10 @@ use Rattle.std.proofs.lemmas.List.FromFn.{length-map-range_with_len, get_or-map-
 use Rattle.std.specs.List.{range_with_len}
 use Rattle.gt_bits.specs.Sets.{has, members, IsNext, IsNextGap}
 use Rattle.gt_entries.specs.declared.places.Tag.{Tag}
-use Rattle.gt_entries.specs.Cells.{Cell, Free, IsFirstFrom, cell_at, is_free, is_lost}
+use Rattle.gt_entries.specs.Cells.{Cell, Free, IsFirstFrom, cell_at, is_free, is_lost, is_marked}
 use Rattle.gt_entries.specs.Places.{AreKept, cell_from, cell_of, cells_of, tag_at}
-use Rattle.gt_entries.proofs.Totals.{total, total-map, total_add, total_past, total_ones, total_some, total_none}
-use Rattle.gt_entries.proofs.Bits.{free_bit, free_total, lost_total}
+use Rattle.gt_entries.proofs.Totals.{total, total-map, total_add, total_past, total_ones, total_same, total_some, total_none}
+use Rattle.gt_entries.proofs.Bits.{free_bit, free_total, lost_total, marked_bit}
 
 -- ---- tables of places
 
@@ -84,14 +84,25 @@ module _ (n : ℕ) (u m q : List ℕ) (t : List Tag) where
       (λ i. free_total (has u i) (has m i) (has q i) (tag_at t i)) in
       omega (arith, used, free, all, total_ones n)
 
+  past_marked : AreKept n u m q t → (i : ℕ) → n ≤ i → has m i ≡ false
+  past_marked kept i past = elim (cases_Bool (has m i)) [
+    | inl is ↦ absurd (true≢false (sym (kept.marks_used i is) ∙ no_place kept i past))
+    | inr not ↦ not
+  ]
+
+  pub count_marked : AreKept n u m q t → length (members m) ≡ count_by is_marked (cells_of n u m q t)
+  count_marked kept =
+      let marked = count_set kept m kept.marked_words (past_marked kept) in
+      let cells = total-map (λ c. cond (is_marked c) 1 0) (cell_of u m q t) n in
+      let same =
+      total_same (λ i. cond (has m i) 1 0) (λ i. cond (is_marked (cell_of u m q t i)) 1 0) n
+      (λ i. sym (ap (λ b. cond {A = ℕ} b 1 0) (marked_bit (has u i) (has m i) (has q i) (tag_at t i) (kept.marks_used i)))) in
+      omega (arith, marked, cells, same)
+
   pub count_lost : AreKept n u m q t → length (members m) + count_by is_lost (cells_of n u m q t) ≡ length (members u)
   count_lost kept =
       let used = count_set kept u refl (no_place kept) in
-      let marked = count_set kept m kept.marked_words
-      (λ i past. elim (cases_Bool (has m i)) [
-        | inl is ↦ absurd (true≢false (sym (kept.marks_used i is) ∙ no_place kept i past))
-        | inr not ↦ not
-      ]) in
+      let marked = count_set kept m kept.marked_words (past_marked kept) in
       let lost = total-map (λ c. cond (is_lost c) 1 0) (cell_of u m q t) n in
       let all =
       total_add (λ i. cond (has m i) 1 0) (λ i. cond (is_lost (cell_of u m q t i)) 1 0) (λ i. cond (has u i) 1 0) n

@@ -25,6 +25,10 @@ total_add a b c zero h = refl
 total_add a b c (suc n) h =
     omega (arith, total_more a n, total_more b n, total_more c n, total_add a b c n h, h n)
 
+pub total_same : (a b : ℕ → ℕ) (n : ℕ) → ((i : ℕ) → a i ≡ b i) → total a n ≡ total b n
+total_same a b zero h = refl
+total_same a b (suc n) h = omega (arith, total_more a n, total_more b n, total_same a b n h, h n)
+
 pub total_past : (a : ℕ → ℕ) (n m : ℕ) → ((i : ℕ) → n ≤ i → a i ≡ 0) → total a (n + m) ≡ total a n
 total_past a n zero h = let none : n + 0 ≡ n = omega arith in ap (total a) none
 total_past a n (suc m) h =

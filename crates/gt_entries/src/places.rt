@@ -80,6 +80,13 @@ impl Places {
         self.count - count(self.sets.used())
     }
 
+    /// How many places have a marked block.
+    pub fn marked_count(&self) -> u32
+        ensures count { result ≡ count_by is_marked self.now }
+    {
+        count(self.sets.marked())
+    }
+
     /// Whether a place has a block.
     pub fn is_used(&self, k: u32) -> bool
         ensures used { result ≡ not (is_free (cell_at self.now k)) }

@@ -1,6 +1,6 @@
 -- How many blocks there are of each size, where there is one more, and where some are left out.
 use Rattle.std.proofs.Common.{◌≡◌, ℕ, suc, ◌+◌, ◌*◌, ◌<◌, ◌≤◌, ◌==◌, Bool, true, false, cond, List, [], ◌∷◌, ◌++◌, Some, option_map, length, map, set, refl, sym, ap, subst, ◌∙◌, inl, inr, arith}
-use Rattle.std.specs.Prelude.{filter, slice_get, AllPairs, Contains}
+use Rattle.std.specs.Prelude.{slice_get, AllPairs, Contains}
 use Rattle.std.proofs.lemmas.Bool.{cases_Bool, cases_eq, eq-eqb, ne_eqb}
 use Rattle.std.proofs.lemmas.List.Elements.{All-contains}
 use Rattle.std.proofs.lemmas.List.Sums.{sum_by-cons}
@@ -8,7 +8,7 @@ use Rattle.std.proofs.lemmas.Option.{slice_get-map, slice_get_within}
 use Rattle.gt_layout.proofs.Laying.{get-set_same, get-set_other}
 use Rattle.gt_space.specs.Laws.{IsApart}
 use Rattle.gt_pages.specs.Ledger.{AreApart, Block, page_address, sizes}
-use Rattle.gt_pages.specs.Slots.{Slot, block_of}
+use Rattle.gt_pages.specs.Slots.{block_of}
 use Rattle.gt_pages.specs.Contents.{AreLaidOut, Contents, ledger_of}
 use Rattle.gt_pages.proofs.PlaceLemmas.{one_number}
 use Rattle.gt_graph.specs.Changes.{Inserts}
@@ -155,30 +155,3 @@ few_blocks c laid =
     let s = there_mapped block_of c.slots b there in
     subst (λ b. 8 ≤ b.size) s.2 (size_bounds s.0.size (laid.listed s.0 s.1)).0) in
     record { many = omega (arith, pages, all, eight); bytes = omega (arith, pages, all) }
-
--- so are some of them
-pub few_kept : (keeps : Slot → Bool) (slots : List Slot) → AreFew (map block_of slots) → AreFew (map block_of (filter keeps slots))
-few_kept keeps slots few =
-    let less = fewer slots in
-    let many = few.many in
-    let bytes = few.bytes in
-    record { many = omega (arith, less.0, many); bytes = omega (arith, less.1, bytes) }
-  where
-    fewer : (slots : List Slot) → (length (map block_of (filter keeps slots)) ≤ length (map block_of slots)) × (bytes_of (map block_of (filter keeps slots)) ≤ bytes_of (map block_of slots))
-    fewer [] = (omega arith, omega arith)
-    fewer (s ∷ slots) =
-        let rest = fewer slots in
-        let all = bytes_first (block_of s) (map block_of slots) in
-        elim (cases_Bool (keeps s)) as (λ _. (length (map block_of (filter keeps (s ∷ slots))) ≤ length (map block_of (s ∷ slots))) × (bytes_of (map block_of (filter keeps (s ∷ slots))) ≤ bytes_of (map block_of (s ∷ slots)))) [
-          | inl stays ↦
-              let kept = first_kept keeps s slots stays in
-              let long : length (map block_of (filter keeps (s ∷ slots))) ≡ suc (length (map block_of (filter keeps slots))) = ap (λ ss. length (map block_of ss)) kept in
-              let bytes : bytes_of (map block_of (filter keeps (s ∷ slots))) ≡ bytes_of (block_of s ∷ map block_of (filter keeps slots)) = ap (λ ss. bytes_of (map block_of ss)) kept in
-              let first = bytes_first (block_of s) (map block_of (filter keeps slots)) in
-              (omega (arith, rest.0, long), omega (arith, rest.1, bytes, first, all))
-          | inr goes ↦
-              let kept = first_freed keeps s slots goes in
-              let long : length (map block_of (filter keeps (s ∷ slots))) ≡ length (map block_of (filter keeps slots)) = ap (λ ss. length (map block_of ss)) kept in
-              let bytes : bytes_of (map block_of (filter keeps (s ∷ slots))) ≡ bytes_of (map block_of (filter keeps slots)) = ap (λ ss. bytes_of (map block_of ss)) kept in
-              (omega (arith, rest.0, long), omega (arith, rest.1, bytes, all))
-        ]

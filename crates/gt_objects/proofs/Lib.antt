@@ -18,7 +18,6 @@ pub mod Added
 pub mod Finding
 pub mod Taking
 pub mod Counts
-pub mod Walked
 pub mod Widths
 pub mod PlainSizes
 pub mod Characters

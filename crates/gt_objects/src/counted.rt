@@ -1,9 +1,9 @@
 // The blocks of a space, and how many there are of each size.
-ghost use Rattle.std.specs.Prelude.{◌≡◌, ◌↔◌, ℕ, ◌≤◌, false, [], ◌∷◌, All, map, filter, count_by, length, option_map, Contains, IfErr, IfOk, IsTrue, Some, None, is_some};
+ghost use Rattle.std.specs.Prelude.{◌≡◌, ◌↔◌, ℕ, ◌≤◌, false, [], ◌∷◌, All, map, filter, count_by, length, Contains, IfErr, IfOk, IsTrue, Some, None, is_some};
 ghost use Rattle.gt_space.specs.declared.TheConstants.{MIN_PAGES, MAX_PAGES};
 ghost use Rattle.gt_links.specs.Lists.{with_nodes};
 ghost use Rattle.gt_pages.specs.Ledger.{Place, Room, sizes};
-ghost use Rattle.gt_pages.specs.Slots.{StartsSome, block_of, is_marked, is_unmarked, mark_at, new_mark, next_slot, owner_of, slot_at, unmarked, with_mark_at, with_slot};
+ghost use Rattle.gt_pages.specs.Slots.{StartsSome, block_of, is_marked, is_unmarked, mark_at, new_mark, owner_of, slot_at, unmarked, with_mark_at, with_slot};
 ghost use Rattle.gt_pages.specs.Contents.{AreLaidOut, KeepsPages, cached_list, empty_contents, ledger_of, with_slots};
 ghost use Rattle.gt_mark.specs.Marks.{Marks};
 ghost use Rattle.gt_mark.specs.Reached.{Walks, CanMark, NamesBlock, root_edges, root_targets};
@@ -175,29 +175,9 @@ impl CountedPages {
     }
 }
 
-// The next marked block above an address: its own address, and its size in bytes.
-fn next_marked(pages: &Pages, after: u64) -> Option<(u64, u32)>
-    ensures next { result ≡ option_map (λ s. (s.address, s.size)) (next_slot is_marked pages.now.slots after) }
-{
-    pages.sound();
-    let (addr, _, _) = pages.next_marked(after)?;
-    pages.owner(addr)
-}
-
 // How many marked blocks there are of each size.
 fn marked_totals(pages: &Pages) -> Totals
     ensures totals { AreTotals result (map block_of (filter is_marked pages.now.slots)) }
 {
-    pages.sound();
-    let mut totals = Totals::none();
-    let mut after: u64 = 0;
-    'blocks: loop {
-        match next_marked(pages, after) {
-            None => return totals,
-            Some((addr, size)) => {
-                totals.add(size);
-                after = addr;
-            }
-        }
-    }
+    Totals::of_marked(pages.marked_totals())
 }

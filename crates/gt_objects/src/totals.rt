@@ -1,8 +1,11 @@
 // How many blocks there are of each size.
 ghost use Rattle.std.specs.Prelude.{◌≡◌, ◌<◌, [], Contains, List, Some, slice_get};
 ghost use Rattle.gt_pages.specs.Ledger.{Block, sizes};
+ghost use Rattle.gt_pages.specs.Counts.{AreTotals as AreMarkedTotals};
 ghost use Rattle.gt_graph.specs.Changes.{Inserts};
 ghost use Rattle.gt_objects.specs.Totals.{AreFew, AreTotals, bytes_of, count_of};
+
+use gt_pages::MarkedTotals;
 
 /// How many blocks there are of each size in the order of the sizes, how many there are, and their bytes.
 #[derive(Drop)]
@@ -21,6 +24,18 @@ impl Totals {
             counts: [0; 29],
             blocks: 0,
             bytes: 0,
+        }
+    }
+
+    /// The totals of marked blocks.
+    pub(crate) fn of_marked(marked: MarkedTotals) -> Totals
+        ensures { (blocks : List Block) → AreMarkedTotals marked blocks → AreTotals result blocks }
+    {
+        let counts = marked.counts;
+        Totals {
+            counts,
+            blocks: marked.blocks,
+            bytes: marked.bytes,
         }
     }
 

@@ -25,3 +25,4 @@ pub mod ImageLemmas
 pub mod RunLemmas
 pub mod UsedLemmas
 pub mod InverseLemmas
+pub mod CountLemmas

@@ -1,6 +1,7 @@
 pub mod Ledger
 pub mod Slots
 pub mod Contents
+pub mod Counts
 pub mod Images
 pub mod Tables
 pub mod Inverses

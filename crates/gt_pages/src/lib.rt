@@ -8,6 +8,8 @@ mod parts;
 mod sizes;
 mod store;
 mod tables;
+mod totals;
 
 pub use pages::{CACHED, LISTS, PageEntry, Pages, Run, SlotFail};
 pub use sizes::{SIZES, all_sizes, rounded_size};
+pub use totals::MarkedTotals;

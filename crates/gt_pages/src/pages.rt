@@ -5,9 +5,11 @@ ghost use Rattle.gt_links.specs.Lists.{Holds, nodes_of, with_nodes};
 ghost use Rattle.gt_pages.specs.Ledger.{AreFree, Base, IsTooLong, Place, Room, sizes};
 ghost use Rattle.gt_pages.specs.Slots.{StartsSome, block_of, is_marked, is_pending, is_unmarked, mark_at, new_mark, next_slot, owner_of, slot_at, told_of, unmarked, walked, with_mark_at, with_slot};
 ghost use Rattle.gt_pages.specs.Contents.{AreLaidOut, CachesEmptied, HasLists, IsEntry, IsInFirst, KeepsPages, UsesCached, cached_list, empty_contents, ledger_of, with_slots};
+ghost use Rattle.gt_pages.specs.Counts.{AreTotals};
 ghost use Rattle.gt_pages.specs.Images.{AreRuns, IsImage, image_pages};
 
 use crate::store::Store;
+use crate::totals::MarkedTotals;
 use gt_entries::Mark;
 use gt_links::Links;
 use std::alloc::{AllocError, Global};
@@ -184,6 +186,13 @@ impl Pages {
         ensures next { result ≡ told_of (next_slot is_pending self.now.slots after) }
     {
         self.store.next_pending(after)
+    }
+
+    /// How many marked blocks there are of each size, how many there are, and their bytes. It looks once at each entry.
+    pub fn marked_totals(&self) -> MarkedTotals
+        ensures totals { AreTotals result (map block_of (filter is_marked self.now.slots)) }
+    {
+        self.store.marked_totals()
     }
 
     /// Frees the blocks that are not marked, and says how many these were. The others stay as they are, with their marks.

@@ -11,6 +11,7 @@ ghost use Rattle.gt_pages.specs.Slots.{StartsSome, block_of, is_unmarked, mark_a
 ghost use Rattle.gt_pages.specs.Contents.{CachesEmptied, IsInFirst, KeepsPages, UsesCached, ledger_of, with_slots};
 ghost use Rattle.gt_pages.specs.Places.{IsWithin, Shares};
 ghost use Rattle.gt_entries.specs.Cells.{Free, Used, cell_at, is_free, is_lost, is_marked, mark_in};
+ghost use Rattle.gt_pages.specs.Counts.{AreTotals};
 ghost use Rattle.gt_pages.specs.Images.{AreRuns, IsImage, image_pages, run_pages};
 ghost use Rattle.gt_pages.specs.Runs.{AddsRun, image_end};
 ghost use Rattle.gt_pages.specs.Changes.{ClearsMarks, Closes, IsNew, Opens, Releases, Sweeps, UsesOne, cleared_entry, swept_entry, with_entry, with_first, with_list, with_place, without_cached, without_places};
@@ -23,6 +24,7 @@ use crate::parts::{
 };
 use crate::sizes::{BlockSize, list_of};
 use crate::tables::PageTable;
+use crate::totals::MarkedTotals;
 use gt_bits::{first_run, insert, longest_run, next, next_gap, remove};
 use gt_entries::{MAX_PLACES, Mark, Places};
 use gt_links::Links;
@@ -386,6 +388,34 @@ impl Store {
             page: from.page,
             place,
         })
+    }
+
+    pub(crate) fn marked_totals(&self) -> MarkedTotals
+        requires { IsKept (parts_of self.now) }
+        ensures { AreTotals result (map block_of (filter slots.is_marked (contents_of (parts_of self.now)).slots)) }
+    {
+        let mut totals = MarkedTotals::none();
+        let mut from = 0;
+        'entries: loop {
+            match next(&self.starts, from) {
+                None => return totals,
+                Some(page) => {
+                    let (size, count) = self.marked_in(page);
+                    totals.add(size, count);
+                    from = page + 1;
+                }
+            }
+        }
+    }
+
+    // The size of the blocks of an entry, and how many of them are marked.
+    fn marked_in(&self, page: u32) -> (u32, u32)
+        requires { page < length (parts_of self.now).entries }
+        ensures size { result.0 ≡ (entry_at (parts_of self.now).entries page).size }
+        ensures count { result.1 ≡ count_by is_marked (entry_at (parts_of self.now).entries page).places }
+    {
+        let entry = &self.entries[page as usize];
+        (entry.size.bytes(), entry.places.marked_count())
     }
 
     pub(crate) fn sweep(&mut self) -> u32

@@ -43,7 +43,3 @@ pub run-none : (gives : ℕ → List Edge) (place size n k : ℕ) → n ≤ k �
 run-none gives place size n k le =
     let none : n - k ≡ 0 = omega (arith, le) in
     ap (run_edges gives place size) none
-
-pub run-same : (g h : ℕ → List Edge) → ((p : ℕ) → g p ≡ h p) → (place size n : ℕ) → run_edges g place size n ≡ run_edges h place size n
-run-same g h same place size zero = refl
-run-same g h same place size (suc n) = ap (λ xs. xs ++ run_edges g (place + size) size n) (same place) ∙ ap (λ xs. h place ++ xs) (run-same g h same (place + size) size n)

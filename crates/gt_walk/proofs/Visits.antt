@@ -2,7 +2,7 @@
 use Rattle.std.proofs.Common.{◌≡◌, ◌∙◌, ℕ, zero, suc, ◌+◌, ◌-◌, ◌*◌, ◌≤◌, ◌<◌, List, [], ◌∷◌, ◌++◌, length, drop, get_or, refl, sym, ap, subst, Option, Some, None, arith}
 use Rattle.std.specs.Prelude.{ℤ, slice_get, slice_index_or}
 use Rattle.std.specs.List.{range_with_len}
-use Rattle.std.proofs.lemmas.List.{drop_more}
+use Rattle.std.proofs.lemmas.List.{append-nil, drop_more}
 use Rattle.gt_space.specs.Range.{Range}
 use Rattle.gt_walk.specs.declared.rows.Arm.{Arm, out-Arm}
 use Rattle.gt_walk.specs.declared.rows.RowExpr.{RowExpr}
@@ -76,9 +76,11 @@ module _ (tables : Tables) (range : Range) where
 
   -- ---- blocks
 
+  pub element-silent : (rows : List WalkRow) (place : ℕ) → range.start + length range.bytes ≤ place → element_edges tables range rows place ≡ []
+  element-silent rows place le = rows-silent tables range 33 rows (frame_at place) (subst (λ q. range.start + length range.bytes ≤ q) (sym (at-place place)) le)
+
   pub block-silent : (rows : List WalkRow) (place size n : ℕ) → range.start + length range.bytes ≤ place → run_edges (element_edges tables range rows) place size n ≡ []
-  block-silent rows place size n le =
-      run-silent (element_edges tables range rows) (range.start + length range.bytes) (λ p h. rows-silent tables range 33 rows (frame_at p) (subst (λ q. range.start + length range.bytes ≤ q) (sym (at-place p)) h)) place size n le
+  block-silent rows place size n le = run-silent (element_edges tables range rows) (range.start + length range.bytes) (element-silent rows) place size n le
 
   pub block-none : (walk count address : ℕ) → slice_get tables.walks walk ≡ None → edges_of tables walk count range address ≡ []
   block-none walk count address e =
@@ -91,3 +93,10 @@ module _ (tables : Tables) (range : Range) where
       let bytes : size_in_note (rows_of tables walk) ≡ size = ap size_in_note there ∙ sym sized in
       run-from (λ i. walk_edges tables range 34 walk (frame_at (address + i * size_in_note (rows_of tables walk)))) (element_edges tables range same) address size
       (λ i. ap (λ s. walk_edges tables range 34 walk (frame_at (address + i * s))) bytes ∙ ap (λ xs. rows_at tables range 33 xs (frame_at (address + i * size))) there) count
+
+  -- a block with one element
+  pub block-single : (walk count address : ℕ) (rows same : List WalkRow) → count ≡ 1 → Some rows ≡ slice_get tables.walks walk → same ≡ rows → edges_of tables walk count range address ≡ element_edges tables range same address
+  block-single walk count address rows same one got is =
+      block-run walk count address (size_in_note same) rows same got is refl
+      ∙ ap (run_edges (element_edges tables range same) address (size_in_note same)) one
+      ∙ append-nil (element_edges tables range same address)

@@ -6,7 +6,7 @@ use Rattle.gt_walk.specs.Rows.{Edge, edge, Frame, frame_at, Gives, word_at, row_
 use Rattle.gt_walk.specs.declared.rows.Arm.{Arm, out-Arm}
 use Rattle.gt_walk.specs.declared.rows.Count.{Count}
 use Rattle.gt_walk.specs.declared.rows.Count.TheVariants.{Fixed, Length}
-use Rattle.gt_walk.specs.declared.rows.WalkRow.{WalkRow, out-WalkRow}
+use Rattle.gt_walk.specs.declared.rows.WalkRow.{WalkRow}
 use Rattle.gt_walk.specs.declared.rows.WalkRow.TheOpen.{WalkRow-F, Note, Ptr}
 use Rattle.gt_walk.specs.declared.tables.Tables.{Tables}
 use Rattle.gt_walk.specs.declared.visiting.Elements.{Elements}
@@ -50,7 +50,11 @@ arm_at tables range left None f = []
 abbrev pub element_edges : Tables → Range → List WalkRow → ℕ → List Edge
 element_edges tables range rows address = rows_at tables range 33 rows (frame_at address)
 
--- ---- walks of plain pointers
+-- the edges of one row at an element of a block
+abbrev pub element_row : Tables → Range → ℕ → WalkRow → List Edge
+element_row tables range address row = row_at tables range 33 row (frame_at address)
+
+-- ---- rows of plain pointers
 
 -- whether a count is no expression
 abbrev pub is_fixed : Count → Bool
@@ -78,7 +82,3 @@ counted_edges range place walk (Length e) = []
 abbrev pub plain_edges : {A B : Type 0} → Range → ℕ → WalkRow-F A B → List Edge
 plain_edges range at (Ptr offset walk count reorder) = counted_edges range (at + offset) walk count
 plain_edges range at row = []
-
--- what such rows give at an address
-abbrev pub plain_rows : Range → List WalkRow → ℕ → List Edge
-plain_rows range rows at = flat_map (λ r. plain_edges range at (out-WalkRow r)) rows

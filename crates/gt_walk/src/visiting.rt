@@ -7,11 +7,11 @@ ghost use Rattle.gt_tree.specs.Fits.{is_tag, is_default};
 ghost use Rattle.gt_walk.specs.Rows.{edges_of, walk_edges, size_in_note, pointer_edges, word_at};
 ghost use Rattle.gt_walk.specs.Sinks.{CanTake, Took};
 ghost use Rattle.gt_walk.specs.Frames.{frame_of};
-ghost use Rattle.gt_walk.specs.Visiting.{elements, row_at, rows_at, stood, run_edges, chosen_of, arm_at, element_edges};
+ghost use Rattle.gt_walk.specs.Visiting.{elements, row_at, rows_at, stood, run_edges, chosen_of, arm_at, element_edges, element_row};
 
 use crate::frames::Frame;
 use crate::lengths::{count_of, end_of, length_of, row_value, word_at};
-use crate::plain::{are_plain, visit_plain};
+use crate::plain::{is_plain, visit_plain_row};
 use crate::{Arm, Count, EdgeSink, Tables, WalkRow};
 use gt_space::Space;
 use gt_types::Active;
@@ -274,7 +274,56 @@ fn size_in_note(rows: &[WalkRow]) -> u32
     }
 }
 
+// The edges of a row that is not plain, at an element of a block.
+#[inline(never)]
+fn visit_other_row<S: EdgeSink>(source: &Source<'_>, row: &WalkRow, at: u64, sink: &mut S)
+    requires near { at < 2 ^ 32 }
+    requires can { CanTake S.takes S.leaves sink.old (element_row source.now.tables.now source.now.space.now at row.now) }
+    ensures took { Took S.leaves sink.old (element_row source.now.tables.now source.now.space.now at row.now) sink.new }
+{
+    let frame = Frame::new(at);
+    visit_row(source, row, MOST_NESTED - 1, &frame, sink);
+}
+
+// The edges of a row at an element of a block.
+#[inline(always)]
+fn visit_element_row<S: EdgeSink>(source: &Source<'_>, row: &WalkRow, at: u64, sink: &mut S)
+    requires near { at < 2 ^ 32 }
+    requires can { CanTake S.takes S.leaves sink.old (element_row source.now.tables.now source.now.space.now at row.now) }
+    ensures took { Took S.leaves sink.old (element_row source.now.tables.now source.now.space.now at row.now) sink.new }
+{
+    if is_plain(row) {
+        visit_plain_row(source.space, row, at, sink);
+    } else {
+        visit_other_row(source, row, at, sink);
+    }
+}
+
+// The edges of rows at an element of a block, one after another.
+#[inline(always)]
+fn visit_element<S: EdgeSink>(source: &Source<'_>, rows: &[WalkRow], at: u64, sink: &mut S)
+    requires near { at < 2 ^ 32 }
+    requires can { CanTake S.takes S.leaves sink.old (element_edges source.now.tables.now source.now.space.now rows.now at) }
+    ensures took { Took S.leaves sink.old (element_edges source.now.tables.now source.now.space.now rows.now at) sink.new }
+{
+    for row in rows {
+        visit_element_row(source, row, at, sink);
+    }
+}
+
+// The edges of the one element of a block.
+#[inline(always)]
+fn visit_single<S: EdgeSink>(source: &Source<'_>, rows: &[WalkRow], place: u64, sink: &mut S)
+    requires can { CanTake S.takes S.leaves sink.old (element_edges source.now.tables.now source.now.space.now rows.now place) }
+    ensures took { Took S.leaves sink.old (element_edges source.now.tables.now source.now.space.now rows.now place) sink.new }
+{
+    if place < end_of(source.space) {
+        visit_element(source, rows, place, sink);
+    }
+}
+
 // The edges of elements of a block, each after the one before it.
+#[inline(never)]
 fn visit_block<S: EdgeSink>(source: &Source<'_>, rows: &[WalkRow], elements: Elements, sink: &mut S)
     requires can { CanTake S.takes S.leaves sink.old (run_edges (element_edges source.now.tables.now source.now.space.now rows.now) elements.place elements.size elements.n) }
     ensures took { Took S.leaves sink.old (run_edges (element_edges source.now.tables.now source.now.space.now rows.now) elements.place elements.size elements.n) sink.new }
@@ -285,8 +334,7 @@ fn visit_block<S: EdgeSink>(source: &Source<'_>, rows: &[WalkRow], elements: Ele
         if place >= end {
             return;
         }
-        let frame = Frame::new(place);
-        visit_rows(source, rows, MOST_NESTED - 1, &frame, sink);
+        visit_element(source, rows, place, sink);
         place += elements.size as u64;
     }
 }
@@ -309,10 +357,11 @@ pub fn visit<S: EdgeSink>(
         return;
     };
     let rows = rows.as_slice();
-    let elements = Elements::new(addr, size_in_note(rows), count);
-    if are_plain(rows) {
-        visit_plain(space, rows, elements, sink);
+    let source = Source { tables, space };
+    if count == 1 {
+        visit_single(&source, rows, addr, sink);
     } else {
-        visit_block(&Source { tables, space }, rows, elements, sink);
+        let elements = Elements::new(addr, size_in_note(rows), count);
+        visit_block(&source, rows, elements, sink);
     }
 }

@@ -1,9 +1,8 @@
-use Rattle.std.proofs.Common.{◌≡◌, ◌∙◌, ap, sym, refl, rules, None}
+use Rattle.std.proofs.Common.{◌≡◌, ◌∙◌, ap, sym, refl, rules, None, arith}
 use Rattle.std.specs.Prelude.{slice_get}
-use Rattle.gt_walk.specs.Visiting.{run_edges, plain_rows, element_edges}
-use Rattle.gt_walk.proofs.PlainRows.{block-plain}
+use Rattle.gt_walk.specs.Visiting.{run_edges, element_edges}
 use Rattle.gt_walk.proofs.Taking.{can-as, took-as, took-none}
-use Rattle.gt_walk.proofs.Visits.{block-none, block-run}
+use Rattle.gt_walk.proofs.Visits.{block-none, block-run, block-single}
 use Rattle.gt_walk.proofs.visiting.visit.Goals as goal
 
 pub returns-in_default : goal.returns-in_default
@@ -11,12 +10,17 @@ returns-in_default g c =
     let missing : slice_get c.args.tables.now.walks c.args.walk ≡ None = search rules in
     record { took = took-none g.S.EdgeSink.takes g.S.EdgeSink.leaves c.args.sink.now c.args.sink.now _ (block-none c.args.tables.now c.args.space.now c.args.walk c.args.count c.args.addr missing) refl }
 
-pub visit_plain-requires : goal.visit_plain-requires
-visit_plain-requires g c =
-    let moved = c.new-elements.ensures in
-    let same = block-run c.args.tables.now c.args.space.now c.args.walk c.args.count c.args.addr c.size_in_note.result c.in-Some.rows.now c.as_slice-rows.result.now c.in-Some.ensures.item c.as_slice-rows.ensures.items c.size_in_note.ensures in
-    let plain = block-plain c.args.tables.now c.args.space.now c.as_slice-rows.result.now c.args.addr c.size_in_note.result c.args.count (sym c.are_plain.ensures ∙ c.if-are_plain.true) in
-    record { can = can-as g.S.EdgeSink.takes g.S.EdgeSink.leaves c.args.sink.now _ _ (same ∙ plain ∙ ap (λ x. run_edges (plain_rows c.args.space.now c.as_slice-rows.result.now) x.place x.size x.n) (sym moved)) c.requires.can }
+pub visit_single-requires : goal.visit_single-requires
+visit_single-requires g c =
+    let one : c.args.count ≡ 1 = omega (arith, c.if-count-eq1.true) in
+    let same = block-single c.args.tables.now c.args.space.now c.args.walk c.args.count c.args.addr c.in-Some.rows.now c.as_slice-rows.result.now one c.in-Some.ensures.item c.as_slice-rows.ensures.items in
+    record { can = can-as g.S.EdgeSink.takes g.S.EdgeSink.leaves c.args.sink.now _ _ same c.requires.can }
+
+pub returns-then-count-eq1 : goal.returns-then-count-eq1
+returns-then-count-eq1 g c =
+    let one : c.args.count ≡ 1 = omega (arith, c.if-count-eq1.true) in
+    let same = block-single c.args.tables.now c.args.space.now c.args.walk c.args.count c.args.addr c.in-Some.rows.now c.as_slice-rows.result.now one c.in-Some.ensures.item c.as_slice-rows.ensures.items in
+    record { took = took-as g.S.EdgeSink.takes g.S.EdgeSink.leaves c.args.sink.now c.visit_single.new.sink _ _ (sym same) c.visit_single.ensures.took }
 
 pub visit_block-requires : goal.visit_block-requires
 visit_block-requires g c =
@@ -24,15 +28,8 @@ visit_block-requires g c =
     let same = block-run c.args.tables.now c.args.space.now c.args.walk c.args.count c.args.addr c.size_in_note.result c.in-Some.rows.now c.as_slice-rows.result.now c.in-Some.ensures.item c.as_slice-rows.ensures.items c.size_in_note.ensures in
     record { can = can-as g.S.EdgeSink.takes g.S.EdgeSink.leaves c.args.sink.now _ _ (same ∙ ap (λ x. run_edges (element_edges c.args.tables.now c.args.space.now c.as_slice-rows.result.now) x.place x.size x.n) (sym moved)) c.requires.can }
 
-pub returns-then-are_plain : goal.returns-then-are_plain
-returns-then-are_plain g c =
-    let moved = c.new-elements.ensures in
-    let same = block-run c.args.tables.now c.args.space.now c.args.walk c.args.count c.args.addr c.size_in_note.result c.in-Some.rows.now c.as_slice-rows.result.now c.in-Some.ensures.item c.as_slice-rows.ensures.items c.size_in_note.ensures in
-    let plain = block-plain c.args.tables.now c.args.space.now c.as_slice-rows.result.now c.args.addr c.size_in_note.result c.args.count (sym c.are_plain.ensures ∙ c.if-are_plain.true) in
-    record { took = took-as g.S.EdgeSink.takes g.S.EdgeSink.leaves c.args.sink.now c.visit_plain.new.sink _ _ (sym (same ∙ plain ∙ ap (λ x. run_edges (plain_rows c.args.space.now c.as_slice-rows.result.now) x.place x.size x.n) (sym moved))) c.visit_plain.ensures.took }
-
-pub returns-else-are_plain : goal.returns-else-are_plain
-returns-else-are_plain g c =
+pub returns-else-count-eq1 : goal.returns-else-count-eq1
+returns-else-count-eq1 g c =
     let moved = c.new-elements.ensures in
     let same = block-run c.args.tables.now c.args.space.now c.args.walk c.args.count c.args.addr c.size_in_note.result c.in-Some.rows.now c.as_slice-rows.result.now c.in-Some.ensures.item c.as_slice-rows.ensures.items c.size_in_note.ensures in
     record { took = took-as g.S.EdgeSink.takes g.S.EdgeSink.leaves c.args.sink.now c.visit_block.new.sink _ _ (sym (same ∙ ap (λ x. run_edges (element_edges c.args.tables.now c.args.space.now c.as_slice-rows.result.now) x.place x.size x.n) (sym moved))) c.visit_block.ensures.took }

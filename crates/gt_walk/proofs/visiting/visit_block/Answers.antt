@@ -1,8 +1,8 @@
-use Rattle.std.proofs.Common.{◌≡◌, ◌+◌, ◌-◌, ◌≤◌, length, ap, sym, arith}
-use Rattle.gt_walk.specs.Visiting.{rows_at, run_edges, element_edges}
+use Rattle.std.proofs.Common.{◌≡◌, ◌+◌, ◌-◌, ◌≤◌, length, ap, arith}
+use Rattle.gt_walk.specs.Visiting.{run_edges, element_edges}
 use Rattle.gt_walk.proofs.Visits.{block-silent}
 use Rattle.gt_walk.proofs.Runs.{run-first, run-none}
-use Rattle.gt_walk.proofs.Taking.{went-start, went-front, went-on, went-as, went-end, can-as, took-as}
+use Rattle.gt_walk.proofs.Taking.{went-start, went-front, went-on, went-as, went-end}
 use Rattle.gt_walk.proofs.visiting.visit_block.Goals as goal
 
 pub loop-init : goal.loop-init
@@ -22,15 +22,15 @@ returns-then-place-end g c =
     let none = block-silent c.args.source.now.tables.now c.args.source.now.space.now c.args.rows.now c.loop.place size (c.args.elements.n - c.loop.counter) past in
     record { took = went-end g.S.EdgeSink.takes g.S.EdgeSink.leaves c.args.sink.now c.loop.sink all (run_edges gives c.loop.place size (c.args.elements.n - c.loop.counter)) none c.loop.invariant }
 
-pub visit_rows-requires-clause-can : goal.visit_rows-requires-clause-can
-visit_rows-requires-clause-can g c =
+pub visit_element-requires-clause-can : goal.visit_element-requires-clause-can
+visit_element-requires-clause-can g c =
     let gives = element_edges c.args.source.now.tables.now c.args.source.now.space.now c.args.rows.now in
     let size = c.args.elements.size in
     let all = run_edges gives c.args.elements.place size c.args.elements.n in
     let later = run_edges gives (c.loop.place + size) size (c.args.elements.n - (c.loop.counter + 1)) in
     let first = run-first gives c.loop.place size c.args.elements.n c.loop.counter c.loop-test.true in
     let now = went-as g.S.EdgeSink.takes g.S.EdgeSink.leaves c.args.sink.now c.loop.sink all (run_edges gives c.loop.place size (c.args.elements.n - c.loop.counter)) _ first c.loop.invariant in
-    can-as g.S.EdgeSink.takes g.S.EdgeSink.leaves c.loop.sink (gives c.loop.place) _ (ap (rows_at c.args.source.now.tables.now c.args.source.now.space.now 33 c.args.rows.now) (sym c.new-frame.ensures)) (went-front g.S.EdgeSink.takes g.S.EdgeSink.leaves c.args.sink.now c.loop.sink all (gives c.loop.place) later now)
+    went-front g.S.EdgeSink.takes g.S.EdgeSink.leaves c.args.sink.now c.loop.sink all (gives c.loop.place) later now
 
 pub loop-preserved : goal.loop-preserved
 loop-preserved g c =
@@ -40,8 +40,7 @@ loop-preserved g c =
     let later = run_edges gives (c.loop.place + size) size (c.args.elements.n - (c.loop.counter + 1)) in
     let first = run-first gives c.loop.place size c.args.elements.n c.loop.counter c.loop-test.true in
     let now = went-as g.S.EdgeSink.takes g.S.EdgeSink.leaves c.args.sink.now c.loop.sink all (run_edges gives c.loop.place size (c.args.elements.n - c.loop.counter)) _ first c.loop.invariant in
-    let took = took-as g.S.EdgeSink.takes g.S.EdgeSink.leaves c.loop.sink c.visit_rows.new.sink _ (gives c.loop.place) (ap (rows_at c.args.source.now.tables.now c.args.source.now.space.now 33 c.args.rows.now) c.new-frame.ensures) c.visit_rows.ensures.took in
-    went-on g.S.EdgeSink.takes g.S.EdgeSink.leaves c.args.sink.now c.loop.sink c.visit_rows.new.sink all (gives c.loop.place) later now took
+    went-on g.S.EdgeSink.takes g.S.EdgeSink.leaves c.args.sink.now c.loop.sink c.visit_element.new.sink all (gives c.loop.place) later now c.visit_element.ensures.took
 
 pub returns : goal.returns
 returns g c =
