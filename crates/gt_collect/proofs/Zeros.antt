@@ -6,12 +6,8 @@ use Rattle.std.proofs.lemmas.List.Elements.{All-cons, All-head, All-nil, All-tai
 use Rattle.std.proofs.lemmas.Bool.{cases_lt}
 use Rattle.gt_space.specs.Range.{Range, IsInside, KeepsAddresses, with_bytes}
 use Rattle.gt_space.proofs.RangeLemmas.{length-with_bytes}
+use Rattle.gt_collect.specs.Clearing.{zeroed}
 use Rattle.gt_objects.proofs.Items.{first_there, later_there, none_there, there_cases}
-
--- the range in which eight bytes at each of these addresses are zero
-abbrev pub zeroed : Range → List ℕ → Range
-zeroed r [] = r
-zeroed r (w ∷ ws) = zeroed (with_bytes r w (replicate 8 0)) ws
 
 -- a byte is none of a word
 abbrev pub IsNoneOf : ℕ → ℕ → Type 0

@@ -6,6 +6,7 @@ ghost use Rattle.gt_objects.specs.Marks.{marked_in};
 ghost use Rattle.gt_schema.specs.Schemas.{IsSchema};
 ghost use Rattle.gt_caches.specs.Pairs.{pairs_of};
 ghost use Rattle.gt_reach.specs.Marking.{IsKept};
+ghost use Rattle.gt_collect.specs.Clearing.{zeroed};
 ghost use Rattle.gt_collect.specs.Collecting.{IsCollected};
 
 use crate::finishing::finish;
@@ -32,6 +33,7 @@ pub fn collect(schema: &Schema, objects: &mut Objects, caches: &mut Caches) -> C
     requires ready { (heap : Heap) × IsHeapOf schema.now.program schema.now.layouts objects.old heap × (heap.graph.pairs ≡ pairs_of caches.old) }
     ensures collected { (heap : Heap) → IsHeapOf schema.now.program schema.now.layouts objects.old heap → heap.graph.pairs ≡ pairs_of caches.old
         → (new : Heap) × IsHeapOf schema.now.program schema.now.layouts objects.new new × (new.graph.pairs ≡ pairs_of caches.new) × IsCollected schema.now.program heap new result.kept result.freed result.dropped result.rounds }
+    ensures bytes { objects.new.space ≡ zeroed objects.old.space schema.now.tables.deletable }
 {
     let rounds = mark_kept(schema, objects, caches);
     let end = finish(schema, objects, caches);

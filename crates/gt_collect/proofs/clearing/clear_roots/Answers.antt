@@ -7,9 +7,10 @@ use Rattle.gt_value.specs.Bytes.{AreStaticsStored}
 use Rattle.gt_graph.specs.Kept.{without_deletable}
 use Rattle.gt_objects.specs.declared.objects.Objects.{Objects}
 use Rattle.gt_objects.specs.Holding.{IsHeapOf}
+use Rattle.gt_collect.specs.Clearing.{zeroed}
 use Rattle.gt_collect.specs.Collecting.{cleared_heap}
 use Rattle.gt_collect.proofs.Rooted.{inside_words, rooted, zeros_stored}
-use Rattle.gt_collect.proofs.Zeros.{AreInside, inside_after, zeroed, zeroed_more}
+use Rattle.gt_collect.proofs.Zeros.{AreInside, inside_after, zeroed_more}
 use Rattle.gt_collect.proofs.clearing.clear_roots.Goals as goal
 
 pub clear_word-requires : goal.clear_word-requires
@@ -51,3 +52,8 @@ returns-clause-cleared c = λ heap is.
     (zeros_stored program layouts s.settled s.laid s.within old heap is c.sound.ensures.space) in
     subst (λ x. IsHeapOf program layouts x (cleared_heap program heap)) (sym c.loop-word.invariant.rest)
     (rooted program layouts s.settled s.laid s.within old heap is c.sound.ensures.space c.loop-word.objects.space stored)
+
+pub returns-clause-bytes : goal.returns-clause-bytes
+returns-clause-bytes c =
+    let ends : length c.as_slice-word-items.result.now ≤ c.loop-word.word-index = omega (arith, c.loop-word-test.false) in
+    c.loop-word.invariant.zeros ∙ ap (zeroed c.args.objects.now.space) (take_all c.loop-word.word-index c.as_slice-word-items.result.now ends ∙ c.as_slice-word-items.ensures.items)

@@ -20,21 +20,19 @@ finish-end-requires c =
       );
     }
 
-pub returns : goal.returns
-returns c = record {
-  collected = λ heap was held.
-      let program = c.args.schema.now.program in
-      let layouts = c.args.schema.now.layouts in
-      let objects = c.mark_kept-rounds.new.objects in
-      let caches = c.mark_kept-rounds.new.caches in
-      let is = c.mark_kept-rounds.ensures.heap heap was in
-      let is_kept = c.mark_kept-rounds.ensures.kept heap was held in
-      let same = held ∙ sym c.mark_kept-rounds.ensures.pairs in
-      let can = can_finish program layouts objects heap is caches c.mark_kept-rounds.result is_kept in
-      let counts = c.finish-end.ensures.counts heap is same can in (
-        finished_heap program objects caches heap,
-        c.finish-end.ensures.heap heap is same can,
-        sym c.finish-end.ensures.pairs,
-        collected program layouts objects heap is caches c.mark_kept-rounds.result is_kept c.finish-end.result.kept c.finish-end.result.freed c.finish-end.result.dropped counts,
-      );
-}
+pub returns-clause-collected : goal.returns-clause-collected
+returns-clause-collected c = λ heap was held.
+    let program = c.args.schema.now.program in
+    let layouts = c.args.schema.now.layouts in
+    let objects = c.mark_kept-rounds.new.objects in
+    let caches = c.mark_kept-rounds.new.caches in
+    let is = c.mark_kept-rounds.ensures.heap heap was in
+    let is_kept = c.mark_kept-rounds.ensures.kept heap was held in
+    let same = held ∙ sym c.mark_kept-rounds.ensures.pairs in
+    let can = can_finish program layouts objects heap is caches c.mark_kept-rounds.result is_kept in
+    let counts = c.finish-end.ensures.counts heap is same can in (
+      finished_heap program objects caches heap,
+      c.finish-end.ensures.heap heap is same can,
+      sym c.finish-end.ensures.pairs,
+      collected program layouts objects heap is caches c.mark_kept-rounds.result is_kept c.finish-end.result.kept c.finish-end.result.freed c.finish-end.result.dropped counts,
+    )
