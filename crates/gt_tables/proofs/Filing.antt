@@ -142,7 +142,7 @@ module _ (cases now : BTreeMap Case ℕ) (c : Case) (place : ℕ) (none : get ca
 pub shares-old : (first node : ℕ) (rows : List WalkRow) (walks : List (List WalkRow)) (cases : BTreeMap Case ℕ) (place walk : ℕ) → HaveTurns cases → StandsAt walks place rows × IsFiled walks cases node place
     → walk ≡ first + place → Shares first node rows walks cases walks cases walk
 shares-old first node rows walks cases place walk turns found number = record {
-  files = record { more = []; walks = sym (append-nil walks); stay = λ n p filed. filed };
+  files = record { more = []; grown = sym (append-nil walks); stay = λ n p filed. filed };
   turns = turns;
   has = (found.0.0, record { place = place; number = number; here = found.0.1; filed = found.1 }, alike-are-equal found.0.0 rows found.0.2);
   shared = inl refl;
@@ -164,7 +164,7 @@ shares-new first node rows walks now cases filed c place walk turns free is upda
     record {
       files = record {
         more = rows ∷ [];
-        walks = is;
+        grown = is;
         stay = λ n p was. subst (λ ws. IsFiled ws filed n p) (sym is) (filed-stays cases filed c place free.none updates walks (rows ∷ []) n p was);
       };
       turns = now-turns cases filed c place free.none updates walks node rows free.turn free.is free.tried turns;
@@ -217,7 +217,7 @@ pub keeps-none : (first : ℕ) (part : Option Part) (node : ℕ) (rows : List Wa
 keeps-none first part node rows old new walks cases turns known kept = record {
   files = record {
     more = [];
-    walks = ap (λ v. v.items) walks ∙ sym (append-nil old.walks.items);
+    grown = ap (λ v. v.items) walks ∙ sym (append-nil old.walks.items);
     stay = λ n p filed. subst (λ cs. IsFiled new.walks.items cs n p) (sym cases) (subst (λ ws. IsFiled ws old.cases n p) (ap (λ v. v.items) (sym walks)) filed);
   };
   turns = subst HaveTurns (sym cases) turns;
@@ -234,7 +234,7 @@ keeps-none first part node rows old new walks cases turns known kept = record {
 pub files-add : (old new : Parts) (more : List (List WalkRow)) → new.walks.items ≡ old.walks.items ++ more → new.cases ≡ old.cases → Files old.walks.items old.cases new.walks.items new.cases
 files-add old new more walks cases = record {
   more = more;
-  walks = walks;
+  grown = walks;
   stay = λ n p filed.
       subst (λ cs. IsFiled new.walks.items cs n p) (sym cases)
       (subst (λ ws. IsFiled ws old.cases n p) (sym walks)
@@ -246,6 +246,6 @@ pub has-on : (first node : ℕ) (rows : List WalkRow) (walks now : List (List Wa
 has-on first node rows walks now cases filed walk files has = record {
   place = has.place;
   number = has.number;
-  here = subst (λ ws. slice_get ws has.place ≡ Some rows) (sym files.walks) (slice-on walks files.more has.place rows has.here);
+  here = subst (λ ws. slice_get ws has.place ≡ Some rows) (sym files.grown) (slice-on walks files.more has.place rows has.here);
   filed = files.stay node has.place has.filed;
 }

@@ -250,7 +250,7 @@ module _ (program : Program) (settled : Settled program) (part : Option Part) (i
   kept-some n are keeps =
       let first = first_part program in
       let Are = λ (ws : List (List WalkRow)). AreRows first ws (IsWithinDepth program id) rows in
-      let grown : Are new.walks.items = subst Are (sym keeps.files.walks) (rows-grow first old.walks.items keeps.files.more (IsWithinDepth program id) rows are) in
+      let grown : Are new.walks.items = subst Are (sym keeps.files.grown) (rows-grow first old.walks.items keeps.files.more (IsWithinDepth program id) rows are) in
       let has = keeps.has.1 in
       subst (IsWalkOf program first new.walks.items id) (sym has.number) (walk-at program first new.walks.items id keeps.has.0 has.place has.here rows keeps.has.2 grown)
 
@@ -272,7 +272,7 @@ module _ (program : Program) (settled : Settled program) (part : Option Part) (i
   kept-known : (walk : Option ℕ) → AreParts program old → AreRows (first_part program) old.walks.items (IsWithinDepth program id) rows → Keeps (first_part program) part id rows old new walk
       → IfSome part (λ p. p.node ≡ id) → (q : Part) (n : ℕ) → get part_cmp new.known q ≡ Some (Some n) → IsWalkOf program (first_part program) new.walks.items q.node n
   kept-known walk parts are keeps node q n there = elim (keeps.known q n there) [
-    | inl h ↦ subst (λ ws. IsWalkOf program (first_part program) ws q.node n) (sym keeps.files.walks) (walk-grows (first_part program) old.walks.items keeps.files.more program q.node n (parts.known q n h))
+    | inl h ↦ subst (λ ws. IsWalkOf program (first_part program) ws q.node n) (sym keeps.files.grown) (walk-grows (first_part program) old.walks.items keeps.files.more program q.node n (parts.known q n h))
     | inr h ↦
         let same : q.node ≡ id = h.2 ∙ at-some part h.0 id h.1 node in
         subst (λ i. IsWalkOf program (first_part program) new.walks.items i n) (sym same)
@@ -286,11 +286,11 @@ module _ (program : Program) (settled : Settled program) (part : Option Part) (i
       let P = AreRows first old.walks.items Shallow in
       record {
         more = keeps.files.more;
-        walks = keeps.files.walks;
+        walks = keeps.files.grown;
         are = record {
           known = kept-known walk parts are keeps node;
           rows =
-              subst (λ ws. All (AreRows first ws Shallow) ws) (sym keeps.files.walks)
+              subst (λ ws. All (AreRows first ws Shallow) ws) (sym keeps.files.grown)
               (All-weaker P (AreRows first (old.walks.items ++ keeps.files.more) Shallow) (λ rs is. rows-grow first old.walks.items keeps.files.more Shallow rs is) (old.walks.items ++ keeps.files.more)
               (All-append P old.walks.items keeps.files.more parts.rows (more-rows walk are keeps)));
           turns = keeps.turns;

@@ -201,7 +201,7 @@ module _ (source : Source) (old new : Parts) (files : Files old.walks.items old.
   serves-on p s = (
     s.0,
     s.1,
-    λ tables h. s.2 tables (fewer (first_of source) old.walks.items files.more tables (subst (λ ws. HaveWalks (first_of source) ws tables) files.walks h)),
+    λ tables h. s.2 tables (fewer (first_of source) old.walks.items files.more tables (subst (λ ws. HaveWalks (first_of source) ws tables) files.grown h)),
   )
 
   apart-on : (list : List PartWalk) → All (IsListed (first_of source) old) list → AllPairs (AreApart (first_of source) old.walks.items) list → AllPairs (AreApart (first_of source) new.walks.items) list
@@ -295,7 +295,7 @@ module _ (source : Source) (site : Option Site) (part : Option Part) (node : Typ
   -- no walk is added
   kept-same : (files : Files old.walks.items old.cases new.walks.items new.cases) → files.more ≡ [] → (n : ℕ) → Counted source old n → Counted source new (with_site site n)
   kept-same files nothing n c =
-      let long = ap length files.walks ∙ length-append old.walks.items files.more in
+      let long = ap length files.grown ∙ length-append old.walks.items files.more in
       let zero-long = ap length nothing in
       let walks : length new.walks.items ≤ length old.walks.items + 0 = omega (arith, long, zero-long) in
       counted-more source new (n + 0) (with_site site n) (let more = with-more site n in omega (arith, more)) (counted-stay source part old new n 0 files stays walks c)
@@ -307,7 +307,7 @@ module _ (source : Source) (site : Option Site) (part : Option Part) (node : Typ
   counted-kept (Some w) keeps serves n c = elim keeps.shared [
     | inl nothing ↦ kept-same keeps.files nothing n c
     | inr h ↦
-        let long = ap length keeps.files.walks ∙ length-append old.walks.items keeps.files.more in
+        let long = ap length keeps.files.grown ∙ length-append old.walks.items keeps.files.more in
         let one = ap length h.0 in
         let walks : length new.walks.items ≤ length old.walks.items + 1 = omega (arith, long, one) in
         kept-more part refl w keeps.files h.2 h.1 (serves w refl) walks n c

@@ -248,7 +248,7 @@ same-node a b e = ap (λ (n : ℕ). record { 0 = n }) e
 module _ (source : Source) (source-is : IsSource source) (first : ℕ) (first-is : first ≡ first_part source.program.now) (lies : Lies) (node : TypeId) (desc : Option Expr) (part : Option Part) (rows : List WalkRow) (old new : Parts)
     (inner : CodeAround) (inner-is : around_of inner ≡ inside (around_of lies.around) node) (walk : Option ℕ) (keeps : Keeps first part node.0 rows old new walk) where
   fewer-kept : (tables : Tables) → HaveWalks (first_part source.program.now) new.walks.items tables → HaveWalks (first_part source.program.now) old.walks.items tables
-  fewer-kept tables h = fewer (first_part source.program.now) old.walks.items keeps.files.more tables (subst (λ ws. HaveWalks (first_part source.program.now) ws tables) keeps.files.walks h)
+  fewer-kept tables h = fewer (first_part source.program.now) old.walks.items keeps.files.more tables (subst (λ ws. HaveWalks (first_part source.program.now) ws tables) keeps.files.grown h)
 
   abbrev Are : Tables → List WalkRow → Type 0
   Are tables rest = AreRowsOf source.program.now source.layouts.now tables (inside (around_of lies.around) node) node desc rest

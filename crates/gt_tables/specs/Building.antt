@@ -167,7 +167,7 @@ IsFound walks cases node rows (Missing case) = IsFree walks cases node rows case
 -- there are more walks, and those that were found are found
 pub record Files (walks : List (List WalkRow)) (cases : BTreeMap Case ℕ) (now : List (List WalkRow)) (filed : BTreeMap Case ℕ) : Type 0 where
   pub more : List (List WalkRow)
-  pub walks : now ≡ walks ++ more
+  pub grown : now ≡ walks ++ more
   pub stay : (node place : ℕ) → IsFiled walks cases node place → IsFiled now filed node place
 
 -- a walk has these rows, and is found as one of a structure
