@@ -42,6 +42,10 @@ tail-some : (offset : ℕ) (len : RowExpr) (size : ℕ) (r : Option WalkRow) →
 tail-some offset len size (Some r) is = tail-plain offset len size r ∙ is
 tail-some offset len size None is = tt
 
+option-plain : (r : Option WalkRow) → IfSome r IsPlain → All IsPlain (option_to_list r)
+option-plain (Some r) is = All-cons IsPlain r [] is (All-nil IsPlain)
+option-plain None is = All-nil IsPlain
+
 module _ {program : Program} {layouts : Layouts} where
   pointer-plain : {around : Around} {type : Ty} {offset : ℕ} {r : Option WalkRow} → IsPointerRow program layouts around type offset r → IfSome r IsPlain
   pointer-plain IsPointerRow.string = ptr-plain _ _ _ _
@@ -60,10 +64,6 @@ module _ {program : Program} {layouts : Layouts} where
     row-plain (IsRowOf.structure {offset = offset} {walk = walk} is) = sub-some offset walk
     row-plain (IsRowOf.array {elem = elem} {n = n} {offset = offset} {r = r} e is) = rep-some offset n (extent_of layouts.structures elem).size r (row-plain is)
     row-plain (IsRowOf.tail {elem = elem} {e = len} {offset = offset} {r = r} e value is) = tail-some offset len (extent_of layouts.structures elem).size r (row-plain is)
-
-    option-plain : (r : Option WalkRow) → IfSome r IsPlain → All IsPlain (option_to_list r)
-    option-plain (Some r) is = All-cons IsPlain r [] is (All-nil IsPlain)
-    option-plain None is = All-nil IsPlain
 
     fields-plain : {around : Around} {types : List Ty} {spots : List Spot} {rows : List WalkRow} → AreFieldRows program layouts tables around types spots rows → All IsPlain rows
     fields-plain AreFieldRows.none = All-nil IsPlain

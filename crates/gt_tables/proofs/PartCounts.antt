@@ -30,7 +30,7 @@ use Rattle.gt_tables.specs.declared.sources.Part.{Part}
 use Rattle.gt_tables.specs.declared.sources.Source.{Source}
 use Rattle.gt_tables.specs.declared.parts.Case.{Case}
 use Rattle.gt_tables.specs.declared.parts.Parts.{Parts}
-use Rattle.gt_tables.specs.Building.{IsSource, site_cmp, part_cmp, first_of, HaveWalks, AreNew, Files, HasRows, Keeps, IsPlaced, IsSiteOf, flag_at, around_of, outermost_if, part_at, part_on_site, part_of, depends}
+use Rattle.gt_tables.specs.Building.{IsSource, site_cmp, part_cmp, first_of, HaveWalks, IsFiled, AreNew, Files, HasRows, Keeps, IsPlaced, IsSiteOf, flag_at, around_of, outermost_if, part_at, part_on_site, part_of, depends}
 use Rattle.gt_tables.specs.Sharing.{Part as SharedPart, PartWalk, IsPart, IsPartWalk, ArePartsShared, ReadsOutermost, LiesAt, DependsOnSite}
 use Rattle.gt_tables.specs.Counting.{IsKnown, Stays, told_site, told, held_site, held, rows_at, IsListed, ServesPlace, AreApart, Counted, IsDeeper, with_site, Counts}
 use Rattle.gt_alike.specs.Alike.{AreAlike}
@@ -188,14 +188,17 @@ rows-found first node rows walks cases walk has =
     ap (λ i. get_or walks i []) at ∙ get_or_from_slice_get walks has.place rows [] has.here
 
 module _ (source : Source) (old new : Parts) (files : Files old.walks.items old.cases new.walks.items new.cases) where
+  still-has : (p : PartWalk) (l : IsListed (first_of source) old p) → HasRows (first_of source) p.part.node.0 l.0 new.walks.items new.cases p.walk
+  still-has p l = has-on (first_of source) p.part.node.0 l.0 old.walks.items new.walks.items old.cases new.cases p.walk files l.1
+
   listed-on : (p : PartWalk) → IsListed (first_of source) old p → IsListed (first_of source) new p
-  listed-on p l = (l.0, has-on (first_of source) p.part.node.0 l.0 old.walks.items new.walks.items old.cases new.cases p.walk files l.1)
+  listed-on p l = (l.0, still-has p l)
 
   -- the same rows as before
   rows-on : (p : PartWalk) → IsListed (first_of source) old p → rows_at (first_of source) old.walks.items p.walk ≡ rows_at (first_of source) new.walks.items p.walk
   rows-on p l =
       rows-found (first_of source) p.part.node.0 l.0 old.walks.items old.cases p.walk l.1
-      ∙ sym (rows-found (first_of source) p.part.node.0 l.0 new.walks.items new.cases p.walk (listed-on p l).1)
+      ∙ sym (rows-found (first_of source) p.part.node.0 l.0 new.walks.items new.cases p.walk (still-has p l))
 
   serves-on : (p : PartWalk) → ServesPlace source old.walks.items p.part.node p.walk → ServesPlace source new.walks.items p.part.node p.walk
   serves-on p s = (
@@ -232,14 +235,14 @@ counted-stay source part old new n more files stays walks c = record {
 module _ (source : Source) (part : Option Part) (p : Part) (old new : Parts) (rows : List WalkRow) (walk : ℕ) (e : part ≡ Some p) (is : IsPart source.program.now (told p)) (unknown : IsKnown old p → ⊥)
     (files : Files old.walks.items old.cases new.walks.items new.cases) (has : HasRows (first_of source) p.node rows new.walks.items new.cases walk) (fresh : AreNew old.walks.items old.cases p.node rows)
     (serves : ServesPlace source new.walks.items (record { 0 = p.node }) walk) (stays : Stays part old new) where
-  entry : PartWalk
+  abbrev entry : PartWalk
   entry = record { part = told p; walk = walk }
 
   entry-apart : (q : PartWalk) → IsListed (first_of source) old q → AreApart (first_of source) new.walks.items q entry
   entry-apart q l same equal =
-      let now = listed-on source old new files q l in
+      let now = still-has source old new files q l in
       let alike : AreAlike l.0 rows =
-      subst (λ rs. AreAlike rs rows) (rows-found (first_of source) q.part.node.0 l.0 new.walks.items new.cases q.walk now.1)
+      subst (λ rs. AreAlike rs rows) (rows-found (first_of source) q.part.node.0 l.0 new.walks.items new.cases q.walk now)
       (subst (AreAlike (rows_at (first_of source) new.walks.items q.walk)) (rows-found (first_of source) p.node rows new.walks.items new.cases walk has) equal) in
       let node : q.part.node.0 ≡ p.node = ap (λ (t : TypeId). t.0) same in
       let filed = subst (λ n. IsFiled old.walks.items old.cases n l.1.place) node l.1.filed in

@@ -114,7 +114,7 @@ impl Parts {
     {
         let found = self.find(node, &rows)?;
         match found {
-            Found::There(place) => match first.checked_add(place) {
+            Found::There(place) => match next_number(first, place as usize) {
                 Some(walk) => Ok(walk),
                 None => Err(AllocError),
             },
