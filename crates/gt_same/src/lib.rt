@@ -1,5 +1,4 @@
-//! Whether two things of a program are equal: expressions, types, fields, structures, roots and whole programs. It is for those who
-//! test what headers declare.
+//! Whether two things of a program are equal: expressions, types, fields, structures, roots and whole programs.
 #![tactic(auto)]
 
 mod expressions;

@@ -1,15 +1,15 @@
 -- What is known of parts, and the walks that are added for them.
 use Rattle.std.specs.Global.{Vec}
 use Rattle.std.proofs.Common.{◌≡◌, ◌∙◌, ℕ, ◌+◌, ◌-◌, ◌≤◌, Bool, true, false, cond, List, [], ◌∷◌, ◌++◌, length, refl, ap, sym, subst, Option, Some, None, Ok, Err, get_or, ◌⊎◌, inl, inr, arith}
-use Rattle.std.specs.Prelude.{IfSome, IfOk, OnOk, All, flat_map}
+use Rattle.std.specs.Prelude.{IfSome, IfOk, OnOk, All, flat_map, slice_get}
 use Rattle.std.specs.Option.{option_map, option_cmp}
 use Rattle.std.specs.Ordering.{nat_cmp, ordering_then, is_eq}
 use Rattle.std.specs.declared.cmp.Ordering.{Ordering}
 use Rattle.std.specs.declared.cmp.Ordering.TheVariants.{Less, Equal, Greater}
 use Rattle.std.specs.BTreeMap.{BTreeMap, get, is_at}
 use Rattle.std.proofs.lemmas.Map.Lookups.{exact_unsigned}
-use Rattle.std.proofs.lemmas.List.{length-append, append-nil, get_or-append_right}
-use Rattle.std.proofs.Math.Seq.{get_or-append_seam}
+use Rattle.std.proofs.lemmas.List.{append-nil, get_or-append_right, get_or_append_left}
+use Rattle.std.proofs.lemmas.Option.{slice_get_within, get_or_from_slice_get}
 use Rattle.std.proofs.lemmas.List.Elements.{All-append, All-nil, All-cons, All-weaker}
 use Rattle.gt_types.specs.declared.program.Program.{Program}
 use Rattle.gt_types.specs.Settled.{Settled}
@@ -26,7 +26,9 @@ use Rattle.gt_tables.specs.declared.sources.Part.{Part}
 use Rattle.gt_tables.specs.declared.parts.Parts.{Parts}
 use Rattle.gt_edges.specs.Numbers.{first_part}
 use Rattle.gt_tables.specs.Building.{site_cmp, part_cmp, HaveWalks, PartsWithin, IsWalkOf, IsRow, AreRows, IsPointerRow, Shallow, AreParts, Grows, Keeps}
-use Rattle.gt_tables.proofs.Growing.{fewer, length-tables, nests-of, append-assoc, rows-grow, rows-deeper, row-grows, row-deeper, row-sub, row-rep, row-tail, row-pointer, row-switch, walk-grows, IsArm}
+use Rattle.gt_alike.specs.Alike.{IsEqual, AreEqual}
+use Rattle.gt_tables.proofs.RowForms.{parts_of, switch-parts}
+use Rattle.gt_tables.proofs.Growing.{length-tables, nests-of, append-assoc, rows-grow, rows-deeper, row-grows, row-deeper, row-sub, row-rep, row-tail, row-pointer, row-switch, walk-grows, IsArm}
 
 -- ---- results
 
@@ -117,25 +119,38 @@ module _ (first : ℕ) (walks : List (List WalkRow)) (deep : ℕ → Type 0) whe
   switch-some also arms None all is = tt
   switch-some also arms (Some r) all is = subst (IsRow first walks deep) (sym is.1) (row-switch first walks deep is.0 arms all)
 
--- ---- the walk that is added
+-- ---- a walk that stands among others
 
-module _ (program : Program) (first : ℕ) (walks : List (List WalkRow)) (node : ℕ) (rows : List WalkRow) where
-  pub rows-there : (tables : Tables) → HaveWalks first (walks ++ rows ∷ []) tables → rows_of tables (first + length walks) ≡ rows
+-- equal rows have the same parts
+equal-part : (r s : WalkRow) → IsEqual r s → parts_in r ≡ parts_in s
+equal-part r s equal = elim equal [
+  | inl same ↦ ap parts_in same
+  | inr both ↦ ap parts_in both.one ∙ switch-parts both.desc both.arms ∙ ap (λ (arms : List Arm). flat_map (λ a. parts_of (out-Arm a).row) arms) both.same ∙ sym (switch-parts both.desc both.others)
+      ∙ ap parts_in (sym both.other)
+]
+
+equal-parts : (rs ss : List WalkRow) → AreEqual rs ss → flat_map parts_in rs ≡ flat_map parts_in ss
+equal-parts [] ss p = ap (λ l. flat_map parts_in l) (sym p)
+equal-parts (r ∷ rs) [] p = absurd p
+equal-parts (r ∷ rs) (s ∷ ss) p = ap (λ l. l ++ flat_map parts_in rs) (equal-part r s p.0) ∙ ap (λ l. parts_in s ++ l) (equal-parts rs ss p.1)
+
+module _ (program : Program) (first : ℕ) (walks : List (List WalkRow)) (node : ℕ) (rows : List WalkRow) (place : ℕ) (here : slice_get walks place ≡ Some rows) where
+  pub rows-there : (tables : Tables) → HaveWalks first walks tables → rows_of tables (first + place) ≡ rows
   rows-there tables h =
-      let here : first + length walks - first ≡ length walks = omega arith in
-      let far : first ≤ first + length walks = omega arith in
-      ap (λ ws. get_or ws (first + length walks) []) h.is ∙ get_or-append_right h.front ((walks ++ rows ∷ []) ++ h.rest) first (first + length walks) [] h.long far
-      ∙ ap (λ i. get_or ((walks ++ rows ∷ []) ++ h.rest) i []) here ∙ ap (λ ws. get_or ws (length walks) []) (append-assoc walks (rows ∷ []) h.rest) ∙ get_or-append_seam walks rows h.rest []
+      let within = slice_get_within walks place rows here in
+      let at : first + place - first ≡ place = omega arith in
+      let far : first ≤ first + place = omega arith in
+      ap (λ ws. get_or ws (first + place) []) h.is ∙ get_or-append_right h.front (walks ++ h.rest) first (first + place) [] h.long far ∙ ap (λ i. get_or (walks ++ h.rest) i []) at
+      ∙ get_or_append_left walks h.rest [] place within ∙ get_or_from_slice_get walks place rows [] here
 
-  pub walk-new : AreRows first walks (IsWithinDepth program node) rows → IsWalkOf program first (walks ++ rows ∷ []) node (first + length walks)
-  walk-new are tables h =
-      let long = length-tables first (walks ++ rows ∷ []) tables h in
-      let more = length-append walks (rows ∷ []) in
+  pub walk-at : (made : List WalkRow) → AreEqual rows made → AreRows first walks (IsWithinDepth program node) made → IsWalkOf program first walks node (first + place)
+  walk-at made equal are tables h =
+      let long = length-tables first walks tables h in
+      let inside = slice_get_within walks place rows here in
       record {
-        there = omega (arith, long, more);
+        there = omega (arith, long, inside);
         nests = λ depth within.
-            nests-of tables depth (first + length walks)
-            (subst (λ rs. PartsWithin tables depth (flat_map parts_in rs)) (sym (rows-there tables h)) (are.nests tables (fewer first walks (rows ∷ []) tables h) depth within));
+            nests-of tables depth (first + place) (subst (PartsWithin tables depth) (sym (ap (λ rs. flat_map parts_in rs) (rows-there tables h) ∙ equal-parts rows made equal)) (are.nests tables h depth within));
       }
 
 -- structures stand inside one another at most so deep
@@ -144,7 +159,7 @@ shallow-enough program node settled depth deep n inner nests = omega (arith, dee
 
 -- ---- parts that are kept
 
-is-eq-first : (o rest : Ordering) → is_eq (ordering_then o rest) ≡ true → o ≡ Equal
+pub is-eq-first : (o rest : Ordering) → is_eq (ordering_then o rest) ≡ true → o ≡ Equal
 is-eq-first Less rest e = absurd (cc)
 is-eq-first Equal rest e = refl
 is-eq-first Greater rest e = absurd (cc)
@@ -169,14 +184,14 @@ put-known p part walk old new is updates q n there = elim (put-cases p q walk n 
 
 -- ---- parts that compare equal are equal
 
-is-eq-rest : (o rest : Ordering) → is_eq (ordering_then o rest) ≡ true → rest ≡ Equal
+pub is-eq-rest : (o rest : Ordering) → is_eq (ordering_then o rest) ≡ true → rest ≡ Equal
 is-eq-rest Less rest e = absurd (cc)
 is-eq-rest Equal Less e = absurd (cc)
 is-eq-rest Equal Equal e = refl
 is-eq-rest Equal Greater e = absurd (cc)
 is-eq-rest Greater rest e = absurd (cc)
 
-is-eq-of : (o : Ordering) → o ≡ Equal → is_eq o ≡ true
+pub is-eq-of : (o : Ordering) → o ≡ Equal → is_eq o ≡ true
 is-eq-of o e = ap is_eq e
 
 exact-option : {X : Type 0} (R : X → X → Ordering) → ((a b : X) → R a b ≡ Equal → a ≡ b) → (a b : Option X) → option_cmp R a b ≡ Equal → a ≡ b
@@ -231,48 +246,53 @@ pub known-walk : (program : Program) (parts : Parts) → AreParts program parts 
 known-walk program parts are part id node known h = some-known program parts id h.0 known are (at-some part h.0 id h.1 node) h.2
 
 module _ (program : Program) (settled : Settled program) (part : Option Part) (id : ℕ) (rows : List WalkRow) (old new : Parts) where
-  kept-some : (n : ℕ) → AreRows (first_part program) old.walks.items (IsWithinDepth program id) rows → Keeps (first_part program) part rows old new (Some n) → IsWalkOf program (first_part program) new.walks.items id n
+  kept-some : (n : ℕ) → AreRows (first_part program) old.walks.items (IsWithinDepth program id) rows → Keeps (first_part program) part id rows old new (Some n) → IsWalkOf program (first_part program) new.walks.items id n
   kept-some n are keeps =
-      let walks : new.walks.items ≡ old.walks.items ++ rows ∷ [] = keeps.walks ∙ ap (λ ws. old.walks.items ++ ws) keeps.added.1 in
-      subst (λ ws. IsWalkOf program (first_part program) ws id n) (sym walks)
-      (subst (IsWalkOf program (first_part program) (old.walks.items ++ rows ∷ []) id) (sym keeps.added.0) (walk-new program (first_part program) old.walks.items id rows are))
+      let first = first_part program in
+      let Are = λ (ws : List (List WalkRow)). AreRows first ws (IsWithinDepth program id) rows in
+      let grown : Are new.walks.items = subst Are (sym keeps.files.grown) (rows-grow first old.walks.items keeps.files.more (IsWithinDepth program id) rows are) in
+      let has = keeps.has.1 in
+      subst (IsWalkOf program first new.walks.items id) (sym has.number) (walk-at program first new.walks.items id keeps.has.0 has.place has.here rows keeps.has.2 grown)
 
-  pub kept-walk : (walk : Option ℕ) → AreRows (first_part program) old.walks.items (IsWithinDepth program id) rows → Keeps (first_part program) part rows old new walk
+  pub kept-walk : (walk : Option ℕ) → AreRows (first_part program) old.walks.items (IsWithinDepth program id) rows → Keeps (first_part program) part id rows old new walk
       → IfSome walk (IsWalkOf program (first_part program) new.walks.items id)
   kept-walk None are keeps = tt
   kept-walk (Some n) are keeps = kept-some n are keeps
 
-  more-rows : (walk : Option ℕ) → AreRows (first_part program) old.walks.items (IsWithinDepth program id) rows → (keeps : Keeps (first_part program) part rows old new walk)
-      → All (AreRows (first_part program) old.walks.items Shallow) keeps.more
-  more-rows None are keeps = subst (All (AreRows (first_part program) old.walks.items Shallow)) (sym (keeps.none refl)) (All-nil (AreRows (first_part program) old.walks.items Shallow))
-  more-rows (Some n) are keeps =
+  more-rows : (walk : Option ℕ) → AreRows (first_part program) old.walks.items (IsWithinDepth program id) rows → (keeps : Keeps (first_part program) part id rows old new walk)
+      → All (AreRows (first_part program) old.walks.items Shallow) keeps.files.more
+  more-rows walk are keeps =
       let P = AreRows (first_part program) old.walks.items Shallow in
-      subst (All P) (sym keeps.added.1)
-      (All-cons P rows [] (rows-deeper (first_part program) old.walks.items (IsWithinDepth program id) Shallow rows (λ depth deep. shallow-enough program id settled depth deep) are) (All-nil P))
+      elim keeps.shared [
+        | inl h ↦ subst (All P) (sym h) (All-nil P)
+        | inr h ↦ subst (All P) (sym h.0)
+            (All-cons P rows [] (rows-deeper (first_part program) old.walks.items (IsWithinDepth program id) Shallow rows (λ depth deep. shallow-enough program id settled depth deep) are) (All-nil P))
+      ]
 
-  kept-known : (walk : Option ℕ) → AreParts program old → AreRows (first_part program) old.walks.items (IsWithinDepth program id) rows → Keeps (first_part program) part rows old new walk
+  kept-known : (walk : Option ℕ) → AreParts program old → AreRows (first_part program) old.walks.items (IsWithinDepth program id) rows → Keeps (first_part program) part id rows old new walk
       → IfSome part (λ p. p.node ≡ id) → (q : Part) (n : ℕ) → get part_cmp new.known q ≡ Some (Some n) → IsWalkOf program (first_part program) new.walks.items q.node n
   kept-known walk parts are keeps node q n there = elim (keeps.known q n there) [
-    | inl h ↦ subst (λ ws. IsWalkOf program (first_part program) ws q.node n) (sym keeps.walks) (walk-grows (first_part program) old.walks.items keeps.more program q.node n (parts.known q n h))
+    | inl h ↦ subst (λ ws. IsWalkOf program (first_part program) ws q.node n) (sym keeps.files.grown) (walk-grows (first_part program) old.walks.items keeps.files.more program q.node n (parts.known q n h))
     | inr h ↦
         let same : q.node ≡ id = h.2 ∙ at-some part h.0 id h.1 node in
         subst (λ i. IsWalkOf program (first_part program) new.walks.items i n) (sym same)
-        (kept-some n are (subst (Keeps (first_part program) part rows old new) h.3 keeps))
+        (kept-some n are (subst (Keeps (first_part program) part id rows old new) h.3 keeps))
   ]
 
-  pub kept-grows : (walk : Option ℕ) → AreParts program old → AreRows (first_part program) old.walks.items (IsWithinDepth program id) rows → Keeps (first_part program) part rows old new walk
+  pub kept-grows : (walk : Option ℕ) → AreParts program old → AreRows (first_part program) old.walks.items (IsWithinDepth program id) rows → Keeps (first_part program) part id rows old new walk
       → IfSome part (λ p. p.node ≡ id) → Grows program old new
   kept-grows walk parts are keeps node =
       let first = first_part program in
       let P = AreRows first old.walks.items Shallow in
       record {
-        more = keeps.more;
-        walks = keeps.walks;
+        more = keeps.files.more;
+        walks = keeps.files.grown;
         are = record {
           known = kept-known walk parts are keeps node;
           rows =
-              subst (λ ws. All (AreRows first ws Shallow) ws) (sym keeps.walks)
-              (All-weaker P (AreRows first (old.walks.items ++ keeps.more) Shallow) (λ rs is. rows-grow first old.walks.items keeps.more Shallow rs is) (old.walks.items ++ keeps.more)
-              (All-append P old.walks.items keeps.more parts.rows (more-rows walk are keeps)));
+              subst (λ ws. All (AreRows first ws Shallow) ws) (sym keeps.files.grown)
+              (All-weaker P (AreRows first (old.walks.items ++ keeps.files.more) Shallow) (λ rs is. rows-grow first old.walks.items keeps.files.more Shallow rs is) (old.walks.items ++ keeps.files.more)
+              (All-append P old.walks.items keeps.files.more parts.rows (more-rows walk are keeps)));
+          turns = keeps.turns;
         };
       }

@@ -1,6 +1,7 @@
 pub mod RowForms
 pub mod Growing
 pub mod Keeping
+pub mod Filing
 pub mod Fields
 pub mod Wholes
 pub mod Reaching
@@ -16,6 +17,7 @@ pub mod Readers
 pub mod ChainOffsets
 pub mod DeletableWords
 pub mod Translations
+pub mod EqualRows
 pub mod Serving
 pub mod ServingRoots
 pub mod ServingBlocks

@@ -33,10 +33,12 @@ use Rattle.gt_tables.specs.declared.sources.Part.{Part}
 use Rattle.gt_tables.specs.declared.sources.Source.{Source}
 use Rattle.gt_tables.specs.declared.parts.Parts.{Parts}
 use Rattle.gt_edges.specs.Numbers.{first_part}
-use Rattle.gt_tables.specs.Building.{part_cmp, HaveWalks, Grows, Keeps, IsSource, IsAround, IsSiteOf, IsPlaced, AreServed, around_of, part_at, part_on_site, depends, part_of, ServesType, ServesPart, ServesStructure, AddsFields, ServesMembers}
+use Rattle.gt_alike.specs.Alike.{AreEqual}
+use Rattle.gt_tables.specs.Building.{part_cmp, HaveWalks, Grows, HasEqual, Keeps, IsSource, IsAround, IsSiteOf, IsPlaced, AreServed, around_of, part_at, part_on_site, depends, part_of, ServesType, ServesPart, ServesStructure, AddsFields, ServesMembers}
 use Rattle.gt_tables.proofs.Growing.{fewer, append-assoc}
 use Rattle.gt_tables.proofs.Keeping.{rows-there}
 use Rattle.gt_tables.proofs.SharedParts.{part-serves}
+use Rattle.gt_tables.proofs.EqualRows.{equal-walked}
 use Rattle.gt_tables.proofs.Translations.{translation}
 
 -- tables with more walks of parts have those that there were
@@ -244,24 +246,25 @@ same-node : (a b : TypeId) → a.0 ≡ b.0 → a ≡ b
 same-node a b e = ap (λ (n : ℕ). record { 0 = n }) e
 
 module _ (source : Source) (source-is : IsSource source) (first : ℕ) (first-is : first ≡ first_part source.program.now) (lies : Lies) (node : TypeId) (desc : Option Expr) (part : Option Part) (rows : List WalkRow) (old new : Parts)
-    (inner : CodeAround) (inner-is : around_of inner ≡ inside (around_of lies.around) node) (walk : Option ℕ) (keeps : Keeps first part rows old new walk) where
+    (inner : CodeAround) (inner-is : around_of inner ≡ inside (around_of lies.around) node) (walk : Option ℕ) (keeps : Keeps first part node.0 rows old new walk) where
   fewer-kept : (tables : Tables) → HaveWalks (first_part source.program.now) new.walks.items tables → HaveWalks (first_part source.program.now) old.walks.items tables
-  fewer-kept tables h = fewer (first_part source.program.now) old.walks.items keeps.more tables (subst (λ ws. HaveWalks (first_part source.program.now) ws tables) keeps.walks h)
+  fewer-kept tables h = fewer (first_part source.program.now) old.walks.items keeps.files.more tables (subst (λ ws. HaveWalks (first_part source.program.now) ws tables) keeps.files.grown h)
 
   abbrev Are : Tables → List WalkRow → Type 0
   Are tables rest = AreRowsOf source.program.now source.layouts.now tables (inside (around_of lies.around) node) node desc rest
 
-  -- the walk that was added has these rows
-  kept-walked : (chain : Option ℕ) (n : ℕ) → walk ≡ Some n → ServesStructure source old.walks.items inner node desc chain rows → ServesPart source new.walks.items lies.around node desc (Some n)
+  -- the walk that is kept has these rows
+  pub kept-walked : (chain : Option ℕ) (n : ℕ) → walk ≡ Some n → ServesStructure source old.walks.items inner node desc chain rows → ServesPart source new.walks.items lies.around node desc (Some n)
   kept-walked chain n is serves tables h =
-      let added = subst (λ w. IfSome w (λ n. (n ≡ first + length old.walks.items) × (keeps.more ≡ rows ∷ []))) is keeps.added in
-      let walks : new.walks.items ≡ old.walks.items ++ rows ∷ [] = keeps.walks ∙ ap (λ ws. old.walks.items ++ ws) added.1 in
-      let number : n ≡ first_part source.program.now + length old.walks.items = added.0 ∙ ap (λ f. f + length old.walks.items) first-is in
-      let have = subst (λ ws. HaveWalks (first_part source.program.now) ws tables) walks h in
-      let there = rows-there source.program.now (first_part source.program.now) old.walks.items node.0 rows tables have in
+      let found = subst (λ w. IfSome w (HasEqual first node.0 rows new.walks.items new.cases)) is keeps.has in
+      let has = found.1 in
+      let number : n ≡ first_part source.program.now + has.place = has.number ∙ ap (λ f. f + has.place) first-is in
+      let there = rows-there source.program.now (first_part source.program.now) new.walks.items node.0 found.0 has.place has.here tables h in
       let are : Are tables serves.rest =
       subst (λ around. AreRowsOf source.program.now source.layouts.now tables around node desc serves.rest) inner-is (serves.are tables (fewer-kept tables h)) in
-      subst (λ m. IsPartOf source.program.now source.layouts.now tables (around_of lies.around) node desc (Some m)) (sym number) (walked (there ∙ serves.is) are)
+      subst (λ m. IsPartOf source.program.now source.layouts.now tables (around_of lies.around) node desc (Some m)) (sym number)
+      (equal-walked source.program.now source.layouts.now tables (around_of lies.around) node desc found.0 serves.rest serves.plane.size chain (first_part source.program.now + has.place) there
+      (subst (AreEqual found.0) serves.is found.2) are)
 
   -- a part without edges has its note alone
   no-rest : (rest : List WalkRow) → length rest ≤ 0 → rest ≡ []

@@ -20,6 +20,7 @@ use Rattle.gt_tables.specs.declared.sources.Source.{Source}
 use Rattle.gt_tables.specs.Building.{HaveWalks, Grows, IsSource, ServesRoot, ServesRoots, IsWalkOfRoot}
 use Rattle.gt_tables.proofs.Growing.{fewer}
 use Rattle.gt_tables.proofs.Keeping.{rows-there}
+use Rattle.gt_tables.proofs.Filing.{slice-end}
 use Rattle.gt_tables.proofs.Wholes.{count-one}
 use Rattle.gt_tables.proofs.Serving.{fewer-on}
 
@@ -105,7 +106,7 @@ pub root-walk-new : (source : Source) (a b : List (List WalkRow)) (rows : List W
 root-walk-new source a b rows r address walk is number s tables h =
     let first = first_part source.program.now in
     let have = subst (λ ws. HaveWalks first ws tables) is h in
-    (rows, ap (rows_of tables) number ∙ rows-there source.program.now first a 0 rows tables have, root-more source a (rows ∷ []) b is r address rows s)
+    (rows, ap (rows_of tables) number ∙ rows-there source.program.now first (a ++ rows ∷ []) 0 rows (length a) (slice-end a rows) tables have, root-more source a (rows ∷ []) b is r address rows s)
 
 pub root-walk-on : (source : Source) (a b : Parts) → Grows source.program.now a b → (r : Root) (address walk : ℕ) → IsWalkOfRoot source a.walks.items r address walk → IsWalkOfRoot source b.walks.items r address walk
 root-walk-on source a b grows r address walk is tables h =

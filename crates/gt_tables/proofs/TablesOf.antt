@@ -25,11 +25,12 @@ use Rattle.gt_edges.specs.Numbers.{first_part}
 use Rattle.gt_edges.specs.Walks.{outside, IsRowOf, AreWalksOf}
 use Rattle.gt_tables.specs.declared.sources.Part.{Part}
 use Rattle.gt_tables.specs.declared.sources.Source.{Source}
+use Rattle.gt_tables.specs.declared.parts.Case.{Case}
 use Rattle.gt_tables.specs.declared.parts.Parts.{Parts}
 use Rattle.gt_tables.specs.Sharing.{ReadsOutermost}
 use Rattle.gt_edges.specs.Tables.{AreNumbered}
 use Rattle.gt_edges.specs.Notes.{chain_offset, HasNote, AreBlockWalks}
-use Rattle.gt_tables.specs.Building.{part_cmp, HaveWalks, IsSource, Tell, AreRows, Shallow, AreParts, Grows, AreServed, flag_at, ServesWalk, ServesWalks, IsPointerWalk, ServesPointers, ServesRoots}
+use Rattle.gt_tables.specs.Building.{part_cmp, case_cmp, HaveWalks, IsSource, Tell, AreRows, Shallow, AreParts, Grows, AreServed, flag_at, ServesWalk, ServesWalks, IsPointerWalk, ServesPointers, ServesRoots}
 use Rattle.gt_tables.proofs.ServingBlocks.{one-structure, one-plane, walk-on}
 
 -- ---- whether a structure may stand alone
@@ -126,12 +127,14 @@ is-source source settled laid within count inner readers inner-is tell readers-i
 }
 
 -- where there are no parts yet
-pub no-parts : (program : Program) (parts : Parts) → parts.walks.items ≡ [] → ((part : Part) → get part_cmp parts.known part ≡ None) → AreParts program parts
-no-parts program parts walks known =
+pub no-parts : (program : Program) (parts : Parts) → parts.walks.items ≡ [] → ((part : Part) → get part_cmp parts.known part ≡ None) → ((case : Case) → get case_cmp parts.cases case ≡ None)
+    → AreParts program parts
+no-parts program parts walks known cases =
     let P = AreRows (first_part program) parts.walks.items Shallow in
     record {
       known = λ part walk there. absurd (cc (known part, there));
       rows = subst (All P) (sym walks) (All-nil P);
+      turns = λ case place turn there le. absurd (cc (cases case, there));
     }
 
 pub none-served : (source : Source) (parts : Parts) → ((part : Part) → get part_cmp parts.known part ≡ None) → AreServed source parts

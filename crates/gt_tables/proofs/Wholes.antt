@@ -27,7 +27,7 @@ use Rattle.std.specs.List.{filter}
 use Rattle.gt_types.specs.declared.program.Root.{Root}
 use Rattle.gt_edges.specs.Edges.{has_walk}
 use Rattle.gt_edges.specs.Tables.{cache_walks, AreNumbered}
-use Rattle.gt_tables.specs.Building.{part_cmp, HaveWalks, IsWalkOf, AreRows, Shallow, AreParts, Grows, IsThere, EndAsBlocks, number_of_walks}
+use Rattle.gt_tables.specs.Building.{part_cmp, HaveWalks, IsWalkOf, AreRows, Shallow, AreParts, Grows, IsThere, EndAsBlocks, number_of_walks, HaveTurns}
 use Rattle.gt_tables.proofs.RowForms.{ptr-note, ptr-names, ptr-parts}
 use Rattle.gt_tables.proofs.Growing.{fewer, length-tables, nests-of, rows-note, rows-add, rows-grow, row-pointer, walk-grows}
 use Rattle.gt_tables.proofs.Keeping.{rows-on}
@@ -66,8 +66,8 @@ pub one-longer : (X : Type 0) (xs ys : List X) (x : X) → ys ≡ xs ++ x ∷ []
 one-longer X xs ys x is = ap length is ∙ length-append xs (x ∷ [])
 
 pub add-grows : (program : Program) (a b : Parts) (rows : List WalkRow) → AreParts program a → AreRows (first_part program) a.walks.items Shallow rows → b.walks.items ≡ a.walks.items ++ rows ∷ []
-    → b.known ≡ a.known → Grows program a b
-add-grows program a b rows parts are walks known =
+    → b.known ≡ a.known → b.cases ≡ a.cases → Grows program a b
+add-grows program a b rows parts are walks known cases =
     let first = first_part program in
     let P = AreRows first a.walks.items Shallow in
     record {
@@ -81,6 +81,7 @@ add-grows program a b rows parts are walks known =
             subst (λ ws. All (AreRows first ws Shallow) ws) (sym walks)
             (All-weaker P (AreRows first (a.walks.items ++ rows ∷ []) Shallow) (λ rs is. rows-grow first a.walks.items (rows ∷ []) Shallow rs is) (a.walks.items ++ rows ∷ [])
             (All-append P a.walks.items (rows ∷ []) parts.rows (All-cons P rows [] are (All-nil P))));
+        turns = subst HaveTurns (sym cases) parts.turns;
       };
     }
 

@@ -3,7 +3,7 @@ use Rattle.std.specs.Prelude.{◌≡◌, ◌≤◌, ◌<◌, ◌⊎◌, ℕ, zer
 use Rattle.std.specs.Ordering.{nat_cmp, ordering_then}
 use Rattle.std.specs.Option.{option_cmp}
 use Rattle.std.specs.List.{filter}
-use Rattle.std.specs.BTreeMap.{get}
+use Rattle.std.specs.BTreeMap.{BTreeMap, get}
 use Rattle.std.specs.declared.cmp.Ordering.{Ordering}
 use Rattle.gt_types.specs.declared.program.Program.{Program}
 use Rattle.gt_types.specs.Settled.{Settled}
@@ -38,12 +38,17 @@ use Rattle.gt_tables.specs.declared.sources.Lies.{Lies}
 use Rattle.gt_tables.specs.declared.sources.Site.{Site}
 use Rattle.gt_tables.specs.declared.sources.Part.{Part}
 use Rattle.gt_tables.specs.declared.sources.Source.{Source}
+use Rattle.gt_tables.specs.declared.parts.Case.{Case}
+use Rattle.gt_tables.specs.declared.parts.Found.{Found}
+use Rattle.gt_tables.specs.declared.parts.Found.TheVariants.{There, Missing}
 use Rattle.gt_tables.specs.declared.parts.Parts.{Parts}
 use Rattle.gt_walk.specs.declared.rows.Arm.{Arm}
 use Rattle.gt_walk.specs.declared.rows.Count.TheVariants.{Fixed}
 use Rattle.gt_walk.specs.declared.rows.WalkRow.TheVariants.{Note, Ptr}
 use Rattle.gt_tree.specs.Blocks.{Strings, Chars}
 use Rattle.gt_edges.specs.Numbers.{first_part, walk_of}
+use Rattle.gt_alike.specs.Alike.{AreEqual, AreAlike}
+use Rattle.gt_alike.specs.Prints.{rows_print}
 
 -- what is known of the structure of a number
 abbrev pub flag_at : List Bool → ℕ → Bool
@@ -115,6 +120,78 @@ pub record IsPointerRow (first : ℕ) (row : WalkRow) : Type 0 where
   pub names : All (λ walk. walk < first) (names_in row)
   pub parts : parts_in row ≡ []
 
+-- ---- walks that are found by their rows
+
+abbrev pub case_cmp : Case → Case → Ordering
+case_cmp a b = ordering_then (nat_cmp a.node b.node) (ordering_then (nat_cmp a.print b.print) (nat_cmp a.turn b.turn))
+
+abbrev pub case_of : ℕ → List WalkRow → ℕ → Case
+case_of node rows turn = record { node = node; print = rows_print rows; turn = turn }
+
+-- the walk at a place is found as one of a structure
+pub record IsFiled (walks : List (List WalkRow)) (cases : BTreeMap Case ℕ) (node place : ℕ) : Type 0 where
+  pub rows : List WalkRow
+  pub turn : ℕ
+  pub there : slice_get walks place ≡ Some rows
+  pub is : get case_cmp cases (case_of node rows turn) ≡ Some place
+
+-- no turn is left out
+abbrev pub HaveTurns : BTreeMap Case ℕ → Type 0
+HaveTurns cases = (c : Case) (place turn : ℕ) → get case_cmp cases c ≡ Some place → turn ≤ c.turn → (other : ℕ) × (get case_cmp cases (record { node = c.node; print = c.print; turn = turn }) ≡ Some other)
+
+-- the walk at a place has these rows
+abbrev pub StandsAt : List (List WalkRow) → ℕ → List WalkRow → Type 0
+StandsAt walks place rows = (had : List WalkRow) × (slice_get walks place ≡ Some had) × AreAlike had rows
+
+-- no walk that is found as one of a structure has these rows
+abbrev pub AreNew : List (List WalkRow) → BTreeMap Case ℕ → ℕ → List WalkRow → Type 0
+AreNew walks cases node rows = (place : ℕ) → IsFiled walks cases node place → ¬ StandsAt walks place rows
+
+-- the walks of a structure in the turns before this one have other rows
+abbrev pub WereTried : List (List WalkRow) → BTreeMap Case ℕ → ℕ → List WalkRow → ℕ → Type 0
+WereTried walks cases node rows turn = (n : ℕ) → n < turn → (place : ℕ) × (get case_cmp cases (case_of node rows n) ≡ Some place) × (¬ StandsAt walks place rows)
+
+-- no walk of a structure has these rows, and one with them is to have this case
+pub record IsFree (walks : List (List WalkRow)) (cases : BTreeMap Case ℕ) (node : ℕ) (rows : List WalkRow) (case : Case) : Type 0 where
+  pub turn : ℕ
+  pub is : case ≡ case_of node rows turn
+  pub none : get case_cmp cases case ≡ None
+  pub tried : WereTried walks cases node rows turn
+  pub new : AreNew walks cases node rows
+
+-- where a walk of a structure with these rows is
+abbrev pub IsFound : List (List WalkRow) → BTreeMap Case ℕ → ℕ → List WalkRow → Found → Type 0
+IsFound walks cases node rows (There place) = StandsAt walks place rows × IsFiled walks cases node place
+IsFound walks cases node rows (Missing case) = IsFree walks cases node rows case
+
+-- there are more walks, and those that were found are found
+pub record Files (walks : List (List WalkRow)) (cases : BTreeMap Case ℕ) (now : List (List WalkRow)) (filed : BTreeMap Case ℕ) : Type 0 where
+  pub more : List (List WalkRow)
+  pub grown : now ≡ walks ++ more
+  pub stay : (node place : ℕ) → IsFiled walks cases node place → IsFiled now filed node place
+
+-- a walk has these rows, and is found as one of a structure
+pub record HasRows (first node : ℕ) (rows : List WalkRow) (walks : List (List WalkRow)) (cases : BTreeMap Case ℕ) (walk : ℕ) : Type 0 where
+  pub place : ℕ
+  pub number : walk ≡ first + place
+  pub here : slice_get walks place ≡ Some rows
+  pub filed : IsFiled walks cases node place
+
+-- a walk has rows that are equal to these, and is found as one of a structure
+abbrev pub HasEqual : ℕ → ℕ → List WalkRow → List (List WalkRow) → BTreeMap Case ℕ → ℕ → Type 0
+HasEqual first node rows walks cases walk = (had : List WalkRow) × HasRows first node had walks cases walk × AreEqual had rows
+
+-- a walk with these very rows is added, where no walk of its structure had them
+abbrev pub IsAdded : ℕ → ℕ → List WalkRow → List (List WalkRow) → BTreeMap Case ℕ → List (List WalkRow) → List (List WalkRow) → BTreeMap Case ℕ → Option ℕ → Type 0
+IsAdded first node rows walks cases more now filed walk = (more ≡ rows ∷ []) × AreNew walks cases node rows × IfSome walk (HasRows first node rows now filed)
+
+-- the walk of a structure with these rows: the one that was there, or a new one
+pub record Shares (first node : ℕ) (rows : List WalkRow) (walks : List (List WalkRow)) (cases : BTreeMap Case ℕ) (now : List (List WalkRow)) (filed : BTreeMap Case ℕ) (walk : ℕ) : Type 0 where
+  pub files : Files walks cases now filed
+  pub turns : HaveTurns filed
+  pub has : HasEqual first node rows now filed walk
+  pub shared : (files.more ≡ []) ⊎ IsAdded first node rows walks cases files.more now filed (Some walk)
+
 -- ---- walks of parts
 
 -- at most this deep
@@ -125,6 +202,7 @@ Shallow depth = 33 ≤ depth
 pub record AreParts (program : Program) (parts : Parts) : Type 0 where
   pub known : (part : Part) (walk : ℕ) → get part_cmp parts.known part ≡ Some (Some walk) → IsWalkOf program (first_part program) parts.walks.items part.node walk
   pub rows : All (AreRows (first_part program) parts.walks.items Shallow) parts.walks.items
+  pub turns : HaveTurns parts.cases
 
 -- there are more
 pub record Grows (program : Program) (old new : Parts) : Type 0 where
@@ -133,11 +211,12 @@ pub record Grows (program : Program) (old new : Parts) : Type 0 where
   pub are : AreParts program new
 
 -- the walk of a part is kept, if it has one
-pub record Keeps (first : ℕ) (part : Option Part) (rows : List WalkRow) (old new : Parts) (walk : Option ℕ) : Type 0 where
-  pub more : List (List WalkRow)
-  pub walks : new.walks.items ≡ old.walks.items ++ more
-  pub added : IfSome walk (λ n. (n ≡ first + length old.walks.items) × (more ≡ rows ∷ []))
-  pub none : walk ≡ None → more ≡ []
+pub record Keeps (first : ℕ) (part : Option Part) (node : ℕ) (rows : List WalkRow) (old new : Parts) (walk : Option ℕ) : Type 0 where
+  pub files : Files old.walks.items old.cases new.walks.items new.cases
+  pub turns : HaveTurns new.cases
+  pub has : IfSome walk (HasEqual first node rows new.walks.items new.cases)
+  pub shared : (files.more ≡ []) ⊎ IsAdded first node rows old.walks.items old.cases files.more new.walks.items new.cases walk
+  pub none : walk ≡ None → files.more ≡ []
   pub known : (q : Part) (n : ℕ) → get part_cmp new.known q ≡ Some (Some n)
       → (get part_cmp old.known q ≡ Some (Some n)) ⊎ ((p : Part) × (part ≡ Some p) × (q.node ≡ p.node) × (walk ≡ Some n))
   pub kept : (q : Part) (w : Option ℕ) → get part_cmp new.known q ≡ Some w → (get part_cmp old.known q ≡ Some w) ⊎ ((part ≡ Some q) × (walk ≡ w))

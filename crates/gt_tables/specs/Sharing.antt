@@ -1,4 +1,4 @@
--- How many walks of parts there are: each part has one.
+-- How many walks of parts there are: each part has one, and parts of one structure with equal rows have the same one.
 use Rattle.std.specs.Prelude.{◌≡◌, ◌≢◌, ◌≤◌, ◌⊎◌, ℕ, ◌+◌, ◌*◌, true, List, ◌++◌, length, Option, Some, None, IsSome, IfSome, All, AllPairs, Any, slice_get, filter_map}
 use Rattle.gt_types.specs.declared.expressions.Base.TheVariants.{Outermost}
 use Rattle.gt_types.specs.declared.expressions.Expr.{Expr}
@@ -11,8 +11,12 @@ use Rattle.gt_types.specs.declared.program.Program.{Program}
 use Rattle.gt_types.specs.Shapes.{innermost}
 use Rattle.gt_types.specs.Contains.{HasStructure, ContainsStructure, held_by}
 use Rattle.gt_types.specs.Paths.{paths_of, IsInner, own_expressions}
+use Rattle.gt_layout.specs.declared.planes.Layouts.{Layouts}
 use Rattle.gt_walk.specs.declared.tables.Tables.{Tables}
+use Rattle.gt_walk.specs.Rows.{rows_of}
 use Rattle.gt_edges.specs.Numbers.{first_part}
+use Rattle.gt_edges.specs.Walks.{Around, IsPartOf}
+use Rattle.gt_alike.specs.Alike.{AreEqual}
 
 -- where a structure lies by value: in which structure, and in which field of it
 pub record Site : Type 0 where
@@ -63,9 +67,20 @@ pub record IsPart (program : Program) (p : Part) : Type 0 where
   pub site : IfSome p.site (λ site. LiesAt program p.node site × DependsOnSite program p.node)
   pub outermost : IsSome p.outermost → ReadsOutermost program (reader_of p.node p.site)
 
--- Besides the walks of blocks, and at most two for each root, there is at most one walk for each part, and no part is counted twice.
-pub record ArePartsShared (program : Program) (tables : Tables) : Type 0 where
-  pub parts : List Part
-  pub each : All (IsPart program) parts
-  pub distinct : AllPairs ◌≢◌ parts
+-- the walk of a part
+pub record PartWalk : Type 0 where
+  pub part : Part
+  pub walk : ℕ
+
+-- a walk is that of its structure by value, inside some structures
+abbrev pub IsPartWalk : Program → Layouts → Tables → PartWalk → Type 0
+IsPartWalk program layouts tables p = (around : Around) × (desc : Option Expr) × IsPartOf program layouts tables around p.part.node desc (Some p.walk)
+
+-- Besides the walks of blocks, and at most two for each root, there is at most one walk for each part, no part is counted twice, and no two walks of one structure have equal rows.
+pub record ArePartsShared (program : Program) (layouts : Layouts) (tables : Tables) : Type 0 where
+  pub parts : List PartWalk
+  pub each : All (λ p. IsPart program p.part) parts
+  pub walks : All (IsPartWalk program layouts tables) parts
+  pub distinct : AllPairs (λ p q. p.part ≢ q.part) parts
+  pub apart : AllPairs (λ p q. p.part.node ≡ q.part.node → ¬ AreEqual (rows_of tables p.walk) (rows_of tables q.walk)) parts
   pub few : length tables.walks ≤ first_part program + 2 * length tables.roots + length parts

@@ -42,7 +42,7 @@ pub fn build(alloc: Global, program: &Program, layouts: &Layouts) -> Result<Tabl
     requires laid { IsLaidOut program.now layouts.now }
     requires within { IsWithin program.now layouts.now }
     ensures tables { IfOk result (AreTables program.now layouts.now) }
-    ensures shared { IfOk result (ArePartsShared program.now) }
+    ensures shared { IfOk result (ArePartsShared program.now layouts.now) }
 {
     make(alloc, program, layouts)
 }
@@ -59,7 +59,7 @@ fn make(alloc: Global, program: &Program, layouts: &Layouts) -> Result<Tables, A
     ensures elements { IfOk result (GivesElements program.now layouts.now) }
     ensures roots { IfOk result (GivesRoots program.now layouts.now) }
     ensures deletable { IfOk result (λ tables. tables.deletable ≡ deletable_words layouts.now.structures (statics_start layouts.now.statics.size) program.now.roots layouts.now.statics.fields) }
-    ensures shared { IfOk result (ArePartsShared program.now) }
+    ensures shared { IfOk result (ArePartsShared program.now layouts.now) }
 {
     let inner = List::of(inner_structures(alloc, program)?);
     let readers = List::of(readers(alloc, program)?);

@@ -20,11 +20,18 @@ fn print_numbers(rt: &impl Print, name: &str, numbers: &[u32]) -> io::Result<()>
     Ok(())
 }
 
-/// Prints the walks, and which of them are those of roots.
-pub fn print_tables(rt: &impl Print, alloc: Global, tables: &Tables) -> io::Result<()> {
+/// Prints the walks from this number on, and which walks are those of roots.
+pub fn print_tables(
+    rt: &impl Print,
+    alloc: Global,
+    tables: &Tables,
+    first: usize,
+) -> io::Result<()> {
     for (number, rows) in tables.walks.as_slice().iter().enumerate() {
-        println!(rt; "walk {number}")?;
-        print_rows(rt, alloc, rows.as_slice())?;
+        if number >= first {
+            println!(rt; "walk {number}")?;
+            print_rows(rt, alloc, rows.as_slice())?;
+        }
     }
     print_numbers(rt, "root", tables.roots.as_slice())?;
     print_numbers(rt, "deletable", tables.deletable.as_slice())

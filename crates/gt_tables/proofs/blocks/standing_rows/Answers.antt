@@ -48,12 +48,12 @@ returns-clause-serves c =
 
 pub returns-then-not-may_stand-clause-counted : goal.returns-then-not-may_stand-clause-counted
 returns-then-not-may_stand-clause-counted c =
-    let Same = λ (n : ℕ). Counted c.args.source.now.program.now c.args.parts.now n in on-any ((n : ℕ) → Same n → Same n) c.note.result (λ n h. h)
+    let Same = λ (n : ℕ). Counted c.args.source.now c.args.parts.now n in on-any ((n : ℕ) → Same n → Same n) c.note.result (λ n h. h)
 
 pub returns-clause-counted : goal.returns-clause-counted
 returns-clause-counted c =
     let program = c.args.source.now.program.now in
     let old = c.args.parts.now in
     let new = c.structure_rows.new.parts in
-    on-on (Counts program (IsWithinDepth program c.args.id.0) (λ n. n) old new) ((n : ℕ) → Counted program old n → Counted program new n) c.structure_rows.result (λ counts n h. counts.counted n h)
+    on-on (Counts c.args.source.now (IsWithinDepth program c.args.id.0) (λ n. n) old new) ((n : ℕ) → Counted c.args.source.now old n → Counted c.args.source.now new n) c.structure_rows.result (λ counts n h. counts.counted n h)
     c.structure_rows.ensures.counts

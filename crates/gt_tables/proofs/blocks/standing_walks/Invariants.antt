@@ -9,7 +9,7 @@ abbrev pub invariant-loop-i : goal.invariant-loop-i
 invariant-loop-i l = record {
   grows : Grows l.source.program.now l.fn.parts l.parts;
   served : AreServed l.source l.parts;
-  counted : (n : ℕ) → Counted l.source.program.now l.fn.parts n → Counted l.source.program.now l.parts n;
+  counted : (n : ℕ) → Counted l.source l.fn.parts n → Counted l.source l.parts n;
   serves : EachServes l.source l.parts.walks.items l.walks.items;
   walks : All (AreRows (first_of l.source) l.parts.walks.items Shallow) l.walks.items;
   long : length l.walks.items ≡ l.i;

@@ -16,7 +16,7 @@ pub block_walks-requires : goal.block_walks-requires
 block_walks-requires c = record {
   source = is-source _ c.requires.settled c.requires.laid c.requires.within (c.len.ensures.items) c.in_ok-inner_structures.field-0.items c.in_ok-readers.field-0.items c.of-inner.ensures.items c.in_ok-inner_structures.ensures.inner
       c.of-readers.ensures.items c.in_ok-readers.ensures.readers c.statics_start-start.ensures;
-  parts = no-parts c.args.program.now c.new-parts.result c.new-parts.ensures.walks c.new-parts.ensures.known;
+  parts = no-parts c.args.program.now c.new-parts.result c.new-parts.ensures.walks c.new-parts.ensures.known c.new-parts.ensures.cases;
   served = none-served _ c.new-parts.result c.new-parts.ensures.known;
 }
 
@@ -85,12 +85,10 @@ returns-clause-roots c =
 -- each part has one walk
 pub returns-clause-shared : goal.returns-clause-shared
 returns-clause-shared c =
-    let program = c.args.program.now in
     let tables : Tables = record { walks = c.of.result; roots = c.of-2.result; deletable = c.of-3.result; caches = c.of-4.result } in
     let parts = c.root_walks.new.parts in
     let many = length c.in_ok-roots.roots.items in
-    let none = counted-none program c.new-parts.result c.new-parts.ensures.walks in
-    let counted = c.in_ok-roots.ensures.counted 0 (c.in_ok-walks.ensures.counted 0 none) in
+    let counted = c.in_ok-roots.ensures.counted 0 (c.in_ok-walks.ensures.counted 0 (counted-none _ c.new-parts.result c.new-parts.ensures.walks)) in
     let roots = ap length c.of-2.ensures.items in
-    parts-shared program tables c.in_ok-walks.walks.items parts (c.of.ensures.items ∙ c.in_ok-append.ensures.items) c.in_ok-walks.ensures.long
-    (counted-more program parts (0 + 2 * many) (2 * length c.of-2.result) (omega (arith, roots)) counted)
+    parts-shared _ tables c.in_ok-walks.walks.items parts (c.of.ensures.items ∙ c.in_ok-append.ensures.items) c.in_ok-walks.ensures.long
+    (counted-more _ parts (0 + 2 * many) (2 * length c.of-2.result) (omega (arith, roots)) counted)

@@ -44,7 +44,7 @@ loop-i-init c =
     record {
       grows = grows-not c.args.source.now.program.now c.args.parts.now c.requires.parts;
       served = c.requires.served;
-      counted = λ n h. counted-more c.args.source.now.program.now c.args.parts.now n (n + 2 * length c.new-roots.result.items) (omega arith) h;
+      counted = λ n h. counted-more c.args.source.now c.args.parts.now n (n + 2 * length c.new-roots.result.items) (omega arith) h;
       serves = roots-none c.args.source.now c.args.parts.now.walks.items c.new-roots.result.items;
       roots = subst (All There) (sym c.new-roots.ensures.items) (All-nil There);
       count = omega (arith, nothing);

@@ -26,7 +26,7 @@ use Rattle.gt_tables.specs.Building.{first_of, around_of, AreRows, IsRow, IsWalk
 use Rattle.gt_tables.specs.Counting.{Stays, Counts, with_site}
 use Rattle.gt_tables.proofs.Growing.{rows-note, rows-add, row-pointer, IsArm}
 use Rattle.gt_tables.proofs.Keeping.{on-ok, if-ok, if-both, on-both, grows-not, grows-on, rows-on, arms-on, rep-row, tail-row, sub-row, some-deeper, switch-some, known-walk, kept-walk, kept-grows}
-use Rattle.gt_tables.proofs.Serving.{entered, entered-here, field-placed, element-placed, contains-at, sub-serves, array-serves, tail-serves, fields-begin, fields-step, fields-end, arms-step, arms-end, struct-serves, union-serves, kept-serves, kept-served}
+use Rattle.gt_tables.proofs.Serving.{entered, entered-here, field-placed, element-placed, contains-at, sub-serves, array-serves, tail-serves, fields-begin, fields-step, fields-end, arms-step, arms-end, struct-serves, union-serves, kept-walked, kept-serves, kept-served}
 use Rattle.gt_tables.proofs.PartCounts.{on-any, on-kept, counts-not, counts-site, counts-deeper, counts-on, part-counts}
 use Rattle.gt_tables.proofs.Fields.{spots-long}
 use Rattle.gt_tables.proofs.rows.+rows.Goals as goal
@@ -56,9 +56,9 @@ add_fields-loop-i-preserved t c =
       grows = grows-on program c.args.parts.now c.loop-i.parts c.type_row.new.parts c.loop-i.invariant.grows c.in_ok-row.ensures.grows;
       served = c.in_ok-row.ensures.served;
       counts =
-          counts-on program deep c.args.parts.now c.loop-i.parts c.type_row.new.parts c.loop-i.invariant.counts
-          (counts-deeper program (HoldsWithinDepth program f.ty) deep (λ n. n) c.loop-i.parts c.type_row.new.parts deeper
-          (counts-site program (HoldsWithinDepth program f.ty) c.in_field-lies.result.site c.loop-i.parts c.type_row.new.parts _ c.in_field-lies.ensures.site c.in_ok-row.ensures.counts));
+          counts-on c.args.source.now deep c.args.parts.now c.loop-i.parts c.type_row.new.parts c.loop-i.invariant.counts
+          (counts-deeper c.args.source.now (HoldsWithinDepth program f.ty) deep (λ n. n) c.loop-i.parts c.type_row.new.parts deeper
+          (counts-site c.args.source.now (HoldsWithinDepth program f.ty) c.in_field-lies.result.site c.loop-i.parts c.type_row.new.parts _ c.in_field-lies.ensures.site c.in_ok-row.ensures.counts));
       adds =
           let first_spot : Spot = record { offset = 0; bit = 0 } in
           fields-step c.args.source.now c.loop-i.parts c.type_row.new.parts c.in_ok-row.ensures.grows c.args.inner c.args.fields.now c.args.spots.now c.loop-i.i c.args.rows.now.items c.loop-i.rows.items
@@ -79,9 +79,9 @@ part_walk-returns-in-Some-clause-walk t c =
 pub part_walk-returns-clause-grows : goal.part_walk-returns-clause-grows
 part_walk-returns-clause-grows t c =
     let program = c.args.source.now.program.now in
-    on-ok (Keeps c.first_part.result c.part_of-part.result c.in_ok-rows.rows.items c.structure_rows.new.parts c.keep.new.self) (Grows program c.args.parts.now c.keep.new.self) c.keep.result
+    on-ok (Keeps c.first_part.result c.part_of-part.result c.args.id.0 c.in_ok-rows.rows.items c.structure_rows.new.parts c.keep.new.self) (Grows program c.args.parts.now c.keep.new.self) c.keep.result
     (λ walk keeps.
-    let kept = subst (λ n. Keeps n c.part_of-part.result c.in_ok-rows.rows.items c.structure_rows.new.parts c.keep.new.self walk) c.first_part.ensures keeps in
+    let kept = subst (λ n. Keeps n c.part_of-part.result c.args.id.0 c.in_ok-rows.rows.items c.structure_rows.new.parts c.keep.new.self walk) c.first_part.ensures keeps in
     grows-on program c.args.parts.now c.structure_rows.new.parts c.keep.new.self c.in_ok-rows.ensures.grows
     (kept-grows program c.requires.source.settled c.part_of-part.result c.args.id.0 c.in_ok-rows.rows.items c.structure_rows.new.parts c.keep.new.self walk c.in_ok-rows.ensures.grows.are
     c.in_ok-rows.ensures.rows kept c.part_of-part.ensures.node)) c.keep.ensures.keeps
@@ -89,10 +89,10 @@ part_walk-returns-clause-grows t c =
 pub part_walk-returns-clause-walk : goal.part_walk-returns-clause-walk
 part_walk-returns-clause-walk t c =
     let program = c.args.source.now.program.now in
-    if-ok (Keeps c.first_part.result c.part_of-part.result c.in_ok-rows.rows.items c.structure_rows.new.parts c.keep.new.self)
+    if-ok (Keeps c.first_part.result c.part_of-part.result c.args.id.0 c.in_ok-rows.rows.items c.structure_rows.new.parts c.keep.new.self)
     (λ walk. IfSome walk (IsWalkOf program (first_of c.args.source.now) c.keep.new.self.walks.items c.args.id.0)) c.keep.result
     (λ walk keeps.
-    let kept = subst (λ n. Keeps n c.part_of-part.result c.in_ok-rows.rows.items c.structure_rows.new.parts c.keep.new.self walk) c.first_part.ensures keeps in
+    let kept = subst (λ n. Keeps n c.part_of-part.result c.args.id.0 c.in_ok-rows.rows.items c.structure_rows.new.parts c.keep.new.self walk) c.first_part.ensures keeps in
     kept-walk program c.requires.source.settled c.part_of-part.result c.args.id.0 c.in_ok-rows.rows.items c.structure_rows.new.parts c.keep.new.self walk
     c.in_ok-rows.ensures.rows kept) c.keep.ensures.keeps
 
@@ -199,9 +199,9 @@ union_arms-loop-i-preserved t c =
       grows = grows-on program c.args.parts.now c.loop-i.parts c.type_row.new.parts c.loop-i.invariant.grows c.in_ok-row.ensures.grows;
       served = c.in_ok-row.ensures.served;
       counts =
-          counts-on program deep c.args.parts.now c.loop-i.parts c.type_row.new.parts c.loop-i.invariant.counts
-          (counts-deeper program (HoldsWithinDepth program f.ty) deep (λ n. n) c.loop-i.parts c.type_row.new.parts deeper
-          (counts-site program (HoldsWithinDepth program f.ty) c.in_field-lies.result.site c.loop-i.parts c.type_row.new.parts _ c.in_field-lies.ensures.site c.in_ok-row.ensures.counts));
+          counts-on c.args.source.now deep c.args.parts.now c.loop-i.parts c.type_row.new.parts c.loop-i.invariant.counts
+          (counts-deeper c.args.source.now (HoldsWithinDepth program f.ty) deep (λ n. n) c.loop-i.parts c.type_row.new.parts deeper
+          (counts-site c.args.source.now (HoldsWithinDepth program f.ty) c.in_field-lies.result.site c.loop-i.parts c.type_row.new.parts _ c.in_field-lies.ensures.site c.in_ok-row.ensures.counts));
       serves =
           arms-step c.args.source.now c.loop-i.parts c.type_row.new.parts c.in_ok-row.ensures.grows c.args.inner c.args.fields.now c.loop-i.i c.loop-i.arms.items c.push.new.self.items f c.in_ok-made.made
           c.in_ok-row.row c.loop-i.invariant.serves c.loop-i-test.true c.index-fields-i.is c.in_ok-made.ensures.active c.in_ok-made.ensures.row
@@ -233,7 +233,7 @@ pub add_fields-loop-i-init : goal.add_fields-loop-i-init
 add_fields-loop-i-init t c = record {
   grows = grows-not c.args.source.now.program.now c.args.parts.now c.requires.parts;
   served = c.requires.served;
-  counts = counts-not c.args.source.now.program.now (IsWithinDepth c.args.source.now.program.now c.args.id.0) (λ n. n) c.args.parts.now (λ n. omega arith);
+  counts = counts-not c.args.source.now (IsWithinDepth c.args.source.now.program.now c.args.id.0) (λ n. n) c.args.parts.now (λ n. omega arith);
   adds = fields-begin c.args.source.now c.args.parts.now.walks.items c.args.inner c.args.fields.now c.args.spots.now c.args.rows.now.items;
   rows = c.requires.rows;
 }
@@ -289,7 +289,7 @@ pub part_walk-returns-clause-serves : goal.part_walk-returns-clause-serves
 part_walk-returns-clause-serves t c =
     let source = c.args.source.now in
     let rows = c.in_ok-rows.rows.items in
-    if-both (Keeps c.first_part.result c.part_of-part.result rows c.structure_rows.new.parts c.keep.new.self) (λ walk. walk ≡ None → length rows ≤ 1)
+    if-both (Keeps c.first_part.result c.part_of-part.result c.args.id.0 rows c.structure_rows.new.parts c.keep.new.self) (λ walk. walk ≡ None → length rows ≤ 1)
     (ServesPart source c.keep.new.self.walks.items c.args.lies.around c.args.id c.args.desc.now) c.keep.result
     (λ walk keeps few.
     kept-serves source c.requires.source c.first_part.result c.first_part.ensures c.args.lies c.args.id c.args.desc.now c.part_of-part.result rows c.structure_rows.new.parts c.keep.new.self c.enter-inner.result
@@ -299,7 +299,7 @@ pub part_walk-returns-clause-served : goal.part_walk-returns-clause-served
 part_walk-returns-clause-served t c =
     let source = c.args.source.now in
     let rows = c.in_ok-rows.rows.items in
-    on-both (Keeps c.first_part.result c.part_of-part.result rows c.structure_rows.new.parts c.keep.new.self) (λ walk. walk ≡ None → length rows ≤ 1) (AreServed source c.keep.new.self) c.keep.result
+    on-both (Keeps c.first_part.result c.part_of-part.result c.args.id.0 rows c.structure_rows.new.parts c.keep.new.self) (λ walk. walk ≡ None → length rows ≤ 1) (AreServed source c.keep.new.self) c.keep.result
     (λ walk keeps few.
     kept-served source c.requires.source c.first_part.result c.first_part.ensures c.args.lies c.args.id c.args.desc.now c.part_of-part.result rows c.structure_rows.new.parts c.keep.new.self c.enter-inner.result
     c.enter-inner.ensures walk keeps c.part_of-part.ensures.part c.requires.placed c.in_ok-rows.ensures.served
@@ -400,19 +400,21 @@ part_walk-returns-clause-counts t c =
     let new = c.keep.new.self in
     let part = c.part_of-part.result in
     let none : c.get.result ≡ None = search rules in
-    on-kept (Keeps c.first_part.result part rows mid new) (Stays part mid new)
-    (Counts program (HoldsWithinDepth program (node.Node c.args.id c.args.desc.now)) (with_site c.args.lies.site) c.args.parts.now new) c.keep.result
+    on-kept (Keeps c.first_part.result part c.args.id.0 rows mid new) (Stays part mid new)
+    (Counts c.args.source.now (HoldsWithinDepth program (node.Node c.args.id c.args.desc.now)) (with_site c.args.lies.site) c.args.parts.now new) c.keep.result
     (λ walk keeps stays.
-    part-counts source c.requires.source c.args.lies c.args.id c.args.desc.now c.args.depth c.first_part.result part rows c.args.parts.now mid new walk c.requires.placed c.requires.there c.requires.shallow
-    c.part_of-part.ensures.part c.part_of-part.ensures.node (c.get.ensures.unknown none) c.in_ok-rows.ensures.counts keeps stays) c.keep.ensures.keeps c.keep.ensures.stays
+    part-counts source c.requires.source c.args.lies c.args.id c.args.desc.now c.args.depth c.first_part.result part rows c.args.parts.now mid new walk c.first_part.ensures c.requires.placed c.requires.there c.requires.shallow
+    c.part_of-part.ensures.part c.part_of-part.ensures.node (c.get.ensures.unknown none) c.in_ok-rows.ensures.counts keeps
+    (λ w is. (c.args.lies.around, c.args.desc.now, kept-walked source c.requires.source c.first_part.result c.first_part.ensures c.args.lies c.args.id c.args.desc.now part rows mid new c.enter-inner.result c.enter-inner.ensures walk keeps None w is c.in_ok-rows.ensures.serves))
+    stays) c.keep.ensures.keeps c.keep.ensures.stays
 
 pub type_row-returns-in_ok-row-in-Arr-clause-counts : goal.type_row-returns-in_ok-row-in-Arr-clause-counts
 type_row-returns-in_ok-row-in-Arr-clause-counts t c =
     let program = c.args.source.now.program.now in
     let elem = c.get.result.now in
     let is : out-Ty c.args.ty.now ≡ part.Arr c.in-Arr.n elem = ap out-Ty c.in-Arr.is ∙ outs-Arr c.in-Arr.n c.in-Arr.elem ∙ ap (part.Arr c.in-Arr.n) (sym c.get.ensures) in
-    on-any (Counts program (HoldsWithinDepth program c.args.ty.now) (with_site c.args.lies.site) c.args.parts.now c.type_row.new.parts) c.repeated.result
-    (counts-deeper program (HoldsWithinDepth program elem) (HoldsWithinDepth program c.args.ty.now) (with_site c.args.lies.site) c.args.parts.now c.type_row.new.parts
+    on-any (Counts c.args.source.now (HoldsWithinDepth program c.args.ty.now) (with_site c.args.lies.site) c.args.parts.now c.type_row.new.parts) c.repeated.result
+    (counts-deeper c.args.source.now (HoldsWithinDepth program elem) (HoldsWithinDepth program c.args.ty.now) (with_site c.args.lies.site) c.args.parts.now c.type_row.new.parts
     (λ depth deep node held. deep node (held-array c.args.ty.now elem c.in-Arr.n is ∙ held)) c.in_ok-row-in-Arr.ensures.counts)
 
 pub type_row-returns-in_ok-row-in-Tail-clause-counts : goal.type_row-returns-in_ok-row-in-Tail-clause-counts
@@ -420,6 +422,6 @@ type_row-returns-in_ok-row-in-Tail-clause-counts t c =
     let program = c.args.source.now.program.now in
     let elem = c.get-in-Tail.result.now in
     let is : out-Ty c.args.ty.now ≡ part.Tail c.in-Tail.len elem = ap out-Ty c.in-Tail.is ∙ outs-Tail c.in-Tail.len c.in-Tail.elem ∙ ap (part.Tail c.in-Tail.len) (sym c.get-in-Tail.ensures) in
-    on-any (Counts program (HoldsWithinDepth program c.args.ty.now) (with_site c.args.lies.site) c.args.parts.now c.type_row-in-Tail.new.parts) c.counted.result
-    (counts-deeper program (HoldsWithinDepth program elem) (HoldsWithinDepth program c.args.ty.now) (with_site c.args.lies.site) c.args.parts.now c.type_row-in-Tail.new.parts
+    on-any (Counts c.args.source.now (HoldsWithinDepth program c.args.ty.now) (with_site c.args.lies.site) c.args.parts.now c.type_row-in-Tail.new.parts) c.counted.result
+    (counts-deeper c.args.source.now (HoldsWithinDepth program elem) (HoldsWithinDepth program c.args.ty.now) (with_site c.args.lies.site) c.args.parts.now c.type_row-in-Tail.new.parts
     (λ depth deep node held. deep node (held-tail c.args.ty.now elem c.in-Tail.len is ∙ held)) c.in_ok-row-in-Tail.ensures.counts)

@@ -27,7 +27,7 @@ decreases-union_arms l = 16 * l.depth + 14
 abbrev pub invariant-add_fields-loop-i : goal.invariant-add_fields-loop-i
 invariant-add_fields-loop-i l = record {
   grows : Grows l.source.program.now l.fn.parts l.parts;
-  counts : Counts l.source.program.now (IsWithinDepth l.source.program.now l.id.0) (λ n. n) l.fn.parts l.parts;
+  counts : Counts l.source (IsWithinDepth l.source.program.now l.id.0) (λ n. n) l.fn.parts l.parts;
   served : AreServed l.source l.parts;
   adds : FieldsSoFar l.source l.parts.walks.items l.inner l.fields l.spots l.i l.fn.rows.items l.rows.items;
   rows : AreRows (first_of l.source) l.parts.walks.items (IsWithinDepth l.source.program.now l.id.0) l.rows.items;
@@ -36,7 +36,7 @@ invariant-add_fields-loop-i l = record {
 abbrev pub invariant-union_arms-loop-i : goal.invariant-union_arms-loop-i
 invariant-union_arms-loop-i l = record {
   grows : Grows l.source.program.now l.fn.parts l.parts;
-  counts : Counts l.source.program.now (IsWithinDepth l.source.program.now l.id.0) (λ n. n) l.fn.parts l.parts;
+  counts : Counts l.source (IsWithinDepth l.source.program.now l.id.0) (λ n. n) l.fn.parts l.parts;
   served : AreServed l.source l.parts;
   serves : ArmsSoFar l.source l.parts.walks.items l.inner l.fields l.i l.arms.items;
   arms : All (λ (a : Arm). IfSome (out-Arm a).row (IsRow (first_of l.source) l.parts.walks.items (IsWithinDepth l.source.program.now l.id.0))) l.arms.items;

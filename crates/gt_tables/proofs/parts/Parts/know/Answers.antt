@@ -16,4 +16,4 @@ returns-in_ok-insert-in-Some-clause-kept c =
 
 pub returns-in_ok-insert-in-Some-clause-stays : goal.returns-in_ok-insert-in-Some-clause-stays
 returns-in_ok-insert-in-Some-clause-stays c =
-    put-stays c.in-Some.part c.args.part c.args.walk c.args.self.now (record { walks = c.args.self.now.walks; known = c.insert.new.self }) c.in-Some.is c.in_ok-insert-in-Some.ensures.updates.0
+    put-stays c.in-Some.part c.args.part c.args.walk c.args.self.now (record { walks = c.args.self.now.walks; known = c.insert.new.self; cases = c.args.self.now.cases }) c.in-Some.is c.in_ok-insert-in-Some.ensures.updates.0
