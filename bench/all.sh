@@ -1,7 +1,7 @@
 #!/usr/bin/env bash
 # Runs all benches one after another, and prints one table: a row for each time or amount that was measured, with the one that stands beside it, their
 # ratio and the most that it should be; `above` marks what is more. At the end it says how many benches failed. Run by hand, on a machine that does
-# nothing else, after ./gtyheap; it takes an hour or more where the crates are not proved yet.
+# nothing else, after ./gtyheap; it takes long where the crates are not proved yet, since some benches build a program over them.
 set -u
 folder=$(cd "$(dirname "$0")" && pwd)
 failed=0

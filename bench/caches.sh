@@ -1,5 +1,6 @@
 #!/usr/bin/env bash
-# Times caches: so many pairs put and found, old keys put again, and a collection that keeps all pairs or drops all of them; and ten times as many.
+# Times caches: so many pairs put and found, old keys put again, and a collection that keeps all pairs or drops all of them; each beside a tenth of the
+# pairs. The time of a script that makes the nodes alone is taken off. Run by hand, from any folder, after ./gtyheap.
 . "$(dirname "$0")/shared.sh"
 take_program
 cat >"$work/cache.h" <<'H'

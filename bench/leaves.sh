@@ -1,7 +1,7 @@
 #!/usr/bin/env bash
 # Times writes of one leaf in place, by the program leaf_table, which is built first: an element of the array at the end of a structure, once of 64
 # elements and once of 65,536. The time of a run without a write is taken off. A write takes O(path), whatever the size of the block. Run by hand, from any
-# folder. On a busy machine a million writes took 0.1 s, 8.8 times as long as 100,000, and 1.08 times as long in the larger array.
+# folder. On a busy machine, on 28 November 2026, a million writes took 0.1 s, 8.8 times as long as 100,000, and 1.08 times as long in the larger array.
 . "$(dirname "$0")/shared.sh"
 (cd "$root/crates/leaf_table" && quiet rt run </dev/null)
 cp "$root/crates/leaf_table/out/leaf_table" "$work/leaf_table"

@@ -169,10 +169,15 @@ program=$work/crates/read_script/out/read_script
 
 # So many lines.
 sets() { yes 'set $a.f $b' | head -n "$1" || true; }
-# A form so many times, with the next name of three letters for each `N`, and after so many names the first again. All of them are 210,357.
+# A form so many times, with the next name for each `N`, and after so many names the first again. The names have three letters, or as many as the
+# fourth argument says; all names of three letters are 210,357.
 named() {
-  awk -v form="$1" -v times="$2" -v names="$3" '
-    function name(n) { n = at++ % names; return substr(all, int(n / 3969) + 1, 1) substr(all, int(n / 63) % 63 + 1, 1) substr(all, n % 63 + 1, 1) }
+  awk -v form="$1" -v times="$2" -v names="$3" -v letters="${4-3}" '
+    function name(n, text, i) {
+      n = at++ % names
+      for (i = 1; i < letters; i++) { text = substr(all, n % 63 + 1, 1) text; n = int(n / 63) }
+      return substr(all, n + 1, 1) text
+    }
     BEGIN {
       all = "abcdefghijklmnopqrstuvwxyzABCDEFGHIJKLMNOPQRSTUVWXYZ_0123456789"
       count = split(form, part, "N")
@@ -216,3 +221,15 @@ named 'set $N.N $N\n' 1000000 210357 >"$work/input"
 memory 'set lines over all of them'
 named 'load "N"\n' 1000000 210357 >"$work/input"
 memory 'load lines over all of them'
+{ printf '@print $a'; named .N 3355440 3355440 4; echo; } >"$work/input"
+memory 'one path over names of four letters'
+{ printf '@print $a'; named .N 3355440 300000 4; echo; } >"$work/input"
+memory 'one path over 300,000 names in turn'
+{ printf '@print $a'; named .N 2796200 2796200 5; echo; } >"$work/input"
+memory 'one path over names of five letters'
+{ printf '@print $a'; named .N 1677720 1677720 9; echo; } >"$work/input"
+memory 'one path over names of nine letters'
+named 'drop $N\n' 1000000 1000000 4 >"$work/input"
+memory 'drop lines of names of four letters'
+named 'drop $N\n' 1000000 1000000 9 >"$work/input"
+memory 'drop lines of names of nine letters'

@@ -1,7 +1,7 @@
 #!/usr/bin/env bash
 # Times zero, a write, showing, storing, reading back and showing again of 50 values by the program value_table, which is built first: structures that
 # end in so many pointers, with ten times as many from row to row. Run by hand, from any folder. The values of the last row no longer fit the caches: it
-# took 12.4 to 13.2 times as long as the one before, on a busy machine.
+# took 12.4 to 13.2 times as long as the one before, on a busy machine, on 27 November 2026.
 . "$(dirname "$0")/shared.sh"
 (cd "$root/crates/value_table" && quiet rt run </dev/null)
 cp "$root/crates/value_table/out/value_table" "$work/value_table"

@@ -116,12 +116,12 @@ module _ (source : Source) (tables : Tables) (blocks : Blocks) (capacity : ℕ) 
       row-gives (IsRowOf.tail {around} {type} {elem} {len} {e = x} {offset} {r} e expr p) = tail-row source tables blocks capacity around type elem r (row-gives p) offset len x e expr
 
       pub part-gives : {nodes : Nodes} {node : TypeId} {desc : Option Expr} {walk : Option ℕ} → IsPartOf source.program.now source.layouts.now tables nodes node desc walk → PartLaw nodes node desc walk
-      part-gives (IsPartOf.walked {around} {node} {desc} {walk} {size} {chain} {rows} is p) = part-walked around node desc walk size chain rows is (rows-give p)
+      part-gives (IsPartOf.walked {around} {node} {desc} {walk} {plane} {rows} late laid some is p) = part-walked around node desc walk plane.size None rows is (rows-give p)
       part-gives (IsPartOf.empty {around} {node} {desc} p) = part-empty around node desc (rows-give p)
 
       pub rows-give : {nodes : Nodes} {node : TypeId} {desc : Option Expr} {rows : List WalkRow} → AreRowsOf source.program.now source.layouts.now tables nodes node desc rows → RowsLaw source tables blocks capacity nodes node desc rows
       rows-give (AreRowsOf.struct {around} {node} {desc} {s} {plane} {rows} has struct laid p) = struct-rows source tables blocks capacity around node desc s plane rows has struct laid (fields-give p)
-      rows-give (AreRowsOf.union {around} {node} {desc} {s} {e} arms has union p expr) = union-rows source tables blocks capacity around node desc s has union e arms (arms-give p) expr
+      rows-give (AreRowsOf.union {around} {node} {desc} {s} {e} arms has union p some expr) = union-rows source tables blocks capacity around node desc s has union e arms (arms-give p) expr
       rows-give (AreRowsOf.bare {around} {node} {desc} {s} {arms} has union p silent) = bare-rows source tables blocks capacity around node desc s has union arms (arms-give p) silent
 
       pub fields-give : {nodes : Nodes} {types : List Ty} {spots : List Spot} {rows : List WalkRow} → AreFieldRows source.program.now source.layouts.now tables nodes types spots rows

@@ -1,5 +1,5 @@
 -- Which rows serve which types: what the walks of a program are.
-use Rattle.std.specs.Prelude.{◌≡◌, ◌<◌, ℕ, ◌+◌, ◌*◌, ◌/◌, ◌%◌, Bool, true, false, ℤ, List, [], ◌∷◌, ◌++◌, Option, Some, None, length, option_map, option_to_list, slice_get, All}
+use Rattle.std.specs.Prelude.{◌≡◌, ◌≢◌, ◌<◌, ◌≤◌, ℕ, ◌+◌, ◌*◌, ◌/◌, ◌%◌, Bool, true, false, ℤ, List, [], ◌∷◌, ◌++◌, Option, Some, None, length, option_map, option_to_list, slice_get, All, Any, IsSome}
 use Rattle.std.specs.Global.{Vec}
 use Rattle.std.specs.Str.{bytes_eq}
 use Rattle.std.specs.List.{position_from}
@@ -44,7 +44,7 @@ use Rattle.gt_walk.specs.declared.rows.WalkRow.{WalkRow}
 use Rattle.gt_walk.specs.declared.rows.WalkRow.TheVariants as row
 use Rattle.gt_walk.specs.declared.tables.Tables.{Tables}
 use Rattle.gt_walk.specs.Rows.{rows_of}
-use Rattle.gt_edges.specs.Numbers.{walk_of}
+use Rattle.gt_edges.specs.Numbers.{first_part, walk_of}
 use Rattle.gt_edges.specs.Edges.{root_walk}
 
 -- ---- the structures around
@@ -174,19 +174,21 @@ mutual
     tail : {around : Around} {type elem : Ty} {len : Expr} {e : RowExpr} {offset : ℕ} {r : Option WalkRow} → out-Ty type ≡ part.Tail len elem → IsRowExpr program layouts around len e
         → IsRowOf program layouts tables around elem 0 r → IsRowOf program layouts tables around type offset (option_map (row.Tail offset e (extent_of layouts.structures elem).size) r)
 
-  -- The walk of a structure by value, inside some structures; none where it has no edges.
+  -- The walk of a structure by value, inside some structures: one after those of blocks, with the note of the structure, which has no
+  -- chain, and a row at least; none where the structure has no rows.
   pub data IsPartOf (program : Program) (layouts : Layouts) (tables : Tables) : Around → TypeId → Option Expr → Option ℕ → Type 0 where
-    walked : {around : Around} {node : TypeId} {desc : Option Expr} {walk size : ℕ} {chain : Option ℕ} {rows : List WalkRow} → rows_of tables walk ≡ row.Note size chain ∷ rows
+    walked : {around : Around} {node : TypeId} {desc : Option Expr} {walk : ℕ} {plane : Plane} {rows : List WalkRow} → first_part program ≤ walk
+        → slice_get layouts.structures node.0 ≡ Some plane → rows ≢ [] → rows_of tables walk ≡ row.Note plane.size None ∷ rows
         → AreRowsOf program layouts tables (inside around node) node desc rows → IsPartOf program layouts tables around node desc (Some walk)
     empty : {around : Around} {node : TypeId} {desc : Option Expr} → AreRowsOf program layouts tables (inside around node) node desc [] → IsPartOf program layouts tables around node desc None
 
   -- The rows of a structure after its note: those of the fields of a struct, in order; of a union one by the value of its `desc`, with
-  -- an arm for each member, or none where no member has a row.
+  -- an arm for each member, of which one has a row at least; or none where no member has a row.
   pub data AreRowsOf (program : Program) (layouts : Layouts) (tables : Tables) : Around → TypeId → Option Expr → List WalkRow → Type 0 where
     struct : {around : Around} {node : TypeId} {desc : Option Expr} {s : Structure} {plane : Plane} {rows : List WalkRow} → HasStructure program node s → s.is_union ≡ false
         → slice_get layouts.structures node.0 ≡ Some plane → AreFieldRows program layouts tables around (types_of s.fields) plane.fields rows → AreRowsOf program layouts tables around node desc rows
     union : {around : Around} {node : TypeId} {desc : Option Expr} {s : Structure} {e : RowExpr} → (arms : Vec Arm) → HasStructure program node s → s.is_union ≡ true
-        → AreArmsOf program layouts tables around s.fields arms.items → IsDescExpr program layouts around desc e → AreRowsOf program layouts tables around node desc (row.Switch e arms ∷ [])
+        → AreArmsOf program layouts tables around s.fields arms.items → Any (λ arm. IsSome (out-Arm arm).row) arms.items → IsDescExpr program layouts around desc e → AreRowsOf program layouts tables around node desc (row.Switch e arms ∷ [])
     bare : {around : Around} {node : TypeId} {desc : Option Expr} {s : Structure} {arms : List Arm} → HasStructure program node s → s.is_union ≡ true
         → AreArmsOf program layouts tables around s.fields arms → All (λ arm. (out-Arm arm).row ≡ None) arms → AreRowsOf program layouts tables around node desc []
 

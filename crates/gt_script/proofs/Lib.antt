@@ -14,3 +14,4 @@ mod PathsSpelled
 mod FormsSpelled
 mod Settled
 mod Splits
+mod TextBytes

@@ -1,11 +1,12 @@
 // Laws of the script language, for every text. The functions do nothing.
-ghost use Rattle.std.specs.Prelude.{◌≡◌, ℕ, List, Some, Result};
+ghost use Rattle.std.specs.Prelude.{◌≡◌, ◌<◌, ℕ, List, Some, Result, All, Contains};
 ghost use Rattle.gt_script.specs.declared.command.Line.{Line};
+ghost use Rattle.gt_script.specs.declared.command.Command.TheVariants.{Text};
 ghost use Rattle.gt_script.specs.declared.stop.ScriptStop.{ScriptStop};
 ghost use Rattle.gt_script.specs.declared.pieces.Piece.{Piece};
 ghost use Rattle.gt_script.specs.Cutting.{words_of};
 ghost use Rattle.gt_script.specs.Language.{AreWords, IsLine};
-ghost use Rattle.gt_script.specs.Outcome.{IsOutcome, HasOutcome};
+ghost use Rattle.gt_script.specs.Outcome.{Parsed, IsOutcome, HasOutcome};
 ghost use Rattle.gt_script.specs.Scanning.{line_at};
 
 /// Each text has exactly one outcome: lines, a first line that is refused, or more commands than a script may have. So
@@ -25,4 +26,10 @@ pub fn words_as_spelled()
 pub fn lines_as_spelled()
     ensures again { (text : List ℕ) (line : Line) → IsLine text line → line_at text ≡ Some (Some line) }
     ensures taken { (text : List ℕ) (line : Line) → line_at text ≡ Some (Some line) → IsLine text line }
+{}
+
+/// The text of a command that a line says is of bytes: each of its numbers is below 256. This holds of each line of a script.
+pub fn lines_are_of_bytes()
+    ensures line { (text : List ℕ) (line : Line) (var bytes : List ℕ) → IsLine text line → line.command ≡ Text var bytes → All (λ byte. byte < 256) bytes }
+    ensures script { (text : List ℕ) (lines : List Line) (line : Line) (var bytes : List ℕ) → Parsed text lines → Contains lines line → line.command ≡ Text var bytes → All (λ byte. byte < 256) bytes }
 {}

@@ -26,7 +26,7 @@ mod variable_forms;
 
 pub use command::{Command, Given, Hop, Line, Route, TypeName};
 pub use integers::Number;
-pub use laws::{lines_as_spelled, one_outcome, words_as_spelled};
+pub use laws::{lines_are_of_bytes, lines_as_spelled, one_outcome, words_as_spelled};
 pub use parsing::parse_script;
 pub use short_lists::ShortList;
 pub use stop::{MAX_COMMANDS, ScriptStop};

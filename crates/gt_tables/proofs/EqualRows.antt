@@ -1,7 +1,7 @@
 -- Rows that are equal to those of a structure are rows of it: no row of a union stands inside another row.
 use Rattle.std.specs.Global.{Vec}
-use Rattle.std.proofs.Common.{◌≡◌, ◌∙◌, ℕ, Bool, true, false, List, [], ◌∷◌, ◌++◌, refl, ap, sym, subst, Option, Some, None, inl, inr}
-use Rattle.std.specs.Prelude.{All, IfSome, option_to_list}
+use Rattle.std.proofs.Common.{◌≡◌, ◌≢◌, ◌∙◌, ◌≤◌, ℕ, false, List, [], ◌∷◌, refl, ap, sym, subst, Option, Some, None, inl, inr}
+use Rattle.std.specs.Prelude.{All, Any, IfSome, IsSome, option_to_list, slice_get}
 use Rattle.std.specs.Option.{option_map}
 use Rattle.std.proofs.lemmas.List.Elements.{All-append, All-nil, All-cons, All-head, All-tail, All-weaker}
 use Rattle.gt_types.specs.declared.expressions.Expr.{Expr}
@@ -9,6 +9,7 @@ use Rattle.gt_types.specs.declared.types.TypeId.{TypeId}
 use Rattle.gt_types.specs.declared.types.Ty.{Ty}
 use Rattle.gt_types.specs.declared.program.Field.{Field}
 use Rattle.gt_types.specs.declared.program.Program.{Program}
+use Rattle.gt_layout.specs.declared.planes.Plane.{Plane}
 use Rattle.gt_layout.specs.declared.planes.Layouts.{Layouts}
 use Rattle.gt_layout.specs.declared.planes.Spot.{Spot}
 use Rattle.gt_layout.specs.Storages.{extent_of}
@@ -20,6 +21,7 @@ use Rattle.gt_walk.specs.declared.rows.WalkRow.TheVariants as row
 use Rattle.gt_walk.specs.declared.rows.WalkRow.TheVariants.{outs-Switch}
 use Rattle.gt_walk.specs.declared.tables.Tables.{Tables}
 use Rattle.gt_walk.specs.Rows.{rows_of}
+use Rattle.gt_edges.specs.Numbers.{first_part}
 use Rattle.gt_edges.specs.Walks.{Around, inside, IsPointerRow, IsRowOf, IsPartOf, AreRowsOf, AreFieldRows, AreArmsOf}
 use Rattle.gt_alike.specs.Alike.{IsEqual, AreEqual, has_switch, IsFlatArm}
 use Rattle.gt_alike.proofs.Forms.{note-plain, ptr-plain, sub-plain, rep-plain, tail-plain, switch-there}
@@ -75,13 +77,13 @@ module _ {program : Program} {layouts : Layouts} where
 
     rows-flat : {around : Around} {node : TypeId} {desc : Option Expr} {rows : List WalkRow} → AreRowsOf program layouts tables around node desc rows → All IsFlat rows
     rows-flat (AreRowsOf.struct {rows = rows} has kind laid fields) = All-weaker IsPlain IsFlat (λ r plain. inl plain) rows (fields-plain fields)
-    rows-flat (AreRowsOf.union {e = e} arms has kind each value) = All-cons IsFlat (row.Switch e arms) [] (inr (e, arms, refl, arms-flat each)) (All-nil IsFlat)
+    rows-flat (AreRowsOf.union {e = e} arms has kind each some value) = All-cons IsFlat (row.Switch e arms) [] (inr (e, arms, refl, arms-flat each)) (All-nil IsFlat)
     rows-flat (AreRowsOf.bare has kind each none) = All-nil IsFlat
 
     -- the rows of the walk of a part
     pub part-flat : {around : Around} {node : TypeId} {desc : Option Expr} {walk : ℕ} → IsPartOf program layouts tables around node desc (Some walk) → All IsFlat (rows_of tables walk)
-    part-flat (IsPartOf.walked {size = size} {chain = chain} {rows = rows} is are) =
-        subst (All IsFlat) (sym is) (All-cons IsFlat (row.Note size chain) rows (inl (note-plain size chain)) (rows-flat are))
+    part-flat (IsPartOf.walked {plane = plane} {rows = rows} late laid some is are) =
+        subst (All IsFlat) (sym is) (All-cons IsFlat (row.Note plane.size None) rows (inl (note-plain plane.size None)) (rows-flat are))
 
 -- ---- equal rows
 
@@ -100,6 +102,10 @@ plain-are-equal (r ∷ rs) (s ∷ ss) all p =
 none-equal : (rs : List WalkRow) → AreEqual rs [] → rs ≡ []
 none-equal [] p = refl
 none-equal (r ∷ rs) p = absurd p
+
+some-equal : (rs ss : List WalkRow) → AreEqual rs ss → ss ≢ [] → rs ≢ []
+some-equal [] ss p some none = some p
+some-equal (r ∷ rs) ss p some none = absurd (cc (none))
 
 -- the row of a union with the same arms
 union-equal : (rs : List WalkRow) (e : RowExpr) (arms : Vec Arm) → AreEqual rs (row.Switch e arms ∷ []) → (others : Vec Arm) × (rs ≡ row.Switch e others ∷ []) × (others.items ≡ arms.items)
@@ -121,17 +127,18 @@ module _ (program : Program) (layouts : Layouts) (tables : Tables) where
       → AreRowsOf program layouts tables around node desc rows
   equal-rows (AreRowsOf.struct {around} {node} {desc} {rows = made} has kind laid fields) rows equal =
       subst (AreRowsOf program layouts tables around node desc) (sym (plain-are-equal rows made (fields-plain fields) equal)) (AreRowsOf.struct has kind laid fields)
-  equal-rows (AreRowsOf.union {around} {node} {desc} {s} {e} arms has kind each value) rows equal =
+  equal-rows (AreRowsOf.union {around} {node} {desc} {s} {e} arms has kind each some value) rows equal =
       let found = union-equal rows e arms equal in
       subst (AreRowsOf program layouts tables around node desc) (sym found.1)
-      (AreRowsOf.union found.0 has kind (subst (AreArmsOf program layouts tables around s.fields) (sym found.2) each) value)
+      (AreRowsOf.union found.0 has kind (subst (AreArmsOf program layouts tables around s.fields) (sym found.2) each) (subst (Any (λ arm. IsSome (out-Arm arm).row)) (sym found.2) some) value)
   equal-rows (AreRowsOf.bare {around} {node} {desc} has kind each none) rows equal =
       subst (AreRowsOf program layouts tables around node desc) (sym (none-equal rows equal)) (AreRowsOf.bare has kind each none)
 
-  -- a walk whose rows are equal to a note and those of a structure is a walk of it
-  pub equal-walked : (around : Around) (node : TypeId) (desc : Option Expr) (rows made : List WalkRow) (size : ℕ) (chain : Option ℕ) (walk : ℕ) → rows_of tables walk ≡ rows → AreEqual rows (row.Note size chain ∷ made)
-      → AreRowsOf program layouts tables (inside around node) node desc made → IsPartOf program layouts tables around node desc (Some walk)
-  equal-walked around node desc [] made size chain walk there equal are = absurd (cc (equal))
-  equal-walked around node desc (r ∷ rows) made size chain walk there equal are =
-      let note : r ≡ row.Note size chain = plain-equal r (row.Note size chain) (note-plain size chain) equal.0 in
-      IsPartOf.walked (there ∙ ap (λ x. x ∷ rows) note) (equal-rows are rows equal.1)
+  -- a walk whose rows are equal to the note of a structure and its rows is a walk of it
+  pub equal-walked : (around : Around) (node : TypeId) (desc : Option Expr) (plane : Plane) (rows made : List WalkRow) (walk : ℕ) → first_part program ≤ walk → slice_get layouts.structures node.0 ≡ Some plane
+      → rows_of tables walk ≡ rows → AreEqual rows (row.Note plane.size None ∷ made) → made ≢ [] → AreRowsOf program layouts tables (inside around node) node desc made
+      → IsPartOf program layouts tables around node desc (Some walk)
+  equal-walked around node desc plane [] made walk late laid there equal some are = absurd (cc (equal))
+  equal-walked around node desc plane (r ∷ rows) made walk late laid there equal some are =
+      let note : r ≡ row.Note plane.size None = plain-equal r (row.Note plane.size None) (note-plain plane.size None) equal.0 in
+      IsPartOf.walked late laid (some-equal rows made equal.1 some) (there ∙ ap (λ x. x ∷ rows) note) (equal-rows are rows equal.1)

@@ -169,7 +169,7 @@ shares-new first node rows walks now cases filed c place walk turns free is upda
       };
       turns = now-turns cases filed c place free.none updates walks node rows free.turn free.is free.tried turns;
       has = (rows, has, equal-itself rows);
-      shared = inr (refl, free.new, has);
+      shared = inr (refl, free.new, (has, number));
     }
 
 -- ---- a part is kept
@@ -193,10 +193,10 @@ kept-back part old mid new same kept q w there = elim (kept q w there) [
 
 module _ (first : ℕ) (part : Option Part) (node : ℕ) (rows : List WalkRow) (old mid new : Parts) (walks : new.walks ≡ mid.walks) (cases : new.cases ≡ mid.cases) where
   -- with its walk
-  pub keeps-some : (walk : ℕ) → mid.known ≡ old.known → Shares first node rows old.walks.items old.cases mid.walks.items mid.cases walk
+  pub keeps-some : (walk : ℕ) → 1 < length rows → mid.known ≡ old.known → Shares first node rows old.walks.items old.cases mid.walks.items mid.cases walk
       → ((q : Part) (n : ℕ) → get part_cmp new.known q ≡ Some (Some n) → (get part_cmp mid.known q ≡ Some (Some n)) ⊎ ((p : Part) × (part ≡ Some p) × (q.node ≡ p.node) × (Some walk ≡ Some n)))
       → ((q : Part) (w : Option ℕ) → get part_cmp new.known q ≡ Some w → (get part_cmp mid.known q ≡ Some w) ⊎ ((part ≡ Some q) × (Some walk ≡ w))) → Keeps first part node rows old new (Some walk)
-  keeps-some walk same shares known kept =
+  keeps-some walk many same shares known kept =
       let Share = λ (ws : List (List WalkRow)) (cs : BTreeMap Case ℕ). Shares first node rows old.walks.items old.cases ws cs walk in
       let now : Share new.walks.items new.cases =
       subst (λ cs. Share new.walks.items cs) (sym cases) (subst (λ ws. Share ws mid.cases) (ap (λ v. v.items) (sym walks)) shares) in
@@ -204,6 +204,7 @@ module _ (first : ℕ) (part : Option Part) (node : ℕ) (rows : List WalkRow) (
         files = now.files;
         turns = now.turns;
         has = now.has;
+        many = many;
         shared = now.shared;
         none = λ e. absurd (cc (e));
         known = known-back part old mid new same known;
@@ -222,6 +223,7 @@ keeps-none first part node rows old new walks cases turns known kept = record {
   };
   turns = subst HaveTurns (sym cases) turns;
   has = tt;
+  many = tt;
   shared = inl refl;
   none = λ e. refl;
   known = known;
@@ -241,11 +243,7 @@ files-add old new more walks cases = record {
       (record { rows = filed.rows; turn = filed.turn; there = slice-on old.walks.items more p filed.rows filed.there; is = filed.is }));
 }
 
-pub has-on : (first node : ℕ) (rows : List WalkRow) (walks now : List (List WalkRow)) (cases filed : BTreeMap Case ℕ) (walk : ℕ) → Files walks cases now filed → HasRows first node rows walks cases walk
-    → HasRows first node rows now filed walk
-has-on first node rows walks now cases filed walk files has = record {
-  place = has.place;
-  number = has.number;
-  here = subst (λ ws. slice_get ws has.place ≡ Some rows) (sym files.grown) (slice-on walks files.more has.place rows has.here);
-  filed = files.stay node has.place has.filed;
-}
+-- and these are added
+pub more-added : (old new : Parts) (more : List (List WalkRow)) (walks : new.walks.items ≡ old.walks.items ++ more) (cases : new.cases ≡ old.cases) → (files-add old new more walks cases).more ≡ more
+unfolding files-add
+more-added old new more walks cases = refl

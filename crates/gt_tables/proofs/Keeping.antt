@@ -1,6 +1,6 @@
 -- What is known of parts, and the walks that are added for them.
 use Rattle.std.specs.Global.{Vec}
-use Rattle.std.proofs.Common.{◌≡◌, ◌∙◌, ℕ, ◌+◌, ◌-◌, ◌≤◌, Bool, true, false, cond, List, [], ◌∷◌, ◌++◌, length, refl, ap, sym, subst, Option, Some, None, Ok, Err, get_or, ◌⊎◌, inl, inr, arith}
+use Rattle.std.proofs.Common.{◌≡◌, ◌∙◌, ℕ, ◌+◌, ◌-◌, ◌≤◌, Bool, true, false, cond, List, [], ◌∷◌, ◌++◌, refl, ap, sym, subst, Option, Some, None, Ok, Err, get_or, ◌⊎◌, inl, inr, arith}
 use Rattle.std.specs.Prelude.{IfSome, IfOk, OnOk, All, flat_map, slice_get}
 use Rattle.std.specs.Option.{option_map, option_cmp}
 use Rattle.std.specs.Ordering.{nat_cmp, ordering_then, is_eq}

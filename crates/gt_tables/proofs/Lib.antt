@@ -10,6 +10,7 @@ pub mod PointerRows
 pub mod TypeSizes
 pub mod Elements
 pub mod Bases
+pub mod Enclosing
 pub mod SharedParts
 pub mod NamesIn
 pub mod Flags
@@ -22,4 +23,6 @@ pub mod Serving
 pub mod ServingRoots
 pub mod ServingBlocks
 pub mod TablesOf
+pub mod Owners
 pub mod PartCounts
+pub mod Bounds

@@ -1,11 +1,11 @@
 -- What rows and walks serve, while walks of parts are added.
 use Rattle.std.specs.Global.{Vec}
 use Rattle.std.proofs.Common.{◌≡◌, ◌∙◌, ◌≢◌, ℕ, ◌+◌, ◌≤◌, ◌<◌, Bool, true, false, cond, List, [], ◌∷◌, ◌++◌, length, drop, refl, ap, sym, subst, Option, Some, None, get_or, inl, inr, arith}
-use Rattle.std.specs.Prelude.{IfSome, IsSome, All, Contains, option_to_list, slice_get}
+use Rattle.std.specs.Prelude.{IfSome, IsSome, All, Any, Contains, option_to_list, slice_get}
 use Rattle.std.specs.Option.{option_map}
 use Rattle.std.specs.BTreeMap.{get}
 use Rattle.std.proofs.lemmas.List.{append-nil, drop_more, drop_all}
-use Rattle.std.proofs.lemmas.Option.{slice_get_within, get_or_from_slice_get}
+use Rattle.std.proofs.lemmas.Option.{same_Some, slice_get_cases, slice_get_within, get_or_from_slice_get}
 use Rattle.gt_types.specs.declared.expressions.Expr.{Expr}
 use Rattle.gt_types.specs.declared.types.TypeId.{TypeId}
 use Rattle.gt_types.specs.declared.types.Ty.{Ty, out-Ty}
@@ -25,7 +25,7 @@ use Rattle.gt_walk.specs.declared.rows.Arm.{Arm, out-Arm}
 use Rattle.gt_walk.specs.declared.rows.WalkRow.{WalkRow}
 use Rattle.gt_walk.specs.declared.rows.WalkRow.TheVariants as row
 use Rattle.gt_walk.specs.declared.tables.Tables.{Tables}
-use Rattle.gt_edges.specs.Walks.{Around, inside, outside, IsRowExpr, IsDescExpr, path_leaf, root_leaf, IsRowOf, IsPartOf, AreRowsOf, AreFieldRows, AreArmsOf, structure, array, tail, walked, empty, struct, union, bare, none, more, no_arms, more_arms}
+use Rattle.gt_edges.specs.Walks.{Around, first_of, inside, outside, IsRowExpr, IsDescExpr, path_leaf, root_leaf, IsRowOf, IsPartOf, AreRowsOf, AreFieldRows, AreArmsOf, structure, array, tail, empty, struct, union, bare, none, more, no_arms, more_arms}
 use Rattle.gt_tables.specs.declared.sources.Around.{Around as CodeAround}
 use Rattle.gt_tables.specs.declared.sources.Lies.{Lies}
 use Rattle.gt_tables.specs.declared.sources.Site.{Site}
@@ -35,8 +35,10 @@ use Rattle.gt_tables.specs.declared.parts.Parts.{Parts}
 use Rattle.gt_edges.specs.Numbers.{first_part}
 use Rattle.gt_alike.specs.Alike.{AreEqual}
 use Rattle.gt_tables.specs.Building.{part_cmp, HaveWalks, Grows, HasEqual, Keeps, IsSource, IsAround, IsSiteOf, IsPlaced, AreServed, around_of, part_at, part_on_site, depends, part_of, ServesType, ServesPart, ServesStructure, AddsFields, ServesMembers}
+use Rattle.gt_tables.specs.Sharing.{Encloses}
 use Rattle.gt_tables.proofs.Growing.{fewer, append-assoc}
 use Rattle.gt_tables.proofs.Keeping.{rows-there}
+use Rattle.gt_tables.proofs.Enclosing.{encloses-part}
 use Rattle.gt_tables.proofs.SharedParts.{part-serves}
 use Rattle.gt_tables.proofs.EqualRows.{equal-walked}
 use Rattle.gt_tables.proofs.Translations.{translation}
@@ -51,14 +53,32 @@ fewer-on program a b grows tables h = fewer (first_part program) a.walks.items g
 pub entered-here : (a : CodeAround) (around : Around) (node : TypeId) → around_of a ≡ inside around node → a.here ≡ Some node
 entered-here a around node is = ap (λ (x : Around). x.here) is
 
-pub entered : (a : CodeAround) (around : Around) (node : TypeId) → around_of a ≡ inside around node → IsAround a
-entered a around node is =
+-- a structure is there, inside some others of which the outermost encloses it
+entered-in : (program : Program) (a : CodeAround) (around : Around) (node : TypeId) → around_of a ≡ inside around node → Encloses program (first_of around.outermost node) node → IsAround program a
+entered-in program a around node is encloses =
     let here : a.here ≡ Some node = ap (λ (x : Around). x.here) is in
-    let outermost = ap (λ (x : Around). x.outermost) is in
     record {
-      inside = λ some. subst (λ o. IsSome o) (sym outermost) refl;
+      inside = λ other at.
+          let same : node ≡ other = same_Some node other (sym here ∙ at) in
+          (first_of around.outermost node, ap (λ (x : Around). x.outermost) is, subst (Encloses program (first_of around.outermost node)) same encloses);
       outside = λ absent. absurd (cc (sym absent ∙ here));
     }
+
+pub structure-there : (program : Program) (node : TypeId) → node.0 < length program.structures → (s : Structure) × HasStructure program node s
+structure-there program node there = elim ((slice_get_cases program.structures node.0).1) [
+  | inl h ↦ (h.0, h.2)
+  | inr h ↦ absurd (omega (arith, h.0, there))
+]
+
+-- the outermost structure around a part is or contains it
+pub entered : (program : Program) (lies : Lies) (node : TypeId) (desc : Option Expr) (a : CodeAround) → IsPlaced program lies (ty.Node node desc) → node.0 < length program.structures → around_of a ≡ inside (around_of lies.around) node
+    → IsAround program a
+entered program lies node desc a placed there is =
+    entered-in program a (around_of lies.around) node is (encloses-part program lies node desc placed (structure-there program node there))
+
+-- outside all others it is the outermost itself
+pub entered-alone : (program : Program) (a : CodeAround) (around : Around) (node : TypeId) → around ≡ outside → node.0 < length program.structures → around_of a ≡ inside around node → IsAround program a
+entered-alone program a around node out there is = entered-in program a outside node (is ∙ ap (λ x. inside x node) out) (structure-there program node there, inl refl)
 
 -- outside every structure there is none
 pub root-placed : (program : Program) (lies : Lies) (type : Ty) → around_of lies.around ≡ outside → lies.site ≡ None → IsPlaced program lies type
@@ -66,7 +86,7 @@ root-placed program lies type around site =
     let here : lies.around.here ≡ None = ap (λ (x : Around). x.here) around in
     record {
       around = record {
-        inside = λ some. absurd (cc (some, here));
+        inside = λ node some. absurd (cc (some, here));
         outside = λ absent. (ap (λ (x : Around). x.outer) around, ap (λ (x : Around). x.outermost) around);
       };
       site = subst (λ s. IsSiteOf program lies.around s type) (sym site) here;
@@ -74,9 +94,9 @@ root-placed program lies type around site =
 
 -- a field lies in the innermost structure
 pub field-placed : (program : Program) (lies : Lies) (inner : CodeAround) (node : TypeId) (s : Structure) (f : Field) (i : ℕ) → lies.around ≡ inner → lies.site ≡ Some (record { container = node.0; field = i })
-    → IsAround inner → inner.here ≡ Some node → HasStructure program node s → slice_get s.fields i ≡ Some f → IsPlaced program lies f.ty
+    → IsAround program inner → inner.here ≡ Some node → HasStructure program node s → slice_get s.fields i ≡ Some f → IsPlaced program lies f.ty
 field-placed program lies inner node s f i around site is here has got = record {
-  around = subst IsAround (sym around) is;
+  around = subst (IsAround program) (sym around) is;
   site = subst (λ o. IsSiteOf program lies.around o f.ty) (sym site) (s, f, ap (λ (a : CodeAround). a.here) around ∙ here, has, got, refl);
 }
 
@@ -208,22 +228,26 @@ module _ (source : Source) (walks : List (List WalkRow)) (inner : CodeAround) (n
   abbrev IsSwitch : Option WalkRow → Type 0
   IsSwitch r = IfSome r (λ made. (value : RowExpr) × (made ≡ row.Switch value arms) × IsDescExpr source.program.now source.layouts.now (around_of inner) desc value)
 
-  rest-serves : (r : Option WalkRow) → HasStructure source.program.now node s → s.is_union ≡ true → IsSwitch r → (r ≡ None → All (λ a. (out-Arm a).row ≡ None) arms.items)
+  -- where there is a row, one of the members has one
+  abbrev HasArm : Option WalkRow → Type 0
+  HasArm r = IfSome r (λ made. Any (λ a. IsSome (out-Arm a).row) arms.items)
+
+  rest-serves : (r : Option WalkRow) → HasStructure source.program.now node s → s.is_union ≡ true → IsSwitch r → HasArm r → (r ≡ None → All (λ a. (out-Arm a).row ≡ None) arms.items)
       → ServesMembers source walks inner s.fields arms.items → (tables : Tables) → HaveWalks (first_part source.program.now) walks tables
       → AreRowsOf source.program.now source.layouts.now tables (around_of inner) node desc (option_to_list r)
-  rest-serves None has plain is bare-is serves tables h = bare has plain (serves tables h) (bare-is refl)
-  rest-serves (Some r) has plain is bare-is serves tables h =
-      subst (λ x. AreRowsOf source.program.now source.layouts.now tables (around_of inner) node desc (x ∷ [])) (sym is.1) (union arms has plain (serves tables h) is.2)
+  rest-serves None has plain is some bare-is serves tables h = bare has plain (serves tables h) (bare-is refl)
+  rest-serves (Some r) has plain is some bare-is serves tables h =
+      subst (λ x. AreRowsOf source.program.now source.layouts.now tables (around_of inner) node desc (x ∷ [])) (sym is.1) (union arms has plain (serves tables h) some is.2)
 
   pub union-serves : (chain : Option ℕ) (plane : Plane) (fields : List Field) (r : Option WalkRow) (notes rows : List WalkRow) → HasStructure source.program.now node s → s.is_union ≡ true
-      → slice_get source.layouts.now.structures node.0 ≡ Some plane → fields ≡ s.fields → notes ≡ row.Note plane.size chain ∷ [] → rows ≡ notes ++ option_to_list r → IsSwitch r
+      → slice_get source.layouts.now.structures node.0 ≡ Some plane → fields ≡ s.fields → notes ≡ row.Note plane.size chain ∷ [] → rows ≡ notes ++ option_to_list r → IsSwitch r → HasArm r
       → (r ≡ None → All (λ a. (out-Arm a).row ≡ None) arms.items) → ServesMembers source walks inner fields arms.items → ServesStructure source walks inner node desc chain rows
-  union-serves chain plane fields r notes rows has plain got fields-are notes-are rows-are is bare-is serves = record {
+  union-serves chain plane fields r notes rows has plain got fields-are notes-are rows-are is some bare-is serves = record {
     plane = plane;
     rest = option_to_list r;
     plane_is = got;
     is = rows-are ∙ ap (λ l. l ++ option_to_list r) notes-are;
-    are = rest-serves r has plain is bare-is (subst (λ fs. ServesMembers source walks inner fs arms.items) fields-are serves);
+    are = rest-serves r has plain is some bare-is (subst (λ fs. ServesMembers source walks inner fs arms.items) fields-are serves);
   }
 
 -- ---- parts
@@ -253,39 +277,44 @@ module _ (source : Source) (source-is : IsSource source) (first : ℕ) (first-is
   abbrev Are : Tables → List WalkRow → Type 0
   Are tables rest = AreRowsOf source.program.now source.layouts.now tables (inside (around_of lies.around) node) node desc rest
 
+  -- more than its note are rows after it
+  some-rest : {size : ℕ} {chain : Option ℕ} (rest : List WalkRow) → rows ≡ row.Note size chain ∷ rest → 1 < length rows → rest ≢ []
+  some-rest rest is many bare-rest = let one = ap length is in let none-left = ap length bare-rest in absurd (omega (arith, one, none-left, many))
+
   -- the walk that is kept has these rows
-  pub kept-walked : (chain : Option ℕ) (n : ℕ) → walk ≡ Some n → ServesStructure source old.walks.items inner node desc chain rows → ServesPart source new.walks.items lies.around node desc (Some n)
-  kept-walked chain n is serves tables h =
+  pub kept-walked : (n : ℕ) → walk ≡ Some n → ServesStructure source old.walks.items inner node desc None rows → ServesPart source new.walks.items lies.around node desc (Some n)
+  kept-walked n is serves tables h =
       let found = subst (λ w. IfSome w (HasEqual first node.0 rows new.walks.items new.cases)) is keeps.has in
       let has = found.1 in
       let number : n ≡ first_part source.program.now + has.place = has.number ∙ ap (λ f. f + has.place) first-is in
       let there = rows-there source.program.now (first_part source.program.now) new.walks.items node.0 found.0 has.place has.here tables h in
       let are : Are tables serves.rest =
       subst (λ around. AreRowsOf source.program.now source.layouts.now tables around node desc serves.rest) inner-is (serves.are tables (fewer-kept tables h)) in
+      let many : 1 < length rows = subst (λ w. IfSome w (λ _. 1 < length rows)) is keeps.many in
       subst (λ m. IsPartOf source.program.now source.layouts.now tables (around_of lies.around) node desc (Some m)) (sym number)
-      (equal-walked source.program.now source.layouts.now tables (around_of lies.around) node desc found.0 serves.rest serves.plane.size chain (first_part source.program.now + has.place) there
-      (subst (AreEqual found.0) serves.is found.2) are)
+      (equal-walked source.program.now source.layouts.now tables (around_of lies.around) node desc serves.plane found.0 serves.rest (first_part source.program.now + has.place) (omega arith) serves.plane_is there
+      (subst (AreEqual found.0) serves.is found.2) (some-rest serves.rest serves.is many) are)
 
   -- a part without edges has its note alone
   no-rest : (rest : List WalkRow) → length rest ≤ 0 → rest ≡ []
   no-rest [] few = refl
   no-rest (r ∷ rest) few = absurd (omega (arith, few))
 
-  kept-empty : (chain : Option ℕ) → length rows ≤ 1 → ServesStructure source old.walks.items inner node desc chain rows → ServesPart source new.walks.items lies.around node desc None
-  kept-empty chain few serves tables h =
+  kept-empty : length rows ≤ 1 → ServesStructure source old.walks.items inner node desc None rows → ServesPart source new.walks.items lies.around node desc None
+  kept-empty few serves tables h =
       let one = ap length serves.is in
       let none-left : serves.rest ≡ [] = no-rest serves.rest (omega (arith, one, few)) in
       let are : Are tables serves.rest =
       subst (λ around. AreRowsOf source.program.now source.layouts.now tables around node desc serves.rest) inner-is (serves.are tables (fewer-kept tables h)) in
       empty (subst (Are tables) none-left are)
 
-  kept-cases : (chain : Option ℕ) (w : Option ℕ) → walk ≡ w → (walk ≡ None → length rows ≤ 1) → ServesStructure source old.walks.items inner node desc chain rows
+  kept-cases : (w : Option ℕ) → walk ≡ w → (walk ≡ None → length rows ≤ 1) → ServesStructure source old.walks.items inner node desc None rows
       → ServesPart source new.walks.items lies.around node desc w
-  kept-cases chain None is few serves = kept-empty chain (few is) serves
-  kept-cases chain (Some n) is few serves = kept-walked chain n is serves
+  kept-cases None is few serves = kept-empty (few is) serves
+  kept-cases (Some n) is few serves = kept-walked n is serves
 
-  pub kept-serves : (chain : Option ℕ) → (walk ≡ None → length rows ≤ 1) → ServesStructure source old.walks.items inner node desc chain rows → ServesPart source new.walks.items lies.around node desc walk
-  kept-serves chain = kept-cases chain walk refl
+  pub kept-serves : (walk ≡ None → length rows ≤ 1) → ServesStructure source old.walks.items inner node desc None rows → ServesPart source new.walks.items lies.around node desc walk
+  kept-serves = kept-cases walk refl
 
   -- what is kept of parts serves them, and so does this one wherever it lies
   pub kept-served : part ≡ part_of source lies node → IsPlaced source.program.now lies (ty.Node node desc) → AreServed source old → ServesPart source new.walks.items lies.around node desc walk → AreServed source new

@@ -153,8 +153,8 @@ module _ (program : Program) (layouts : Layouts) (tables : Tables) (settled : Se
     pub rows-same : {a : Around} {node : TypeId} {desc : Option Expr} {rows : List WalkRow} → AreRowsOf program layouts tables a node desc rows → (b : Around) → AreAlike program a b node
         → ((e : Expr) → desc ≡ Some e → SameBases a b e) → AreRowsOf program layouts tables b node desc rows
     rows-same (AreRowsOf.struct {around} {node} {desc} {s} has kind laid fields) b alike given = AreRowsOf.struct has kind laid (fields-same fields b (types-alike around b node s has alike))
-    rows-same (AreRowsOf.union {around} {node} {desc} {s} {e} arms has kind each value) b alike given =
-        AreRowsOf.union arms has kind (arms-same each b (fields-alike around b node s has alike)) (desc-same around b desc e given value)
+    rows-same (AreRowsOf.union {around} {node} {desc} {s} {e} arms has kind each some value) b alike given =
+        AreRowsOf.union arms has kind (arms-same each b (fields-alike around b node s has alike)) some (desc-same around b desc e given value)
     rows-same (AreRowsOf.bare {around} {node} {desc} {s} has kind each none) b alike given = AreRowsOf.bare has kind (arms-same each b (fields-alike around b node s has alike)) none
 
     fields-same : {a : Around} {types : List Ty} {spots : List Spot} {rows : List WalkRow} → AreFieldRows program layouts tables a types spots rows → (b : Around) → All (AreAlikeAt program a b) types
@@ -195,7 +195,7 @@ module _ (program : Program) (layouts : Layouts) (tables : Tables) (settled : Se
 
     pub part-same : {a : Around} {node : TypeId} {desc : Option Expr} {walk : Option ℕ} → IsPartOf program layouts tables a node desc walk → (b : Around) → AreAlikeInside program a b node desc
         → IsPartOf program layouts tables b node desc walk
-    part-same (IsPartOf.walked {around} {node} is rows) b alike = IsPartOf.walked is (rows-same rows (inside b node) alike.own alike.given)
+    part-same (IsPartOf.walked {around} {node} late laid some is rows) b alike = IsPartOf.walked late laid some is (rows-same rows (inside b node) alike.own alike.given)
     part-same (IsPartOf.empty {around} {node} rows) b alike = IsPartOf.empty (rows-same rows (inside b node) alike.own alike.given)
 
 -- ---- where parts are the same
@@ -204,23 +204,23 @@ module _ (program : Program) (layouts : Layouts) (tables : Tables) (settled : Se
 struct-desc : (program : Program) (layouts : Layouts) (tables : Tables) {a : Around} {node : TypeId} {desc : Option Expr} {rows : List WalkRow} (s : Structure) (other : Option Expr) → HasStructure program node s
     → s.is_union ≡ false → AreRowsOf program layouts tables a node desc rows → AreRowsOf program layouts tables a node other rows
 struct-desc program layouts tables s other has is (AreRowsOf.struct there kind laid fields) = AreRowsOf.struct there kind laid fields
-struct-desc program layouts tables s other has is (AreRowsOf.union {s = u} arms there kind each value) = let same : u ≡ s = cc in absurd (cc)
+struct-desc program layouts tables s other has is (AreRowsOf.union {s = u} arms there kind each some value) = let same : u ≡ s = cc in absurd (cc)
 struct-desc program layouts tables s other has is (AreRowsOf.bare {s = u} there kind each none) = let same : u ≡ s = cc in absurd (cc)
 
 part-desc : (program : Program) (layouts : Layouts) (tables : Tables) {a : Around} {node : TypeId} {desc : Option Expr} {walk : Option ℕ} (s : Structure) (other : Option Expr) → HasStructure program node s
     → s.is_union ≡ false → IsPartOf program layouts tables a node desc walk → IsPartOf program layouts tables a node other walk
-part-desc program layouts tables s other has is (IsPartOf.walked at rows) = IsPartOf.walked at (struct-desc program layouts tables s other has is rows)
+part-desc program layouts tables s other has is (IsPartOf.walked late laid some at rows) = IsPartOf.walked late laid some at (struct-desc program layouts tables s other has is rows)
 part-desc program layouts tables s other has is (IsPartOf.empty rows) = IsPartOf.empty (struct-desc program layouts tables s other has is rows)
 
 rows-there : (program : Program) (layouts : Layouts) (tables : Tables) {a : Around} {node : TypeId} {desc : Option Expr} {rows : List WalkRow} → AreRowsOf program layouts tables a node desc rows
     → (s : Structure) × HasStructure program node s
 rows-there program layouts tables (AreRowsOf.struct {s = s} has kind laid fields) = (s, has)
-rows-there program layouts tables (AreRowsOf.union {s = s} arms has kind each value) = (s, has)
+rows-there program layouts tables (AreRowsOf.union {s = s} arms has kind each some value) = (s, has)
 rows-there program layouts tables (AreRowsOf.bare {s = s} has kind each none) = (s, has)
 
 part-there : (program : Program) (layouts : Layouts) (tables : Tables) {a : Around} {node : TypeId} {desc : Option Expr} {walk : Option ℕ} → IsPartOf program layouts tables a node desc walk
     → (s : Structure) × HasStructure program node s
-part-there program layouts tables (IsPartOf.walked at rows) = rows-there program layouts tables rows
+part-there program layouts tables (IsPartOf.walked late laid some at rows) = rows-there program layouts tables rows
 part-there program layouts tables (IsPartOf.empty rows) = rows-there program layouts tables rows
 
 -- the outermost structure is told where it is read

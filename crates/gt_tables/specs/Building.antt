@@ -1,5 +1,5 @@
 -- No promise: what the proofs of building speak of.
-use Rattle.std.specs.Prelude.{◌≡◌, ◌≤◌, ◌<◌, ◌⊎◌, ℕ, zero, suc, ◌+◌, Bool, true, false, List, [], ◌∷◌, ◌++◌, ◌||◌, cond, Option, Some, None, IfSome, IsSome, length, flat_map, take, option_map, option_to_list, slice_get, slice_index_or, All}
+use Rattle.std.specs.Prelude.{◌≡◌, ◌≤◌, ◌<◌, ◌⊎◌, ℕ, zero, suc, ◌+◌, Bool, true, false, List, [], ◌∷◌, ◌++◌, ◌||◌, cond, Option, Some, None, IfSome, length, flat_map, take, option_map, option_to_list, slice_get, slice_index_or, All}
 use Rattle.std.specs.Ordering.{nat_cmp, ordering_then}
 use Rattle.std.specs.Option.{option_cmp}
 use Rattle.std.specs.List.{filter}
@@ -32,7 +32,7 @@ use Rattle.gt_tree.specs.Fits.{types_of}
 use Rattle.gt_edges.specs.Edges.{has_walk}
 use Rattle.gt_edges.specs.Walks.{Around, outside, first_of as first_node, IsRowOf, IsPartOf, AreRowsOf, AreFieldRows, AreArmsOf}
 use Rattle.gt_edges.specs.Notes.{chain_offset}
-use Rattle.gt_tables.specs.Sharing.{ReadsOutermost}
+use Rattle.gt_tables.specs.Sharing.{ReadsOutermost, Encloses}
 use Rattle.gt_tables.specs.declared.sources.Around.{Around as CodeAround}
 use Rattle.gt_tables.specs.declared.sources.Lies.{Lies}
 use Rattle.gt_tables.specs.declared.sources.Site.{Site}
@@ -183,7 +183,7 @@ HasEqual first node rows walks cases walk = (had : List WalkRow) × HasRows firs
 
 -- a walk with these very rows is added, where no walk of its structure had them
 abbrev pub IsAdded : ℕ → ℕ → List WalkRow → List (List WalkRow) → BTreeMap Case ℕ → List (List WalkRow) → List (List WalkRow) → BTreeMap Case ℕ → Option ℕ → Type 0
-IsAdded first node rows walks cases more now filed walk = (more ≡ rows ∷ []) × AreNew walks cases node rows × IfSome walk (HasRows first node rows now filed)
+IsAdded first node rows walks cases more now filed walk = (more ≡ rows ∷ []) × AreNew walks cases node rows × IfSome walk (λ w. HasRows first node rows now filed w × (w ≡ first + length walks))
 
 -- the walk of a structure with these rows: the one that was there, or a new one
 pub record Shares (first node : ℕ) (rows : List WalkRow) (walks : List (List WalkRow)) (cases : BTreeMap Case ℕ) (now : List (List WalkRow)) (filed : BTreeMap Case ℕ) (walk : ℕ) : Type 0 where
@@ -210,11 +210,12 @@ pub record Grows (program : Program) (old new : Parts) : Type 0 where
   pub walks : new.walks.items ≡ old.walks.items ++ more
   pub are : AreParts program new
 
--- the walk of a part is kept, if it has one
+-- the walk of a part is kept, if it has one: then it has a row at least after its note
 pub record Keeps (first : ℕ) (part : Option Part) (node : ℕ) (rows : List WalkRow) (old new : Parts) (walk : Option ℕ) : Type 0 where
   pub files : Files old.walks.items old.cases new.walks.items new.cases
   pub turns : HaveTurns new.cases
   pub has : IfSome walk (HasEqual first node rows new.walks.items new.cases)
+  pub many : IfSome walk (λ w. 1 < length rows)
   pub shared : (files.more ≡ []) ⊎ IsAdded first node rows old.walks.items old.cases files.more new.walks.items new.cases walk
   pub none : walk ≡ None → files.more ≡ []
   pub known : (q : Part) (n : ℕ) → get part_cmp new.known q ≡ Some (Some n)
@@ -242,9 +243,9 @@ IsThere first walks walk = (tables : Tables) → HaveWalks first walks tables �
 abbrev pub around_of : CodeAround → Around
 around_of a = record { here = a.here; outer = a.outer; outermost = a.outermost }
 
--- there is an outermost structure where there is an innermost one, and outside every structure there is none
-pub record IsAround (a : CodeAround) : Type 0 where
-  pub inside : IsSome a.here → IsSome a.outermost
+-- where there is an innermost structure there is an outermost one, which is or contains it, and outside every structure there is none
+pub record IsAround (program : Program) (a : CodeAround) : Type 0 where
+  pub inside : (here : TypeId) → a.here ≡ Some here → (outermost : TypeId) × (a.outermost ≡ Some outermost) × Encloses program outermost here
   pub outside : a.here ≡ None → (a.outer ≡ None) × (a.outermost ≡ None)
 
 -- a site is a field of the innermost structure, in whose type this one is held; a root lies outside every structure
@@ -255,7 +256,7 @@ IsSiteOf program a None type = a.here ≡ None
 
 -- where a type of the program lies
 pub record IsPlaced (program : Program) (lies : Lies) (type : Ty) : Type 0 where
-  pub around : IsAround lies.around
+  pub around : IsAround program lies.around
   pub site : IsSiteOf program lies.around lies.site type
 
 -- by the tables of these walks, this is the row of a type

@@ -4,7 +4,7 @@ ghost use Rattle.gt_walk.specs.declared.rows.Count.TheVariants as count;
 ghost use Rattle.gt_walk.specs.declared.rows.WalkRow.{WalkRow};
 ghost use Rattle.gt_walk.specs.declared.rows.WalkRow.TheVariants as row;
 ghost use Rattle.gt_tables.specs.Building.{IsSource, first_of, AreRows, AreParts, Grows, Shallow, EndAsBlocks, AreServed, ServesWalk, ServesWalks, ServesPointers, IsPointerWalk};
-ghost use Rattle.gt_tables.specs.Counting.{Counted};
+ghost use Rattle.gt_tables.specs.Counting.{StaysCounted};
 
 use crate::chains::chain_offset;
 use crate::forms::note;
@@ -26,7 +26,7 @@ fn standing_rows(
     requires served { AreServed source.now parts.old }
     requires there { id.0 < length source.now.program.now.structures }
     ensures grows { OnOk result (Grows source.now.program.now parts.old parts.new) }
-    ensures counted { OnOk result ((n : ℕ) → Counted source.now parts.old n → Counted source.now parts.new n) }
+    ensures counted { OnOk result (StaysCounted source.now parts.old parts.new) }
     ensures served { OnOk result (AreServed source.now parts.new) }
     ensures serves { IfOk result (λ rows. ServesWalk source.now parts.new.walks.items id rows.items) }
     ensures rows { IfOk result (λ rows. AreRows (first_of source.now) parts.new.walks.items Shallow rows.items) }
@@ -75,7 +75,7 @@ fn standing_walks(source: &Source<'_>, parts: &mut Parts) -> Result<Vec<List<Wal
     requires parts { AreParts source.now.program.now parts.old }
     requires served { AreServed source.now parts.old }
     ensures grows { OnOk result (Grows source.now.program.now parts.old parts.new) }
-    ensures counted { OnOk result ((n : ℕ) → Counted source.now parts.old n → Counted source.now parts.new n) }
+    ensures counted { OnOk result (StaysCounted source.now parts.old parts.new) }
     ensures served { OnOk result (AreServed source.now parts.new) }
     ensures serves { IfOk result (λ walks. ServesWalks source.now parts.new.walks.items walks.items) }
     ensures walks { IfOk result (λ walks. All (AreRows (first_of source.now) parts.new.walks.items Shallow) walks.items) }
@@ -110,7 +110,7 @@ pub fn block_walks(source: &Source<'_>, parts: &mut Parts) -> Result<Vec<List<Wa
     requires parts { AreParts source.now.program.now parts.old }
     requires served { AreServed source.now parts.old }
     ensures grows { OnOk result (Grows source.now.program.now parts.old parts.new) }
-    ensures counted { OnOk result ((n : ℕ) → Counted source.now parts.old n → Counted source.now parts.new n) }
+    ensures counted { OnOk result (StaysCounted source.now parts.old parts.new) }
     ensures served { OnOk result (AreServed source.now parts.new) }
     ensures serves { IfOk result (λ walks. ServesWalks source.now parts.new.walks.items walks.items) }
     ensures pointers { IfOk result (λ walks. ServesPointers source.now.program.now (length source.now.program.now.structures) walks.items) }

@@ -1,5 +1,5 @@
 // Rows of each form.
-ghost use Rattle.std.specs.Prelude.{◌≡◌, ◌≢◌, ◌++◌, [], ◌∷◌, None, All, IfOk, IfSome, OnOk, option_to_list, option_map};
+ghost use Rattle.std.specs.Prelude.{◌≡◌, ◌≢◌, ◌++◌, [], ◌∷◌, None, All, Any, IfOk, IfSome, IsSome, OnOk, option_to_list, option_map};
 ghost use Rattle.gt_edges.specs.Walks.{IsRowExpr, IsDescExpr};
 ghost use Rattle.gt_tables.specs.Building.{IsSource, around_of};
 ghost use Rattle.gt_walk.specs.declared.rows.RowExpr.{RowExpr};
@@ -108,6 +108,7 @@ pub fn switch_row(
 ) -> Result<Option<WalkRow>, AllocError>
     requires source { IsSource source.now }
     ensures row { IfOk result (λ r. IfSome r (λ made. (value : RowExpr) × (made ≡ row.Switch value arms) × IsDescExpr source.now.program.now source.now.layouts.now (around_of inner) desc.now value)) }
+    ensures some { IfOk result (λ r. IfSome r (λ made. Any (λ a. IsSome (out-Arm a).row) arms.items)) }
     ensures none { IfOk result (λ r. r ≡ None → All (λ a. (out-Arm a).row ≡ None) arms.items) }
 {
     if !arms.iter().any(|arm| arm.row.is_some()) {

@@ -9,6 +9,7 @@ mod chains;
 mod deletable;
 mod expressions;
 mod forms;
+pub mod laws;
 mod naming;
 mod parts;
 mod paths;

@@ -113,7 +113,7 @@ pub fn structure_rows(
     requires source { IsSource source.now }
     requires parts { AreParts source.now.program.now parts.old }
     requires served { AreServed source.now parts.old }
-    requires around { IsAround inner }
+    requires around { IsAround source.now.program.now inner }
     requires here { inner.here ≡ Some id }
     requires there { id.0 < length source.now.program.now.structures }
     requires shallow { IsWithinDepth source.now.program.now id.0 depth }
@@ -153,7 +153,7 @@ fn add_fields(
     requires source { IsSource source.now }
     requires parts { AreParts source.now.program.now parts.old }
     requires served { AreServed source.now parts.old }
-    requires around { IsAround inner }
+    requires around { IsAround source.now.program.now inner }
     requires here { inner.here ≡ Some id }
     requires fields { (s : Structure) × HasStructure source.now.program.now id s × (s.fields ≡ fields.now) }
     requires few { length fields.now < 2 ^ 32 }
@@ -189,7 +189,7 @@ fn union_arms(
     requires source { IsSource source.now }
     requires parts { AreParts source.now.program.now parts.old }
     requires served { AreServed source.now parts.old }
-    requires around { IsAround inner }
+    requires around { IsAround source.now.program.now inner }
     requires here { inner.here ≡ Some id }
     requires fields { (s : Structure) × HasStructure source.now.program.now id s × (s.fields ≡ fields.now) }
     requires few { length fields.now < 2 ^ 32 }

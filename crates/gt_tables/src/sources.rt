@@ -44,7 +44,7 @@ pub struct Lies {
     pub site: Option<Site>,
 }
 
-// A structure by value. Where it lies is told only where its rows depend on that, and so is the outermost structure.
+// A structure by value. Where it lies is told exactly where its rows depend on that, and so is the outermost structure.
 #[derive(Clone, Copy, PartialEq, Eq, PartialOrd, Ord)]
 pub struct Part {
     pub node: u32,

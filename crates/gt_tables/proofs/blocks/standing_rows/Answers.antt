@@ -1,12 +1,13 @@
-use Rattle.std.proofs.Common.{◌≡◌, ℕ, ◌∙◌, ◌<◌, [], ◌∷◌, length, ap, Some, get_or, arith}
+use Rattle.std.proofs.Common.{◌≡◌, ◌∙◌, ◌<◌, [], ◌∷◌, length, ap, Some, get_or, arith}
 use Rattle.std.specs.Prelude.{slice_get}
 use Rattle.gt_layout.proofs.Laying.{read_at}
 use Rattle.gt_walk.specs.declared.rows.WalkRow.TheVariants as row
 use Rattle.gt_tables.specs.Building.{Grows, around_of, ServesStructure, ServesWalk}
 use Rattle.gt_layout.specs.Progress.{IsWithinDepth}
-use Rattle.gt_tables.specs.Counting.{Counted, Counts}
+use Rattle.gt_tables.specs.Counting.{StaysCounted, Counts}
 use Rattle.gt_tables.proofs.PartCounts.{on-on, on-any}
 use Rattle.gt_tables.proofs.Keeping.{on-ok, if-ok, grows-not}
+use Rattle.gt_tables.proofs.Serving.{entered-alone}
 use Rattle.gt_tables.proofs.ServingBlocks.{is-alone, walk-stands, walk-inner}
 use Rattle.gt_tables.proofs.blocks.standing_rows.Goals as goal
 
@@ -35,6 +36,9 @@ returns-then-not-may_stand-clause-serves c =
     walk-inner source c.args.parts.now.walks.items c.args.id s held c.chain_offset-chain.result rows.items has held-is (λ may. absurd (cc (c.may_stand.ensures.1 may, c.if-not-may_stand.true))) c.chain_offset-chain.ensures.offset is)
     c.note.ensures
 
+pub structure_rows-requires-clause-around : goal.structure_rows-requires-clause-around
+structure_rows-requires-clause-around c = entered-alone c.args.source.now.program.now c.enter-inner.result (around_of c.outside.result) c.args.id c.outside.ensures c.requires.there c.enter-inner.ensures
+
 pub returns-clause-serves : goal.returns-clause-serves
 returns-clause-serves c =
     let source = c.args.source.now in
@@ -48,12 +52,12 @@ returns-clause-serves c =
 
 pub returns-then-not-may_stand-clause-counted : goal.returns-then-not-may_stand-clause-counted
 returns-then-not-may_stand-clause-counted c =
-    let Same = λ (n : ℕ). Counted c.args.source.now c.args.parts.now n in on-any ((n : ℕ) → Same n → Same n) c.note.result (λ n h. h)
+    on-any (StaysCounted c.args.source.now c.args.parts.now c.args.parts.now) c.note.result (λ n own h. h)
 
 pub returns-clause-counted : goal.returns-clause-counted
 returns-clause-counted c =
     let program = c.args.source.now.program.now in
     let old = c.args.parts.now in
     let new = c.structure_rows.new.parts in
-    on-on (Counts c.args.source.now (IsWithinDepth program c.args.id.0) (λ n. n) old new) ((n : ℕ) → Counted c.args.source.now old n → Counted c.args.source.now new n) c.structure_rows.result (λ counts n h. counts.counted n h)
+    on-on (Counts c.args.source.now (IsWithinDepth program c.args.id.0) (λ n. n) old new) (StaysCounted c.args.source.now old new) c.structure_rows.result (λ counts n own h. counts.counted n own h)
     c.structure_rows.ensures.counts

@@ -16,7 +16,7 @@ loop-i-preserved c =
     record {
       grows = grows-on program c.args.parts.now c.loop-i.parts c.standing_rows.new.parts c.loop-i.invariant.grows c.in_ok-rows.ensures.grows;
       served = c.in_ok-rows.ensures.served;
-      counted = λ n h. c.in_ok-rows.ensures.counted n (c.loop-i.invariant.counted n h);
+      counted = λ n own h. c.in_ok-rows.ensures.counted n own (c.loop-i.invariant.counted n own h);
       serves =
           each-step c.args.source.now c.loop-i.parts c.standing_rows.new.parts c.in_ok-rows.ensures.grows c.loop-i.walks.items c.push.new.self.items c.of.result (record { 0 = c.loop-i.i })
           (sym c.loop-i.invariant.long) c.in_ok-push.ensures.items
@@ -37,7 +37,7 @@ loop-i-init c =
     record {
       grows = grows-not c.args.source.now.program.now c.args.parts.now c.requires.parts;
       served = c.requires.served;
-      counted = λ n h. h;
+      counted = λ n own h. h;
       serves = each-none c.args.source.now c.args.parts.now.walks.items c.new-walks.result.items c.new-walks.ensures.items;
       walks = subst (All P) (sym c.new-walks.ensures.items) (All-nil P);
       long = ap length c.new-walks.ensures.items;

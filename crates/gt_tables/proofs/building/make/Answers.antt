@@ -1,4 +1,4 @@
-use Rattle.std.proofs.Common.{◌∙◌, ◌+◌, ◌*◌, ap, length, sym, subst, arith}
+use Rattle.std.proofs.Common.{◌∙◌, ◌+◌, ◌*◌, [], ap, length, sym, subst, arith}
 use Rattle.std.specs.Prelude.{All}
 use Rattle.gt_walk.specs.declared.tables.Tables.{Tables}
 use Rattle.gt_edges.specs.Numbers.{first_part}
@@ -82,13 +82,12 @@ pub returns-clause-roots : goal.returns-clause-roots
 returns-clause-roots c =
     gives-roots c.args.program.now c.args.layouts.now (record { walks = c.of.result; roots = c.of-2.result; deletable = c.of-3.result; caches = c.of-4.result }) c.requires.settled c.requires.laid (returns-clause-walks c)
 
--- each part has one walk
+-- walks are counted, and have owners
 pub returns-clause-shared : goal.returns-clause-shared
 returns-clause-shared c =
     let tables : Tables = record { walks = c.of.result; roots = c.of-2.result; deletable = c.of-3.result; caches = c.of-4.result } in
     let parts = c.root_walks.new.parts in
-    let many = length c.in_ok-roots.roots.items in
-    let counted = c.in_ok-roots.ensures.counted 0 (c.in_ok-walks.ensures.counted 0 (counted-none _ c.new-parts.result c.new-parts.ensures.walks)) in
-    let roots = ap length c.of-2.ensures.items in
-    parts-shared _ tables c.in_ok-walks.walks.items parts (c.of.ensures.items ∙ c.in_ok-append.ensures.items) c.in_ok-walks.ensures.long
-    (counted-more _ parts (0 + 2 * many) (2 * length c.of-2.result) (omega (arith, roots)) counted)
+    let own = c.in_ok-roots.roots.items in
+    let counted = c.in_ok-roots.ensures.counted 0 (c.in_ok-walks.ensures.counted 0 [] (counted-none _ c.new-parts.result c.new-parts.ensures.walks)) in
+    parts-shared _ tables c.in_ok-walks.walks.items parts (c.of.ensures.items ∙ c.in_ok-append.ensures.items) c.in_ok-walks.ensures.long own c.of-2.ensures.items
+    (counted-more _ parts (0 + 2 * length own) (2 * length own) own (omega arith) counted)

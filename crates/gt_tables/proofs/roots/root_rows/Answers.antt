@@ -40,5 +40,5 @@ returns-clause-serves c =
     }
 
 pub returns-clause-counted : goal.returns-clause-counted
-returns-clause-counted c n h =
-    subst (λ o. Counted c.args.source.now c.type_row.new.parts (with_site o n)) c.in_root-lies.ensures.site (c.in_ok-row.ensures.counts.counted n h)
+returns-clause-counted c n own h =
+    subst (λ o. Counted c.args.source.now c.type_row.new.parts (with_site o n) own) c.in_root-lies.ensures.site (c.in_ok-row.ensures.counts.counted n own h)

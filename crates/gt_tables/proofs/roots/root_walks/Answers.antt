@@ -6,6 +6,7 @@ use Rattle.std.proofs.lemmas.List.Elements.{All-nil}
 use Rattle.gt_value.proofs.ZeroValues.{root-fits}
 use Rattle.gt_edges.specs.Edges.{has_walk}
 use Rattle.gt_tables.specs.Building.{first_of, IsThere}
+use Rattle.gt_tables.specs.Counting.{Counted}
 use Rattle.gt_tables.proofs.Keeping.{grows-not, grows-on}
 use Rattle.gt_tables.proofs.Wholes.{count-more}
 use Rattle.gt_tables.proofs.PartCounts.{counted-more}
@@ -44,7 +45,9 @@ loop-i-init c =
     record {
       grows = grows-not c.args.source.now.program.now c.args.parts.now c.requires.parts;
       served = c.requires.served;
-      counted = λ n h. counted-more c.args.source.now c.args.parts.now n (n + 2 * length c.new-roots.result.items) (omega arith) h;
+      counted = λ n h.
+          counted-more c.args.source.now c.args.parts.now n (n + 2 * length c.new-roots.result.items) c.new-roots.result.items (omega arith)
+          (subst (Counted c.args.source.now c.args.parts.now n) (sym c.new-roots.ensures.items) h);
       serves = roots-none c.args.source.now c.args.parts.now.walks.items c.new-roots.result.items;
       roots = subst (All There) (sym c.new-roots.ensures.items) (All-nil There);
       count = omega (arith, nothing);

@@ -257,7 +257,7 @@ structure_rows-returns-then-structure-clause-serves t c =
     let there : c.args.id.0 < length planes = omega (arith, all, c.requires.there) in
     let laid = read_at c.as_slice-2.result.now planes c.args.id.0 plane c.as_slice-2.ensures.items there c.index-as_slice-id-2.is in
     union-serves c.args.source.now c.union_arms.new.parts.walks.items c.args.inner c.args.id c.args.desc.now s c.in_ok-arms.arms c.args.chain plane c.as_slice-fields.result.now c.in_ok-row.row c.in_ok-rows.rows.items
-    c.add_row.new.rows.items has c.if-structure.true laid c.as_slice-fields.ensures.items c.in_ok-rows.ensures c.in_ok-add_row.ensures c.in_ok-row.ensures.row c.in_ok-row.ensures.none c.in_ok-arms.ensures.serves
+    c.add_row.new.rows.items has c.if-structure.true laid c.as_slice-fields.ensures.items c.in_ok-rows.ensures c.in_ok-add_row.ensures c.in_ok-row.ensures.row c.in_ok-row.ensures.some c.in_ok-row.ensures.none c.in_ok-arms.ensures.serves
 
 pub structure_rows-returns-clause-serves : goal.structure_rows-returns-clause-serves
 structure_rows-returns-clause-serves t c =
@@ -276,7 +276,7 @@ structure_rows-returns-clause-serves t c =
 pub part_walk-structure_rows-requires : goal.part_walk-structure_rows-requires
 part_walk-structure_rows-requires t c =
     let around = around_of c.args.lies.around in
-    let is = entered c.enter-inner.result around c.args.id c.enter-inner.ensures in
+    let is = entered c.args.source.now.program.now c.args.lies c.args.id c.args.desc.now c.enter-inner.result c.requires.placed c.requires.there c.enter-inner.ensures in
     let here = entered-here c.enter-inner.result around c.args.id c.enter-inner.ensures in
     (omega arith, (c.requires.source, (c.requires.parts, (c.requires.served, (is, (here, (c.requires.there, c.requires.shallow)))))))
 
@@ -293,7 +293,7 @@ part_walk-returns-clause-serves t c =
     (ServesPart source c.keep.new.self.walks.items c.args.lies.around c.args.id c.args.desc.now) c.keep.result
     (λ walk keeps few.
     kept-serves source c.requires.source c.first_part.result c.first_part.ensures c.args.lies c.args.id c.args.desc.now c.part_of-part.result rows c.structure_rows.new.parts c.keep.new.self c.enter-inner.result
-    c.enter-inner.ensures walk keeps None few c.in_ok-rows.ensures.serves) c.keep.ensures.keeps c.keep.ensures.bare
+    c.enter-inner.ensures walk keeps few c.in_ok-rows.ensures.serves) c.keep.ensures.keeps c.keep.ensures.bare
 
 pub part_walk-returns-clause-served : goal.part_walk-returns-clause-served
 part_walk-returns-clause-served t c =
@@ -304,7 +304,7 @@ part_walk-returns-clause-served t c =
     kept-served source c.requires.source c.first_part.result c.first_part.ensures c.args.lies c.args.id c.args.desc.now c.part_of-part.result rows c.structure_rows.new.parts c.keep.new.self c.enter-inner.result
     c.enter-inner.ensures walk keeps c.part_of-part.ensures.part c.requires.placed c.in_ok-rows.ensures.served
     (kept-serves source c.requires.source c.first_part.result c.first_part.ensures c.args.lies c.args.id c.args.desc.now c.part_of-part.result rows c.structure_rows.new.parts c.keep.new.self c.enter-inner.result
-    c.enter-inner.ensures walk keeps None few c.in_ok-rows.ensures.serves)) c.keep.ensures.keeps c.keep.ensures.bare
+    c.enter-inner.ensures walk keeps few c.in_ok-rows.ensures.serves)) c.keep.ensures.keeps c.keep.ensures.bare
 
 -- the elements of an array lie where it does
 pub type_row-type_row-requires : goal.type_row-type_row-requires
@@ -400,12 +400,13 @@ part_walk-returns-clause-counts t c =
     let new = c.keep.new.self in
     let part = c.part_of-part.result in
     let none : c.get.result ≡ None = search rules in
+    let made = c.in_ok-rows.ensures.serves in
     on-kept (Keeps c.first_part.result part c.args.id.0 rows mid new) (Stays part mid new)
     (Counts c.args.source.now (HoldsWithinDepth program (node.Node c.args.id c.args.desc.now)) (with_site c.args.lies.site) c.args.parts.now new) c.keep.result
     (λ walk keeps stays.
-    part-counts source c.requires.source c.args.lies c.args.id c.args.desc.now c.args.depth c.first_part.result part rows c.args.parts.now mid new walk c.first_part.ensures c.requires.placed c.requires.there c.requires.shallow
+    part-counts source c.requires.source c.args.lies c.args.id c.args.desc.now c.args.depth c.first_part.result part rows c.args.parts.now mid new walk made.plane made.rest made.plane_is made.is c.first_part.ensures c.requires.placed c.requires.there c.requires.shallow
     c.part_of-part.ensures.part c.part_of-part.ensures.node (c.get.ensures.unknown none) c.in_ok-rows.ensures.counts keeps
-    (λ w is. (c.args.lies.around, c.args.desc.now, kept-walked source c.requires.source c.first_part.result c.first_part.ensures c.args.lies c.args.id c.args.desc.now part rows mid new c.enter-inner.result c.enter-inner.ensures walk keeps None w is c.in_ok-rows.ensures.serves))
+    (λ w is. kept-walked source c.requires.source c.first_part.result c.first_part.ensures c.args.lies c.args.id c.args.desc.now part rows mid new c.enter-inner.result c.enter-inner.ensures walk keeps w is c.in_ok-rows.ensures.serves)
     stays) c.keep.ensures.keeps c.keep.ensures.stays
 
 pub type_row-returns-in_ok-row-in-Arr-clause-counts : goal.type_row-returns-in_ok-row-in-Arr-clause-counts

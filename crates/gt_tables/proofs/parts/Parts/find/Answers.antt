@@ -1,7 +1,7 @@
 use Rattle.std.proofs.Common.{◌≡◌, ℕ, Some, ap, sym, subst}
 use Rattle.std.specs.BTreeMap.{get}
 use Rattle.gt_tables.specs.declared.parts.Case.{Case}
-use Rattle.gt_tables.specs.Building.{case_cmp, case_of, StandsAt}
+use Rattle.gt_tables.specs.Building.{case_cmp, case_of}
 use Rattle.gt_tables.proofs.Filing.{tried-more, free-here, filed-here}
 use Rattle.gt_tables.proofs.parts.Parts.find.Goals as goal
 
