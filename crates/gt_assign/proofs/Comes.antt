@@ -95,7 +95,7 @@ from-end End i e = refl
 from-end (And tree trees) zero e = absurd (cc)
 from-end (And tree trees) (suc i) e = from-end trees i e
 
--- a part and the parts behind it, taken apart
+-- a part and the parts after it, taken apart
 record Both (first : Option Tree) (rest : Option Trees) (all : Trees) : Type 0 where
   tree : Tree
   trees : Trees

@@ -15,12 +15,12 @@ use Rattle.gt_assign.specs.Commons.{common_of}
 use Rattle.gt_assign.specs.Pasts.{Was, Whole, Past}
 use Rattle.gt_assign.specs.Turning.{Maker, fields_made, elements_made, maybe_whole, begun_by, alt_made, member_was, member_made, row_made}
 use Rattle.gt_assign.proofs.Endings.{equals}
-use Rattle.gt_assign.proofs.Rows.{behind, FieldsSoFar, fields-more, fields-end, ElementsSoFar, elements-more, elements-end}
+use Rattle.gt_assign.proofs.Rows.{following, FieldsSoFar, fields-more, fields-end, ElementsSoFar, elements-more, elements-end}
 use Rattle.gt_assign.proofs.Values.{tree_at-trees, count-trees}
 
-behind-none : (o : Option Trees) → o ≡ behind [] o
-behind-none (Some rest) = refl
-behind-none None = refl
+after-none : (o : Option Trees) → o ≡ following [] o
+after-none (Some rest) = refl
+after-none None = refl
 
 same : (n : ℕ) → (n == n) ≡ true
 same n = (equals n n).1 refl
@@ -40,7 +40,7 @@ module _ (make : Maker) (past : Past) where
     FieldsKept i = FieldsSoFar make past (Whole (Rec (trees (map tree_of parts)))) type_of fields i (take i parts)
 
     pub fields-none : FieldsKept 0
-    fields-none = behind-none (fields_made make past (Whole (Rec (trees (map tree_of parts)))) 0 (map type_of fields))
+    fields-none = after-none (fields_made make past (Whole (Rec (trees (map tree_of parts)))) 0 (map type_of fields))
 
     pub field-kept : (i : ℕ) (f : X) (v : Value) → length parts ≡ length fields → i < length parts → f ≡ get_or fields i f → v ≡ get_or parts i v → make past (type_of f) (Whole (tree_of v)) ≡ Some (tree_of v) → FieldsKept i → FieldsKept (i + 1)
     field-kept i f v even inside is_f is_v kept so =
@@ -66,8 +66,8 @@ module _ (make : Maker) (past : Past) where
     pub elements-none : ElementsKept 0
     elements-none =
         let all : length parts ≡ length parts - 0 = omega arith in
-        behind-none (elements_made make past type (Whole (Row (trees (map tree_of parts)))) 0 (length parts))
-        ∙ ap (λ n. behind [] (elements_made make past type (Whole (Row (trees (map tree_of parts)))) 0 n)) all
+        after-none (elements_made make past type (Whole (Row (trees (map tree_of parts)))) 0 (length parts))
+        ∙ ap (λ n. following [] (elements_made make past type (Whole (Row (trees (map tree_of parts)))) 0 n)) all
 
     pub element-kept : (i : ℕ) (v : Value) → i < length parts → v ≡ get_or parts i v → make past type (Whole (tree_of v)) ≡ Some (tree_of v) → ElementsKept i → ElementsKept (i + 1)
     element-kept i v inside is_v kept so =

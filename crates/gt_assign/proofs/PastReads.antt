@@ -109,7 +109,7 @@ begun-desc program common value [] node desc = refl
 begun-desc program common value (name ∷ names) node desc = refl
 
 module _ {program : Program} (blocks : Blocks) (capacity : ℕ) (settled : Settled program) (common : TypeId) (value : Tree) where
-  -- what is read behind one step
+  -- what is read after one step
   abbrev ReadsOn : List (List ℕ) → Ty → Type 0
   ReadsOn names type = (t : Scope) (w : Tree) → Fits program blocks capacity t type w → beginning program common (Some type) w ≡ Some value → IsZeroOutside program common (Some type) w
       → begun_path program common value names type ≡ read_path program names type w

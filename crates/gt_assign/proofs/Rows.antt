@@ -30,16 +30,16 @@ given-stop Shape one all none so = so none
 given-stop Memory one all none so = tt
 
 -- some were made, and the others are left
-abbrev pub behind : List Value → Option Trees → Option Trees
-behind values (Some rest) = Some (before values rest)
-behind values None = None
+abbrev pub following : List Value → Option Trees → Option Trees
+following values (Some rest) = Some (before values rest)
+following values None = None
 
 abbrev more : Tree → Option Trees → Option Trees
 more tree o = o then λ rest. Some (And tree rest)
 
-behind-more : (values : List Value) (value : Value) (o : Option Trees) → behind values (more (tree_of value) o) ≡ behind (values ++ value ∷ []) o
-behind-more values value (Some rest) = ap Some (sym (before-one values value rest))
-behind-more values value None = refl
+after-more : (values : List Value) (value : Value) (o : Option Trees) → following values (more (tree_of value) o) ≡ following (values ++ value ∷ []) o
+after-more values value (Some rest) = ap Some (sym (before-one values value rest))
+after-more values value None = refl
 
 module _ (make : Maker) (past : Past) (was : Was) where
   abbrev rest_of : ℕ → List Ty → Tree → Option Trees
@@ -64,59 +64,59 @@ module _ (make : Maker) (past : Past) (was : Was) where
   module _ {X : Type 0} (type_of : X → Ty) where
     -- the fields before a place were made
     abbrev pub FieldsSoFar : List X → ℕ → List Value → Type 0
-    FieldsSoFar fields i values = fields_made make past was 0 (map type_of fields) ≡ behind values (fields_made make past was i (map type_of (drop i fields)))
+    FieldsSoFar fields i values = fields_made make past was 0 (map type_of fields) ≡ following values (fields_made make past was i (map type_of (drop i fields)))
 
     module _ (fields : List X) (i : ℕ) (f : X) (values : List Value) (inside : i < length fields) (is : f ≡ get_or fields i f) (so : FieldsSoFar fields i values) where
-      here : fields_made make past was 0 (map type_of fields) ≡ behind values (fields_made make past was i (type_of f ∷ map type_of (drop (i + 1) fields)))
-      here = so ∙ ap (λ fs. behind values (fields_made make past was i (map type_of fs))) (drop-item fields i f inside is)
+      here : fields_made make past was 0 (map type_of fields) ≡ following values (fields_made make past was i (type_of f ∷ map type_of (drop (i + 1) fields)))
+      here = so ∙ ap (λ fs. following values (fields_made make past was i (map type_of fs))) (drop-item fields i f inside is)
 
       pub fields-more : (part : Was) (value : Value) → field_was was i ≡ Some part → make past (type_of f) part ≡ Some (tree_of value) → FieldsSoFar fields (i + 1) (values ++ value ∷ [])
       fields-more part value e g =
           here
-          ∙ ap (behind values) (one-made i (type_of f) (map type_of (drop (i + 1) fields)) part (tree_of value) e g)
-          ∙ behind-more values value (fields_made make past was (suc i) (map type_of (drop (i + 1) fields)))
-          ∙ ap (λ n. behind (values ++ value ∷ []) (fields_made make past was n (map type_of (drop (i + 1) fields)))) (sym (add-one i))
+          ∙ ap (following values) (one-made i (type_of f) (map type_of (drop (i + 1) fields)) part (tree_of value) e g)
+          ∙ after-more values value (fields_made make past was (suc i) (map type_of (drop (i + 1) fields)))
+          ∙ ap (λ n. following (values ++ value ∷ []) (fields_made make past was n (map type_of (drop (i + 1) fields)))) (sym (add-one i))
 
       pub fields-part : field_was was i ≡ None → fields_made make past was 0 (map type_of fields) ≡ None
-      fields-part e = here ∙ ap (behind values) (no-part i (type_of f) (map type_of (drop (i + 1) fields)) e)
+      fields-part e = here ∙ ap (following values) (no-part i (type_of f) (map type_of (drop (i + 1) fields)) e)
 
       pub fields-stop : (part : Was) → field_was was i ≡ Some part → make past (type_of f) part ≡ None → fields_made make past was 0 (map type_of fields) ≡ None
-      fields-stop part e g = here ∙ ap (behind values) (no-tree i (type_of f) (map type_of (drop (i + 1) fields)) part e g)
+      fields-stop part e g = here ∙ ap (following values) (no-tree i (type_of f) (map type_of (drop (i + 1) fields)) part e g)
 
     pub fields-end : (fields : List X) (i : ℕ) (values : List Value) → length fields ≤ i → FieldsSoFar fields i values → fields_made make past was 0 (map type_of fields) ≡ Some (trees (map tree_of values))
     fields-end fields i values h so =
-        so ∙ ap (λ fs. behind values (fields_made make past was i (map type_of fs))) (drop-none fields i h) ∙ ap Some (before-end values)
+        so ∙ ap (λ fs. following values (fields_made make past was i (map type_of fs))) (drop-none fields i h) ∙ ap Some (before-end values)
 
   -- ---- elements
 
   abbrev pub ElementsSoFar : Ty → ℕ → ℕ → List Value → Type 0
-  ElementsSoFar type n i values = elements_made make past type was 0 n ≡ behind values (elements_made make past type was i (n - i))
+  ElementsSoFar type n i values = elements_made make past type was 0 n ≡ following values (elements_made make past type was i (n - i))
 
   module _ (type : Ty) (n i : ℕ) (values : List Value) (inside : i < n) (so : ElementsSoFar type n i values) where
     next : n - i ≡ suc (n - (i + 1))
     next = omega (arith, inside)
 
-    there : elements_made make past type was 0 n ≡ behind values (elements_made make past type was i (suc (n - (i + 1))))
-    there = so ∙ ap (λ k. behind values (elements_made make past type was i k)) next
+    there : elements_made make past type was 0 n ≡ following values (elements_made make past type was i (suc (n - (i + 1))))
+    there = so ∙ ap (λ k. following values (elements_made make past type was i k)) next
 
     pub elements-more : (part : Was) (value : Value) → element_was was i ≡ Some part → make past type part ≡ Some (tree_of value) → ElementsSoFar type n (i + 1) (values ++ value ∷ [])
     elements-more part value e g =
         there
-        ∙ ap (λ o. behind values (o then λ p. make past type p then λ t. elements_made make past type was (suc i) (n - (i + 1)) then λ rest. Some (And t rest))) e
-        ∙ ap (λ o. behind values (o then λ t. elements_made make past type was (suc i) (n - (i + 1)) then λ rest. Some (And t rest))) g
-        ∙ behind-more values value (elements_made make past type was (suc i) (n - (i + 1)))
-        ∙ ap (λ k. behind (values ++ value ∷ []) (elements_made make past type was k (n - (i + 1)))) (sym (add-one i))
+        ∙ ap (λ o. following values (o then λ p. make past type p then λ t. elements_made make past type was (suc i) (n - (i + 1)) then λ rest. Some (And t rest))) e
+        ∙ ap (λ o. following values (o then λ t. elements_made make past type was (suc i) (n - (i + 1)) then λ rest. Some (And t rest))) g
+        ∙ after-more values value (elements_made make past type was (suc i) (n - (i + 1)))
+        ∙ ap (λ k. following (values ++ value ∷ []) (elements_made make past type was k (n - (i + 1)))) (sym (add-one i))
 
     pub elements-part : element_was was i ≡ None → elements_made make past type was 0 n ≡ None
-    elements-part e = there ∙ ap (λ o. behind values (o then λ p. make past type p then λ t. elements_made make past type was (suc i) (n - (i + 1)) then λ rest. Some (And t rest))) e
+    elements-part e = there ∙ ap (λ o. following values (o then λ p. make past type p then λ t. elements_made make past type was (suc i) (n - (i + 1)) then λ rest. Some (And t rest))) e
 
     pub elements-stop : (part : Was) → element_was was i ≡ Some part → make past type part ≡ None → elements_made make past type was 0 n ≡ None
     elements-stop part e g =
         there
-        ∙ ap (λ o. behind values (o then λ p. make past type p then λ t. elements_made make past type was (suc i) (n - (i + 1)) then λ rest. Some (And t rest))) e
-        ∙ ap (λ o. behind values (o then λ t. elements_made make past type was (suc i) (n - (i + 1)) then λ rest. Some (And t rest))) g
+        ∙ ap (λ o. following values (o then λ p. make past type p then λ t. elements_made make past type was (suc i) (n - (i + 1)) then λ rest. Some (And t rest))) e
+        ∙ ap (λ o. following values (o then λ t. elements_made make past type was (suc i) (n - (i + 1)) then λ rest. Some (And t rest))) g
 
   pub elements-end : (type : Ty) (n i : ℕ) (values : List Value) → n ≤ i → ElementsSoFar type n i values → elements_made make past type was 0 n ≡ Some (trees (map tree_of values))
   elements-end type n i values h so =
       let none : n - i ≡ 0 = omega (arith, h) in
-      so ∙ ap (λ k. behind values (elements_made make past type was i k)) none ∙ ap Some (before-end values)
+      so ∙ ap (λ k. following values (elements_made make past type was i k)) none ∙ ap Some (before-end values)

@@ -1,4 +1,4 @@
--- The values behind references, and whether a leaf that can be written is there.
+-- The values after references, and whether a leaf that can be written is there.
 use Rattle.std.specs.Prelude.{Bool, false, Option, Some, None}
 use Rattle.gt_tree.specs.Trees.{Tree, is_word}
 use Rattle.gt_value.specs.declared.values.Value.{Value}

@@ -66,7 +66,7 @@ fn base<'a>(around: &Around<'a>, base: &Base) -> Option<SeenAt<'a>>
     }
 }
 
-// The type of the field at a place, where it is the first: what lies behind it is zero.
+// The type of the field at a place, where it is the first: what lies after it is zero.
 fn begun_at<'a>(structure: &'a Structure, place: usize) -> Option<Option<&'a Ty>>
     ensures { option_map option_copied result ≡ begun_at place (slice_get structure.now.fields place) }
 {

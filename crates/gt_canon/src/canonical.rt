@@ -10,7 +10,7 @@ use sha2::{Digest, Sha256};
 use std::alloc::{AllocError, Global};
 
 /// The canonical text of a program: a line for each structure, field, chain, root and cache, in the order of declaration. Its
-/// only error is want of memory.
+/// only error is out of memory.
 pub fn canon(alloc: Global, program: &Program) -> Result<Bytes, AllocError>
     ensures text { IfOk result (λ bytes. bytes ≡ canon_of program.now) }
 {
@@ -21,7 +21,7 @@ pub fn canon(alloc: Global, program: &Program) -> Result<Bytes, AllocError>
     Ok(text)
 }
 
-/// The SHA-256 (FIPS 180-4) of the canonical text. Its only error is want of memory.
+/// The SHA-256 (FIPS 180-4) of the canonical text. Its only error is out of memory.
 pub fn fingerprint(alloc: Global, program: &Program) -> Result<[u8; 32], AllocError>
     ensures digest { IfOk result (λ digest. digest ≡ sha256 (canon_of program.now)) }
 {

@@ -11,7 +11,7 @@ use Rattle.std.specs.Prelude.{◌==◌, codes}
 use Rattle.std.proofs.lemmas.Bool.{cond-false}
 use Rattle.gt_digits.specs.Digits.{decimal, hexadecimal}
 
--- the last digit is pushed on behind the others
+-- the last digit is pushed on after the others
 last : (b n : ℕ) (acc : List ℕ) → 2 ≤ b → 0 < n → map digit_char (digits_of b n) ++ acc ≡ map digit_char (digits_of b (n / b)) ++ (digit_char (n % b) ∷ acc)
 last b n acc two some =
     ap (λ ds. map digit_char ds ++ acc) (digits_of_step b n two some) ∙ ap (λ ds. ds ++ acc) (map_push digit_char (digits_of b (n / b)) (n % b))

@@ -6,7 +6,7 @@ ghost use Rattle.gt_digits.specs.Digits.{decimal, hexadecimal};
 use gt_types::Bytes;
 use std::alloc::{AllocError, Global};
 
-/// Adds a number in decimal. For want of memory the text is as before.
+/// Adds a number in decimal. Out of memory, the text is as before.
 pub fn push_decimal(alloc: Global, text: &mut Bytes, n: u64) -> Result<(), AllocError>
     ensures added { OnOk result (text.new ≡ text.old ++ decimal n) }
     ensures unchanged { OnErr result (text.new ≡ text.old) }
@@ -15,7 +15,7 @@ pub fn push_decimal(alloc: Global, text: &mut Bytes, n: u64) -> Result<(), Alloc
     text.append(digits.as_bytes())
 }
 
-/// Adds a number in hexadecimal, in lower case and with eight digits at least. For want of memory the text is as before.
+/// Adds a number in hexadecimal, in lower case and with eight digits at least. Out of memory, the text is as before.
 pub fn push_hexadecimal(alloc: Global, text: &mut Bytes, n: u64) -> Result<(), AllocError>
     ensures added { OnOk result (text.new ≡ text.old ++ hexadecimal n) }
     ensures unchanged { OnErr result (text.new ≡ text.old) }

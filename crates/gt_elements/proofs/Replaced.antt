@@ -54,7 +54,7 @@ one_named (o ∷ objects) pairs a b in_a in_b same =
 
 turned : (a m b n : ℕ) → IsApart a m b n → IsApart b n a m
 turned a m b n (inl before) = inr before
-turned a m b n (inr behind) = inl behind
+turned a m b n (inr following) = inl following
 
 -- blocks under different names share no byte
 apart_two : (placed : List Placed) → AreApart (map (λ p. p.block) placed) → (p r : Placed) → Contains placed p → Contains placed r → p.id ≢ r.id → IsApart p.block.address p.block.size r.block.address r.block.size
@@ -79,7 +79,7 @@ apart_two (x ∷ xs) apart p r in_p in_r differ =
 -- what is within one of two is apart from the other
 within_apart : (a m b n address size : ℕ) → IsApart a m b n → a ≤ address → address + size ≤ a + m → IsApart address size b n
 within_apart a m b n address size (inl before) low high = inl (omega (arith, before, high))
-within_apart a m b n address size (inr behind) low high = inr (omega (arith, behind, low))
+within_apart a m b n address size (inr following) low high = inr (omega (arith, following, low))
 
 no_ends : (kind : Kind) (trees : Trees) → kind ≢ Chars → EndsAs kind trees
 no_ends (Nodes node) trees differs = tt

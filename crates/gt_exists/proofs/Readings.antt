@@ -55,12 +55,12 @@ faults_more : (one : List Lexeme) (others : List (List Lexeme)) (o : Outcome (Op
 faults_more one others o h = ap (λ (x : Outcome (Option Item)). faults_by one x ++ flat_map item_faults others) h
 
 come_more : (one : List Lexeme) (others : List (List Lexeme)) (o : Outcome (Option Item)) → item_at one ≡ o → one ≢ [] → Come others → Come (one ∷ others)
-come_more one others (Read (Some found) behind) h some (inl (items, declared, none)) =
-    inl (found ∷ items, inl (found, behind, items, h, refl, declared), faults_more one others (Read (Some found) behind) h ∙ none)
-come_more one others (Read None behind) h some (inl (items, declared, none)) =
-    inl (items, inr (behind, h, declared), faults_more one others (Read None behind) h ∙ none)
-come_more one others (Read found behind) h some (inr (fault, faults, are)) =
-    inr (fault, faults, faults_more one others (Read found behind) h ∙ are)
+come_more one others (Read (Some found) following) h some (inl (items, declared, none)) =
+    inl (found ∷ items, inl (found, following, items, h, refl, declared), faults_more one others (Read (Some found) following) h ∙ none)
+come_more one others (Read None following) h some (inl (items, declared, none)) =
+    inl (items, inr (following, h, declared), faults_more one others (Read None following) h ∙ none)
+come_more one others (Read found following) h some (inr (fault, faults, are)) =
+    inr (fault, faults, faults_more one others (Read found following) h ∙ are)
 come_more one others (Stops number at) h some rest = inr ((number, at), flat_map item_faults others, faults_more one others (Stops number at) h)
 come_more [] others Ends h some rest = absurd (some refl)
 come_more (t ∷ ts) others Ends h some rest =

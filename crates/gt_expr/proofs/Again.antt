@@ -20,7 +20,7 @@ use Rattle.gt_expr.proofs.Lines.{line_at_level, more_at_ends}
 -- no step of a path
 record NoStep (rest : List Part) : Type 0 where
   steps : (steps_at rest).0 ≡ []
-  behind : (steps_at rest).1 ≡ rest
+  following : (steps_at rest).1 ≡ rest
 
 -- no step and no operator of the levels up to this one
 Stops : ℕ → List Part → Type 0
@@ -38,26 +38,26 @@ After Conditional rest = Stops 6 rest × NoChoice rest
 -- an operator may follow its operand
 Stops-operator : (op : Op) (ps : List Part) (level n : ℕ) → level < n → level_of op ≡ n → Stops level (Operator op ∷ ps)
 unfolding Stops
-Stops-operator op ps zero n h e = record { steps = refl; behind = refl }
+Stops-operator op ps zero n h e = record { steps = refl; following = refl }
 Stops-operator op ps (suc level) n h e =
     let other : eqb (level_of op) (suc level) ≡ false = ne_eqb _ _ (λ same. omega arith) in
     (Stops-operator op ps level n (omega arith) e, rw other refl)
 
 Stops-end : Stops 6 []
 unfolding Stops
-Stops-end = (((((((record { steps = refl; behind = refl }, refl), refl), refl), refl), refl), refl))
+Stops-end = (((((((record { steps = refl; following = refl }, refl), refl), refl), refl), refl), refl))
 
 Stops-question : (ps : List Part) → Stops 6 (Question ∷ ps)
 unfolding Stops
-Stops-question ps = (((((((record { steps = refl; behind = refl }, refl), refl), refl), refl), refl), refl))
+Stops-question ps = (((((((record { steps = refl; following = refl }, refl), refl), refl), refl), refl), refl))
 
 Stops-colon : (ps : List Part) → Stops 6 (Colon ∷ ps)
 unfolding Stops
-Stops-colon ps = (((((((record { steps = refl; behind = refl }, refl), refl), refl), refl), refl), refl))
+Stops-colon ps = (((((((record { steps = refl; following = refl }, refl), refl), refl), refl), refl), refl))
 
 Stops-close : (ps : List Part) → Stops 6 (Close ∷ ps)
 unfolding Stops
-Stops-close ps = (((((((record { steps = refl; behind = refl }, refl), refl), refl), refl), refl), refl))
+Stops-close ps = (((((((record { steps = refl; following = refl }, refl), refl), refl), refl), refl), refl))
 
 -- ---- paths
 
@@ -67,7 +67,7 @@ given t rest = Some (t, rest)
 with_steps-none : (t : RawExpr) (rest : List Part) → NoStep rest → ◌≡◌ {A = Reading} (Some (with_steps t rest)) (Some (t, rest))
 with_steps-none (Path base steps) rest none =
     let all : steps ++ (steps_at rest).0 ≡ steps = ap (λ (ss : List (List ℕ)). steps ++ ss) none.steps ∙ append-nil steps in
-    rw (all, none.behind) refl
+    rw (all, none.following) refl
 with_steps-none t rest none = refl
 
 -- a level of one operand
@@ -96,7 +96,7 @@ place_again at_base n h rest = refl
 place_again (in_brackets {ps} {base} {steps} p) zero h rest = absurd (omega arith)
 place_again (in_brackets {ps} {base} {steps} p) (suc n) h rest =
     let inner : unary_at (tree_at n) (ps ++ Close ∷ rest) ≡ Some (Path base steps, Close ∷ rest) =
-    place_again p n (omega (arith, length-append ps (Close ∷ []))) (Close ∷ rest) ∙ with_steps-none (Path base steps) (Close ∷ rest) (record { steps = refl; behind = refl }) in
+    place_again p n (omega (arith, length-append ps (Close ∷ []))) (Close ∷ rest) ∙ with_steps-none (Path base steps) (Close ∷ rest) (record { steps = refl; following = refl }) in
     let alone = level_alone (unary_at (tree_at n)) 6 (ps ++ Close ∷ rest) (Path base steps) (Close ∷ rest) inner (Stops-close rest) in
     brackets_again (suc n) ps (Path base steps) rest (conditional_alone n (ps ++ Close ∷ rest) (Path base steps) (Close ∷ rest) alone (λ deeper test. refl))
 place_again (with_step {ps} {base} {steps} name p) n h rest =

@@ -31,8 +31,8 @@ bind_some (Some x) f y e = (x, refl, e)
 bind_some None f y e = absurd cc
 
 -- what a reader gave is a tree and parts that are known
-Takes-same : {line : Line} {ps : List Part} (t u : RawExpr) (rest behind : List Part) → ◌≡◌ {A = Reading} (Some (t, rest)) (Some (u, behind)) → Takes line ps t rest → Takes line ps u behind
-Takes-same t u rest behind e taken = let same = some_pair_parts t u rest behind e in rw (← same.0, ← same.1) taken
+Takes-same : {line : Line} {ps : List Part} (t u : RawExpr) (rest following : List Part) → ◌≡◌ {A = Reading} (Some (t, rest)) (Some (u, following)) → Takes line ps t rest → Takes line ps u following
+Takes-same t u rest following e taken = let same = some_pair_parts t u rest following e in rw (← same.0, ← same.1) taken
 
 -- ---- paths
 
@@ -73,7 +73,7 @@ steps_take before base steps ps p = record { front = []; parts = refl; is_place 
 
 -- ---- brackets
 
--- a tree in brackets, and the steps behind it where it is a path
+-- a tree in brackets, and the steps after it where it is a path
 with_steps_take : (inner : List Part) (t : RawExpr) (ps : List Part) → Derives Conditional inner t → Takes (Level 0) (Open ∷ inner ++ Close ∷ ps) (with_steps t ps).0 (with_steps t ps).1
 with_steps_take inner (Path base steps) ps d =
     let more = steps_take (Open ∷ inner ++ Close ∷ []) base steps ps (in_brackets (path_place d base steps refl)) in
@@ -85,8 +85,8 @@ with_steps_take inner (Path base steps) ps d =
 with_steps_take inner t ps d =
     record { front = Open ∷ inner ++ Close ∷ []; parts = sym (append_assoc (Open ∷ inner) (Close ∷ []) ps); derived = bracketed d }
 
-closed_takes : (inner : List Part) (u : RawExpr) (behind : List Part) (t : RawExpr) (rest : List Part) → Derives Conditional inner u → closed_at u behind ≡ Some (t, rest)
-    → Takes (Level 0) (Open ∷ inner ++ behind) t rest
+closed_takes : (inner : List Part) (u : RawExpr) (following : List Part) (t : RawExpr) (rest : List Part) → Derives Conditional inner u → closed_at u following ≡ Some (t, rest)
+    → Takes (Level 0) (Open ∷ inner ++ following) t rest
 closed_takes inner u (Close ∷ ps) t rest d e = Takes-same _ t _ rest e (with_steps_take inner u ps d)
 closed_takes inner u ps t rest d e = absurd cc
 

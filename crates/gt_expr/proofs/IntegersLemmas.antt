@@ -84,28 +84,28 @@ is_some-cond : (b : Bool) (n : ℕ) → is_some (cond b (Some n) None) ≡ b
 is_some-cond true n = refl
 is_some-cond false n = refl
 
--- what a numeral asks, of its digits and of what stands behind them
+-- what a numeral asks, of its digits and of what stands after them
 abbrev pub asks : ℕ → List ℕ → List ℕ → Bool
-asks base digits behind = not (length digits == 0) && is_suffix_of behind && nat_lt (value_of base digits) (2 ^ 63)
+asks base digits following = not (length digits == 0) && is_suffix_of following && nat_lt (value_of base digits) (2 ^ 63)
 
 pub numeral_some : (base : ℕ) (text : List ℕ) → is_some (numeral_of base text) ≡ asks base (digits_of base text) (suffix_of base text)
 numeral_some base text = is_some-cond (asks base (digits_of base text) (suffix_of base text)) (value_of base (digits_of base text))
 
-asks_yes : (base : ℕ) (digits behind : List ℕ) → 0 < length digits → is_suffix_of behind ≡ true → value_of base digits < 2 ^ 63 → asks base digits behind ≡ true
-asks_yes base digits behind some suffix small = rw (ne_eqb (length digits) 0 (λ e. omega arith), suffix, lt-ltb (value_of base digits) (2 ^ 63) small) refl
+asks_yes : (base : ℕ) (digits following : List ℕ) → 0 < length digits → is_suffix_of following ≡ true → value_of base digits < 2 ^ 63 → asks base digits following ≡ true
+asks_yes base digits following some suffix small = rw (ne_eqb (length digits) 0 (λ e. omega arith), suffix, lt-ltb (value_of base digits) (2 ^ 63) small) refl
 
-asks_none : (base : ℕ) (digits behind : List ℕ) → length digits ≡ 0 → asks base digits behind ≡ false
-asks_none base digits behind e = rw (eq-eqb (length digits) 0 e) refl
+asks_none : (base : ℕ) (digits following : List ℕ) → length digits ≡ 0 → asks base digits following ≡ false
+asks_none base digits following e = rw (eq-eqb (length digits) 0 e) refl
 
-pub asks_suffix : (base : ℕ) (digits behind : List ℕ) → is_suffix_of behind ≡ false → asks base digits behind ≡ false
-asks_suffix base digits behind e = rw e (and_false (not (length digits == 0)) (nat_lt (value_of base digits) (2 ^ 63)))
+pub asks_suffix : (base : ℕ) (digits following : List ℕ) → is_suffix_of following ≡ false → asks base digits following ≡ false
+asks_suffix base digits following e = rw e (and_false (not (length digits == 0)) (nat_lt (value_of base digits) (2 ^ 63)))
   where
     and_false : (a b : Bool) → (a && false && b) ≡ false
     and_false true b = refl
     and_false false b = refl
 
-asks_large : (base : ℕ) (digits behind : List ℕ) → 2 ^ 63 ≤ value_of base digits → asks base digits behind ≡ false
-asks_large base digits behind e = rw (le-ltb (value_of base digits) (2 ^ 63) e) (and_right (not (length digits == 0) && is_suffix_of behind) false refl)
+asks_large : (base : ℕ) (digits following : List ℕ) → 2 ^ 63 ≤ value_of base digits → asks base digits following ≡ false
+asks_large base digits following e = rw (le-ltb (value_of base digits) (2 ^ 63) e) (and_right (not (length digits == 0) && is_suffix_of following) false refl)
 
 -- a digit is none of some characters that are no digits
 digit_is_none : (base c : ℕ) → base ≤ 16 → is_digit c base ≡ true → (others : List ℕ) → list_all (λ x. nat_le 16 (digit_value x)) others ≡ true → list_any (λ x. x == c) others ≡ false
@@ -138,13 +138,13 @@ module _ (base : ℕ) (text : List ℕ) (least : 8 ≤ base) (most : base ≤ 16
   abbrev passes : ℕ → Bool
   passes m = is_some (numeral_of base (take m text))
 
-  -- a front of k digits and j characters behind them
+  -- a front of k digits and j characters after them
   passes_is : (m k j : ℕ) → min m run ≡ k → m ≡ k + j → passes m ≡ asks base (take k text) (take j (drop k text))
   passes_is m k j e split =
       let digits : digits_of base (take m text) ≡ take k text = digits_of-take m ∙ ap (λ n. take n text) e in
-      let behind : suffix_of base (take m text) ≡ take j (drop k text) =
+      let following : suffix_of base (take m text) ≡ take j (drop k text) =
       suffix_of-take m ∙ ap₂ (λ a b. drop a (take b text)) e split ∙ drop-take k j text in
-      numeral_some base (take m text) ∙ ap₂ (asks base) digits behind
+      numeral_some base (take m text) ∙ ap₂ (asks base) digits following
 
   letter_is_none : (c : ℕ) → is_base c ≡ true → is_letter c ≡ false
   letter_is_none c e = digit_is_none base c most e (codes "uUlL") refl
@@ -183,8 +183,8 @@ module _ (base : ℕ) (text : List ℕ) (least : 8 ≤ base) (most : base ≤ 16
     longer_fails m longer fits = elim (cases_lt d run) [
       | inl lt ↦ large_fails lt m (omega arith)
       | inr le ↦
-          let behind = list_all-take-past is_letter (m - d) (drop d text) (omega arith) (omega (arith, length-drop d text)) in
-          passes_is m d (m - d) (omega arith) (omega arith) ∙ asks_suffix base (take d text) (take (m - d) (drop d text)) behind
+          let following = list_all-take-past is_letter (m - d) (drop d text) (omega arith) (omega (arith, length-drop d text)) in
+          passes_is m d (m - d) (omega arith) (omega arith) ∙ asks_suffix base (take d text) (take (m - d) (drop d text)) following
     ]
 
     pub numeral_len-some : 0 < d → d + letters ≡ longest_up_to (λ front. is_some (numeral_of base front)) text (length text)
@@ -203,13 +203,13 @@ module _ (base : ℕ) (text : List ℕ) (least : 8 ≤ base) (most : base ≤ 16
 
 -- ---- the base of a literal
 
--- behind 0 and x, one character or two are read before the digits
-longest_behind : (p q : List ℕ → Bool) (a b : ℕ) (text : List ℕ) → p (a ∷ []) ≡ true → q [] ≡ false → ((front : List ℕ) → p (a ∷ b ∷ front) ≡ q front) → (n : ℕ)
+-- after 0 and x, one character or two are read before the digits
+longest_after : (p q : List ℕ → Bool) (a b : ℕ) (text : List ℕ) → p (a ∷ []) ≡ true → q [] ≡ false → ((front : List ℕ) → p (a ∷ b ∷ front) ≡ q front) → (n : ℕ)
     → longest_up_to p (a ∷ b ∷ text) (suc (suc n)) ≡ cond (longest_up_to q text n == 0) 1 (suc (suc (longest_up_to q text n)))
-longest_behind p q a b text one none same zero = rw (same [], none, one) refl
-longest_behind p q a b text one none same (suc n) = elim (cases_Bool (q (take (suc n) text))) [
+longest_after p q a b text one none same zero = rw (same [], none, one) refl
+longest_after p q a b text one none same (suc n) = elim (cases_Bool (q (take (suc n) text))) [
   | inl e ↦ rw (same (take (suc n) text), e, ne_eqb (suc n) 0 (λ h. omega arith)) refl
-  | inr e ↦ rw (same (take (suc n) text), e) (longest_behind p q a b text one none same n)
+  | inr e ↦ rw (same (take (suc n) text), e) (longest_after p q a b text one none same n)
 ]
 
 abbrev pub is_hex : List ℕ → Bool
@@ -288,7 +288,7 @@ hex_len (a ∷ []) n hex e = let none : true ≡ false = hex ∙ is_hex-one a in
 hex_len (a ∷ b ∷ rest) n hex e =
     let all : take (length (a ∷ b ∷ rest) - 2) (drop 2 (a ∷ b ∷ rest)) ≡ rest = take_rest (a ∷ b ∷ rest) 2 in
     let same : n ≡ longest_up_to (is_numeral 16) rest (length rest) = e ∙ ap (λ text. longest_up_to (is_numeral 16) text (length text)) all in
-    rw same (longest_behind is_integer (is_numeral 16) a b rest (zero_alone a (hex_zero a b rest (sym hex))) refl (λ front. hex_is a b front (sym hex)) (length rest))
+    rw same (longest_after is_integer (is_numeral 16) a b rest (zero_alone a (hex_zero a b rest (sym hex))) refl (λ front. hex_is a b front (sym hex)) (length rest))
 
 pub hex_len-some : (n len : ℕ) → len ≡ cond (n == 0) 1 (suc (suc n)) → 0 < n → 2 + n ≡ len
 hex_len-some n len e some =

@@ -34,7 +34,7 @@ level_at_fails Memory unary level ps h f = tt
 level_at_fails NotGiven unary level ps h f =
     let k : level ≡ suc (level - 1) = omega arith in rw k (rw f refl)
 
--- a level behind its first operand
+-- a level after its first operand
 pub level_at_begins : (unary : List Part → Reading) (level : ℕ) (ps : List Part) (left : RawExpr) (rest : List Part) → 0 < level → level_at unary (level - 1) ps ≡ Some (left, rest)
     → more_at (level_at unary (level - 1)) level (length rest - 0) left rest ≡ level_at unary level ps
 unfolding level_at
@@ -51,8 +51,8 @@ module _ (operand : List Part → Reading) (level count i : ℕ) (left : RawExpr
   unfolding more_at
   here = let k : count - i ≡ suc (count - (i + 1)) = omega arith in sym so_far ∙ rw (k, found) refl
 
-  pub more_at_goes_on : (right : RawExpr) (behind : List Part) → operand after ≡ Some (right, behind) → more_at operand level (count - (i + 1)) (Two op left right) behind ≡ total
-  more_at_goes_on right behind e = sym (here ∙ rw e refl)
+  pub more_at_goes_on : (right : RawExpr) (following : List Part) → operand after ≡ Some (right, following) → more_at operand level (count - (i + 1)) (Two op left right) following ≡ total
+  more_at_goes_on right following e = sym (here ∙ rw e refl)
 
   pub more_at_fails : (e : Unread) → Fails e (operand after) → Fails e total
   more_at_fails Memory f = tt

@@ -17,15 +17,15 @@ use Rattle.std.proofs.lemmas.Str.{is_utf8-from_IsUtf8, IsUtf8-encode, chars_past
 use Rattle.gt_text.specs.Identifier.{starts_identifier_of, continues_identifier_of}
 use Rattle.gt_text.specs.Integer.{integer_of, digits_of, suffix_of, is_suffix_of}
 use Rattle.gt_text.specs.WhiteSpace.{is_white_space_of}
-use Rattle.gt_expr.specs.Characters.{front_of, character_at, begins_with, run_behind}
-use Rattle.gt_expr.specs.Parts.{integer_len, name_len, symbol_at, word_at, part_at, parts_behind, parts_of, BeginsPart}
+use Rattle.gt_expr.specs.Characters.{front_of, character_at, begins_with, run_after}
+use Rattle.gt_expr.specs.Parts.{integer_len, name_len, symbol_at, word_at, part_at, parts_after, parts_of, BeginsPart}
 use Rattle.gt_types.specs.declared.expressions.Base.TheVariants.{Here, Outer, Outermost}
 use Rattle.gt_types.specs.declared.expressions.Op.TheVariants.{Not, Add, Sub, Mul, Lt, Le, Gt, Ge, Eq, Ne, And, Or}
 use Rattle.gt_expr.specs.declared.part.Part.{Part}
 use Rattle.gt_expr.specs.declared.part.Part.TheVariants.{Integer, Name, Percent, Operator, Question, Colon, Dot, Open, Close}
 use Rattle.gt_expr.specs.Spelling.{symbol_text, IsIdentifier, IsSpelling, Spells, no_parts, white_space, one_part}
 use Rattle.gt_expr.proofs.IntegersLemmas.{longest_up_to-is, numeral_some, asks_suffix, is_hex, begins_with_0, is_integer, is_numeral, hex_is, octal_is, decimal_is, decimal_len, numeral_len-none}
-use Rattle.gt_expr.proofs.CharactersLemmas.{run_behind-yes, run_behind-no}
+use Rattle.gt_expr.proofs.CharactersLemmas.{run_after-yes, run_after-no}
 use Rattle.gt_expr.proofs.PartsLemmas.{parts_of-part}
 
 -- ---- characters
@@ -146,8 +146,8 @@ numeral_blank base most a w b blank =
     let k = prefix_len (λ c. is_digit c base) text in
     let count : length (digits_of base text) ≡ k = length-prefix_len (λ c. is_digit c base) text in
     let within : k ≤ length a = prefix_len-stops (λ c. is_digit c base) a w b (blank.digit base most) in
-    let behind : suffix_of base text ≡ drop k a ++ w ∷ b = ap (λ n. drop n text) count ∙ drop-append-le k a (w ∷ b) within in
-    let fails : is_suffix_of (suffix_of base text) ≡ false = rw behind (list_all-stops (λ c. list_any (λ letter. letter == c) (codes "uUlL")) (drop k a) w b blank.letter) in
+    let following : suffix_of base text ≡ drop k a ++ w ∷ b = ap (λ n. drop n text) count ∙ drop-append-le k a (w ∷ b) within in
+    let fails : is_suffix_of (suffix_of base text) ≡ false = rw following (list_all-stops (λ c. list_any (λ letter. letter == c) (codes "uUlL")) (drop k a) w b blank.letter) in
     numeral_some base text ∙ asks_suffix base (digits_of base text) (suffix_of base text) fails
 
 hex_blank : (a : List ℕ) (w : ℕ) (b : List ℕ) → IsBlank w → is_hex (a ++ w ∷ b) ≡ true → is_integer (a ++ w ∷ b) ≡ false
@@ -169,7 +169,7 @@ integer_blank a w b blank = elim (cases_Bool (is_hex (a ++ w ∷ b))) [
   ]
 ]
 
--- an integer literal behind which white space stands is the longest
+-- an integer literal after which white space stands is the longest
 literal_len : (front : List ℕ) (w : ℕ) (rest : List ℕ) → is_integer front ≡ true → IsBlank w → integer_len (front ++ w ∷ rest) ≡ length front
 unfolding integer_len
 literal_len front w rest e blank =
@@ -287,19 +287,19 @@ dark_at : (c : ℕ) (rest : List ℕ) → starts_identifier_of c ≡ true → Da
 dark_at c rest starts = elim (cases_lt c 128) [ inl small ↦ dark_small c rest small starts | inr large ↦ dark_large c rest large ]
 
 run_name : (cs : List ℕ) (w : ℕ) (rest : List ℕ) → all_scalars cs ≡ true → list_all continues_identifier_of cs ≡ true → IsBlank w
-    → run_behind 0 continues_identifier_of (encode_utf8_all cs ++ w ∷ rest) ≡ length (encode_utf8_all cs)
-run_name [] w rest scalars continue blank = run_behind-no continues_identifier_of (w ∷ rest) (rw (character_at-ascii w rest blank.ascii) blank.continues)
+    → run_after 0 continues_identifier_of (encode_utf8_all cs ++ w ∷ rest) ≡ length (encode_utf8_all cs)
+run_name [] w rest scalars continue blank = run_after-no continues_identifier_of (w ∷ rest) (rw (character_at-ascii w rest blank.ascii) blank.continues)
 run_name (c ∷ cs) w rest scalars continue blank =
     let scalar = and_parts (scalar_of c) (all_scalars cs) scalars in
     let goes = and_parts (continues_identifier_of c) (list_all continues_identifier_of cs) continue in
     let tail = encode_utf8_all cs ++ w ∷ rest in
     let flat : encode_utf8_all (c ∷ cs) ++ w ∷ rest ≡ encode c ++ tail = append_assoc (encode c) (encode_utf8_all cs) (w ∷ rest) in
-    let step = run_behind-yes continues_identifier_of (encode c ++ tail) c (character_at-encode c tail scalar.0) goes.0 in
-    let behind : drop (len_utf8 c) (encode c ++ tail) ≡ tail = drop_at (encode c) tail (len_utf8 c) (length-encode c) in
-    let more : run_behind 0 continues_identifier_of tail ≡ length (encode_utf8_all cs) = run_name cs w rest scalar.1 goes.1 blank in
-    ap (λ text. run_behind 0 continues_identifier_of text) flat
+    let step = run_after-yes continues_identifier_of (encode c ++ tail) c (character_at-encode c tail scalar.0) goes.0 in
+    let following : drop (len_utf8 c) (encode c ++ tail) ≡ tail = drop_at (encode c) tail (len_utf8 c) (length-encode c) in
+    let more : run_after 0 continues_identifier_of tail ≡ length (encode_utf8_all cs) = run_name cs w rest scalar.1 goes.1 blank in
+    ap (λ text. run_after 0 continues_identifier_of text) flat
     ∙ step
-    ∙ rw (behind, more) (omega (arith, length-append (encode c) (encode_utf8_all cs), length-encode c))
+    ∙ rw (following, more) (omega (arith, length-append (encode c) (encode_utf8_all cs), length-encode c))
 
 word_named : (text name : List ℕ) (n : ℕ) → name_len text ≡ n → (n == 0) ≡ false → chars (take n text) ≡ name → word_at text ≡ (Name name, n)
 unfolding word_at
@@ -385,11 +385,11 @@ spelled_front (Name (c ∷ cs)) front w rest is blank = rw is.1 (name_front c cs
 spelled_front p front w rest is blank = symbol_front p front w rest is blank
 
 parts_of-blank : (w : ℕ) (rest : List ℕ) → is_white_space_of w ≡ true → parts_of (w ∷ rest) ≡ parts_of rest
-unfolding parts_behind
+unfolding parts_after
 parts_of-blank w rest e = rw e refl
 
 pub parts_of-spelled : {text : List ℕ} {ps : List Part} → Spells text ps → parts_of text ≡ ps
-unfolding parts_behind
+unfolding parts_after
 parts_of-spelled no_parts = refl
 parts_of-spelled (white_space {rest} {ps} w white s) = parts_of-blank w rest white ∙ parts_of-spelled s
 parts_of-spelled (one_part {rest} {p} {ps} front w white is s) =
@@ -397,7 +397,7 @@ parts_of-spelled (one_part {rest} {p} {ps} front w white is s) =
     let n = length front in
     let found = spelled_front p front w rest is (blank_at w white) in
     let within : n ≤ length text = omega (arith, length-append front (w ∷ rest)) in
-    let behind : take (length text - n) (drop n text) ≡ w ∷ rest = take_rest text n ∙ drop_at front (w ∷ rest) n refl in
+    let following : take (length text - n) (drop n text) ≡ w ∷ rest = take_rest text n ∙ drop_at front (w ∷ rest) n refl in
     parts_of-part text p n found.begins within found.some (sym found.part)
-    ∙ ap (λ qs. p ∷ parts_of qs) behind
+    ∙ ap (λ qs. p ∷ parts_of qs) following
     ∙ ap (λ qs. p ∷ qs) (parts_of-blank w rest white ∙ parts_of-spelled s)

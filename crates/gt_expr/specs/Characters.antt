@@ -21,8 +21,8 @@ width_at text = option_map_or len_utf8 (character_at text) 1
 abbrev pub begins_with : (ℕ → Bool) → List ℕ → Bool
 begins_with p text = option_map_or p (character_at text) false
 
--- how many bytes the first n bytes and the characters directly behind them that pass a test have together
-unfoldable pub run_behind : ℕ → (ℕ → Bool) → List ℕ → ℕ
-run_behind n p [] = 0
-run_behind (suc n) p (b ∷ bs) = 1 + run_behind n p bs
-run_behind zero p (b ∷ bs) = if begins_with p (b ∷ bs) then 1 + run_behind (width_at (b ∷ bs) - 1) p bs else 0
+-- how many bytes the first n bytes and the characters directly after them that pass a test have together
+unfoldable pub run_after : ℕ → (ℕ → Bool) → List ℕ → ℕ
+run_after n p [] = 0
+run_after (suc n) p (b ∷ bs) = 1 + run_after n p bs
+run_after zero p (b ∷ bs) = if begins_with p (b ∷ bs) then 1 + run_after (width_at (b ∷ bs) - 1) p bs else 0

@@ -10,7 +10,7 @@ use Rattle.gt_types.specs.declared.expressions.Base.TheVariants.{Here, Outer, Ou
 use Rattle.gt_types.specs.declared.expressions.Op.TheVariants.{Not, Add, Sub, Mul, Lt, Le, Gt, Ge, Eq, Ne, And, Or}
 use Rattle.gt_expr.specs.declared.part.Part.{Part}
 use Rattle.gt_expr.specs.declared.part.Part.TheVariants.{Integer, Name, Percent, Operator, Question, Colon, Dot, Open, Close, Other}
-use Rattle.gt_expr.specs.Characters.{width_at, begins_with, run_behind}
+use Rattle.gt_expr.specs.Characters.{width_at, begins_with, run_after}
 
 -- the greatest length up to n of a front that passes a test, or 0
 abbrev pub longest_up_to : (List ℕ → Bool) → List ℕ → ℕ → ℕ
@@ -23,7 +23,7 @@ integer_len text = longest_up_to (λ front. is_some (integer_of front)) text (le
 
 -- how long the longest identifier is that begins the text, or 0
 unfoldable pub name_len : List ℕ → ℕ
-name_len text = if begins_with starts_identifier_of text then run_behind 0 continues_identifier_of text else 0
+name_len text = if begins_with starts_identifier_of text then run_after 0 continues_identifier_of text else 0
 
 -- the parts that are always spelled alike; where one spelling begins another, the longer is the first
 abbrev pub symbols : List (List ℕ × Part)
@@ -46,15 +46,15 @@ unfoldable pub part_at : List ℕ → Part × ℕ
 part_at text = option_map_or (λ value. (Integer (pos value), integer_len text)) (integer_of (take (integer_len text) text)) (word_at text)
 
 -- the parts, where the first n bytes belong to a part before
-unfoldable pub parts_behind : ℕ → List ℕ → List Part
-parts_behind n [] = []
-parts_behind (suc n) (b ∷ bs) = parts_behind n bs
-parts_behind zero (b ∷ bs) =
-    if is_white_space_of b then parts_behind zero bs else ((part_at (b ∷ bs)).0 ∷ parts_behind ((part_at (b ∷ bs)).1 - 1) bs)
+unfoldable pub parts_after : ℕ → List ℕ → List Part
+parts_after n [] = []
+parts_after (suc n) (b ∷ bs) = parts_after n bs
+parts_after zero (b ∷ bs) =
+    if is_white_space_of b then parts_after zero bs else ((part_at (b ∷ bs)).0 ∷ parts_after ((part_at (b ∷ bs)).1 - 1) bs)
 
 -- the parts of a text
 abbrev pub parts_of : List ℕ → List Part
-parts_of text = parts_behind 0 text
+parts_of text = parts_after 0 text
 
 -- no white space stands at the front
 abbrev pub BeginsPart : List ℕ → Type 0

@@ -13,7 +13,7 @@ use Rattle.gt_expr.specs.declared.unread.Unread.{Unread}
 use Rattle.gt_expr.specs.declared.unread.Unread.TheVariants.{Memory, NotGiven}
 use Rattle.gt_expr.specs.Grammar.{level_of}
 
--- a tree and the parts behind it, or nothing where the grammar gives none
+-- a tree and the parts after it, or nothing where the grammar gives none
 abbrev pub Reading : Type 0
 Reading = Option (RawExpr × List Part)
 
@@ -33,12 +33,12 @@ abbrev pub Gives : {X Y : Type 0} → (X → Y) → Result X Unread → Option Y
 Gives view (Ok x) read = read ≡ Some (view x)
 Gives view (Err e) read = Fails e read
 
--- the operator of a level at the front, and the parts behind it
+-- the operator of a level at the front, and the parts after it
 abbrev pub operator_at : ℕ → List Part → Option (Op × List Part)
 operator_at level (Operator op ∷ ps) = if level_of op == level then Some (op, ps) else None
 operator_at level ps = None
 
--- as long as an operator of the level follows, it and the operand behind it join the tree, at most count times
+-- as long as an operator of the level follows, it and the operand after it join the tree, at most count times
 unfoldable pub more_at : (List Part → Reading) → ℕ → ℕ → RawExpr → List Part → Reading
 more_at operand level zero left ps = Some (left, ps)
 more_at operand level (suc count) left ps =
@@ -51,22 +51,22 @@ level_at unary (suc level) ps = do
   left ← level_at unary level ps
   more_at (level_at unary level) (suc level) (length left.1) left.0 left.1
 
--- the steps of a path at the front, and the parts behind them
+-- the steps of a path at the front, and the parts after them
 abbrev pub steps_at : List Part → List (List ℕ) × List Part
 steps_at (Dot ∷ Name name ∷ ps) = (name ∷ (steps_at ps).0, (steps_at ps).1)
 steps_at ps = ([], ps)
 
--- a path takes the steps behind it; another tree has none
+-- a path takes the steps after it; another tree has none
 abbrev pub with_steps : RawExpr → List Part → RawExpr × List Part
 with_steps (Path base steps) ps = (Path base (steps ++ (steps_at ps).0), (steps_at ps).1)
 with_steps t ps = (t, ps)
 
--- a tree in brackets, behind its opening bracket
+-- a tree in brackets, after its opening bracket
 abbrev pub closed_at : RawExpr → List Part → Reading
 closed_at t (Close ∷ ps) = Some (with_steps t ps)
 closed_at t ps = None
 
--- an operator of one operand, behind the operator
+-- an operator of one operand, after the operator
 abbrev pub prefixed_at : (Line → List Part → Reading) → Op → List Part → Reading
 prefixed_at deeper op ps = do
   a ← deeper (Level 0) ps
@@ -84,14 +84,14 @@ unary_at deeper (Open ∷ ps) = do
   closed_at inner.0 inner.1
 unary_at deeper ps = None
 
--- the last branch of a choice, behind the other
+-- the last branch of a choice, after the other
 abbrev pub no_at : (Line → List Part → Reading) → RawExpr → RawExpr → List Part → Reading
 no_at deeper test one (Colon ∷ ps) = do
   other ← deeper Conditional ps
   Some (Cond test one other.0, other.1)
 no_at deeper test one ps = None
 
--- the branches of a choice, where there is one behind the test
+-- the branches of a choice, where there is one after the test
 abbrev pub branches_at : (Line → List Part → Reading) → RawExpr → List Part → Reading
 branches_at deeper test (Question ∷ ps) = do
   one ← deeper Conditional ps

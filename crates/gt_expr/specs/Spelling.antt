@@ -49,7 +49,7 @@ IsSpelling text (Integer value) = option_map pos (integer_of text) ≡ Some valu
 IsSpelling text (Name name) = IsIdentifier name × (text ≡ encode_utf8_all name)
 IsSpelling text p = symbol_text p ≡ Some text
 
--- the parts in their order, each with white space behind it
+-- the parts in their order, each with white space after it
 pub data Spells : List ℕ → List Part → Type 0 where
   no_parts : Spells [] []
   white_space : {rest : List ℕ} {ps : List Part} (space : ℕ) → is_white_space_of space ≡ true → Spells rest ps → Spells (space ∷ rest) ps

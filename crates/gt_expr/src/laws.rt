@@ -16,7 +16,7 @@ pub fn one_tree()
     ensures { (text : List ℕ) (s t : RawExpr) → HasTree text s → HasTree text t → s ≡ t }
 {}
 
-/// Parts that are spelled in their order, with white space behind each, are the parts of that text.
+/// Parts that are spelled in their order, with white space after each, are the parts of that text.
 pub fn parts_as_spelled()
     ensures { (text : List ℕ) (ps : List Part) → Spells text ps → parts_of text ≡ ps }
 {}

@@ -1,7 +1,7 @@
 ghost use Rattle.std.specs.Prelude.{◌≡◌, ◌≤◌, length, take};
 ghost use Rattle.std.specs.Str.{IsUtf8};
 ghost use Rattle.gt_text.specs.Identifier.{continues_identifier_of};
-ghost use Rattle.gt_expr.specs.Characters.{run_behind};
+ghost use Rattle.gt_expr.specs.Characters.{run_after};
 ghost use Rattle.gt_expr.specs.Parts.{name_len};
 
 use crate::characters::character_at;
@@ -31,7 +31,7 @@ fn name_len(text: &[u8]) -> usize
 
 // How many bytes the characters at the front have that continue an identifier.
 fn run_len(text: &[u8]) -> usize
-    ensures len { result ≡ run_behind 0 continues_identifier_of text.now }
+    ensures len { result ≡ run_after 0 continues_identifier_of text.now }
     ensures within { result ≤ length text.now }
     ensures utf8 { IsUtf8 (take result text.now) }
 {

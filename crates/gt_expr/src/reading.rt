@@ -119,7 +119,7 @@ fn unary(alloc: Global, depth: usize, parts: &[Part]) -> Result<(RawExpr, &[Part
     }
 }
 
-// The operand of an operator of one operand, behind the operator.
+// The operand of an operator of one operand, after the operator.
 #[cycle(reading)]
 fn prefixed(
     alloc: Global,
@@ -134,7 +134,7 @@ fn prefixed(
     Ok((RawExpr::One { op, a }, rest))
 }
 
-// A path takes the steps behind it; another tree has none.
+// A path takes the steps after it; another tree has none.
 fn with_steps(
     alloc: Global,
     tree: RawExpr,
@@ -184,7 +184,7 @@ fn level_of(op: Op) -> u8
     }
 }
 
-// The operator of a level at the front, and the parts behind it.
+// The operator of a level at the front, and the parts after it.
 fn operator_at(level: u8, parts: &[Part]) -> Option<(Op, &[Part])>
     ensures { option_map (λ x. (x.0, x.1.now)) result ≡ operator_at level parts.now }
 {

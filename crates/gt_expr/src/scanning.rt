@@ -9,7 +9,7 @@ use gt_text::{integer_value, is_white_space};
 use gt_types::Word;
 use std::alloc::{AllocError, Global};
 
-// The next part of a text and what stands behind it, or None where there is none.
+// The next part of a text and what stands after it, or None where there is none.
 pub fn next_part(alloc: Global, text: &[u8]) -> Result<Option<(Part, &[u8])>, AllocError>
     ensures { IfOk result (λ next. MatchOption next (parts_of text.now ≡ []) (λ x. parts_of text.now ≡ x.0 ∷ parts_of x.1.now)) }
 {

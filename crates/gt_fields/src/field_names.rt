@@ -42,7 +42,7 @@ fn names_of_all(alloc: Global, structures: &[Structure]) -> Result<List<Table<u3
 }
 
 impl FieldNames {
-    /// The names of the fields of structures. It answers want of memory alone.
+    /// The names of the fields of structures. Its only error is out of memory.
     pub fn of(alloc: Global, structures: &[Structure]) -> Result<FieldNames, AllocError>
         requires few { All (λ s. length s.fields ≤ MAX_FIELDS) structures.now }
         ensures names { IfOk result (AreNamesOf structures.now) }

@@ -7,13 +7,13 @@ line_ends [] = 0
 line_ends (byte ∷ bytes) = if byte == 10 then line_ends bytes + 1 else line_ends bytes
 
 -- how many bytes stand after the last newline, where so many stand before them on their line
-unfoldable pub behind_newline : ℕ → List ℕ → ℕ
-behind_newline count [] = count
-behind_newline count (byte ∷ bytes) = if byte == 10 then behind_newline 0 bytes else behind_newline (count + 1) bytes
+unfoldable pub after_newline : ℕ → List ℕ → ℕ
+after_newline count [] = count
+after_newline count (byte ∷ bytes) = if byte == 10 then after_newline 0 bytes else after_newline (count + 1) bytes
 
 -- the line of an offset, from 1, and its column in bytes, from 1
 abbrev pub line_of : List ℕ → ℕ → ℕ
 line_of text at = line_ends (take at text) + 1
 
 abbrev pub column_of : List ℕ → ℕ → ℕ
-column_of text at = behind_newline 0 (take at text) + 1
+column_of text at = after_newline 0 (take at text) + 1

@@ -1,6 +1,6 @@
 // Where a byte of a text stands, by line and column.
 ghost use Rattle.std.specs.Prelude.{◌≡◌, ◌≤◌, length};
-ghost use Rattle.gt_front.specs.Places.{line_of, column_of, line_ends, behind_newline};
+ghost use Rattle.gt_front.specs.Places.{line_of, column_of, line_ends, after_newline};
 
 use crate::MAX_HEADER_BYTES;
 
@@ -20,7 +20,7 @@ pub fn place_in(text: &[u8], at: u32) -> Place
     let front = &text[..text.len().min(at as usize)];
     Place {
         line: line_ends(front) + 1,
-        column: behind_newline(front) + 1,
+        column: after_newline(front) + 1,
     }
 }
 
@@ -41,10 +41,10 @@ fn line_ends(front: &[u8]) -> u32
 }
 
 // How many bytes stand after the last newline.
-#[tactic(auto, unfolding(crate::specs::Places::behind_newline))]
-fn behind_newline(front: &[u8]) -> u32
+#[tactic(auto, unfolding(crate::specs::Places::after_newline))]
+fn after_newline(front: &[u8]) -> u32
     requires within { length front.now ≤ MAX_HEADER_BYTES }
-    ensures bytes { result ≡ behind_newline 0 front.now }
+    ensures bytes { result ≡ after_newline 0 front.now }
     ensures few { result ≤ length front.now }
 {
     let mut count = 0;

@@ -19,28 +19,28 @@ use Rattle.gt_parse.specs.Search.{Searches}
 
 one_declared : (cut : List (List Lexeme)) (a b : List Item) → Declare cut a → Declare cut b → a ≡ b
 one_declared [] a b e f = e ∙ sym f
-one_declared (one ∷ others) a b (inl (found, behind, rest, e, is, more)) (inl (other, after, next, f, too, also)) =
-    let same : Read (Some found) behind ≡ Read (Some other) after = sym e ∙ f in
+one_declared (one ∷ others) a b (inl (found, following, rest, e, is, more)) (inl (other, after, next, f, too, also)) =
+    let same : Read (Some found) following ≡ Read (Some other) after = sym e ∙ f in
     let item : found ≡ other = cc in
     is ∙ ap (λ (x : Item). x ∷ rest) item ∙ ap (λ (xs : List Item). other ∷ xs) (one_declared others rest next more also) ∙ sym too
-one_declared (one ∷ others) a b (inl (found, behind, rest, e, is, more)) (inr (after, f, also)) =
-    let no : Read (Some found) behind ≡ Read None after = sym e ∙ f in absurd cc
-one_declared (one ∷ others) a b (inr (behind, e, more)) (inl (other, after, next, f, too, also)) =
-    let no : Read None behind ≡ Read (Some other) after = sym e ∙ f in absurd cc
-one_declared (one ∷ others) a b (inr (behind, e, more)) (inr (after, f, also)) = one_declared others a b more also
+one_declared (one ∷ others) a b (inl (found, following, rest, e, is, more)) (inr (after, f, also)) =
+    let no : Read (Some found) following ≡ Read None after = sym e ∙ f in absurd cc
+one_declared (one ∷ others) a b (inr (following, e, more)) (inl (other, after, next, f, too, also)) =
+    let no : Read None following ≡ Read (Some other) after = sym e ∙ f in absurd cc
+one_declared (one ∷ others) a b (inr (following, e, more)) (inr (after, f, also)) = one_declared others a b more also
 
 -- items that declare something have no fault
 no_faults : (cut : List (List Lexeme)) (items : List Item) → Declare cut items → flat_map item_faults cut ≡ []
 no_faults [] items e = refl
-no_faults (one ∷ others) items (inl (found, behind, rest, e, is, more)) =
+no_faults (one ∷ others) items (inl (found, following, rest, e, is, more)) =
     ap (λ (o : Outcome (Option Item)). faults_by one o ++ flat_map item_faults others) e ∙ no_faults others rest more
-no_faults (one ∷ others) items (inr (behind, e, more)) =
+no_faults (one ∷ others) items (inr (following, e, more)) =
     ap (λ (o : Outcome (Option Item)). faults_by one o ++ flat_map item_faults others) e ∙ no_faults others items more
 
 -- ---- the first of some faults
 
-abbrev Behind : ℕ → ℕ × ℕ → Type 0
-Behind at fault = at < fault.1
+abbrev After : ℕ → ℕ × ℕ → Type 0
+After at fault = at < fault.1
 
 abbrev NotBefore : ℕ → ℕ × ℕ → Type 0
 NotBefore at fault = at ≤ fault.1
@@ -63,21 +63,21 @@ pub tail_same : {X : Type 0} (x y : X) (xs ys : List X) → x ∷ xs ≡ y ∷ y
 tail_same x y xs ys e = cc
 
 one_first : (before others after rest : List (ℕ × ℕ)) (f g : ℕ × ℕ) → before ++ f ∷ after ≡ others ++ g ∷ rest
-    → All (Behind f.1) before → All (NotBefore f.1) after → All (Behind g.1) others → All (NotBefore g.1) rest → f ≡ g
+    → All (After f.1) before → All (NotBefore f.1) after → All (After g.1) others → All (NotBefore g.1) rest → f ≡ g
 one_first [] [] after rest f g e a b c d = head_same f g after rest e
 one_first [] (x ∷ others) after rest f g e a b c d =
     let head : f ≡ x = head_same f x after (others ++ g ∷ rest) e in
     let le = not_earlier f after others rest g (tail_same f x after (others ++ g ∷ rest) e) b in
-    let lt = All-head (Behind g.1) x others c in
+    let lt = All-head (After g.1) x others c in
     let no : ⊥ = omega (arith, le, lt, ap (λ (h : ℕ × ℕ). h.1) head) in absurd no
 one_first (x ∷ before) [] after rest f g e a b c d =
     let head : x ≡ g = head_same x g (before ++ f ∷ after) rest e in
     let le = not_earlier g rest before after f (sym (tail_same x g (before ++ f ∷ after) rest e)) d in
-    let lt = All-head (Behind f.1) x before a in
+    let lt = All-head (After f.1) x before a in
     let no : ⊥ = omega (arith, le, lt, ap (λ (h : ℕ × ℕ). h.1) head) in absurd no
 one_first (x ∷ before) (y ∷ others) after rest f g e a b c d =
     one_first before others after rest f g (tail_same x y (before ++ f ∷ after) (others ++ g ∷ rest) e)
-    (All-tail (Behind f.1) x before a) b (All-tail (Behind g.1) y others c) d
+    (All-tail (After f.1) x before a) b (All-tail (After g.1) y others c) d
 
 -- ---- what tokens come to, where the search for items has one outcome
 

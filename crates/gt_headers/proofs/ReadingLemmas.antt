@@ -34,12 +34,12 @@ pub stops_at : (texts : List (List ℕ)) (files : List Items) (k : ℕ) (text sh
 stops_at texts files k text shown l at same read Memory is = tt
 stops_at texts files k text shown l at same read (At fault) is =
     let long : length (take k texts) ≡ k = length-take-le k texts (omega (arith, l)) in
-    let behind : drop k texts ≡ shown ∷ drop (k + 1) texts = drop_more texts k text l ∙ ap (λ (t : List ℕ). t ∷ drop (k + 1) texts) (sym (same ∙ at)) in
+    let following : drop k texts ≡ shown ∷ drop (k + 1) texts = drop_more texts k text l ∙ ap (λ (t : List ℕ). t ∷ drop (k + 1) texts) (sym (same ∙ at)) in
     record {
       before = take k texts;
       text = shown;
       after = drop (k + 1) texts;
-      split = sym (take-append-drop k texts) ∙ ap (λ (ts : List (List ℕ)). take k texts ++ ts) behind;
+      split = sym (take-append-drop k texts) ∙ ap (λ (ts : List (List ℕ)). take k texts ++ ts) following;
       files = files;
       are_read = read;
       file = is.0 ∙ ap (λ (n : ℕ). n + 1) (sym long);

@@ -1,4 +1,4 @@
-//! Writes the entries of an image. The bytes of an entry are put together first and added at once, so that for want of memory none is added.
+//! Writes the entries of an image. The bytes of an entry are put together first and added at once, so that when out of memory none is added.
 
 ghost use Rattle.std.specs.Prelude.{◌≡◌, ◌++◌, OnOk, OnErr};
 ghost use Rattle.gt_imgfmt.specs.Layout.{header_bytes, object_bytes, cache_bytes};
@@ -8,7 +8,7 @@ use crate::{CACHE_BYTES, CacheEntry, HEADER_BYTES, Header, OBJECT_BYTES, ObjectE
 use gt_types::Bytes;
 use std::alloc::AllocError;
 
-/// Adds the bytes of the header at the end of `out`. For want of memory `out` is as before.
+/// Adds the bytes of the header at the end of `out`. Out of memory, `out` is as before.
 pub fn put_header(out: &mut Bytes, h: &Header) -> Result<(), AllocError>
     ensures added { OnOk result (out.new ≡ out.old ++ header_bytes h.now) }
     ensures unchanged { OnErr result (out.new ≡ out.old) }
@@ -27,7 +27,7 @@ pub fn put_header(out: &mut Bytes, h: &Header) -> Result<(), AllocError>
     out.append(&header)
 }
 
-/// Adds the bytes of the entry of the object table at the end of `out`. For want of memory `out` is as before.
+/// Adds the bytes of the entry of the object table at the end of `out`. Out of memory, `out` is as before.
 pub fn put_object(out: &mut Bytes, e: &ObjectEntry) -> Result<(), AllocError>
     ensures added { OnOk result (out.new ≡ out.old ++ object_bytes e.now) }
     ensures unchanged { OnErr result (out.new ≡ out.old) }
@@ -40,7 +40,7 @@ pub fn put_object(out: &mut Bytes, e: &ObjectEntry) -> Result<(), AllocError>
     out.append(&object)
 }
 
-/// Adds the bytes of the cache entry at the end of `out`. For want of memory `out` is as before.
+/// Adds the bytes of the cache entry at the end of `out`. Out of memory, `out` is as before.
 pub fn put_cache(out: &mut Bytes, e: &CacheEntry) -> Result<(), AllocError>
     ensures added { OnOk result (out.new ≡ out.old ++ cache_bytes e.now) }
     ensures unchanged { OnErr result (out.new ≡ out.old) }

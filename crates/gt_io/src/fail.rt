@@ -10,7 +10,7 @@ pub enum ReadFail {
     /// The file is longer than the caller's limit.
     #[error("the file is too long")]
     TooLong,
-    /// Want of memory.
+    /// Out of memory.
     #[error("there was no memory to read the file")]
     Memory,
 }
@@ -21,7 +21,7 @@ pub enum WriteFail {
     /// The outside failed.
     #[error("the bytes could not be written")]
     Failed,
-    /// Want of memory.
+    /// Out of memory.
     #[error("there was no memory to write the bytes")]
     Memory,
 }

@@ -30,7 +30,7 @@ impl MemFiles {
         }
     }
 
-    /// Makes these bytes the contents of a file, as no counted call. For want of memory nothing changed.
+    /// Makes these bytes the contents of a file, as no counted call. Out of memory, nothing changed.
     pub fn add(&mut self, name: &Word, bytes: &[u8]) -> Result<(), AllocError>
         ensures added { OnOk result (files_of self.new ≡ with_contents (files_of self.old) name.now bytes.now) }
         ensures unchanged { OnErr result (files_of self.new ≡ files_of self.old) }

@@ -39,7 +39,7 @@ impl Shelf {
         }
     }
 
-    /// Makes these bytes the contents of a file. For want of memory nothing changed.
+    /// Makes these bytes the contents of a file. Out of memory, nothing changed.
     pub fn put(&mut self, name: &Word, bytes: &[u8]) -> Result<(), AllocError>
         ensures added { OnOk result (self.new ≡ with_contents self.old name.now bytes.now) }
         ensures unchanged { OnErr result (self.new ≡ self.old) }

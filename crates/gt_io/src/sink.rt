@@ -14,7 +14,7 @@ pub trait Sink {
     /// How often the outside has failed. It never falls, and stands still at its type's end.
     ghost faults: { Self → ℕ };
 
-    /// Takes these bytes behind those that it took before.
+    /// Takes these bytes after those that it took before.
     fn write_all(&mut self, bytes: &[u8]) -> Result<(), WriteFail>
         ensures answer { Appends (written self.old) bytes.now result (written self.new) }
         ensures cause { HasCause Failed (faults self.old) (faults self.new) result };

@@ -25,7 +25,7 @@ impl SureFiles {
         }
     }
 
-    /// Makes these bytes the contents of a file. For want of memory nothing changed.
+    /// Makes these bytes the contents of a file. Out of memory, nothing changed.
     pub fn add(&mut self, name: &Word, bytes: &[u8]) -> Result<(), AllocError>
         ensures added { OnOk result (sure_files_of self.new ≡ with_contents (sure_files_of self.old) name.now bytes.now) }
         ensures unchanged { OnErr result (sure_files_of self.new ≡ sure_files_of self.old) }

@@ -51,7 +51,7 @@ pub struct RawField {
     pub declarators: List<Declarator>,
 }
 
-/// What declares a field: a pointer to a function, or else a name behind stars with the texts of its bounds and of its bit
+/// What declares a field: a pointer to a function, or else a name after stars with the texts of its bounds and of its bit
 /// count; and the options of its marker.
 #[derive(Debug, Drop)]
 pub struct Declarator {
@@ -82,14 +82,14 @@ pub struct RawCache {
     pub name: Name,
 }
 
-/// A type and the stars behind it.
+/// A type and the stars after it.
 #[derive(Debug, Drop)]
 pub struct PointedType {
     pub ty: RawType,
     pub stars: Stars,
 }
 
-/// How many stars stand behind a type.
+/// How many stars stand after a type.
 #[derive(Clone, Copy, Debug, PartialEq, Eq)]
 pub enum Stars {
     Zero,
@@ -179,7 +179,7 @@ pub struct RawTypedef {
     pub names: List<Alias>,
 }
 
-/// A name that a `typedef` declares, behind stars.
+/// A name that a `typedef` declares, after stars.
 #[derive(Debug, Drop)]
 pub struct Alias {
     pub stars: Stars,

@@ -44,7 +44,7 @@ pub record Exceeds (program : Program) (structure : Option ℕ) (root : Option �
   pub first_root : IsFirst (IsBeyond program layouts) root
   pub some : (structure ≢ None) ⊎ (root ≢ None)
 
--- why a program is not laid out: want of memory, or exactly because it is too large
+-- why a program is not laid out: out of memory, or exactly because it is too large
 abbrev pub IsStop : Program → LayoutStop → Type 0
 IsStop program Memory = Unit {0}
 IsStop program (TooLarge structure root) = Exceeds program structure root

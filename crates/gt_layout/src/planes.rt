@@ -37,7 +37,7 @@ pub struct Layouts {
     pub statics: Plane,
 }
 
-/// Why a program is not laid out: want of memory, or something is too large. That is the first structure which is too
+/// Why a program is not laid out: out of memory, or something is too large. That is the first structure which is too
 /// large, or has a tail element which is, and the first root whose end is beyond the limit, where there are such.
 #[derive(Clone, Copy, Debug, PartialEq, Eq, Drop)]
 pub enum LayoutStop {

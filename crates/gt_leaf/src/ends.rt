@@ -15,7 +15,7 @@ pub struct Ends {
 }
 
 impl Ends {
-    /// Those of all expressions of a program. Its time is linear in the program's size. It answers want of memory alone.
+    /// Those of all expressions of a program. Its time is linear in the program's size. Its only error is out of memory.
     pub fn of(alloc: Global, program: &Program) -> Result<Ends, AllocError>
         ensures all { IfOk result (λ ends. ends ≡ ends_of program.now) }
     {

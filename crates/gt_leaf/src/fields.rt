@@ -46,7 +46,7 @@ impl FieldSet {
         self.places.contains(&field)
     }
 
-    /// Adds a place, where it is new. It answers want of memory alone.
+    /// Adds a place, where it is new. Its only error is out of memory.
     pub fn add(&mut self, field: FieldPlace) -> Result<(), AllocError>
         ensures added { OnOk result (self.new ≡ with_field field self.old) }
     {

@@ -91,7 +91,7 @@ pub struct Index<'a> {
 }
 
 impl<'a> Index<'a> {
-    /// That of a program. Its time is linear in the number of fields. It answers want of memory alone.
+    /// That of a program. Its time is linear in the number of fields. Its only error is out of memory.
     pub fn of(alloc: Global, program: &'a Program) -> Result<Index<'a>, AllocError>
         ensures program { IfOk result (λ made. made.program.now ≡ program.now) }
         ensures names { IfOk result (λ made. made.names ≡ names_of_all program.now.structures) }

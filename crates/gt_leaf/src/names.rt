@@ -42,7 +42,7 @@ impl NameSet {
         self.names.contains(name.as_str())
     }
 
-    /// Adds a name, where it is new. It answers want of memory alone.
+    /// Adds a name, where it is new. Its only error is out of memory.
     pub fn add(&mut self, name: &Word) -> Result<(), AllocError>
         ensures added { OnOk result (self.new ≡ with_name self.old name.now) }
     {

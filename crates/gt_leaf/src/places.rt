@@ -45,7 +45,7 @@ impl PlaceSet {
         self.places.as_slice()
     }
 
-    /// Adds a place, where it is new. It answers want of memory alone.
+    /// Adds a place, where it is new. Its only error is out of memory.
     pub fn add(&mut self, place: u32) -> Result<(), AllocError>
         ensures added { OnOk result (self.new ≡ with_place self.old place) }
     {

@@ -54,7 +54,7 @@ impl ReadingSet {
         self.readings.as_slice()
     }
 
-    /// Adds a reading, where it is new. It answers want of memory alone.
+    /// Adds a reading, where it is new. Its only error is out of memory.
     pub fn add(&mut self, reading: Reading) -> Result<(), AllocError>
         ensures added { OnOk result (self.new ≡ with_reading reading self.old) }
     {

@@ -30,7 +30,7 @@ pub struct Reads {
 
 impl Reads {
     /// The table of a program. Its time is linear in the program's size, where an expression counts once more for each structure that
-    /// contains its own. It answers want of memory alone.
+    /// contains its own. Its only error is out of memory.
     pub fn of(alloc: Global, program: &Program) -> Result<Reads, AllocError>
         ensures table { IfOk result (λ t. IsTableOf program.now t) }
     {

@@ -63,7 +63,7 @@ impl PlaceSet {
 
 impl ReadingSet {
     /// Adds the numbers in which the paths of all expressions from `%h` and `%1` end, and where those begin. Each expression is
-    /// looked at once for its structure and once for each that contains it. It answers want of memory alone.
+    /// looked at once for its structure and once for each that contains it. Its only error is out of memory.
     pub fn seek_all(&mut self, alloc: Global, index: &Index<'_>) -> Result<(), AllocError>
         ensures added { OnOk result (self.new ≡ seek_all index.now.program.now index.now.names self.old) }
     {

@@ -206,7 +206,7 @@ some_none o x e f = absurd cc
 open_comment_not_read : (cs : List ℕ) → IsOpenComment cs → rest_of start.Block cs ≡ None
 open_comment_not_read cs is = ap (rest_of start.Block) is.1 ∙ comment_open_again false is.0 is.2
 
-open_literal_not_read : (quote : ℕ) (cs : List ℕ) → IsQuote quote → IsOpenLiteral quote cs → (behind : List ℕ) × (cs ≡ quote ∷ behind) × (literal_rest quote false behind ≡ None)
+open_literal_not_read : (quote : ℕ) (cs : List ℕ) → IsQuote quote → IsOpenLiteral quote cs → (following : List ℕ) × (cs ≡ quote ∷ following) × (literal_rest quote false following ≡ None)
 open_literal_not_read quote cs is_quote is = (is.0 ++ is.1, is.2, literal_open_again quote is.0 is.1 is_quote is.3 is.4)
 
 open_quoted_not_read : (cs : List ℕ) → IsOpenLiteral double_quote cs → rest_of (start.Token Quoted) cs ≡ None

@@ -36,7 +36,7 @@ at_close passed c cs within rest test e =
     let is_star : c ≡ star = eqb-true c star both.0 in
     let split : cs ≡ slash ∷ drop 1 cs = first_slash cs both.1 in
     let same = some_pair_parts passed within (drop 1 cs) rest e in
-    let behind : drop 1 cs ≡ rest = same.1 in
+    let following : drop 1 cs ≡ rest = same.1 in
     record {
       inside = [];
       parts = cc;

@@ -92,7 +92,7 @@ seen_one_more seen (Line inside) at = refl
 seen_one_more seen (Continuation end) at = refl
 seen_one_more seen (Item kind cs) at = refl
 
--- the tokens behind one more part
+-- the tokens after one more part
 seen-push : (at : ℕ) (ps : List Part) (p : Part) → fold then_of Nothing (lexemes_from at (ps ++ p ∷ [])) ≡ seen_with (fold then_of Nothing (lexemes_from at ps)) (start_of p) (encode_utf8_all (spelling p)) (at + byte_len (spellings ps))
 seen-push at ps p =
     ap (fold then_of Nothing) (lexemes_from-push at ps p)

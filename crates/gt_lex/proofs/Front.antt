@@ -29,26 +29,26 @@ refused_here fresh text number fault = record {
 
 -- ---- a directive
 
--- a `#`, and the text behind it
-pub record IsHashed (fresh : Bool) (text behind : List ℕ) : Type 0 where
+-- a `#`, and the text after it
+pub record IsHashed (fresh : Bool) (text following : List ℕ) : Type 0 where
   pub is_fresh : IsTrue fresh
-  pub whole : chars text ≡ hash ∷ chars behind
-  pub long : length text ≡ 1 + length behind
+  pub whole : chars text ≡ hash ∷ chars following
+  pub long : length text ≡ 1 + length following
 
 pub one_byte : byte_len (hash ∷ []) ≡ 1
 one_byte = ap (λ (x : List ℕ). length (x ++ [])) (encode_ascii hash (lit< tt))
 
-pub hashed : (fresh : Bool) (text behind : List ℕ) → IsUtf8 text → IsUtf8 behind → text_start fresh (chars text) ≡ start.Directive → chars behind ≡ drop 1 (chars text) → IsHashed fresh text behind
-hashed fresh text behind text_utf8 utf8 begins tail =
+pub hashed : (fresh : Bool) (text following : List ℕ) → IsUtf8 text → IsUtf8 following → text_start fresh (chars text) ≡ start.Directive → chars following ≡ drop 1 (chars text) → IsHashed fresh text following
+hashed fresh text following text_utf8 utf8 begins tail =
     let opens = subst (λ (b : Start). OpensDirective fresh (chars text) b) begins (directive_fresh fresh (chars text)) in
     let split = first_split hash (chars text) opens.1 in
-    let whole : chars text ≡ (hash ∷ []) ++ chars behind = split.1 ∙ ap (λ (x : List ℕ). hash ∷ x) (sym (tail ∙ ap (drop 1) split.1)) in
-    record { is_fresh = opens.0; whole = whole; long = length_before text (hash ∷ []) behind text_utf8 utf8 whole ∙ ap (λ n. n + length behind) one_byte }
+    let whole : chars text ≡ (hash ∷ []) ++ chars following = split.1 ∙ ap (λ (x : List ℕ). hash ∷ x) (sym (tail ∙ ap (drop 1) split.1)) in
+    record { is_fresh = opens.0; whole = whole; long = length_before text (hash ∷ []) following text_utf8 utf8 whole ∙ ap (λ n. n + length following) one_byte }
 
-pub next_directive : (whole : ℕ) (fresh : Bool) (text behind rest : List ℕ) (constant : Option Define) → length text ≤ whole → IsHashed fresh text behind → IsDirective (whole - length behind) behind constant rest
+pub next_directive : (whole : ℕ) (fresh : Bool) (text following rest : List ℕ) (constant : Option Define) → length text ≤ whole → IsHashed fresh text following → IsDirective (whole - length following) following constant rest
     → IsNext (whole - length text) fresh text (found.Directive constant) rest
-next_directive whole fresh text behind rest constant within hash_is is =
-    let offset : whole - length behind ≡ whole - length text + 1 = omega (arith, hash_is.long) in
+next_directive whole fresh text following rest constant within hash_is is =
+    let offset : whole - length following ≡ whole - length text + 1 = omega (arith, hash_is.long) in
     record {
       piece = Directive is.parts;
       whole = hash_is.whole ∙ ap (λ (x : List ℕ). hash ∷ x) is.whole;
@@ -59,9 +59,9 @@ next_directive whole fresh text behind rest constant within hash_is is =
       utf8 = is.utf8;
     }
 
-pub refused_directive : (fresh : Bool) (text behind open_at : List ℕ) → IsUtf8 behind → IsHashed fresh text behind → StopsInDirective behind open_at → IsRefused fresh text 2 open_at
-refused_directive fresh text behind open_at utf8 hash_is stops =
-    let len = length_before behind (spellings stops.parts) open_at utf8 stops.utf8 stops.whole in
+pub refused_directive : (fresh : Bool) (text following open_at : List ℕ) → IsUtf8 following → IsHashed fresh text following → StopsInDirective following open_at → IsRefused fresh text 2 open_at
+refused_directive fresh text following open_at utf8 hash_is stops =
+    let len = length_before following (spellings stops.parts) open_at utf8 stops.utf8 stops.whole in
     let offset : 1 + byte_len (spellings stops.parts) ≡ length text - length open_at = omega (arith, hash_is.long) in
     record {
       within = omega (arith, hash_is.long);

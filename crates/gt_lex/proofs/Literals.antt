@@ -10,7 +10,7 @@ use Rattle.gt_lex.specs.Reading.{literal_rest}
 abbrev found : List ℕ → Option (List ℕ)
 found rest = Some rest
 
--- what stands before the closing quote, behind a backslash that escapes or not
+-- what stands before the closing quote, after a backslash that escapes or not
 record Inside (quote : ℕ) (cs rest : List ℕ) : Type 0 where
   inside : List ℕ
   is : IsInside quote inside
@@ -64,7 +64,7 @@ literal_ends quote false (c ∷ cs) rest e =
 pub literal_takes : (quote : ℕ) (cs rest : List ℕ) → literal_rest quote false cs ≡ found rest → (inside : List ℕ) × IsInside quote inside × (cs ≡ inside ++ quote ∷ rest)
 literal_takes quote cs rest e = let ends = literal_ends quote false cs rest e in (ends.inside, ends.is, ends.parts)
 
--- a literal that the line's end stops, behind a backslash that escapes or not
+-- a literal that the line's end stops, after a backslash that escapes or not
 record Stopped (quote : ℕ) (cs : List ℕ) : Type 0 where
   inside : List ℕ
   rest : List ℕ
@@ -72,7 +72,7 @@ record Stopped (quote : ℕ) (cs : List ℕ) : Type 0 where
   parts : cs ≡ inside ++ rest
   stops : StopsLiteral rest
 
-record StoppedBehind (quote : ℕ) (cs : List ℕ) : Type 0 where
+record StoppedAfter (quote : ℕ) (cs : List ℕ) : Type 0 where
   c : ℕ
   after : List ℕ
   parts : cs ≡ c ∷ after
@@ -81,7 +81,7 @@ record StoppedBehind (quote : ℕ) (cs : List ℕ) : Type 0 where
 
 abbrev Stops : ℕ → Bool → List ℕ → Type 0
 Stops quote false cs = Stopped quote cs
-Stops quote true cs = EndsLine cs ⊎ StoppedBehind quote cs
+Stops quote true cs = EndsLine cs ⊎ StoppedAfter quote cs
 
 plain_stop : (quote c : ℕ) (cs : List ℕ) (escapes : Bool) → (c == backslash) ≡ escapes → c ≢ newline → c ≢ quote → Stops quote escapes cs → Stopped quote (c ∷ cs)
 plain_stop quote c cs false e on_line no_quote stops = record {
@@ -98,14 +98,14 @@ plain_stop quote c cs true e on_line no_quote (inl ends) = record {
   parts = refl;
   stops = inr (eqb-true c backslash e, ends);
 }
-plain_stop quote c cs true e on_line no_quote (inr behind) =
+plain_stop quote c cs true e on_line no_quote (inr following) =
     let is_backslash : c ≡ backslash = eqb-true c backslash e in
-    let within = behind.within in
-    let split : cs ≡ behind.c ∷ (within.inside ++ within.rest) = behind.parts ∙ ap (λ (x : List ℕ). behind.c ∷ x) within.parts in
+    let within = following.within in
+    let split : cs ≡ following.c ∷ (within.inside ++ within.rest) = following.parts ∙ ap (λ (x : List ℕ). following.c ∷ x) within.parts in
     record {
-      inside = backslash ∷ behind.c ∷ within.inside;
+      inside = backslash ∷ following.c ∷ within.inside;
       rest = within.rest;
-      is = escape behind.c within.inside behind.on_line within.is;
+      is = escape following.c within.inside following.on_line within.is;
       parts = cc;
       stops = within.stops;
     }
@@ -153,8 +153,8 @@ literal_again quote inside rest is_quote is =
 stops_here : (quote : ℕ) (rest : List ℕ) → IsQuote quote → StopsLiteral rest → literal_rest quote false rest ≡ None
 stops_here quote [] is_quote stops = refl
 stops_here quote (c ∷ cs) is_quote (inl is) = rw is refl
-stops_here quote (c ∷ []) is_quote (inr behind) = rw (behind.0, is_quote.no_backslash) refl
-stops_here quote (c ∷ d ∷ cs) is_quote (inr behind) = rw (behind.0, is_quote.no_backslash, behind.1) refl
+stops_here quote (c ∷ []) is_quote (inr following) = rw (following.0, is_quote.no_backslash) refl
+stops_here quote (c ∷ d ∷ cs) is_quote (inr following) = rw (following.0, is_quote.no_backslash, following.1) refl
 
 pub literal_open_again : (quote : ℕ) (inside rest : List ℕ) → IsQuote quote → IsInside quote inside → StopsLiteral rest → literal_rest quote false (inside ++ rest) ≡ None
 literal_open_again quote inside rest is_quote is stops = inside_passed quote inside rest is_quote is ∙ stops_here quote rest is_quote stops

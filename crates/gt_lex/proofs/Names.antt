@@ -21,7 +21,7 @@ use Rattle.gt_lex.proofs.Bools.{and_cases}
 use Rattle.gt_lex.proofs.Offsets.{byte_len-append}
 use Rattle.gt_lex.proofs.Directives.{spelling_positive}
 use Rattle.gt_lex.proofs.Front.{one_byte}
-use Rattle.gt_lex.proofs.Slices.{slice_behind, of_kind, spans_lower, bytes_are, Behind, behind_one, behind_next}
+use Rattle.gt_lex.proofs.Slices.{slice_after, of_kind, spans_lower, bytes_are, After, after_one, after_next}
 
 -- ---- the name of a constant is one of its tokens
 
@@ -92,7 +92,7 @@ record IsLexeme (text : List ℕ) (from to : ℕ) (t : Lexeme) : Type 0 where
   high : t.start + length t.text ≤ to
   slice : slice_range text t.start (t.start + length t.text) ≡ encode_utf8_all cs
 
--- a text with parts behind a front, and more behind them
+-- a text with parts after a front, and more after them
 abbrev Holds : List ℕ → List ℕ → List Part → List ℕ → Type 0
 Holds text front ps back = text ≡ front ++ (encode_utf8_all (spellings ps) ++ back)
 
@@ -117,7 +117,7 @@ part_lexeme text front back from at to (Item kind cs) ps rest ts e at_is low hig
     positive = spelling_positive (Item kind cs) rest reaches;
     low = low;
     high = high;
-    slice = slice_behind text front (encode_utf8_all cs) (encode_utf8_all (spellings ps) ++ back) at (at + byte_len cs) (holds_one text front (Item kind cs) ps back e) at_is refl;
+    slice = slice_after text front (encode_utf8_all cs) (encode_utf8_all (spellings ps) ++ back) at (at + byte_len cs) (holds_one text front (Item kind cs) ps back e) at_is refl;
   },
   all,
 )
@@ -188,33 +188,33 @@ optional_name : (text : List ℕ) (at next to : ℕ) (o : Option Define) (ds : L
 optional_name text at next to None ds le is names = no_names text at next to ds le names
 optional_name text at next to (Some d) ds le is names = with_name text at next to d ds (is d refl) names
 
--- behind the `#`
-holds_directive : (text front : List ℕ) (qs : List Part) (ps : List Piece) → Behind text front (Directive qs ∷ ps) → Holds text (front ++ encode_utf8_all (hash ∷ [])) qs (encode_utf8_all (text_of ps))
+-- after the `#`
+holds_directive : (text front : List ℕ) (qs : List Part) (ps : List Piece) → After text front (Directive qs ∷ ps) → Holds text (front ++ encode_utf8_all (hash ∷ [])) qs (encode_utf8_all (text_of ps))
 holds_directive text front qs ps e =
-    behind_one text front (Directive qs) ps e
+    after_one text front (Directive qs) ps e
     ∙ ap (λ (x : List ℕ). front ++ x) (ap (λ (x : List ℕ). x ++ encode_utf8_all (text_of ps)) (encodes-append (hash ∷ []) (spellings qs)) ∙ append_assoc (encode_utf8_all (hash ∷ [])) (encode_utf8_all (spellings qs)) (encode_utf8_all (text_of ps)))
     ∙ sym (append_assoc front (encode_utf8_all (hash ∷ [])) (encode_utf8_all (spellings qs) ++ encode_utf8_all (text_of ps)))
 
 hash_len : (qs : List Part) → byte_len (piece_spelling (Directive qs)) ≡ 1 + byte_len (spellings qs)
 hash_len qs = byte_len-append (hash ∷ []) (spellings qs) ∙ ap (λ n. n + byte_len (spellings qs)) one_byte
 
-piece_names : (text front : List ℕ) (at to : ℕ) (fresh : Bool) (p : Piece) (ps : List Piece) (rest : List ℕ) (ds : List Define) → Behind text front (p ∷ ps) → at ≡ length front → Stands fresh p rest → AreNames text (at + byte_len (piece_spelling p)) to ds → AreNames text at to (define_at at p ++ ds)
+piece_names : (text front : List ℕ) (at to : ℕ) (fresh : Bool) (p : Piece) (ps : List Piece) (rest : List ℕ) (ds : List Define) → After text front (p ∷ ps) → at ≡ length front → Stands fresh p rest → AreNames text (at + byte_len (piece_spelling p)) to ds → AreNames text at to (define_at at p ++ ds)
 piece_names text front at to fresh (Plain p) ps rest ds e at_is stands names = no_names text at (at + byte_len (spelling p)) to ds (omega arith) names
 piece_names text front at to fresh (Directive qs) ps rest ds e at_is stands names =
     let len = hash_len qs in
-    let behind : at + 1 ≡ length (front ++ encode_utf8_all (hash ∷ [])) = omega (arith, length-append front (encode_utf8_all (hash ∷ [])), one_byte) in
+    let following : at + 1 ≡ length (front ++ encode_utf8_all (hash ∷ [])) = omega (arith, length-append front (encode_utf8_all (hash ∷ [])), one_byte) in
     optional_name text at (at + byte_len (piece_spelling (Directive qs))) to (constant_of (lexemes_from (at + 1) qs)) ds (omega arith)
-    (λ d is. directive_name text (front ++ encode_utf8_all (hash ∷ [])) (encode_utf8_all (text_of ps)) (at + 1) (at + byte_len (piece_spelling (Directive qs))) qs rest d (holds_directive text front qs ps e) behind (omega arith) stands.1 is)
+    (λ d is. directive_name text (front ++ encode_utf8_all (hash ∷ [])) (encode_utf8_all (text_of ps)) (at + 1) (at + byte_len (piece_spelling (Directive qs))) qs rest d (holds_directive text front qs ps e) following (omega arith) stands.1 is)
     names
 
-names_from : (text front : List ℕ) (at : ℕ) (fresh : Bool) (ps : List Piece) (rest : List ℕ) → Behind text front ps → at ≡ length front → ArePieces fresh ps rest → AreNames text at (at + byte_len (text_of ps)) (defines_from at ps)
+names_from : (text front : List ℕ) (at : ℕ) (fresh : Bool) (ps : List Piece) (rest : List ℕ) → After text front ps → at ≡ length front → ArePieces fresh ps rest → AreNames text at (at + byte_len (text_of ps)) (defines_from at ps)
 names_from text front at fresh [] rest e at_is each = record { order = omega arith; slices = tt }
 names_from text front at fresh (p ∷ ps) rest e at_is each =
     let total : at + byte_len (piece_spelling p) + byte_len (text_of ps) ≡ at + byte_len (text_of (p ∷ ps)) = omega (arith, byte_len-append (piece_spelling p) (text_of ps)) in
     let next : at + byte_len (piece_spelling p) ≡ length (front ++ encode_utf8_all (piece_spelling p)) = omega (arith, length-append front (encode_utf8_all (piece_spelling p))) in
     piece_names text front at (at + byte_len (text_of (p ∷ ps))) fresh p ps (text_of ps ++ rest) (defines_from (at + byte_len (piece_spelling p)) ps) e at_is each.0
     (subst (λ (n : ℕ). AreNames text (at + byte_len (piece_spelling p)) n (defines_from (at + byte_len (piece_spelling p)) ps)) total
-    (names_from text (front ++ encode_utf8_all (piece_spelling p)) (at + byte_len (piece_spelling p)) (fresh_after fresh p) ps rest (behind_next text front p ps e) next each.1))
+    (names_from text (front ++ encode_utf8_all (piece_spelling p)) (at + byte_len (piece_spelling p)) (fresh_after fresh p) ps rest (after_next text front p ps e) next each.1))
 
 names_of : (text : List ℕ) (tokens : List Token) (defines : List Define) → IsLexed text tokens defines → AreNames text 0 (length text) defines
 names_of text tokens defines is =

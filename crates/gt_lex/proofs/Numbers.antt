@@ -13,12 +13,12 @@ use Rattle.gt_lex.specs.Characters.{dot, first_passes}
 use Rattle.gt_lex.specs.Extents.{IsLongest, IsNumber, first_digit, first_point, digit, letter, exponent, point, is_exponent, is_sign}
 use Rattle.gt_lex.specs.Reading.{continues_number_of, number_rest}
 
--- each character goes on behind the one before it
+-- each character goes on after the one before it
 abbrev pub Chain : ℕ → List ℕ → Type 0
 Chain before [] = Unit {0}
 Chain before (c ∷ cs) = (continues_number_of before c ≡ true) × Chain c cs
 
--- the last character, behind a first one
+-- the last character, after a first one
 abbrev pub last_of : ℕ → List ℕ → ℕ
 last_of before [] = before
 last_of before (c ∷ cs) = last_of c cs

@@ -91,7 +91,7 @@ line_takes inside within rest e =
       lines = λ _. sym same.0 ∙ sym (no_newline run.front run.passes);
     }
 
--- a line's end is a newline, perhaps behind a carriage return
+-- a line's end is a newline, perhaps after a carriage return
 break_split : (cs : List ℕ) → is_line_break cs ≡ true → ((rest : List ℕ) × (cs ≡ newline ∷ rest)) ⊎ ((rest : List ℕ) × (cs ≡ carriage_return ∷ newline ∷ rest))
 break_split [] e = absurd (false≢true e)
 break_split (c ∷ cs) e =
@@ -199,12 +199,12 @@ mapped (Some x) within rest e = ap (λ (y : List ℕ). Some y) (some_pair_parts 
 part_takes : (s : Start) (c : ℕ) (cs : List ℕ) (within : Bool) (rest : List ℕ) → Opens s (c ∷ cs) → part_rest s c cs ≡ found within rest → Taken s (c ∷ cs) within rest
 part_takes start.Space c cs within rest opens e = space_takes c cs within rest e
 part_takes start.Block c cs within rest opens e =
-    let behind : drop 1 cs ≡ opens.0 = ap (λ (x : List ℕ). drop 2 x) opens.1 in
-    subst (λ (x : List ℕ). Taken start.Block x within rest) (sym opens.1) (block_takes opens.0 within rest (ap (comment_rest false) (sym behind) ∙ e))
+    let following : drop 1 cs ≡ opens.0 = ap (λ (x : List ℕ). drop 2 x) opens.1 in
+    subst (λ (x : List ℕ). Taken start.Block x within rest) (sym opens.1) (block_takes opens.0 within rest (ap (comment_rest false) (sym following) ∙ e))
 part_takes start.Line c cs within rest opens e =
-    let behind : cs ≡ slash ∷ opens.0 = ap (λ (x : List ℕ). drop 1 x) opens.1 in
+    let following : cs ≡ slash ∷ opens.0 = ap (λ (x : List ℕ). drop 1 x) opens.1 in
     subst (λ (x : List ℕ). Taken start.Line x within rest) (sym opens.1)
-    (line_takes opens.0 within rest (ap (λ (x : List ℕ). found false (rest_while (λ d. not (d == newline)) x)) (sym behind) ∙ e))
+    (line_takes opens.0 within rest (ap (λ (x : List ℕ). found false (rest_while (λ d. not (d == newline)) x)) (sym following) ∙ e))
 part_takes start.Continuation c cs within rest opens e =
     let parts = and_cases (c == backslash) (is_line_break cs) opens in
     subst (λ (x : ℕ). Taken start.Continuation (x ∷ cs) within rest) (sym (eqb-true c backslash parts.0)) (continuation_takes cs within rest parts.1 e)
@@ -255,8 +255,8 @@ token_open Punct c cs opens e = absurd cc
 part_open : (s : Start) (c : ℕ) (cs : List ℕ) → Opens s (c ∷ cs) → part_rest s c cs ≡ None → IsOpen s (c ∷ cs)
 part_open start.Space c cs opens e = absurd cc
 part_open start.Block c cs opens e =
-    let behind : drop 1 cs ≡ opens.0 = ap (λ (x : List ℕ). drop 2 x) opens.1 in
-    (opens.0, opens.1, comment_open false opens.0 (ap (comment_rest false) (sym behind) ∙ e))
+    let following : drop 1 cs ≡ opens.0 = ap (λ (x : List ℕ). drop 2 x) opens.1 in
+    (opens.0, opens.1, comment_open false opens.0 (ap (comment_rest false) (sym following) ∙ e))
 part_open start.Line c cs opens e = absurd cc
 part_open start.Continuation c cs opens e = absurd cc
 part_open (start.Token kind) c cs opens e = token_open kind c cs opens (unmapped (token_rest kind c cs) e)

@@ -7,7 +7,7 @@ use Rattle.gt_lex.specs.declared.tokens.Define.{Define}
 use Rattle.gt_lex.specs.declared.pieces.Found.{Found}
 use Rattle.gt_lex.specs.Characters.{hash, byte_len}
 use Rattle.gt_lex.specs.Parts.{Piece, Plain, Directive, spellings, piece_spelling, text_of}
-use Rattle.gt_lex.specs.Texts.{Stands, ArePieces, fresh_after, fresh_behind, token_at, tokens_from, define_at, defines_from, IsLexed, IsFirstFault, behind, HasFault}
+use Rattle.gt_lex.specs.Texts.{Stands, ArePieces, fresh_after, fresh_past, token_at, tokens_from, define_at, defines_from, IsLexed, IsFirstFault, following, HasFault}
 use Rattle.gt_lex.specs.Progress.{fresh_with, tokens_with, defines_with, IsNext, IsRefused}
 use Rattle.gt_lex.proofs.Offsets.{byte_len-append, length_before, byte_len_positive}
 use Rattle.gt_lex.proofs.Directives.{spelling_positive}
@@ -20,14 +20,14 @@ text_of-push (q ∷ ps) p rest =
     append_assoc (piece_spelling q) (text_of (ps ++ p ∷ [])) rest ∙ ap (λ (x : List ℕ). piece_spelling q ++ x) (text_of-push ps p rest)
     ∙ sym (append_assoc (piece_spelling q) (text_of ps) (piece_spelling p ++ rest))
 
-pub ArePieces-push : (fresh : Bool) (ps : List Piece) (p : Piece) (rest : List ℕ) → ArePieces fresh ps (piece_spelling p ++ rest) → Stands (fresh_behind fresh ps) p rest → ArePieces fresh (ps ++ p ∷ []) rest
+pub ArePieces-push : (fresh : Bool) (ps : List Piece) (p : Piece) (rest : List ℕ) → ArePieces fresh ps (piece_spelling p ++ rest) → Stands (fresh_past fresh ps) p rest → ArePieces fresh (ps ++ p ∷ []) rest
 ArePieces-push fresh [] p rest each stands = (stands, tt)
 ArePieces-push fresh (q ∷ ps) p rest each stands =
     (subst (λ (x : List ℕ). Stands fresh q x) (sym (text_of-push ps p rest)) each.0, ArePieces-push (fresh_after fresh q) ps p rest each.1 stands)
 
-pub fresh_behind-push : (fresh : Bool) (ps : List Piece) (p : Piece) → fresh_behind fresh (ps ++ p ∷ []) ≡ fresh_after (fresh_behind fresh ps) p
-fresh_behind-push fresh [] p = refl
-fresh_behind-push fresh (q ∷ ps) p = fresh_behind-push (fresh_after fresh q) ps p
+pub fresh_past-push : (fresh : Bool) (ps : List Piece) (p : Piece) → fresh_past fresh (ps ++ p ∷ []) ≡ fresh_after (fresh_past fresh ps) p
+fresh_past-push fresh [] p = refl
+fresh_past-push fresh (q ∷ ps) p = fresh_past-push (fresh_after fresh q) ps p
 
 places : (at : ℕ) (q : Piece) (ps : List Piece) → at + byte_len (piece_spelling q) + byte_len (text_of ps) ≡ at + byte_len (piece_spelling q ++ text_of ps)
 places at q ps = omega (arith, byte_len-append (piece_spelling q) (text_of ps))
@@ -56,7 +56,7 @@ pub record SoFar (text : List ℕ) (fresh : Bool) (tokens : List Token) (defines
   pub pieces : List Piece
   pub whole : chars text ≡ text_of pieces ++ chars rest
   pub each : ArePieces true pieces (chars rest)
-  pub fresh_is : fresh ≡ fresh_behind true pieces
+  pub fresh_is : fresh ≡ fresh_past true pieces
   pub tokens_are : tokens ≡ tokens_from 0 pieces
   pub defines_are : defines ≡ defines_from 0 pieces
   pub utf8 : IsUtf8 rest
@@ -92,7 +92,7 @@ module _ {text rest : List ℕ} {fresh : Bool} {tokens : List Token} {defines : 
   is_first_fault number at fault refused at_is =
       let offset : byte_len (text_of so_far.pieces) + (length rest - length fault) ≡ at = omega (arith, rest_at, refused.within, rest_within) in
       subst (λ (n : ℕ). IsFirstFault text number n) offset
-      (behind so_far.pieces (chars rest) number (length rest - length fault) text_utf8 so_far.whole so_far.each
+      (following so_far.pieces (chars rest) number (length rest - length fault) text_utf8 so_far.whole so_far.each
       (subst (λ (b : Bool). HasFault b (chars rest) number (length rest - length fault)) so_far.fresh_is refused.fault))
 
 token_here : (found : Found) (p : Piece) (start at : ℕ) → start ≡ at → tokens_with found at (at + byte_len (piece_spelling p)) ≡ token_at at p → tokens_with found start (start + byte_len (piece_spelling p)) ≡ token_at start p
@@ -113,7 +113,7 @@ SoFar-step text rest after fresh next_fresh tokens next_tokens defines next_defi
       pieces = ps ++ p ∷ [];
       whole = so_far.whole ∙ ap (λ (x : List ℕ). text_of ps ++ x) next.whole ∙ sym (text_of-push ps p (chars after));
       each = ArePieces-push true ps p (chars after) (subst (λ (x : List ℕ). ArePieces true ps x) next.whole so_far.each) (subst (λ (b : Bool). Stands b p (chars after)) so_far.fresh_is next.stands);
-      fresh_is = fresh_is ∙ next.fresh_is ∙ ap (λ b. fresh_after b p) so_far.fresh_is ∙ sym (fresh_behind-push true ps p);
+      fresh_is = fresh_is ∙ next.fresh_is ∙ ap (λ b. fresh_after b p) so_far.fresh_is ∙ sym (fresh_past-push true ps p);
       tokens_are = tokens_are ∙ ap (λ (x : List Token). x ++ tokens_with found start end) so_far.tokens_are
           ∙ ap (λ (x : List Token). tokens_from 0 ps ++ x) (ap (tokens_with found start) there ∙ token_here found p start (length text - length rest) start_is next.tokens ∙ ap (λ n. token_at n p) at_end)
           ∙ sym (tokens_from-push 0 ps p);

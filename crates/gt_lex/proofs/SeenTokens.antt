@@ -10,7 +10,7 @@ use Rattle.gt_lex.specs.declared.tokens.Define.{Define}
 use Rattle.gt_lex.specs.Constants.{Lexeme, is_name, value_of, negative_value_of, constant, constant_of}
 use Rattle.gt_lex.specs.Seen.{then_of, constant_seen, constant_from, named_from}
 
--- behind other tokens no constant comes
+-- after other tokens no constant comes
 other_stays : (ts : List Lexeme) → fold then_of Other ts ≡ Other
 other_stays [] = refl
 other_stays (t ∷ ts) = other_stays ts
@@ -48,7 +48,7 @@ seen_two false name = refl
 no_value : (name : Lexeme) (value : Option ℤ) → value ≡ None → constant name value ≡ none
 no_value name value e = ap (constant name) e
 
--- a name and a token behind it: a minus has no value
+-- a name and a token after it: a minus has no value
 named_three : (name token : Lexeme) (minus : Bool) → bytes_eq token.text (codes "-") ≡ minus
     → constant name (value_of token) ≡ constant_seen (cond minus (Minus name.start (name.start + length name.text)) (constant_from name.start (name.start + length name.text) (value_of token)))
 named_three name token true e = no_value name (value_of token) (ap (option_map pos) (minus_is_none token.text e))

@@ -13,10 +13,10 @@ use Rattle.gt_lex.specs.declared.tokens.Define.{Define}
 use Rattle.gt_lex.specs.Characters.{byte_len}
 use Rattle.gt_lex.specs.Extents.{Reaches}
 use Rattle.gt_lex.specs.Parts.{Space, Block, Line, Continuation, Item, Piece, Plain, Directive, piece_spelling, text_of}
-use Rattle.gt_lex.specs.Texts.{Stands, ArePieces, fresh_after, fresh_behind, is_token, token_at, tokens_from, IsLexed}
+use Rattle.gt_lex.specs.Texts.{Stands, ArePieces, fresh_after, fresh_past, is_token, token_at, tokens_from, IsLexed}
 use Rattle.gt_lex.specs.Spans.{AreSpans, token_spans, IsOfKind, IsSlice, IsGap, AreApart}
 use Rattle.gt_lex.proofs.Offsets.{byte_len-append}
-use Rattle.gt_lex.proofs.Scanning.{piece_positive, ArePieces-push, text_of-push, fresh_behind-push}
+use Rattle.gt_lex.proofs.Scanning.{piece_positive, ArePieces-push, text_of-push, fresh_past-push}
 use Rattle.gt_lex.proofs.Bools.{and_cases}
 
 -- ---- in order
@@ -53,9 +53,9 @@ tokens_in_order text tokens defines is =
 
 -- ---- slices
 
--- what stands behind a front, as many bytes as it has
-pub slice_behind : (text front middle back : List ℕ) (from to : ℕ) → text ≡ front ++ (middle ++ back) → from ≡ length front → to ≡ from + length middle → slice_range text from to ≡ middle
-slice_behind text front middle back from to e from_is to_is =
+-- what stands after a front, as many bytes as it has
+pub slice_after : (text front middle back : List ℕ) (from to : ℕ) → text ≡ front ++ (middle ++ back) → from ≡ length front → to ≡ from + length middle → slice_range text from to ≡ middle
+slice_after text front middle back from to e from_is to_is =
     let n : length middle ≡ to - from = omega arith in
     ap (λ (x : List ℕ). take (to - from) (drop from x)) e
     ∙ ap (take (to - from)) (drop_at front (middle ++ back) from (sym from_is))
@@ -69,30 +69,30 @@ of_kind CharLit cs rest is = is
 of_kind Punct cs rest is = is
 
 -- text that begins with a front and goes on with pieces
-abbrev pub Behind : List ℕ → List ℕ → List Piece → Type 0
-Behind text front ps = text ≡ front ++ encode_utf8_all (text_of ps)
+abbrev pub After : List ℕ → List ℕ → List Piece → Type 0
+After text front ps = text ≡ front ++ encode_utf8_all (text_of ps)
 
-pub behind_one : (text front : List ℕ) (p : Piece) (ps : List Piece) → Behind text front (p ∷ ps) → text ≡ front ++ (encode_utf8_all (piece_spelling p) ++ encode_utf8_all (text_of ps))
-behind_one text front p ps e = e ∙ ap (λ (x : List ℕ). front ++ x) (encodes-append (piece_spelling p) (text_of ps))
+pub after_one : (text front : List ℕ) (p : Piece) (ps : List Piece) → After text front (p ∷ ps) → text ≡ front ++ (encode_utf8_all (piece_spelling p) ++ encode_utf8_all (text_of ps))
+after_one text front p ps e = e ∙ ap (λ (x : List ℕ). front ++ x) (encodes-append (piece_spelling p) (text_of ps))
 
-pub behind_next : (text front : List ℕ) (p : Piece) (ps : List Piece) → Behind text front (p ∷ ps) → Behind text (front ++ encode_utf8_all (piece_spelling p)) ps
-behind_next text front p ps e = behind_one text front p ps e ∙ sym (append_assoc front (encode_utf8_all (piece_spelling p)) (encode_utf8_all (text_of ps)))
+pub after_next : (text front : List ℕ) (p : Piece) (ps : List Piece) → After text front (p ∷ ps) → After text (front ++ encode_utf8_all (piece_spelling p)) ps
+after_next text front p ps e = after_one text front p ps e ∙ sym (append_assoc front (encode_utf8_all (piece_spelling p)) (encode_utf8_all (text_of ps)))
 
-piece_slices : (text front : List ℕ) (at : ℕ) (fresh : Bool) (p : Piece) (ps : List Piece) (rest : List ℕ) (ts : List Token) → Behind text front (p ∷ ps) → at ≡ length front → Stands fresh p rest → AllByRecursion (IsSlice text) ts → AllByRecursion (IsSlice text) (token_at at p ++ ts)
+piece_slices : (text front : List ℕ) (at : ℕ) (fresh : Bool) (p : Piece) (ps : List Piece) (rest : List ℕ) (ts : List Token) → After text front (p ∷ ps) → at ≡ length front → Stands fresh p rest → AllByRecursion (IsSlice text) ts → AllByRecursion (IsSlice text) (token_at at p ++ ts)
 piece_slices text front at fresh (Plain (Space c)) ps rest ts e at_is stands all = all
 piece_slices text front at fresh (Plain (Block inside)) ps rest ts e at_is stands all = all
 piece_slices text front at fresh (Plain (Line inside)) ps rest ts e at_is stands all = all
 piece_slices text front at fresh (Plain (Continuation end)) ps rest ts e at_is stands all = all
 piece_slices text front at fresh (Plain (Item kind cs)) ps rest ts e at_is stands all =
-    ((cs, slice_behind text front (encode_utf8_all cs) (encode_utf8_all (text_of ps)) at (at + byte_len cs) (behind_one text front (Plain (Item kind cs)) ps e) at_is refl, of_kind kind cs rest stands.1), all)
+    ((cs, slice_after text front (encode_utf8_all cs) (encode_utf8_all (text_of ps)) at (at + byte_len cs) (after_one text front (Plain (Item kind cs)) ps e) at_is refl, of_kind kind cs rest stands.1), all)
 piece_slices text front at fresh (Directive qs) ps rest ts e at_is stands all = all
 
-slices_from : (text front : List ℕ) (at : ℕ) (fresh : Bool) (ps : List Piece) (rest : List ℕ) → Behind text front ps → at ≡ length front → ArePieces fresh ps rest → AllByRecursion (IsSlice text) (tokens_from at ps)
+slices_from : (text front : List ℕ) (at : ℕ) (fresh : Bool) (ps : List Piece) (rest : List ℕ) → After text front ps → at ≡ length front → ArePieces fresh ps rest → AllByRecursion (IsSlice text) (tokens_from at ps)
 slices_from text front at fresh [] rest e at_is each = tt
 slices_from text front at fresh (p ∷ ps) rest e at_is each =
     let next : at + byte_len (piece_spelling p) ≡ length (front ++ encode_utf8_all (piece_spelling p)) = omega (arith, length-append front (encode_utf8_all (piece_spelling p))) in
     piece_slices text front at fresh p ps (text_of ps ++ rest) (tokens_from (at + byte_len (piece_spelling p)) ps) e at_is each.0
-    (slices_from text (front ++ encode_utf8_all (piece_spelling p)) (at + byte_len (piece_spelling p)) (fresh_after fresh p) ps rest (behind_next text front p ps e) next each.1)
+    (slices_from text (front ++ encode_utf8_all (piece_spelling p)) (at + byte_len (piece_spelling p)) (fresh_after fresh p) ps rest (after_next text front p ps e) next each.1)
 
 pub tokens_are_slices : (text : List ℕ) (tokens : List Token) (defines : List Define) → IsLexed text tokens defines → All (IsSlice text) tokens
 tokens_are_slices text tokens defines is =
@@ -125,7 +125,7 @@ record Between (text front : List ℕ) (from at : ℕ) (fresh : Bool) (gaps ps :
   at_is : at ≡ from + byte_len (text_of gaps)
   gaps_stand : ArePieces fresh gaps (text_of ps ++ rest)
   gaps_all : AllGaps gaps
-  stand : ArePieces (fresh_behind fresh gaps) ps rest
+  stand : ArePieces (fresh_past fresh gaps) ps rest
 
 pieces_pushed : (gaps : List Piece) (p : Piece) → encode_utf8_all (text_of (gaps ++ p ∷ [])) ≡ encode_utf8_all (text_of gaps) ++ encode_utf8_all (piece_spelling p)
 pieces_pushed gaps p =
@@ -146,12 +146,12 @@ more_gap text front from at fresh gaps p ps rest b is =
       at_is = omega (arith, b.at_is, ap length pushed, length-append (encode_utf8_all (text_of gaps)) (encode_utf8_all (piece_spelling p)));
       gaps_stand = ArePieces-push fresh gaps p (text_of ps ++ rest) (subst (λ (x : List ℕ). ArePieces fresh gaps x) (append_assoc (piece_spelling p) (text_of ps) rest) b.gaps_stand) b.stand.0;
       gaps_all = AllGaps-push gaps p b.gaps_all is;
-      stand = subst (λ (f : Bool). ArePieces f ps rest) (sym (fresh_behind-push fresh gaps p)) b.stand.1;
+      stand = subst (λ (f : Bool). ArePieces f ps rest) (sym (fresh_past-push fresh gaps p)) b.stand.1;
     }
 
--- a token behind the gaps
+-- a token after the gaps
 past_token : (text front : List ℕ) (from at : ℕ) (fresh : Bool) (gaps : List Piece) (p : Piece) (ps : List Piece) (rest : List ℕ) → Between text front from at fresh gaps (p ∷ ps) rest
-    → Between text (front ++ (encode_utf8_all (text_of gaps) ++ encode_utf8_all (piece_spelling p))) (at + byte_len (piece_spelling p)) (at + byte_len (piece_spelling p)) (fresh_after (fresh_behind fresh gaps) p) [] ps rest
+    → Between text (front ++ (encode_utf8_all (text_of gaps) ++ encode_utf8_all (piece_spelling p))) (at + byte_len (piece_spelling p)) (at + byte_len (piece_spelling p)) (fresh_after (fresh_past fresh gaps) p) [] ps rest
 past_token text front from at fresh gaps p ps rest b = record {
   parts = b.parts
       ∙ ap (λ (x : List ℕ). front ++ x) (ap (λ (x : List ℕ). encode_utf8_all (text_of gaps) ++ x) (encodes-append (piece_spelling p) (text_of ps)) ∙ sym (append_assoc (encode_utf8_all (text_of gaps)) (encode_utf8_all (piece_spelling p)) (encode_utf8_all (text_of ps))))
@@ -165,20 +165,20 @@ past_token text front from at fresh gaps p ps rest b = record {
 
 gap_here : (text front : List ℕ) (from at : ℕ) (fresh : Bool) (gaps ps : List Piece) (rest : List ℕ) → Between text front from at fresh gaps ps rest → IsGap (slice_range text from at)
 gap_here text front from at fresh gaps ps rest b =
-    (fresh, gaps, text_of ps ++ rest, b.gaps_stand, b.gaps_all, slice_behind text front (encode_utf8_all (text_of gaps)) (encode_utf8_all (text_of ps)) from at b.parts b.from_is b.at_is)
+    (fresh, gaps, text_of ps ++ rest, b.gaps_stand, b.gaps_all, slice_after text front (encode_utf8_all (text_of gaps)) (encode_utf8_all (text_of ps)) from at b.parts b.from_is b.at_is)
 
 last_gap : (text front : List ℕ) (from at : ℕ) (fresh : Bool) (gaps : List Piece) (rest : List ℕ) → Between text front from at fresh gaps [] rest → IsGap (drop from text)
 last_gap text front from at fresh gaps rest b =
-    let behind : drop from text ≡ encode_utf8_all (text_of gaps) =
+    let following : drop from text ≡ encode_utf8_all (text_of gaps) =
     ap (drop from) b.parts ∙ drop_at front (encode_utf8_all (text_of gaps) ++ []) from (sym b.from_is) ∙ append-nil (encode_utf8_all (text_of gaps)) in
-    (fresh, gaps, rest, b.gaps_stand, b.gaps_all, behind)
+    (fresh, gaps, rest, b.gaps_stand, b.gaps_all, following)
 
 apart_from : (text front : List ℕ) (from at : ℕ) (fresh : Bool) (gaps ps : List Piece) (rest : List ℕ) → Between text front from at fresh gaps ps rest → AreApart text from (tokens_from at ps)
 apart_from text front from at fresh gaps [] rest b = last_gap text front from at fresh gaps rest b
 apart_from text front from at fresh gaps (p ∷ ps) rest b =
     apart_piece text from at p (tokens_from (at + byte_len (piece_spelling p)) ps) (gap_here text front from at fresh gaps (p ∷ ps) rest b)
     (λ is. apart_from text front from (at + byte_len (piece_spelling p)) fresh (gaps ++ p ∷ []) ps rest (more_gap text front from at fresh gaps p ps rest b is))
-    (λ is. apart_from text (front ++ (encode_utf8_all (text_of gaps) ++ encode_utf8_all (piece_spelling p))) (at + byte_len (piece_spelling p)) (at + byte_len (piece_spelling p)) (fresh_after (fresh_behind fresh gaps) p) [] ps rest (past_token text front from at fresh gaps p ps rest b))
+    (λ is. apart_from text (front ++ (encode_utf8_all (text_of gaps) ++ encode_utf8_all (piece_spelling p))) (at + byte_len (piece_spelling p)) (at + byte_len (piece_spelling p)) (fresh_after (fresh_past fresh gaps) p) [] ps rest (past_token text front from at fresh gaps p ps rest b))
 
 pub tokens_apart : (text : List ℕ) (tokens : List Token) (defines : List Define) → IsLexed text tokens defines → AreApart text 0 tokens
 tokens_apart text tokens defines is =

@@ -11,7 +11,7 @@ use Rattle.gt_lex.specs.Characters.{hash, EndsLine, byte_len}
 use Rattle.gt_lex.specs.Starts.{text_start, directive_start}
 use Rattle.gt_lex.specs.Extents.{Reaches, IsOpenComment}
 use Rattle.gt_lex.specs.Parts.{Part, Piece, Plain, Directive, spelling, spellings, piece_spelling, text_of}
-use Rattle.gt_lex.specs.Texts.{start_of, AreInDirective, Stands, ArePieces, fresh_after, fresh_behind, tokens_from, defines_from, open_comment_in_directive, bad_number, bad_utf8, behind, HasAnswer, has_tokens, has_fault}
+use Rattle.gt_lex.specs.Texts.{start_of, AreInDirective, Stands, ArePieces, fresh_after, fresh_past, tokens_from, defines_from, open_comment_in_directive, bad_number, bad_utf8, following, HasAnswer, has_tokens, has_fault}
 use Rattle.gt_lex.specs.Reading.{rest_of}
 use Rattle.gt_lex.specs.Progress.{open_fault_of}
 use Rattle.gt_lex.proofs.Opening.{Opens, text_opens, directive_opens, directive_ends, text_ends, OpensDirective, directive_fresh, first_split}
@@ -76,7 +76,7 @@ record TextRead (fresh : Bool) (cs : List ℕ) : Type 0 where
   rest : List ℕ
   whole : cs ≡ text_of pieces ++ rest
   each : ArePieces fresh pieces rest
-  stops : Stops (fresh_behind fresh pieces) rest
+  stops : Stops (fresh_past fresh pieces) rest
 
 stop_here : (fresh : Bool) (cs : List ℕ) → Stops fresh cs → TextRead fresh cs
 stop_here fresh cs stops = record { pieces = []; rest = cs; whole = refl; each = tt; stops = stops }
@@ -131,7 +131,7 @@ text_read (suc n) fresh cs le = text_at fresh cs (text_start fresh cs) refl (λ 
 
 -- ---- the answer
 
-read_answer : (text : List ℕ) → IsUtf8 text → (pieces : List Piece) (rest : List ℕ) → chars text ≡ text_of pieces ++ rest → ArePieces true pieces rest → Stops (fresh_behind true pieces) rest → HasAnswer text
+read_answer : (text : List ℕ) → IsUtf8 text → (pieces : List Piece) (rest : List ℕ) → chars text ≡ text_of pieces ++ rest → ArePieces true pieces rest → Stops (fresh_past true pieces) rest → HasAnswer text
 read_answer text utf8 pieces rest whole each (at_end ends) =
     has_tokens (tokens_from 0 pieces) (defines_from 0 pieces)
     (record {
@@ -143,7 +143,7 @@ read_answer text utf8 pieces rest whole each (at_end ends) =
       defines_are = refl;
     })
 read_answer text utf8 pieces rest whole each (at_fault number offset fault) =
-    has_fault number (byte_len (text_of pieces) + offset) (behind pieces rest number offset utf8 whole each fault)
+    has_fault number (byte_len (text_of pieces) + offset) (following pieces rest number offset utf8 whole each fault)
 
 answer_by : (text : List ℕ) (b : Bool) → is_utf8 text ≡ b → HasAnswer text
 answer_by text true e =

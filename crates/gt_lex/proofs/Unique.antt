@@ -10,7 +10,7 @@ use Rattle.gt_lex.specs.Characters.{double_quote, hash, single_quote, star, slas
 use Rattle.gt_lex.specs.Starts.{text_start, directive_start, is_bare_prefix, is_bad_number}
 use Rattle.gt_lex.specs.Extents.{Reaches, IsOpenComment}
 use Rattle.gt_lex.specs.Parts.{Part, Space, Block, Line, Continuation, Item, Piece, Plain, Directive, spelling, spellings, piece_spelling, text_of}
-use Rattle.gt_lex.specs.Texts.{start_of, AreInDirective, Stands, ArePieces, fresh_after, fresh_behind, HasFault, open_comment, open_comment_in_directive, open_string, open_character, bad_number}
+use Rattle.gt_lex.specs.Texts.{start_of, AreInDirective, Stands, ArePieces, fresh_after, fresh_past, HasFault, open_comment, open_comment_in_directive, open_string, open_character, bad_number}
 use Rattle.gt_lex.proofs.Bools.{and_cases}
 use Rattle.gt_lex.proofs.Opening.{ends_directive}
 use Rattle.gt_lex.proofs.Again.{one_part, no_open_comment, no_open_quoted, no_open_character}
@@ -127,8 +127,8 @@ one_piece fresh (Plain p) (Directive qs) r s stands_p stands_q e =
 one_piece fresh (Directive ps) (Plain q) r s stands_p stands_q e =
     absurd (part_no_directive q (sym stands_q.0 ∙ ap (text_start fresh) (sym e) ∙ directive_begins fresh (spellings ps ++ r) stands_p.0))
 one_piece fresh (Directive ps) (Directive qs) r s stands_p stands_q e =
-    let behind : spellings ps ++ r ≡ spellings qs ++ s = cc in
-    let one = one_directive ps qs r s stands_p.1 stands_q.1 (inl stands_p.2) (inl stands_q.2) behind in
+    let following : spellings ps ++ r ≡ spellings qs ++ s = cc in
+    let one = one_directive ps qs r s stands_p.1 stands_q.1 (inl stands_p.2) (inl stands_q.2) following in
     (ap Directive one.0, one.1)
 
 -- ---- where the pieces stop
@@ -147,8 +147,8 @@ no_piece_at_fault fresh cs _ _ (Plain p) rest (open_comment_in_directive qs s is
     part_no_directive p (sym stands.0 ∙ ap (text_start fresh) (sym e ∙ whole) ∙ directive_begins fresh (spellings qs ++ s) is_fresh)
 no_piece_at_fault fresh cs _ _ (Directive ps) rest (open_comment_in_directive qs s is_fresh whole each is) e stands =
     let heads : hash ∷ (spellings qs ++ s) ≡ hash ∷ (spellings ps ++ rest) = sym whole ∙ e in
-    let behind : spellings qs ++ s ≡ spellings ps ++ rest = cc in
-    let one = one_directive qs ps s rest each stands.1 (inr is) (inl stands.2) behind in
+    let following : spellings qs ++ s ≡ spellings ps ++ rest = cc in
+    let one = one_directive qs ps s rest each stands.1 (inr is) (inl stands.2) following in
     no_end_at_comment s (subst EndsLine (sym one.1) stands.2) is
 no_piece_at_fault fresh cs _ _ (Plain p) rest (open_string is) e stands =
     no_open_quoted p cs rest (sym stands.0 ∙ ap (text_start fresh) (sym e ∙ is.2) ∙ quoted_begins fresh (is.0 ++ is.1)) stands.1 e is
@@ -181,7 +181,7 @@ pieces_same : (p q : Piece) (ps qs : List Piece) → p ≡ q → ps ≡ qs → p
 pieces_same p q ps qs e f = cc
 
 -- two readings of one text, each up to where its pieces stop, are one
-pub one_reading : (fresh : Bool) (ps qs : List Piece) (r s : List ℕ) → ArePieces fresh ps r → ArePieces fresh qs s → Stops (fresh_behind fresh ps) r → Stops (fresh_behind fresh qs) s → text_of ps ++ r ≡ text_of qs ++ s → (ps ≡ qs) × (r ≡ s)
+pub one_reading : (fresh : Bool) (ps qs : List Piece) (r s : List ℕ) → ArePieces fresh ps r → ArePieces fresh qs s → Stops (fresh_past fresh ps) r → Stops (fresh_past fresh qs) s → text_of ps ++ r ≡ text_of qs ++ s → (ps ≡ qs) × (r ≡ s)
 one_reading fresh [] [] r s each_p each_q stops_r stops_s e = (refl, e)
 one_reading fresh [] (q ∷ qs) r s each_p each_q stops_r stops_s e =
     absurd (no_piece_at_stop fresh r q (text_of qs ++ s) stops_r (e ∙ append_assoc (piece_spelling q) (text_of qs) s) each_q.0)
@@ -191,7 +191,7 @@ one_reading fresh (p ∷ ps) (q ∷ qs) r s each_p each_q stops_r stops_s e =
     let whole : piece_spelling p ++ (text_of ps ++ r) ≡ piece_spelling q ++ (text_of qs ++ s) = sym (append_assoc (piece_spelling p) (text_of ps) r) ∙ e ∙ append_assoc (piece_spelling q) (text_of qs) s in
     let one = one_piece fresh p q (text_of ps ++ r) (text_of qs ++ s) each_p.0 each_q.0 whole in
     let same_fresh : fresh_after fresh q ≡ fresh_after fresh p = ap (fresh_after fresh) (sym one.0) in
-    let others = one_reading (fresh_after fresh p) ps qs r s each_p.1 (subst (λ (b : Bool). ArePieces b qs s) same_fresh each_q.1) stops_r (subst (λ (b : Bool). Stops (fresh_behind b qs) s) same_fresh stops_s) one.1 in
+    let others = one_reading (fresh_after fresh p) ps qs r s each_p.1 (subst (λ (b : Bool). ArePieces b qs s) same_fresh each_q.1) stops_r (subst (λ (b : Bool). Stops (fresh_past b qs) s) same_fresh stops_s) one.1 in
     (pieces_same p q ps qs one.0 others.0, others.1)
 
 -- ---- one fault
@@ -221,7 +221,7 @@ offset_is fresh cs _ _ no_hash (open_string is) = refl
 offset_is fresh cs _ _ no_hash (open_character is) = refl
 offset_is fresh cs _ _ no_hash (bad_number is) = refl
 
--- a fault behind a `#`
+-- a fault after a `#`
 record InDirective (cs : List ℕ) (offset : ℕ) : Type 0 where
   parts : List Part
   rest : List ℕ
@@ -230,22 +230,22 @@ record InDirective (cs : List ℕ) (offset : ℕ) : Type 0 where
   stops : IsOpenComment rest
   offset_is : offset ≡ 1 + byte_len (spellings parts)
 
-behind_hash : (fresh : Bool) (cs : List ℕ) (number offset : ℕ) → first_is hash cs ≡ true → HasFault fresh cs number offset → InDirective cs offset
-behind_hash fresh cs _ _ is_hash (open_comment is) = absurd (false≢true (sym (ap (first_is hash) is.1) ∙ is_hash))
-behind_hash fresh cs _ _ is_hash (open_comment_in_directive ps rest is_fresh whole each is) = record { parts = ps; rest = rest; whole = whole; each = each; stops = is; offset_is = refl }
-behind_hash fresh cs _ _ is_hash (open_string is) = absurd (false≢true (sym (ap (first_is hash) is.2) ∙ is_hash))
-behind_hash fresh cs _ _ is_hash (open_character is) = absurd (false≢true (sym (ap (first_is hash) is.2) ∙ is_hash))
-behind_hash fresh cs _ _ is_hash (bad_number is) = absurd (false≢true (sym (zero_begins cs is) ∙ is_hash))
+after_hash : (fresh : Bool) (cs : List ℕ) (number offset : ℕ) → first_is hash cs ≡ true → HasFault fresh cs number offset → InDirective cs offset
+after_hash fresh cs _ _ is_hash (open_comment is) = absurd (false≢true (sym (ap (first_is hash) is.1) ∙ is_hash))
+after_hash fresh cs _ _ is_hash (open_comment_in_directive ps rest is_fresh whole each is) = record { parts = ps; rest = rest; whole = whole; each = each; stops = is; offset_is = refl }
+after_hash fresh cs _ _ is_hash (open_string is) = absurd (false≢true (sym (ap (first_is hash) is.2) ∙ is_hash))
+after_hash fresh cs _ _ is_hash (open_character is) = absurd (false≢true (sym (ap (first_is hash) is.2) ∙ is_hash))
+after_hash fresh cs _ _ is_hash (bad_number is) = absurd (false≢true (sym (zero_begins cs is) ∙ is_hash))
 
-one_offset_behind : (cs : List ℕ) (k j : ℕ) → InDirective cs k → InDirective cs j → k ≡ j
-one_offset_behind cs k j a b =
+one_offset_after : (cs : List ℕ) (k j : ℕ) → InDirective cs k → InDirective cs j → k ≡ j
+one_offset_after cs k j a b =
     let heads : hash ∷ (spellings a.parts ++ a.rest) ≡ hash ∷ (spellings b.parts ++ b.rest) = sym a.whole ∙ b.whole in
-    let behind : spellings a.parts ++ a.rest ≡ spellings b.parts ++ b.rest = cc in
-    let one = one_directive a.parts b.parts a.rest b.rest a.each b.each (inr a.stops) (inr b.stops) behind in
+    let following : spellings a.parts ++ a.rest ≡ spellings b.parts ++ b.rest = cc in
+    let one = one_directive a.parts b.parts a.rest b.rest a.each b.each (inr a.stops) (inr b.stops) following in
     a.offset_is ∙ ap (λ (ps : List Part). 1 + byte_len (spellings ps)) one.0 ∙ sym b.offset_is
 
 one_offset : (fresh : Bool) (cs : List ℕ) (n k m j : ℕ) (is_hash : Bool) → first_is hash cs ≡ is_hash → HasFault fresh cs n k → HasFault fresh cs m j → k ≡ j
-one_offset fresh cs n k m j true e a b = one_offset_behind cs k j (behind_hash fresh cs n k e a) (behind_hash fresh cs m j e b)
+one_offset fresh cs n k m j true e a b = one_offset_after cs k j (after_hash fresh cs n k e a) (after_hash fresh cs m j e b)
 one_offset fresh cs n k m j false e a b = offset_is fresh cs n k e a ∙ sym (offset_is fresh cs m j e b)
 
 -- one fault stands at a place

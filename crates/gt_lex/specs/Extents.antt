@@ -62,11 +62,11 @@ Reaches (Item Quoted cs) rest = IsLiteral double_quote cs
 Reaches (Item CharLit cs) rest = IsLiteral single_quote cs
 Reaches (Item Punct cs) rest = length cs ≡ 1
 
--- a block comment that does not end: no star and slash behind its opening
+-- a block comment that does not end: no star and slash after its opening
 abbrev pub IsOpenComment : List ℕ → Type 0
 IsOpenComment cs = (inside : List ℕ) × (cs ≡ slash ∷ star ∷ inside) × HasNoClose inside
 
--- where a literal finds the line's end instead of its quote, perhaps behind a backslash
+-- where a literal finds the line's end instead of its quote, perhaps after a backslash
 abbrev pub StopsLiteral : List ℕ → Type 0
 StopsLiteral [] = Unit {0}
 StopsLiteral (c ∷ cs) = (c ≡ newline) ⊎ ((c ≡ backslash) × EndsLine cs)

@@ -13,7 +13,7 @@ pub data Part : Type 0 where
   Continuation : List ℕ → Part
   Item : Kind → List ℕ → Part
 
--- A piece of a text: a part, or a directive by the parts behind its `#`.
+-- A piece of a text: a part, or a directive by the parts after its `#`.
 pub data Piece : Type 0 where
   Plain : Part → Piece
   Directive : List Part → Piece

@@ -14,11 +14,11 @@ abbrev pub rest_while : (ℕ → Bool) → List ℕ → List ℕ
 rest_while test [] = []
 rest_while test (c ∷ cs) = if test c then rest_while test cs else c ∷ cs
 
--- whether a character goes on a number behind the character before it
+-- whether a character goes on a number after the character before it
 abbrev pub continues_number_of : ℕ → ℕ → Bool
 continues_number_of before c = continues_identifier_of c || (c == dot) || (is_exponent before && is_sign c)
 
--- what follows a number, behind one of its characters
+-- what follows a number, after one of its characters
 abbrev pub number_rest : ℕ → List ℕ → List ℕ
 number_rest before [] = []
 number_rest before (c ∷ cs) = if continues_number_of before c then number_rest c cs else c ∷ cs
@@ -42,7 +42,7 @@ literal_rest quote escaped (c ∷ cs) =
 abbrev pub within_line : List ℕ → Bool × List ℕ
 within_line rest = (false, rest)
 
--- what follows a token, behind its first character
+-- what follows a token, after its first character
 abbrev pub token_rest : Kind → ℕ → List ℕ → Option (List ℕ)
 token_rest Ident c cs = Some (rest_while continues_identifier_of cs)
 token_rest Number c cs = Some (number_rest c cs)
@@ -50,7 +50,7 @@ token_rest Quoted c cs = literal_rest c false cs
 token_rest CharLit c cs = literal_rest c false cs
 token_rest Punct c cs = Some cs
 
--- what follows a part, behind its first character, and whether a newline was passed
+-- what follows a part, after its first character, and whether a newline was passed
 abbrev pub part_rest : Start → ℕ → List ℕ → Option (Bool × List ℕ)
 part_rest Space c cs = Some (c == newline, cs)
 part_rest Block c cs = comment_rest false (drop 1 cs)

@@ -24,7 +24,7 @@ then_of (Minus start end) token = constant_from start end (negative_value_of tok
 then_of (Constant define) token = Other
 then_of Other token = Other
 
--- behind one more part, which is a token or not
+-- after one more part, which is a token or not
 abbrev pub seen_with : Seen → Start → List ℕ → ℕ → Seen
 seen_with seen (start.Token kind) text at = then_of seen (record { kind = kind; text = text; start = at })
 seen_with seen start.End text at = seen

@@ -10,7 +10,7 @@ use Rattle.gt_lex.specs.Extents.{IsIdentifier, IsNumber, IsLiteral}
 use Rattle.gt_lex.specs.Parts.{Piece, text_of}
 use Rattle.gt_lex.specs.Texts.{ArePieces, is_token}
 
--- spans of at least one byte, each behind the one before, between two offsets
+-- spans of at least one byte, each after the one before, between two offsets
 abbrev pub AreSpans : ℕ → List (ℕ × ℕ) → ℕ → Type 0
 AreSpans from [] to = from ≤ to
 AreSpans from (s ∷ ss) to = (from ≤ s.0) × (s.0 < s.1) × AreSpans s.1 ss to
@@ -41,7 +41,7 @@ IsNameSlice text d = (cs : List ℕ) × (slice_range text d.start d.end ≡ enco
 abbrev pub IsGap : List ℕ → Type 0
 IsGap bytes = (fresh : Bool) × (gaps : List Piece) × (rest : List ℕ) × ArePieces fresh gaps rest × IsTrue (list_all (λ p. not (is_token p)) gaps) × (bytes ≡ encode_utf8_all (text_of gaps))
 
--- from an offset on, all that lies before, between and behind tokens
+-- from an offset on, all that lies before, between and after tokens
 abbrev pub AreApart : List ℕ → ℕ → List Token → Type 0
 AreApart text from [] = IsGap (drop from text)
 AreApart text from (t ∷ ts) = IsGap (slice_range text from t.start) × AreApart text t.end ts

@@ -19,7 +19,7 @@ plain_start (c ∷ cs) =
     else if is_ascii_digit c || ((c == dot) && first_passes is_ascii_digit cs) then Token Number
     else Token Punct
 
--- whether an x without a hexadecimal digit behind it begins
+-- whether an x without a hexadecimal digit after it begins
 abbrev pub is_bare_prefix : List ℕ → Bool
 is_bare_prefix [] = false
 is_bare_prefix (x ∷ cs) = ((x == 120) || (x == 88)) && not (first_passes is_ascii_hexdigit cs)

@@ -59,9 +59,9 @@ ArePieces fresh [] rest = Unit {0}
 ArePieces fresh (p ∷ ps) rest = Stands fresh p (text_of ps ++ rest) × ArePieces (fresh_after fresh p) ps rest
 
 -- whether no token stands on the line before what follows pieces
-abbrev pub fresh_behind : Bool → List Piece → Bool
-fresh_behind fresh [] = fresh
-fresh_behind fresh (p ∷ ps) = fresh_behind (fresh_after fresh p) ps
+abbrev pub fresh_past : Bool → List Piece → Bool
+fresh_past fresh [] = fresh
+fresh_past fresh (p ∷ ps) = fresh_past (fresh_after fresh p) ps
 
 -- the token of a piece that begins at an offset, and the tokens of pieces
 abbrev pub token_at : ℕ → Piece → List Token
@@ -103,18 +103,18 @@ pub data HasFault (fresh : Bool) (cs : List ℕ) : ℕ → ℕ → Type 0 where
   open_character : IsOpenLiteral single_quote cs → HasFault fresh cs OPEN_STRING 0
   bad_number : IsTrue (is_bad_number cs) → HasFault fresh cs BAD_NUMBER 0
 
--- the first fault of a text: that it is not UTF-8, or the one that stands behind pieces without a fault
+-- the first fault of a text: that it is not UTF-8, or the one that stands after pieces without a fault
 pub data IsFirstFault (text : List ℕ) : ℕ → ℕ → Type 0 where
   bad_utf8 : (IsUtf8 text → ⊥) → IsFirstFault text BAD_UTF8 (utf8_valid_len text)
-  behind : (pieces : List Piece) (rest : List ℕ) (number offset : ℕ) → IsUtf8 text → chars text ≡ text_of pieces ++ rest
-      → ArePieces true pieces rest → HasFault (fresh_behind true pieces) rest number offset → IsFirstFault text number (byte_len (text_of pieces) + offset)
+  following : (pieces : List Piece) (rest : List ℕ) (number offset : ℕ) → IsUtf8 text → chars text ≡ text_of pieces ++ rest
+      → ArePieces true pieces rest → HasFault (fresh_past true pieces) rest number offset → IsFirstFault text number (byte_len (text_of pieces) + offset)
 
 -- a text has tokens, or a first fault
 pub data HasAnswer (text : List ℕ) : Type 0 where
   has_tokens : (tokens : List Token) (defines : List Define) → IsLexed text tokens defines → HasAnswer text
   has_fault : (number at : ℕ) → IsFirstFault text number at → HasAnswer text
 
--- what may be answered in place of tokens: want of memory, or the first fault
+-- what may be answered in place of tokens: out of memory, or the first fault
 abbrev pub IsStop : ℕ → List ℕ → Stop → Type 0
 IsStop file text Memory = Unit {0}
 IsStop file text (At fault) = (fault.file ≡ file) × IsFirstFault text fault.number fault.at

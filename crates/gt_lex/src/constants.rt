@@ -58,7 +58,7 @@ impl Seen {
         }
     }
 
-    /// The same behind one more part, which begins at the offset `at`.
+    /// The same after one more part, which begins at the offset `at`.
     pub fn with(self, part: Start, text: &[u8], at: u32) -> Seen
         requires { at + length text.now < 2 ^ 32 }
         ensures { result ≡ seen_with self part text.now at }

@@ -71,7 +71,7 @@ fn past_number(start: char, text: &str) -> &str
     }
 }
 
-// Behind the opening of a comment; None where it does not end.
+// After the opening of a comment; None where it does not end.
 fn past_comment(text: &str) -> Option<(bool, &str)>
     ensures rest { option_map (λ r. (r.0, chars r.1.now)) result ≡ comment_rest false (chars text.now) }
     ensures utf8 { IfSome result (λ r. IsUtf8 r.1.now) }
@@ -88,7 +88,7 @@ fn past_comment(text: &str) -> Option<(bool, &str)>
     }
 }
 
-// Behind the opening quote; None where the line ends first.
+// After the opening quote; None where the line ends first.
 fn past_literal(quote: char, text: &str) -> Option<&str>
     ensures rest { option_map (λ r. chars r.now) result ≡ literal_rest quote false (chars text.now) }
     ensures utf8 { IfSome result (λ r. IsUtf8 r.now) }

@@ -5,7 +5,7 @@ ghost use Rattle.gt_lex.specs.declared.tokens.Define.{Define};
 ghost use Rattle.gt_lex.specs.Texts.{IsLexed, IsFirstFault, HasAnswer};
 ghost use Rattle.gt_lex.specs.Spans.{AreSpans, token_spans, define_spans, IsSlice, IsNameSlice, AreApart};
 
-/// The tokens of a text are slices of it, each of its kind, in order and apart, and before, between and behind them are
+/// The tokens of a text are slices of it, each of its kind, in order and apart, and before, between and after them are
 /// white space, comments and directives alone.
 pub fn token_slices()
     ensures order { (text : List ℕ) (tokens : List Token) (defines : List Define) →

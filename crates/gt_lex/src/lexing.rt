@@ -62,7 +62,7 @@ fn read(alloc: Global, file: u32, text: &[u8]) -> Result<Lexed, Stop>
 }
 
 /// The tokens of a text of fewer than 2 to the 32 bytes, and the constants of its directives `#define NAME INTEGER`.
-/// Otherwise want of memory, or the text's first fault, at its byte offset in the file that the caller names:
+/// Otherwise out of memory, or the text's first fault, at its byte offset in the file that the caller names:
 /// `BAD_UTF8`, or the earliest `OPEN_COMMENT`, `OPEN_STRING` or `BAD_NUMBER`. Comments and directives are as in C
 /// (C11, 6.4.9 and 6.10), but a backslash continues a line in directives alone.
 pub fn lex(alloc: Global, file: u32, text: &[u8]) -> Result<Lexed, Stop>

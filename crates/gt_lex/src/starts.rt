@@ -67,7 +67,7 @@ fn plain_start(c: char, after: &str) -> Start
     }
 }
 
-// Whether an x without a hexadecimal digit behind it follows a number's 0.
+// Whether an x without a hexadecimal digit after it follows a number's 0.
 fn is_bare_prefix(after: &str) -> bool
     ensures { result ≡ is_bare_prefix (chars after.now) }
 {

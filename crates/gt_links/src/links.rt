@@ -28,7 +28,7 @@ impl Model for Links {
 
 impl Links {
     /// So many lists, numbered from 0 and empty, and so many nodes, numbered from 0 and in no list. It takes time
-    /// and memory in proportion to both, and fails only for want of memory.
+    /// and memory in proportion to both, and fails only when out of memory.
     pub fn new(alloc: Global, lists: u32, nodes: u32) -> Result<Links, AllocError>
         ensures empty { IfOk result (λ links. links ≡ empty_lists lists nodes) }
     {

@@ -17,7 +17,7 @@ empty_at : {A : Type 0} (xs : List A) (place count : ℕ) → length xs ≡ coun
 empty_at [] place count h l = grind (arith, nat_tests)
 empty_at (x ∷ xs) place count h l = grind (arith, nat_tests)
 
--- no item stands behind the place that is the length
+-- no item stands after the place that is the length
 pub is_end : {A : Type 0} (xs : List A) (place : ℕ) → place ≤ length xs → (place == length xs) ≡ is_empty (drop place xs)
 is_end xs place l = empty_at (drop place xs) place (length xs) (length-drop place xs) l
 

@@ -81,7 +81,7 @@ trans_no_later a b c h k =
 first_alone : (f : Fault) → IsFirst (f ∷ []) f
 first_alone f = record { there = Contains-push [] f; first = All-push (λ other. IsTrue (is_no_later f other)) [] f (All-nil (λ other. IsTrue (is_no_later f other))) (refl_no_later f) }
 
--- one more fault behind those that have a first
+-- one more fault after those that have a first
 first_pushed : (faults : List Fault) (f g : Fault) (b : Bool) → is_no_later f g ≡ b → IsFirst faults f → IsFirstOf (faults ++ g ∷ []) (if b then Some f else Some g)
 first_pushed faults f g true e h =
     record { there = Contains-append_left faults (g ∷ []) f h.there; first = All-push (λ other. IsTrue (is_no_later f other)) faults g h.first e }
@@ -123,7 +123,7 @@ if_ok (Err e) P Q f h = h
 pub first_from_if : (e e1 : Option Fault) (b there : Bool) (number file at : ℕ) → e1 ≡ first_from e (fault_if b number file at) → b ≡ there → e1 ≡ first_from e (fault_if there number file at)
 first_from_if e e1 b there number file at h same = h ∙ ap (λ (x : Bool). first_from e (fault_if x number file at)) same
 
--- behind the last item
+-- after the last item
 pub first_from_end : {X : Type 0} (F : ℕ → List X → List Fault) → ((i : ℕ) → F i [] ≡ []) → (e : Option Fault) (i : ℕ) (xs : List X) → length xs ≤ i → e ≡ first_from e (F i (drop i xs))
 first_from_end {X} F none e i xs l =
     sym (first_from_nil e) ∙ ap (first_from e) (sym (none i)) ∙ ap (λ (ys : List X). first_from e (F i ys)) (sym (drop_all i xs l))

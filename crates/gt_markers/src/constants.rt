@@ -13,7 +13,7 @@ use gt_types::{Base, Boxed, Expr, Reader, Word, eval};
 use std::alloc::{AllocError, Global};
 
 /// The value of a parameter that is a constant expression; None where it is none, where a name in it is no constant, and where
-/// evaluating it overflows 64 bits. It answers want of memory alone.
+/// evaluating it overflows 64 bits. Its only error is out of memory.
 pub fn constant_value(
     alloc: Global,
     lookup: &Lookup,

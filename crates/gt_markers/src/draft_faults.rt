@@ -63,7 +63,7 @@ fn of_caches(
 }
 
 /// The first fault of a draft that needs no program: at the earliest place, and of those at one place the lowest number. `None`
-/// says that there is none. Its time is linear in the draft but for the order of tags. It answers want of memory alone.
+/// says that there is none. Its time is linear in the draft but for the order of tags. Its only error is out of memory.
 pub fn first_draft_fault(
     alloc: Global,
     draft: &Draft,

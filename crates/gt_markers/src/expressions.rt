@@ -42,7 +42,7 @@ fn name_or_zero(lookup: &Lookup, scope: Scope, name: &Word) -> Expr
     }
 }
 
-/// The expression, with what its names stand for; one that stands for nothing counts as 0. It answers want of memory alone.
+/// The expression, with what its names stand for; one that stands for nothing counts as 0. Its only error is out of memory.
 pub fn with_names(
     alloc: Global,
     lookup: &Lookup,

@@ -30,7 +30,7 @@ pub fn is_untyped(options: &[RawOption], ty: &DeclaredType) -> bool
     !is_walked(options, ty)
 }
 
-/// The earliest fault with those of a cache. It answers want of memory alone.
+/// The earliest fault with those of a cache. Its only error is out of memory.
 pub fn of_cache(
     alloc: Global,
     earliest: Option<Fault>,
@@ -49,7 +49,7 @@ pub fn of_cache(
     of_marker(alloc, earliest, draft, lookup, marker)
 }
 
-/// The earliest fault with those of a root. It answers want of memory alone.
+/// The earliest fault with those of a root. Its only error is out of memory.
 pub fn of_root(
     alloc: Global,
     earliest: Option<Fault>,

@@ -84,7 +84,7 @@ fn roots(alloc: Global, roots: &[DraftRoot]) -> Result<Table<u32>, AllocError>
 }
 
 impl Lookup {
-    /// The names of a draft. It answers want of memory alone.
+    /// The names of a draft. Its only error is out of memory.
     pub fn of(alloc: Global, draft: &Draft) -> Result<Lookup, AllocError>
         requires few { length draft.now.roots < 2 ^ 32 }
         ensures lookup { IfOk result (IsLookupOf draft.now) }

@@ -147,7 +147,7 @@ fn of_option(
     )
 }
 
-/// The earliest fault with those of a marker's options. Its time is linear in them. It answers want of memory alone.
+/// The earliest fault with those of a marker's options. Its time is linear in them. Its only error is out of memory.
 pub fn of_marker(
     alloc: Global,
     earliest: Option<Fault>,

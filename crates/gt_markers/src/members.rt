@@ -37,7 +37,7 @@ fn without_tag(options: &[RawOption]) -> Active
     }
 }
 
-/// When a field with these options is a part of the value, in a union or in a struct. It answers want of memory alone.
+/// When a field with these options is a part of the value, in a union or in a struct. Its only error is out of memory.
 pub fn active_of(
     alloc: Global,
     lookup: &Lookup,
@@ -55,7 +55,7 @@ pub fn active_of(
     }
 }
 
-/// The value of a member's tag; `None` where it has no tag, or one without a value. It answers want of memory alone.
+/// The value of a member's tag; `None` where it has no tag, or one without a value. Its only error is out of memory.
 pub fn tag_value(
     alloc: Global,
     lookup: &Lookup,
@@ -112,7 +112,7 @@ impl Members {
         Ok(())
     }
 
-    /// Adds a field with this tag, which is the default or not. It answers want of memory alone.
+    /// Adds a field with this tag, which is the default or not. Its only error is out of memory.
     pub fn add(&mut self, tag: Option<i64>, is_default: bool) -> Result<(), AllocError>
         ensures tags { OnOk result ((other : Option ℤ) → holds_tag self.new other ≡ (holds_tag self.old other || same_tag other tag)) }
         ensures default { OnOk result (self.new.has_default ≡ (self.old.has_default || is_default)) }

@@ -152,7 +152,7 @@ fn of_fields(
     Ok(earliest)
 }
 
-/// The earliest fault with those of a structure and of its fields. It answers want of memory alone.
+/// The earliest fault with those of a structure and of its fields. Its only error is out of memory.
 pub fn of_structure(
     alloc: Global,
     earliest: Option<Fault>,

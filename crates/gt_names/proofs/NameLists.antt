@@ -86,7 +86,7 @@ pub neither : (a b : Bool) → (a || b) ≡ false → (a ≡ false) × (b ≡ fa
 neither true b e = absurd (cc)
 neither false b e = (refl, e)
 
--- what is added behind items that are others stands at the end
+-- what is added after items that are others stands at the end
 prefix_len-added : {X : Type 0} (p : X → Bool) (y : X) → p y ≡ true → (xs : List X) → list_any p xs ≡ false → prefix_len (λ x. not (p x)) (xs ++ y ∷ []) ≡ length xs
 prefix_len-added p y h [] e = ap (λ b. cond (not b) 1 0) h
 prefix_len-added p y h (x ∷ xs) e =

@@ -151,7 +151,7 @@ module _ (program : Program) (layouts : Layouts) (within : IsWithin program layo
       let here : at.0.block.address ≡ address = sym (name_is are at.0 at.1) ∙ at.2 ∙ e in
       elim (apart at.0 at.1) as (λ _. ⊥) [
         | inl before ↦ absurd (let no : 1 ≤ 0 = omega (arith, before, here, large) in omega (arith, no))
-        | inr behind ↦ absurd (let no : 1 ≤ 0 = omega (arith, behind, here, some) in omega (arith, no))
+        | inr following ↦ absurd (let no : 1 ≤ 0 = omega (arith, following, here, some) in omega (arith, no))
       ]
 
   -- what holds of each object and its block

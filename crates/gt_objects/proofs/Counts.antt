@@ -133,7 +133,7 @@ spread low high (b ∷ blocks) rise apart room within =
   where
     after : (b c : Block) → b.address < c.address → IsApart b.address b.size c.address c.size → b.address + b.size ≤ c.address
     after b c above (inl before) = omega (arith, before)
-    after b c above (inr behind) = absurd (let no : 1 ≤ 0 = omega (arith, above, behind) in omega (arith, no))
+    after b c above (inr following) = absurd (let no : 1 ≤ 0 = omega (arith, above, following) in omega (arith, no))
 
 eight_each : (blocks : List Block) → ((b : Block) → Contains blocks b → 8 ≤ b.size) → 8 * length blocks ≤ bytes_of blocks
 eight_each [] large = omega arith

@@ -45,7 +45,7 @@ one_owner address (y ∷ ys) t apart there has = elim (there_cases y ys t there)
         let its = byte_in address t has in
         elim (All-contains (λ c. IsApart y.address y.size c.address c.size) (map block_of ys) (block_of t) apart.0 (map_there block_of ys t later)) as (λ _. find (has_byte address) (y ∷ ys) ≡ Some t) [
           | inl before ↦ absurd (let no : 1 ≤ 0 = omega (arith, before, mine.1, its.0) in omega (arith, no))
-          | inr behind ↦ absurd (let no : 1 ≤ 0 = omega (arith, behind, mine.0, its.1) in omega (arith, no))
+          | inr following ↦ absurd (let no : 1 ≤ 0 = omega (arith, following, mine.0, its.1) in omega (arith, no))
         ]
     | inr not_here ↦ ap (λ b. cond b (Some y) (find (has_byte address) ys)) not_here ∙ one_owner address ys t apart.1 later has
   ]

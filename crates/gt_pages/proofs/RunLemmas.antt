@@ -28,7 +28,7 @@ slots_full : (start size count : ℕ) → slots_in start size (replicate count (
 slots_full start size zero = refl
 slots_full start size (suc count) = ap (λ xs. slot_at start size ∷ xs) (slots_full (start + size) size count)
 
--- one entry more, behind all others
+-- one entry more, after all others
 module _ (f g : ℕ → List Slot) (page : ℕ) (others : (j : ℕ) → j ≢ page → g j ≡ f j) (last : (j : ℕ) → page ≤ j → f j ≡ []) where
   flat_last : (a n : ℕ) → a ≤ page → page < a + n → flat_map g (range_with_len a n) ≡ flat_map f (range_with_len a n) ++ g page
   flat_last a zero high low = absurd (let no : 1 ≤ 0 = omega (arith, high, low) in omega (arith, no))

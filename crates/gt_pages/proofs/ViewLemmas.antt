@@ -18,9 +18,9 @@ use Rattle.gt_pages.proofs.SlotLemmas.{IsSlotOf, contains_flat}
 use Rattle.gt_pages.proofs.WhereLemmas.{entry_some, page_slot, place_ends}
 use Rattle.gt_pages.proofs.NextLemmas.{entry_ends}
 
--- ---- blocks one behind the other
+-- ---- blocks one after the other
 
--- the blocks lie between two addresses, each behind the one before it
+-- the blocks lie between two addresses, each after the one before it
 abbrev pub Climbs : (low high : ℕ) → List Slot → Type 0
 Climbs low high [] = low ≤ high
 Climbs low high (s ∷ slots) = (low ≤ s.address) × (0 < s.size) × Climbs (s.address + s.size) high slots

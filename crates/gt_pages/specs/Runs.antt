@@ -7,7 +7,7 @@ use Rattle.gt_pages.specs.Images.{run_pages}
 use Rattle.gt_pages.specs.Changes.{Opens}
 use Rattle.gt_pages.specs.Parts.{Parts}
 
--- the first page behind those of the image
+-- the first page after those of the image
 abbrev pub image_end : Parts → ℕ
 image_end p = p.image.first + p.image.count
 
@@ -15,7 +15,7 @@ image_end p = p.image.first + p.image.count
 abbrev pub run_entry : Run → Entry
 run_entry run = record { size = run.size; places = replicate run.count (Used None) }
 
--- the pages behind those of the image are those of a run, and of the image too
+-- the pages after those of the image are those of a run, and of the image too
 pub record AddsRun (old : Parts) (run : Run) (new : Parts) : Type 0 where
   pub image : new.image ≡ record { first = old.image.first; count = old.image.count + run_pages run }
   pub opens : Opens old (image_end old) (run_entry run) (record new { image = old.image })

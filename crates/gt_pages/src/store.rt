@@ -879,7 +879,7 @@ impl Store {
         Ok(())
     }
 
-    /// Puts a run of blocks into the pages behind those of the image, which has them from now on.
+    /// Puts a run of blocks into the pages after those of the image, which has them from now on.
     fn add_run(&mut self, run: Run) -> Result<(), AllocError>
         requires kept { IsKept (parts_of self.old) }
         requires listed { Contains sizes run.size }

@@ -26,13 +26,13 @@ lead c rest =
     lead_cases (ltb c 128) (ltb c 2048) (ltb c 65536) c (192 + c / 64) (224 + c / 4096) (240 + c / 262144) ((128 + c % 64) ∷ []) ((128 + (c / 64) % 64) ∷ (128 + c % 64) ∷ [])
     ((128 + (c / 4096) % 64) ∷ (128 + (c / 64) % 64) ∷ (128 + c % 64) ∷ []) rest (λ e. ltb-true c 128 e) (omega arith) (omega arith) (omega arith)
 
--- behind some characters at its front a text goes on with whole characters
+-- after some characters at its front a text goes on with whole characters
 past_chars : (cs bs rest : List ℕ) → IsUtf8 bs → bs ≡ encode_utf8_all cs ++ rest → IsUtf8 rest
 past_chars [] bs rest utf8 is = subst IsUtf8 is utf8
 past_chars (c ∷ cs) bs rest utf8 is =
     past_chars cs (encode_utf8_all cs ++ rest) rest (IsUtf8-past_char bs (encode_utf8_all cs ++ rest) c utf8 (is ∙ append_assoc (encode c) (encode_utf8_all cs) rest)) refl
 
--- a text may be cut before some characters and behind them
+-- a text may be cut before some characters and after them
 abbrev pub MayBeCut : List ℕ → ℕ → ℕ → Type 0
 MayBeCut text start end = (start ≤ end) × IsCharBoundary text start × IsCharBoundary text end
 
@@ -46,14 +46,14 @@ starts (c ∷ cs) bs rest is some high =
 cut_at : (text : List ℕ) (start end : ℕ) (cs : List ℕ) → IsUtf8 text → start < end → end ≤ length text → slice_range text start end ≡ encode_utf8_all cs → MayBeCut text start end
 cut_at text start end cs utf8 lt le is =
     let rest : List ℕ = drop (end - start) (drop start text) in
-    let behind : drop start text ≡ encode_utf8_all cs ++ rest = sym (take-append-drop (end - start) (drop start text)) ∙ ap (λ (front : List ℕ). front ++ rest) is in
+    let following : drop start text ≡ encode_utf8_all cs ++ rest = sym (take-append-drop (end - start) (drop start text)) ∙ ap (λ (front : List ℕ). front ++ rest) is in
     let len : length (encode_utf8_all cs) ≡ end - start =
     sym (ap length is) ∙ length-take-le (end - start) (drop start text) (omega (arith, length-drop start text)) in
     let byte : get_or (drop start text) 0 0 ≡ get_or text start 0 = get_or-drop start text 0 0 ∙ ap (λ (k : ℕ). get_or text k 0) (add-zero start) in
-    let first : IsCharBoundary text start = (omega arith, λ _ high. rw (← byte) (starts cs (drop start text) rest behind (omega arith) (omega (arith, byte)))) in
+    let first : IsCharBoundary text start = (omega arith, λ _ high. rw (← byte) (starts cs (drop start text) rest following (omega arith) (omega (arith, byte)))) in
     let to : start + (end - start) ≡ end = omega arith in
     let from : rest ≡ drop end text = drop-drop (end - start) start text ∙ ap (λ (n : ℕ). drop n text) to in
-    (omega arith, first, IsCharBoundary-from_drop text end le (subst IsUtf8 from (past_chars cs (drop start text) rest (IsUtf8-drop text start utf8 first) behind)))
+    (omega arith, first, IsCharBoundary-from_drop text end le (subst IsUtf8 from (past_chars cs (drop start text) rest (IsUtf8-drop text start utf8 first) following)))
 
 -- ---- spans
 

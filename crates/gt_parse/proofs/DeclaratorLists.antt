@@ -1,4 +1,4 @@
--- Declarators with commas between them and a semicolon behind them, one at a time.
+-- Declarators with commas between them and a semicolon after them, one at a time.
 use Rattle.std.proofs.Common.{◌≡◌, ℕ, suc, ◌+◌, ◌-◌, ◌<◌, ◌≤◌, true, false, List, [], ◌∷◌, ◌++◌, refl, sym, ◌∙◌, arith}
 use Rattle.gt_items.specs.declared.items.Declarator.{Declarator}
 use Rattle.gt_parse.specs.declared.lexeme.Lexeme.{Lexeme}
@@ -7,21 +7,21 @@ use Rattle.gt_parse.specs.declared.unread.Unread.{Unread}
 use Rattle.gt_parse.specs.declared.unread.Unread.TheVariants.{Memory, Ended, Fault}
 use Rattle.gt_parse.specs.Outcome.{Outcome, Read, Ends, Fails, ◌>>=◌}
 use Rattle.gt_parse.specs.Fields.{goes_on_at}
-use Rattle.gt_parse.specs.Fields.{behind_declarator, declarator_at, declarators_from}
+use Rattle.gt_parse.specs.Fields.{after_declarator, declarator_at, declarators_from}
 
-goes_on : {A : Type 0} (go : List Lexeme → Outcome A) (made : A) (ts next : List Lexeme) → goes_on_at ts ≡ Read true next → behind_declarator go made ts ≡ go next
+goes_on : {A : Type 0} (go : List Lexeme → Outcome A) (made : A) (ts next : List Lexeme) → goes_on_at ts ≡ Read true next → after_declarator go made ts ≡ go next
 goes_on go made (lexeme.Comma s ∷ ts) next e = let k : ts ≡ next = cc in rw k refl
 goes_on go made (lexeme.Semicolon s ∷ ts) next e = absurd cc
 goes_on go made [] next e = absurd cc
 goes_on go made ts next e = absurd cc
 
-stops : {A : Type 0} (go : List Lexeme → Outcome A) (made : A) (ts next : List Lexeme) → goes_on_at ts ≡ Read false next → behind_declarator go made ts ≡ Read made next
+stops : {A : Type 0} (go : List Lexeme → Outcome A) (made : A) (ts next : List Lexeme) → goes_on_at ts ≡ Read false next → after_declarator go made ts ≡ Read made next
 stops go made (lexeme.Comma s ∷ ts) next e = absurd cc
 stops go made (lexeme.Semicolon s ∷ ts) next e = let k : ts ≡ next = cc in rw k refl
 stops go made [] next e = absurd cc
 stops go made ts next e = absurd cc
 
-breaks : {A : Type 0} (go : List Lexeme → Outcome A) (made : A) (ts : List Lexeme) (e : Unread) → Fails e (goes_on_at ts) → Fails e (behind_declarator go made ts)
+breaks : {A : Type 0} (go : List Lexeme → Outcome A) (made : A) (ts : List Lexeme) (e : Unread) → Fails e (goes_on_at ts) → Fails e (after_declarator go made ts)
 breaks go made ts Memory f = tt
 breaks go made (lexeme.Comma s ∷ ts) Ended f = absurd cc
 breaks go made (lexeme.Semicolon s ∷ ts) Ended f = absurd cc
@@ -33,7 +33,7 @@ breaks go made [] (Fault number at) f = absurd cc
 breaks go made ts (Fault number at) f = cc
 
 module _ (count i : ℕ) (made : List Declarator) (ts : List Lexeme) (total : Outcome (List Declarator)) (lt : i < count) (so_far : declarators_from (count - i) made ts ≡ total) where
-  here : total ≡ (declarator_at ts >>= λ one. behind_declarator (declarators_from (count - (i + 1)) (made ++ one.0 ∷ [])) (made ++ one.0 ∷ []) one.1)
+  here : total ≡ (declarator_at ts >>= λ one. after_declarator (declarators_from (count - (i + 1)) (made ++ one.0 ∷ [])) (made ++ one.0 ∷ []) one.1)
   unfolding declarators_from
   here = let k : count - i ≡ suc (count - (i + 1)) = omega arith in sym so_far ∙ rw k refl
 
@@ -43,7 +43,7 @@ module _ (count i : ℕ) (made : List Declarator) (ts : List Lexeme) (total : Ou
   declarators_fail (Fault number at) f = here ∙ rw f refl
 
   module _ (one : Declarator) (rest : List Lexeme) (read : declarator_at ts ≡ Read one rest) where
-    then : total ≡ behind_declarator (declarators_from (count - (i + 1)) (made ++ one ∷ [])) (made ++ one ∷ []) rest
+    then : total ≡ after_declarator (declarators_from (count - (i + 1)) (made ++ one ∷ [])) (made ++ one ∷ []) rest
     then = here ∙ rw read refl
 
     pub declarators_break : (e : Unread) → Fails e (goes_on_at rest) → Fails e total

@@ -12,7 +12,7 @@ use Rattle.gt_parse.specs.declared.lexeme.Lexeme.TheVariants as lexeme
 use Rattle.gt_parse.specs.Lexemes.{name_of}
 use Rattle.gt_parse.specs.Outcome.{Outcome, Read, Stops}
 use Rattle.gt_parse.specs.Groups.{depth_after}
-use Rattle.gt_parse.specs.Unmarked.{enumerator_of, is_comma, pieces_from, enumerators_of, last_name, opens_round, behind_round, unmarked_of, unmarked_at}
+use Rattle.gt_parse.specs.Unmarked.{enumerator_of, is_comma, pieces_from, enumerators_of, last_name, opens_round, after_round, unmarked_of, unmarked_at}
 use Rattle.gt_parse.specs.Reading.{is_marker, is_marked}
 use Rattle.gt_parse.proofs.Insides.{drop_at}
 
@@ -28,51 +28,51 @@ unfolding is_marked
 marker_here (lexeme.Gty s) ts e = refl
 marker_here t ts e = absurd cc
 
-marker_behind : (depth : ℕ) (t : Lexeme) (ts : List Lexeme) → (depth ≡ 0 → is_marker t ≡ false) → is_marked depth (t ∷ ts) ≡ is_marked (depth_after depth t) ts
+marker_after : (depth : ℕ) (t : Lexeme) (ts : List Lexeme) → (depth ≡ 0 → is_marker t ≡ false) → is_marked depth (t ∷ ts) ≡ is_marked (depth_after depth t) ts
 unfolding is_marked
-marker_behind zero (lexeme.Gty s) ts n = let h : true ≡ false = n refl in absurd cc
-marker_behind depth (lexeme.Open b s) ts n = refl
-marker_behind zero (lexeme.Close b s) ts n = refl
-marker_behind (suc depth) (lexeme.Close b s) ts n = refl
-marker_behind depth t ts n = refl
+marker_after zero (lexeme.Gty s) ts n = let h : true ≡ false = n refl in absurd cc
+marker_after depth (lexeme.Open b s) ts n = refl
+marker_after zero (lexeme.Close b s) ts n = refl
+marker_after (suc depth) (lexeme.Close b s) ts n = refl
+marker_after depth t ts n = refl
 
-round_here : (t : Lexeme) (ts : List Lexeme) → opens_round t ≡ true → behind_round 0 (t ∷ ts) ≡ ts
-unfolding behind_round
+round_here : (t : Lexeme) (ts : List Lexeme) → opens_round t ≡ true → after_round 0 (t ∷ ts) ≡ ts
+unfolding after_round
 round_here (lexeme.Open Round s) ts e = refl
 round_here t ts e = absurd cc
 
-round_behind : (depth : ℕ) (t : Lexeme) (ts : List Lexeme) → (depth ≡ 0 → opens_round t ≡ false) → behind_round depth (t ∷ ts) ≡ behind_round (depth_after depth t) ts
-unfolding behind_round
-round_behind zero (lexeme.Open Round s) ts n = let h : true ≡ false = n refl in absurd cc
-round_behind depth (lexeme.Open b s) ts n = refl
-round_behind zero (lexeme.Close b s) ts n = refl
-round_behind (suc depth) (lexeme.Close b s) ts n = refl
-round_behind depth t ts n = refl
+round_after : (depth : ℕ) (t : Lexeme) (ts : List Lexeme) → (depth ≡ 0 → opens_round t ≡ false) → after_round depth (t ∷ ts) ≡ after_round (depth_after depth t) ts
+unfolding after_round
+round_after zero (lexeme.Open Round s) ts n = let h : true ≡ false = n refl in absurd cc
+round_after depth (lexeme.Open b s) ts n = refl
+round_after zero (lexeme.Close b s) ts n = refl
+round_after (suc depth) (lexeme.Close b s) ts n = refl
+round_after depth t ts n = refl
 
 name_here : (last : Option Name) (t : Lexeme) (s : Spot) (ts : List Lexeme) → t ≡ lexeme.Name s → last_name 0 last (t ∷ ts) ≡ last_name 0 (Some (name_of s)) ts
 unfolding last_name
 name_here last t s ts e = rw e refl
 
-name_behind : (depth : ℕ) (last : Option Name) (t : Lexeme) (ts : List Lexeme) → (depth ≡ 0 → (s : Spot) → t ≡ lexeme.Name s → ⊥) → last_name depth last (t ∷ ts) ≡ last_name (depth_after depth t) last ts
+name_after : (depth : ℕ) (last : Option Name) (t : Lexeme) (ts : List Lexeme) → (depth ≡ 0 → (s : Spot) → t ≡ lexeme.Name s → ⊥) → last_name depth last (t ∷ ts) ≡ last_name (depth_after depth t) last ts
 unfolding last_name
-name_behind depth last (lexeme.Open b s) ts n = refl
-name_behind zero last (lexeme.Close b s) ts n = refl
-name_behind (suc depth) last (lexeme.Close b s) ts n = refl
-name_behind zero last (lexeme.Name s) ts n = absurd (n refl s refl)
-name_behind depth last t ts n = refl
+name_after depth last (lexeme.Open b s) ts n = refl
+name_after zero last (lexeme.Close b s) ts n = refl
+name_after (suc depth) last (lexeme.Close b s) ts n = refl
+name_after zero last (lexeme.Name s) ts n = absurd (n refl s refl)
+name_after depth last t ts n = refl
 
 comma_here : (piece : List Lexeme) (t : Lexeme) (ts : List Lexeme) → is_comma t ≡ true → pieces_from 0 piece (t ∷ ts) ≡ piece ∷ pieces_from 0 [] ts
 unfolding pieces_from
 comma_here piece (lexeme.Comma s) ts e = refl
 comma_here piece t ts e = absurd cc
 
-comma_behind : (depth : ℕ) (piece : List Lexeme) (t : Lexeme) (ts : List Lexeme) → (depth ≡ 0 → is_comma t ≡ false) → pieces_from depth piece (t ∷ ts) ≡ pieces_from (depth_after depth t) (piece ++ t ∷ []) ts
+comma_after : (depth : ℕ) (piece : List Lexeme) (t : Lexeme) (ts : List Lexeme) → (depth ≡ 0 → is_comma t ≡ false) → pieces_from depth piece (t ∷ ts) ≡ pieces_from (depth_after depth t) (piece ++ t ∷ []) ts
 unfolding pieces_from
-comma_behind zero piece (lexeme.Comma s) ts n = let h : true ≡ false = n refl in absurd cc
-comma_behind depth piece (lexeme.Open b s) ts n = refl
-comma_behind zero piece (lexeme.Close b s) ts n = refl
-comma_behind (suc depth) piece (lexeme.Close b s) ts n = refl
-comma_behind depth piece t ts n = refl
+comma_after zero piece (lexeme.Comma s) ts n = let h : true ≡ false = n refl in absurd cc
+comma_after depth piece (lexeme.Open b s) ts n = refl
+comma_after zero piece (lexeme.Close b s) ts n = refl
+comma_after (suc depth) piece (lexeme.Close b s) ts n = refl
+comma_after depth piece t ts n = refl
 
 other : (whole : List Lexeme) (t : Lexeme) (ts : List Lexeme) → ((s : Spot) → t ≡ lexeme.Gty s → ⊥) → unmarked_at whole (t ∷ ts) ≡ unmarked_at whole ts
 unfolding unmarked_at
@@ -85,16 +85,16 @@ module _ (tokens : List Lexeme) (depth at : ℕ) (t : Lexeme) (lt : at < length 
     pub is_marked_here : depth ≡ 0 → is_marker t ≡ true → true ≡ total
     is_marked_here z e = sym (ap (λ d. is_marked d (drop at tokens)) z ∙ ap (is_marked 0) (drop_at tokens at t lt is) ∙ marker_here t _ e) ∙ so_far
 
-    pub is_marked_behind : (depth ≡ 0 → is_marker t ≡ false) → is_marked (depth_after depth t) (drop (at + 1) tokens) ≡ total
-    is_marked_behind n = sym (ap (is_marked depth) (drop_at tokens at t lt is) ∙ marker_behind depth t _ n) ∙ so_far
+    pub is_marked_after : (depth ≡ 0 → is_marker t ≡ false) → is_marked (depth_after depth t) (drop (at + 1) tokens) ≡ total
+    is_marked_after n = sym (ap (is_marked depth) (drop_at tokens at t lt is) ∙ marker_after depth t _ n) ∙ so_far
 
-  module _ (total : List Lexeme) (so_far : behind_round depth (drop at tokens) ≡ total) where
-    pub behind_round_here : depth ≡ 0 → opens_round t ≡ true → take (length tokens - (at + 1)) (drop (at + 1) tokens) ≡ total
-    behind_round_here z e =
-        take_rest tokens (at + 1) ∙ sym (ap (λ d. behind_round d (drop at tokens)) z ∙ ap (behind_round 0) (drop_at tokens at t lt is) ∙ round_here t _ e) ∙ so_far
+  module _ (total : List Lexeme) (so_far : after_round depth (drop at tokens) ≡ total) where
+    pub after_round_here : depth ≡ 0 → opens_round t ≡ true → take (length tokens - (at + 1)) (drop (at + 1) tokens) ≡ total
+    after_round_here z e =
+        take_rest tokens (at + 1) ∙ sym (ap (λ d. after_round d (drop at tokens)) z ∙ ap (after_round 0) (drop_at tokens at t lt is) ∙ round_here t _ e) ∙ so_far
 
-    pub behind_round_behind : (depth ≡ 0 → opens_round t ≡ false) → behind_round (depth_after depth t) (drop (at + 1) tokens) ≡ total
-    behind_round_behind n = sym (ap (behind_round depth) (drop_at tokens at t lt is) ∙ round_behind depth t _ n) ∙ so_far
+    pub after_round_after : (depth ≡ 0 → opens_round t ≡ false) → after_round (depth_after depth t) (drop (at + 1) tokens) ≡ total
+    after_round_after n = sym (ap (after_round depth) (drop_at tokens at t lt is) ∙ round_after depth t _ n) ∙ so_far
 
   module _ (last total : Option Name) (so_far : last_name depth last (drop at tokens) ≡ total) where
     pub last_name_here : (s : Spot) → depth ≡ 0 → t ≡ lexeme.Name s → last_name depth (Some (name_of s)) (drop (at + 1) tokens) ≡ total
@@ -103,8 +103,8 @@ module _ (tokens : List Lexeme) (depth at : ℕ) (t : Lexeme) (lt : at < length 
         ∙ sym (ap (λ d. last_name d last (drop at tokens)) z ∙ ap (last_name 0 last) (drop_at tokens at t lt is) ∙ name_here last t s _ e)
         ∙ so_far
 
-    pub last_name_behind : (depth ≡ 0 → (s : Spot) → t ≡ lexeme.Name s → ⊥) → last_name (depth_after depth t) last (drop (at + 1) tokens) ≡ total
-    last_name_behind n = sym (ap (last_name depth last) (drop_at tokens at t lt is) ∙ name_behind depth last t _ n) ∙ so_far
+    pub last_name_after : (depth ≡ 0 → (s : Spot) → t ≡ lexeme.Name s → ⊥) → last_name (depth_after depth t) last (drop (at + 1) tokens) ≡ total
+    last_name_after n = sym (ap (last_name depth last) (drop_at tokens at t lt is) ∙ name_after depth last t _ n) ∙ so_far
 
   module _ (start : ℕ) (found total : List Enumerator) (begun : start ≤ at) (so_far : found ++ enumerators_of (pieces_from depth (take (at - start) (drop start tokens)) (drop at tokens)) ≡ total) where
     pub enumerators_here : (one : Enumerator) → depth ≡ 0 → is_comma t ≡ true → one ≡ enumerator_of (take (at - start) (drop start tokens))
@@ -116,10 +116,10 @@ module _ (tokens : List Lexeme) (depth at : ℕ) (t : Lexeme) (lt : at < length 
         let h = rw here at so_far in
         rw (none, z, is_one, append_assoc) h
 
-    pub enumerators_behind : (depth ≡ 0 → is_comma t ≡ false) → found ++ enumerators_of (pieces_from (depth_after depth t) (take (at + 1 - start) (drop start tokens)) (drop (at + 1) tokens)) ≡ total
-    enumerators_behind n =
+    pub enumerators_after : (depth ≡ 0 → is_comma t ≡ false) → found ++ enumerators_of (pieces_from (depth_after depth t) (take (at + 1 - start) (drop start tokens)) (drop (at + 1) tokens)) ≡ total
+    enumerators_after n =
         let longer : take (at + 1 - start) (drop start tokens) ≡ take (at - start) (drop start tokens) ++ t ∷ [] = between_more tokens start at t begun lt ∙ ap (λ x. take (at - start) (drop start tokens) ++ x ∷ []) (sym is) in
-        let here = ap (pieces_from depth (take (at - start) (drop start tokens))) (drop_at tokens at t lt is) ∙ comma_behind depth _ t _ n in
+        let here = ap (pieces_from depth (take (at - start) (drop start tokens))) (drop_at tokens at t lt is) ∙ comma_after depth _ t _ n in
         let h = rw here at so_far in
         rw longer h
 
@@ -129,9 +129,9 @@ module _ (tokens : List Lexeme) (depth at : ℕ) (end : length tokens ≤ at) wh
   unfolding is_marked
   is_marked_end total so_far = sym (ap (is_marked depth) (drop_all at tokens end)) ∙ so_far
 
-  pub behind_round_end : (total : List Lexeme) → behind_round depth (drop at tokens) ≡ total → [] ≡ total
-  unfolding behind_round
-  behind_round_end total so_far = sym (ap (behind_round depth) (drop_all at tokens end)) ∙ so_far
+  pub after_round_end : (total : List Lexeme) → after_round depth (drop at tokens) ≡ total → [] ≡ total
+  unfolding after_round
+  after_round_end total so_far = sym (ap (after_round depth) (drop_all at tokens end)) ∙ so_far
 
   pub last_name_end : (last total : Option Name) → last_name depth last (drop at tokens) ≡ total → last ≡ total
   unfolding last_name
@@ -147,8 +147,8 @@ module _ (tokens : List Lexeme) (at : ℕ) (t : Lexeme) (total : Outcome (Option
   unfolding unmarked_at
   unmarked_stops s e = sym so_far ∙ ap (unmarked_at tokens) (drop_at tokens at t lt is) ∙ rw e refl
 
-  pub unmarked_behind : ((s : Spot) → t ≡ lexeme.Gty s → ⊥) → unmarked_at tokens (drop (at + 1) tokens) ≡ total
-  unmarked_behind n = sym (ap (unmarked_at tokens) (drop_at tokens at t lt is) ∙ other tokens t _ n) ∙ so_far
+  pub unmarked_after : ((s : Spot) → t ≡ lexeme.Gty s → ⊥) → unmarked_at tokens (drop (at + 1) tokens) ≡ total
+  unmarked_after n = sym (ap (unmarked_at tokens) (drop_at tokens at t lt is) ∙ other tokens t _ n) ∙ so_far
 
 pub unmarked_end : (tokens : List Lexeme) (at : ℕ) (total : Outcome (Option Item)) → length tokens ≤ at → unmarked_at tokens (drop at tokens) ≡ total → total ≡ Read (unmarked_of tokens) []
 unfolding unmarked_at

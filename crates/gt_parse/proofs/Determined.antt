@@ -12,7 +12,7 @@ use Rattle.gt_parse.specs.declared.search.ItemEnd.{ItemEnd}
 use Rattle.gt_parse.specs.declared.search.ItemEnd.TheVariants.{Whole, Unmatched, Unended}
 use Rattle.gt_parse.specs.declared.search.Step.TheVariants.{Goes, Ends, Stops}
 use Rattle.gt_parse.specs.Search.{is_no_bracket, is_plain, is_gty, is_equals, Balanced, EndsItem, Inside, BeginsItem, IsUnmatched}
-use Rattle.gt_parse.specs.Searching.{same_bracket, called_behind, ends_body, one_longer, end_behind, item_end}
+use Rattle.gt_parse.specs.Searching.{same_bracket, called_after, ends_body, one_longer, end_after, item_end}
 use Rattle.gt_parse.proofs.ItemEnds.{item_end-step, item_end-nil}
 use Rattle.gt_parse.proofs.Sound.{begun}
 
@@ -64,7 +64,7 @@ outside m c (lexeme.Close d s) ts plain = absurd (false≢true plain)
 outside m c (lexeme.Semicolon s) ts plain = absurd (false≢true plain)
 outside m c t ts plain = refl
 
-opens_outside : (b : Bracket) (m c : Bool) (s : Spot) (ts : List Lexeme) → item_end (begun [] m c) (lexeme.Open b s ∷ ts) ≡ one_longer (item_end (begun (b ∷ []) false (called_behind b m c)) ts)
+opens_outside : (b : Bracket) (m c : Bool) (s : Spot) (ts : List Lexeme) → item_end (begun [] m c) (lexeme.Open b s ∷ ts) ≡ one_longer (item_end (begun (b ∷ []) false (called_after b m c)) ts)
 unfolding item_end
 opens_outside b m c s ts = refl
 
@@ -99,7 +99,7 @@ stops : (bs : List Bracket) (m c : Bool) (b : Bracket) (s : Spot) (ts : List Lex
 stops [] m c b s ts unmatched = item_end-step (begun [] m c) (lexeme.Close b s) ts
 stops (a ∷ bs) m c b s ts unmatched =
     item_end-step (begun (a ∷ bs) m c) (lexeme.Close b s) ts
-    ∙ ap (λ same. end_behind (λ next. item_end next ts) (if same then (if ends_body b c bs then Ends else Goes (begun bs m c)) else Stops s.start)) (other_bracket a b unmatched)
+    ∙ ap (λ same. end_after (λ next. item_end next ts) (if same then (if ends_body b c bs then Ends else Goes (begun bs m c)) else Stops s.start)) (other_bracket a b unmatched)
 
 -- ---- groups
 
@@ -120,19 +120,19 @@ balanced (Balanced.group {inside = inside} {ts = ts} d o s inner more) b bs m c 
     ∙ sym (past-append inside (lexeme.Close d s ∷ ts) (item_end (begun (b ∷ bs) m c) rest)))
 
 -- a group in no brackets
-group_outside : {inside : List Lexeme} (b : Bracket) (m c : Bool) (o s : Spot) (ts rest : List Lexeme) → Balanced inside → ends_body b (called_behind b m c) [] ≡ false
-    → item_end (begun [] m c) ((lexeme.Open b o ∷ inside ++ lexeme.Close b s ∷ ts) ++ rest) ≡ past (lexeme.Open b o ∷ inside) (one_longer (item_end (begun [] false (called_behind b m c)) (ts ++ rest)))
+group_outside : {inside : List Lexeme} (b : Bracket) (m c : Bool) (o s : Spot) (ts rest : List Lexeme) → Balanced inside → ends_body b (called_after b m c) [] ≡ false
+    → item_end (begun [] m c) ((lexeme.Open b o ∷ inside ++ lexeme.Close b s ∷ ts) ++ rest) ≡ past (lexeme.Open b o ∷ inside) (one_longer (item_end (begun [] false (called_after b m c)) (ts ++ rest)))
 group_outside {inside = inside} b m c o s ts rest inner e =
     opens_outside b m c o ((inside ++ lexeme.Close b s ∷ ts) ++ rest)
     ∙ ap one_longer
-    (ap (item_end (begun (b ∷ []) false (called_behind b m c))) (split inside (lexeme.Close b s) ts rest)
-    ∙ balanced inner b [] false (called_behind b m c) (lexeme.Close b s ∷ (ts ++ rest))
-    ∙ ap (past inside) (closes_outside b false (called_behind b m c) s (ts ++ rest) e))
+    (ap (item_end (begun (b ∷ []) false (called_after b m c))) (split inside (lexeme.Close b s) ts rest)
+    ∙ balanced inner b [] false (called_after b m c) (lexeme.Close b s ∷ (ts ++ rest))
+    ∙ ap (past inside) (closes_outside b false (called_after b m c) s (ts ++ rest) e))
 
 -- ---- whole items
 
-group_whole : {inside : List Lexeme} (b : Bracket) (m c : Bool) (o s : Spot) (ts rest : List Lexeme) → Balanced inside → ends_body b (called_behind b m c) [] ≡ false
-    → item_end (begun [] false (called_behind b m c)) (ts ++ rest) ≡ Whole (length ts)
+group_whole : {inside : List Lexeme} (b : Bracket) (m c : Bool) (o s : Spot) (ts rest : List Lexeme) → Balanced inside → ends_body b (called_after b m c) [] ≡ false
+    → item_end (begun [] false (called_after b m c)) (ts ++ rest) ≡ Whole (length ts)
     → item_end (begun [] m c) ((lexeme.Open b o ∷ inside ++ lexeme.Close b s ∷ ts) ++ rest) ≡ Whole (length (lexeme.Open b o ∷ inside ++ lexeme.Close b s ∷ ts))
 group_whole {inside = inside} b m c o s ts rest inner e last =
     group_outside b m c o s ts rest inner e ∙ ap (λ end. past (lexeme.Open b o ∷ inside) (one_longer end)) last ∙ past-whole (lexeme.Open b o ∷ inside) (lexeme.Close b s ∷ ts)
@@ -168,14 +168,14 @@ inside_open (Inside.unclosed {ts = ts} {opened = opened} d o more) b bs m c rest
     opens_within b d bs m c o (ts ++ rest)
     ∙ ap one_longer (inside_open more d (b ∷ bs) m c rest ∙ ap (λ (bs : List Bracket). past ts (item_end (begun bs m c) rest)) (sym (append_assoc opened (d ∷ []) (b ∷ bs))))
 
--- the state behind the tokens of an item that does not end
+-- the state after the tokens of an item that does not end
 pub record Reaches (m c : Bool) (ts : List Lexeme) (opened : List Bracket) : Type 0 where
   pub marks : Bool
   pub called : Bool
   pub reaches : (rest : List Lexeme) → item_end (begun [] m c) (ts ++ rest) ≡ past ts (item_end (begun opened marks called) rest)
 
-group_reaches : {inside : List Lexeme} (b : Bracket) (m c : Bool) (o s : Spot) (ts : List Lexeme) (opened : List Bracket) → Balanced inside → ends_body b (called_behind b m c) [] ≡ false
-    → Reaches false (called_behind b m c) ts opened → Reaches m c (lexeme.Open b o ∷ inside ++ lexeme.Close b s ∷ ts) opened
+group_reaches : {inside : List Lexeme} (b : Bracket) (m c : Bool) (o s : Spot) (ts : List Lexeme) (opened : List Bracket) → Balanced inside → ends_body b (called_after b m c) [] ≡ false
+    → Reaches false (called_after b m c) ts opened → Reaches m c (lexeme.Open b o ∷ inside ++ lexeme.Close b s ∷ ts) opened
 group_reaches {inside = inside} b m c o s ts opened inner e r = record {
   marks = r.marks;
   called = r.called;
@@ -195,8 +195,8 @@ reaches {m = m} {c = c} (BeginsItem.square {ts = ts} {opened = opened} o s inner
 reaches {m = m} (BeginsItem.braces {ts = ts} {opened = opened} o s inner more) = group_reaches Brace m false o s ts opened inner refl (reaches more)
 reaches {m = m} {c = c} (BeginsItem.unclosed {ts = ts} {opened = opened} b o more) = record {
   marks = false;
-  called = called_behind b m c;
-  reaches = λ rest. opens_outside b m c o (ts ++ rest) ∙ ap one_longer (inside_open more b [] false (called_behind b m c) rest);
+  called = called_after b m c;
+  reaches = λ rest. opens_outside b m c o (ts ++ rest) ∙ ap one_longer (inside_open more b [] false (called_after b m c) rest);
 }
 
 pub unended : {m c : Bool} {ts : List Lexeme} {opened : List Bracket} → BeginsItem m c ts opened → item_end (begun [] m c) ts ≡ Unended

@@ -5,9 +5,9 @@ use Rattle.std.specs.Option.{option_map}
 use Rattle.std.proofs.lemmas.List.{append-nil, drop_all}
 use Rattle.gt_parse.specs.Markers.{unescaped}
 
-behind : (made : List ℕ) (b : ℕ) (found : Option (List ℕ)) → option_map (λ rest. made ++ rest) (option_map (λ rest. b ∷ rest) found) ≡ option_map (λ rest. (made ++ b ∷ []) ++ rest) found
-behind made b None = refl
-behind made b (Some rest) = rw append_assoc refl
+following : (made : List ℕ) (b : ℕ) (found : Option (List ℕ)) → option_map (λ rest. made ++ rest) (option_map (λ rest. b ∷ rest) found) ≡ option_map (λ rest. (made ++ b ∷ []) ++ rest) found
+following made b None = refl
+following made b (Some rest) = rw append_assoc refl
 
 backslash : (b : ℕ) (bs : List ℕ) → b ≡ 92 → unescaped false (b ∷ bs) ≡ unescaped true bs
 unfolding unescaped
@@ -25,7 +25,7 @@ wrong : (b : ℕ) (bs : List ℕ) → ((b == 34) || (b == 92)) ≡ false → une
 unfolding unescaped
 wrong b bs e = rw e refl
 
--- behind the bytes that were made, at a byte of the text
+-- after the bytes that were made, at a byte of the text
 module _ (text made : List ℕ) (i : ℕ) (total : Option (List ℕ)) (lt : i < length text) where
   front : drop i text ≡ get_or text i 0 ∷ drop (i + 1) text
   front = rw (add-one, drop-cons text i 0) refl
@@ -34,10 +34,10 @@ module _ (text made : List ℕ) (i : ℕ) (total : Option (List ℕ)) (lt : i < 
   unescaped_backslash so_far e = ap (option_map (λ rest. made ++ rest)) (sym (ap (unescaped false) front ∙ backslash _ _ e)) ∙ so_far
 
   pub unescaped_plain : option_map (λ rest. made ++ rest) (unescaped false (drop i text)) ≡ total → get_or text i 0 ≢ 92 → option_map (λ rest. (made ++ get_or text i 0 ∷ []) ++ rest) (unescaped false (drop (i + 1) text)) ≡ total
-  unescaped_plain so_far n = sym (behind made _ _) ∙ ap (option_map (λ rest. made ++ rest)) (sym (ap (unescaped false) front ∙ plain _ _ n)) ∙ so_far
+  unescaped_plain so_far n = sym (following made _ _) ∙ ap (option_map (λ rest. made ++ rest)) (sym (ap (unescaped false) front ∙ plain _ _ n)) ∙ so_far
 
   pub unescaped_escaped : option_map (λ rest. made ++ rest) (unescaped true (drop i text)) ≡ total → ((get_or text i 0 == 34) || (get_or text i 0 == 92)) ≡ true → option_map (λ rest. (made ++ get_or text i 0 ∷ []) ++ rest) (unescaped false (drop (i + 1) text)) ≡ total
-  unescaped_escaped so_far e = sym (behind made _ _) ∙ ap (option_map (λ rest. made ++ rest)) (sym (ap (unescaped true) front ∙ escaped _ _ e)) ∙ so_far
+  unescaped_escaped so_far e = sym (following made _ _) ∙ ap (option_map (λ rest. made ++ rest)) (sym (ap (unescaped true) front ∙ escaped _ _ e)) ∙ so_far
 
   pub unescaped_wrong : option_map (λ rest. made ++ rest) (unescaped true (drop i text)) ≡ total → ((get_or text i 0 == 34) || (get_or text i 0 == 92)) ≡ false → None ≡ total
   unescaped_wrong so_far e = ap (option_map (λ rest. made ++ rest)) (sym (ap (unescaped true) front ∙ wrong _ _ e)) ∙ so_far

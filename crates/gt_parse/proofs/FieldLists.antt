@@ -7,13 +7,13 @@ use Rattle.gt_parse.specs.declared.lexeme.Lexeme.TheVariants as lexeme
 use Rattle.gt_parse.specs.declared.unread.Unread.{Unread}
 use Rattle.gt_parse.specs.declared.unread.Unread.TheVariants.{Memory, Ended, Fault}
 use Rattle.gt_parse.specs.Outcome.{Outcome, Read, Ends, Fails, ◌>>=◌}
-use Rattle.gt_parse.specs.Fields.{brace_behind, until_brace, field_at, fields_from}
+use Rattle.gt_parse.specs.Fields.{brace_after, until_brace, field_at, fields_from}
 
-goes_on : {A : Type 0} (go : List Lexeme → Outcome A) (made : A) (ts : List Lexeme) → brace_behind ts ≡ None → until_brace go made ts ≡ go ts
+goes_on : {A : Type 0} (go : List Lexeme → Outcome A) (made : A) (ts : List Lexeme) → brace_after ts ≡ None → until_brace go made ts ≡ go ts
 goes_on go made (lexeme.Close Brace s ∷ ts) e = absurd cc
 goes_on go made ts e = refl
 
-stops : {A : Type 0} (go : List Lexeme → Outcome A) (made : A) (ts next : List Lexeme) → brace_behind ts ≡ Some next → until_brace go made ts ≡ Read made next
+stops : {A : Type 0} (go : List Lexeme → Outcome A) (made : A) (ts next : List Lexeme) → brace_after ts ≡ Some next → until_brace go made ts ≡ Read made next
 stops go made (lexeme.Close Brace s ∷ ts) next e = let k : ts ≡ next = cc in rw k refl
 stops go made ts next e = absurd cc
 
@@ -31,10 +31,10 @@ module _ (count i : ℕ) (made : List RawField) (ts : List Lexeme) (total : Outc
     then : total ≡ until_brace (fields_from (count - (i + 1)) (made ++ one ∷ [])) (made ++ one ∷ []) rest
     then = here ∙ rw read refl
 
-    pub fields_go_on : brace_behind rest ≡ None → fields_from (count - (i + 1)) (made ++ one ∷ []) rest ≡ total
+    pub fields_go_on : brace_after rest ≡ None → fields_from (count - (i + 1)) (made ++ one ∷ []) rest ≡ total
     fields_go_on e = sym (then ∙ goes_on (fields_from (count - (i + 1)) (made ++ one ∷ [])) (made ++ one ∷ []) rest e)
 
-    pub fields_stop : (next : List Lexeme) → brace_behind rest ≡ Some next → total ≡ Read (made ++ one ∷ []) next
+    pub fields_stop : (next : List Lexeme) → brace_after rest ≡ Some next → total ≡ Read (made ++ one ∷ []) next
     fields_stop next e = then ∙ stops (fields_from (count - (i + 1)) (made ++ one ∷ [])) (made ++ one ∷ []) rest next e
 
 pub fields_end : (count i : ℕ) (made : List RawField) (ts : List Lexeme) (total : Outcome (List RawField)) → count ≤ i → fields_from (count - i) made ts ≡ total → total ≡ Ends

@@ -13,7 +13,7 @@ use Rattle.gt_parse.specs.declared.lexeme.Lexeme.{Lexeme}
 use Rattle.gt_parse.specs.declared.lexeme.Lexeme.TheVariants as lexeme
 use Rattle.gt_parse.specs.declared.types.Place.TheVariants.{InField}
 use Rattle.gt_parse.specs.FieldGrammar.{is_semicolon, is_colon, opens_square, closes_brace, begins_label, closes_any, IsFree, Bounds, Bits, PlainDeclarator, ADeclarator, Declarators, Field, FieldsToBrace}
-use Rattle.gt_parse.specs.Fields.{bits_at, no_function_at, plain_declarator_at, star_at, function_declarator_at, declarator_at, behind_declarator, declarators_from, is_access, no_label_at, field_at, until_brace, fields_from}
+use Rattle.gt_parse.specs.Fields.{bits_at, no_function_at, plain_declarator_at, star_at, function_declarator_at, declarator_at, after_declarator, declarators_from, is_access, no_label_at, field_at, until_brace, fields_from}
 use Rattle.gt_parse.specs.Groups.{bounds_from}
 use Rattle.gt_parse.specs.Lexemes.{kept_text}
 use Rattle.gt_parse.specs.MarkerGrammar.{Early, failed, begins, is_comma, opens_round, MaybeMarker}
@@ -61,14 +61,14 @@ bounds_more : (o : Spot) {inside ts : List Lexeme} (b : Bracket) (p : Spot) {out
 bounds_more o b p n m (read bounds rest) = record { outcome = _; holds = Bounds.bound b o p n m }
 bounds_more o b p n m (unread why) = record { outcome = failed why; holds = Bounds.in_more b o p why n m }
 
-bounds_behind : (o : Spot) {ts : List Lexeme} → Closes ts → ((us : List Lexeme) → suc (length us) ≤ length ts → Has Bounds us) → Has Bounds (lexeme.Open Square o ∷ ts)
-bounds_behind o (closed {inside} rest b p n) again =
+bounds_after : (o : Spot) {ts : List Lexeme} → Closes ts → ((us : List Lexeme) → suc (length us) ≤ length ts → Has Bounds us) → Has Bounds (lexeme.Open Square o ∷ ts)
+bounds_after o (closed {inside} rest b p n) again =
     let more = again rest (omega (arith, length-append inside (lexeme.Close b p ∷ rest))) in bounds_more o b p n more.holds (comes more.outcome)
-bounds_behind o (unclosed u) again = record { outcome = Ends; holds = Bounds.not_closed o u }
+bounds_after o (unclosed u) again = record { outcome = Ends; holds = Bounds.not_closed o u }
 
 bounds_up_to : (n : ℕ) (ts : List Lexeme) → length ts ≤ n → Has Bounds ts
 bounds_up_to zero (t ∷ ts) h = absurd (omega arith)
-bounds_up_to (suc n) (lexeme.Open Square o ∷ ts) h = bounds_behind o (closes ts) (λ us k. bounds_up_to n us (omega arith))
+bounds_up_to (suc n) (lexeme.Open Square o ∷ ts) h = bounds_after o (closes ts) (λ us k. bounds_up_to n us (omega arith))
 bounds_up_to n [] h = record { outcome = _; holds = Bounds.no_bound refl }
 bounds_up_to n (t ∷ ts) h = record { outcome = _; holds = Bounds.no_bound refl }
 
@@ -94,12 +94,12 @@ bits-leaves (Bits.no_bits h) = omega arith
 bits-leaves (Bits.bits {text} {rest} c t x e) = omega (arith, length-append text (t ∷ rest))
 bits-leaves (Bits.endless c u) = tt
 
-bits_behind : (c : Spot) {ts : List Lexeme} → EndsText ts → Has Bits (lexeme.Colon c ∷ ts)
-bits_behind c (ended rest t x e) = record { outcome = _; holds = Bits.bits c t x e }
-bits_behind c (endless u) = record { outcome = Ends; holds = Bits.endless c u }
+bits_after : (c : Spot) {ts : List Lexeme} → EndsText ts → Has Bits (lexeme.Colon c ∷ ts)
+bits_after c (ended rest t x e) = record { outcome = _; holds = Bits.bits c t x e }
+bits_after c (endless u) = record { outcome = Ends; holds = Bits.endless c u }
 
 bits_has : (ts : List Lexeme) → Has Bits ts
-bits_has (lexeme.Colon c ∷ ts) = bits_behind c (ends ts)
+bits_has (lexeme.Colon c ∷ ts) = bits_after c (ends ts)
 bits_has [] = record { outcome = _; holds = Bits.no_bits refl }
 bits_has (t ∷ ts) = record { outcome = _; holds = Bits.no_bits refl }
 
@@ -158,7 +158,7 @@ plain_marker a m (read options (v ∷ vs)) = record { outcome = unexpected (v �
 plain_has : (ts : List Lexeme) → Has PlainDeclarator ts
 plain_has ts =
     let stars = stars_has ts in
-    plain_marker stars.are (maybe_marker_has stars.behind).holds (comes (maybe_marker_has stars.behind).outcome)
+    plain_marker stars.are (maybe_marker_has stars.following).holds (comes (maybe_marker_has stars.following).outcome)
 
 -- ---- declarators
 
@@ -224,7 +224,7 @@ plain_declarator_has ts h = record { outcome = (plain_has ts).outcome; holds = A
 
 declarator_has : (ts : List Lexeme) → Has ADeclarator ts
 declarator_has (lexeme.Open Round a ∷ lexeme.Star s ∷ ts) =
-    let has = maybe_marker_has (qualifiers_has ts).behind in
+    let has = maybe_marker_has (qualifiers_has ts).following in
     function_marker a s (qualifiers_has ts).qualifiers has.holds (comes has.outcome)
 declarator_has (lexeme.Open Round a ∷ []) = record { outcome = unexpected []; holds = ADeclarator.no_star a refl }
 declarator_has (lexeme.Open Round a ∷ t ∷ ts) = record { outcome = unexpected (t ∷ ts); holds = ADeclarator.no_star a refl }
@@ -234,14 +234,14 @@ declarator_has (t ∷ ts) = plain_declarator_has (t ∷ ts) refl
 -- ---- lists of declarators
 
 one_turn : (count : ℕ) (before : List Declarator) (ts : List Lexeme) → length ts ≤ count
-    → declarators_from count before ts ≡ (declarator_at ts >>= λ one. behind_declarator (declarators_from (count - 1) (before ++ one.0 ∷ [])) (before ++ one.0 ∷ []) one.1)
+    → declarators_from count before ts ≡ (declarator_at ts >>= λ one. after_declarator (declarators_from (count - 1) (before ++ one.0 ∷ [])) (before ++ one.0 ∷ []) one.1)
 unfolding declarators_from declarator_at plain_declarator_at stars_at maybe_marker name_at
 one_turn zero before [] h = refl
 one_turn zero before (t ∷ ts) h = absurd (omega arith)
 one_turn (suc count) before ts h = let fewer : suc count - 1 ≡ count = omega arith in rw fewer refl
 
 no_separator : {A : Type 0} (go : List Lexeme → Outcome A) (x : A) (ts : List Lexeme) → begins is_comma ts ≡ false → begins is_semicolon ts ≡ false
-    → behind_declarator go x ts ≡ unexpected ts
+    → after_declarator go x ts ≡ unexpected ts
 no_separator go x [] h k = refl
 no_separator go x (lexeme.Comma s ∷ ts) h k = absurd cc
 no_separator go x (lexeme.Semicolon s ∷ ts) h k = absurd cc
@@ -259,7 +259,7 @@ declarators-from (Declarators.in_more {ts} {us} {d = x} c why d m) count before 
 declarators-from (Declarators.not_ended {ts} {rest} d h k) count before l =
     rw (one_turn count before ts l, ← declarator-one d) (no_separator _ _ rest h k ∙ sym (unexpected_step rest _))
 
--- a semicolon stands behind them
+-- a semicolon stands after them
 declarators-leaves : {ts : List Lexeme} {o : Outcome (List Declarator)} → Declarators ts o → (n : ℕ) → length ts ≤ suc n → Leaves n o
 declarators-leaves (Declarators.last s d) n h = omega (arith, declarator-leaves d)
 declarators-leaves (Declarators.more c d m) n h = declarators-leaves m n (omega (arith, declarator-leaves d))
@@ -271,13 +271,13 @@ declarators_more : {ts us : List Lexeme} {x : Declarator} (c : Spot) {o : Outcom
 declarators_more c d m (read xs rest) = record { outcome = _; holds = Declarators.more c d m }
 declarators_more c d m (unread why) = record { outcome = failed why; holds = Declarators.in_more c why d m }
 
-declarators_behind : (ts : List Lexeme) {o : Outcome Declarator} → ADeclarator ts o → Comes o → ((us : List Lexeme) → suc (length us) ≤ length ts → Has Declarators us) → Has Declarators ts
-declarators_behind ts d (unread why) again = record { outcome = failed why; holds = Declarators.in_declarator why d }
-declarators_behind ts d (read x (lexeme.Comma c ∷ us)) again =
+declarators_after : (ts : List Lexeme) {o : Outcome Declarator} → ADeclarator ts o → Comes o → ((us : List Lexeme) → suc (length us) ≤ length ts → Has Declarators us) → Has Declarators ts
+declarators_after ts d (unread why) again = record { outcome = failed why; holds = Declarators.in_declarator why d }
+declarators_after ts d (read x (lexeme.Comma c ∷ us)) again =
     let has = again us (declarator-leaves d) in declarators_more c d has.holds (comes has.outcome)
-declarators_behind ts d (read x (lexeme.Semicolon s ∷ us)) again = record { outcome = _; holds = Declarators.last s d }
-declarators_behind ts d (read x []) again = record { outcome = unexpected []; holds = Declarators.not_ended d refl refl }
-declarators_behind ts d (read x (u ∷ us)) again = record { outcome = unexpected (u ∷ us); holds = Declarators.not_ended d refl refl }
+declarators_after ts d (read x (lexeme.Semicolon s ∷ us)) again = record { outcome = _; holds = Declarators.last s d }
+declarators_after ts d (read x []) again = record { outcome = unexpected []; holds = Declarators.not_ended d refl refl }
+declarators_after ts d (read x (u ∷ us)) again = record { outcome = unexpected (u ∷ us); holds = Declarators.not_ended d refl refl }
 
 -- where no token stands, the tokens end
 nothing_declares : Has Declarators []
@@ -286,7 +286,7 @@ nothing_declares = record { outcome = Ends; holds = Declarators.in_declarator Ea
 declarators_up_to : (n : ℕ) (ts : List Lexeme) → length ts ≤ n → Has Declarators ts
 declarators_up_to zero [] h = nothing_declares
 declarators_up_to zero (t ∷ ts) h = absurd (omega arith)
-declarators_up_to (suc n) ts h = declarators_behind ts (declarator_has ts).holds (comes (declarator_has ts).outcome) (λ us k. declarators_up_to n us (omega arith))
+declarators_up_to (suc n) ts h = declarators_after ts (declarator_has ts).holds (comes (declarator_has ts).outcome) (λ us k. declarators_up_to n us (omega arith))
 
 declarators_has : (ts : List Lexeme) → Has Declarators ts
 declarators_has ts = declarators_up_to (length ts) ts (omega arith)
@@ -324,19 +324,19 @@ field_type : {ts : List Lexeme} → begins_label ts ≡ false → {o : Outcome R
 field_type h t (read x us) = field_declares h t (declarators_has us).holds (comes (declarators_has us).outcome)
 field_type h t (unread why) = record { outcome = failed why; holds = Field.in_type why h t }
 
-field_behind : (ts : List Lexeme) → begins_label ts ≡ false → Has Field ts
-field_behind ts h = field_type h (type_has InField ts).holds (comes (type_has InField ts).outcome)
+field_after : (ts : List Lexeme) → begins_label ts ≡ false → Has Field ts
+field_after ts h = field_type h (type_has InField ts).holds (comes (type_has InField ts).outcome)
 
 field_label : (s c : Spot) (ts : List Lexeme) (is : Bool) → is_access s.word ≡ is → Has Field (lexeme.Name s ∷ lexeme.Colon c ∷ ts)
 field_label s c ts true h = record { outcome = _; holds = Field.label s c h }
-field_label s c ts false h = field_behind (lexeme.Name s ∷ lexeme.Colon c ∷ ts) h
+field_label s c ts false h = field_after (lexeme.Name s ∷ lexeme.Colon c ∷ ts) h
 
 field_has : (ts : List Lexeme) → Has Field ts
 field_has (lexeme.Name s ∷ lexeme.Colon c ∷ ts) = field_label s c ts (is_access s.word) refl
-field_has [] = field_behind [] refl
-field_has (lexeme.Name s ∷ []) = field_behind (lexeme.Name s ∷ []) refl
-field_has (lexeme.Name s ∷ t ∷ ts) = field_behind (lexeme.Name s ∷ t ∷ ts) refl
-field_has (t ∷ ts) = field_behind (t ∷ ts) refl
+field_has [] = field_after [] refl
+field_has (lexeme.Name s ∷ []) = field_after (lexeme.Name s ∷ []) refl
+field_has (lexeme.Name s ∷ t ∷ ts) = field_after (lexeme.Name s ∷ t ∷ ts) refl
+field_has (t ∷ ts) = field_after (t ∷ ts) refl
 
 pub field-alone : (ts : List Lexeme) (o : Outcome RawField) → Field ts o → o ≡ field_at ts
 field-alone ts o d = field-one d
@@ -362,7 +362,7 @@ no_brace go x [] h = refl
 no_brace go x (lexeme.Close Brace s ∷ ts) h = absurd cc
 no_brace go x (t ∷ ts) h = refl
 
--- fewer tokens stand behind a field
+-- fewer tokens stand after a field
 field_count : {ts us : List Lexeme} {x : RawField} → Field ts (Read x us) → (count : ℕ) → length ts ≤ count → length us ≤ count - 1
 field_count {ts} {us} d count h = field-leaves d (count - 1) (omega arith)
 
@@ -381,18 +381,18 @@ fields_more : {ts us : List Lexeme} {f : RawField} {o : Outcome (List RawField)}
 fields_more d k m (read fs rest) = record { outcome = _; holds = FieldsToBrace.more d k m }
 fields_more d k m (unread why) = record { outcome = failed why; holds = FieldsToBrace.in_more why d k m }
 
-fields_behind : (n : ℕ) (ts : List Lexeme) → length ts ≤ suc n → {o : Outcome RawField} → Field ts o → Comes o → ((us : List Lexeme) → length us ≤ n → Has FieldsToBrace us) → Has FieldsToBrace ts
-fields_behind n ts h d (unread why) again = record { outcome = failed why; holds = FieldsToBrace.in_field why d }
-fields_behind n ts h d (read f (lexeme.Close Brace s ∷ us)) again = record { outcome = _; holds = FieldsToBrace.last s d }
-fields_behind n ts h d (read f []) again =
+fields_after : (n : ℕ) (ts : List Lexeme) → length ts ≤ suc n → {o : Outcome RawField} → Field ts o → Comes o → ((us : List Lexeme) → length us ≤ n → Has FieldsToBrace us) → Has FieldsToBrace ts
+fields_after n ts h d (unread why) again = record { outcome = failed why; holds = FieldsToBrace.in_field why d }
+fields_after n ts h d (read f (lexeme.Close Brace s ∷ us)) again = record { outcome = _; holds = FieldsToBrace.last s d }
+fields_after n ts h d (read f []) again =
     let has = again [] (field-leaves d n h) in fields_more d refl has.holds (comes has.outcome)
-fields_behind n ts h d (read f (u ∷ us)) again =
+fields_after n ts h d (read f (u ∷ us)) again =
     let has = again (u ∷ us) (field-leaves d n h) in fields_more d refl has.holds (comes has.outcome)
 
 fields_up_to : (n : ℕ) (ts : List Lexeme) → length ts ≤ n → Has FieldsToBrace ts
 fields_up_to zero [] h = record { outcome = Ends; holds = FieldsToBrace.in_field Early (rw nothing_is_field at (field-allowed [])) }
 fields_up_to zero (t ∷ ts) h = absurd (omega arith)
-fields_up_to (suc n) ts h = fields_behind n ts h (field_has ts).holds (comes (field_has ts).outcome) (fields_up_to n)
+fields_up_to (suc n) ts h = fields_after n ts h (field_has ts).holds (comes (field_has ts).outcome) (fields_up_to n)
 
 pub fields_has : (ts : List Lexeme) → Has FieldsToBrace ts
 fields_has ts = fields_up_to (length ts) ts (omega arith)

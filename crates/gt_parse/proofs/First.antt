@@ -72,7 +72,7 @@ first_of-IsFrom : (l : ℕ) (faults : List (ℕ × ℕ)) → AllByRecursion (λ 
 first_of-IsFrom l [] all = tt
 first_of-IsFrom l (f ∷ faults) all = earlier-IsFrom l f.0 f.1 (first_of faults) all.0 (first_of-IsFrom l faults all.1)
 
--- a list with a fault, no earlier one behind it, and later ones before it
+-- a list with a fault, no earlier one after it, and later ones before it
 pub record Parted (faults : List (ℕ × ℕ)) (n a : ℕ) : Type 0 where
   pub before : List (ℕ × ℕ)
   pub after : List (ℕ × ℕ)
@@ -80,13 +80,13 @@ pub record Parted (faults : List (ℕ × ℕ)) (n a : ℕ) : Type 0 where
   pub earlier : AllByRecursion (λ fault. a < fault.1) before
   pub later : AllByRecursion (λ fault. a ≤ fault.1) after
 
-behind_first : (n a : ℕ) (before after : List (ℕ × ℕ)) → AllByRecursion (λ fault. a < fault.1) before → AllByRecursion (λ fault. a ≤ fault.1) after → first_of (before ++ (n, a) ∷ after) ≡ Fails n a
-behind_first n a [] after all later = earlier-from n a (first_of after) (first_of-IsFrom a after later)
-behind_first n a (f ∷ before) after all later =
-    ap (earlier (Fails f.0 f.1)) (behind_first n a before after all.1 later) ∙ earlier-if f.0 f.1 n a true (lt-ltb a f.1 all.0)
+after_first : (n a : ℕ) (before after : List (ℕ × ℕ)) → AllByRecursion (λ fault. a < fault.1) before → AllByRecursion (λ fault. a ≤ fault.1) after → first_of (before ++ (n, a) ∷ after) ≡ Fails n a
+after_first n a [] after all later = earlier-from n a (first_of after) (first_of-IsFrom a after later)
+after_first n a (f ∷ before) after all later =
+    ap (earlier (Fails f.0 f.1)) (after_first n a before after all.1 later) ∙ earlier-if f.0 f.1 n a true (lt-ltb a f.1 all.0)
 
 pub Parted-first : (faults : List (ℕ × ℕ)) (n a : ℕ) → Parted faults n a → first_of faults ≡ Fails n a
-Parted-first faults n a p = ap first_of p.is ∙ behind_first n a p.before p.after p.earlier p.later
+Parted-first faults n a p = ap first_of p.is ∙ after_first n a p.before p.after p.earlier p.later
 
 -- what is first parts the list so
 pub earlier-fails : (n a : ℕ) (end : End) → earlier (Fails n a) end ≡ Complete → ⊥
@@ -99,10 +99,10 @@ no_first [] e = refl
 no_first (f ∷ faults) e = absurd (earlier-fails f.0 f.1 (first_of faults) e)
 
 -- none of them is earlier
-all_behind : (l a n : ℕ) (before after : List (ℕ × ℕ)) → l ≤ a → AllByRecursion (λ fault. a < fault.1) before → AllByRecursion (λ fault. a ≤ fault.1) after → AllByRecursion (λ fault. l ≤ fault.1) (before ++ (n, a) ∷ after)
-all_behind l a n [] [] le before_all after_all = (le, tt)
-all_behind l a n [] (g ∷ after) le before_all after_all = let rest = all_behind l a n [] after le before_all after_all.1 in (le, (omega (arith, after_all.0), rest.1))
-all_behind l a n (f ∷ before) after le before_all after_all = (omega (arith, before_all.0), all_behind l a n before after le before_all.1 after_all)
+all_after : (l a n : ℕ) (before after : List (ℕ × ℕ)) → l ≤ a → AllByRecursion (λ fault. a < fault.1) before → AllByRecursion (λ fault. a ≤ fault.1) after → AllByRecursion (λ fault. l ≤ fault.1) (before ++ (n, a) ∷ after)
+all_after l a n [] [] le before_all after_all = (le, tt)
+all_after l a n [] (g ∷ after) le before_all after_all = let rest = all_after l a n [] after le before_all after_all.1 in (le, (omega (arith, after_all.0), rest.1))
+all_after l a n (f ∷ before) after le before_all after_all = (omega (arith, before_all.0), all_after l a n before after le before_all.1 after_all)
 
 -- a fault before the others
 first_alone : (f : ℕ × ℕ) (faults : List (ℕ × ℕ)) (n a : ℕ) → Fails f.0 f.1 ≡ Fails n a → AllByRecursion (λ fault. f.1 ≤ fault.1) faults → Parted (f ∷ faults) n a
@@ -117,18 +117,18 @@ first_alone f faults n a same later =
       later = subst (λ (x : ℕ). AllByRecursion (λ fault. x ≤ fault.1) faults) a_is later;
     }
 
-first_behind : (f : ℕ × ℕ) (faults : List (ℕ × ℕ)) (n a m b : ℕ) → Fails m b ≡ Fails n a → b < f.1 → Parted faults m b → Parted (f ∷ faults) n a
-first_behind f faults n a m b same lt p =
+first_after : (f : ℕ × ℕ) (faults : List (ℕ × ℕ)) (n a m b : ℕ) → Fails m b ≡ Fails n a → b < f.1 → Parted faults m b → Parted (f ∷ faults) n a
+first_after f faults n a m b same lt p =
     let n_is : m ≡ n = cc in
     let a_is : b ≡ a = cc in
     subst (λ (x : ℕ). Parted (f ∷ faults) x a) n_is
     (subst (λ (x : ℕ). Parted (f ∷ faults) m x) a_is (record { before = f ∷ p.before; after = p.after; is = ap (λ faults. f ∷ faults) p.is; earlier = (lt, p.earlier); later = p.later }))
 
 parts_by : (f : ℕ × ℕ) (faults : List (ℕ × ℕ)) (n a m b : ℕ) (x : Bool) → nat_lt b f.1 ≡ x → earlier (Fails f.0 f.1) (Fails m b) ≡ Fails n a → Parted faults m b → Parted (f ∷ faults) n a
-parts_by f faults n a m b true lt is p = first_behind f faults n a m b (sym (earlier-if f.0 f.1 m b true lt) ∙ is) (ltb-true b f.1 lt) p
+parts_by f faults n a m b true lt is p = first_after f faults n a m b (sym (earlier-if f.0 f.1 m b true lt) ∙ is) (ltb-true b f.1 lt) p
 parts_by f faults n a m b false ge is p =
     first_alone f faults n a (sym (earlier-if f.0 f.1 m b false ge) ∙ is)
-    (subst (λ (faults : List (ℕ × ℕ)). AllByRecursion (λ fault. f.1 ≤ fault.1) faults) (sym p.is) (all_behind f.1 b m p.before p.after (ltb-false b f.1 ge) p.earlier p.later))
+    (subst (λ (faults : List (ℕ × ℕ)). AllByRecursion (λ fault. f.1 ≤ fault.1) faults) (sym p.is) (all_after f.1 b m p.before p.after (ltb-false b f.1 ge) p.earlier p.later))
 
 parts : (f : ℕ × ℕ) (faults : List (ℕ × ℕ)) (n a : ℕ) (end : End) → first_of faults ≡ end → earlier (Fails f.0 f.1) end ≡ Fails n a → ((m b : ℕ) → first_of faults ≡ Fails m b → Parted faults m b) → Parted (f ∷ faults) n a
 parts f faults n a Complete e is parted = first_alone f faults n a is (subst (λ (faults : List (ℕ × ℕ)). AllByRecursion (λ fault. f.1 ≤ fault.1) faults) (sym (no_first faults e)) tt)

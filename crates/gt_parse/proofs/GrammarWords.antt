@@ -4,7 +4,7 @@ use Rattle.gt_parse.specs.declared.lexeme.Bracket.TheVariants.{Round}
 use Rattle.gt_parse.specs.declared.lexeme.Lexeme.{Lexeme}
 use Rattle.gt_parse.specs.declared.lexeme.Lexeme.TheVariants as lexeme
 use Rattle.gt_parse.specs.MarkerGrammar.{Failure, Fault, Early, failed, begins, is_comma, opens_round, closes_round}
-use Rattle.gt_parse.specs.Markers.{gty_at, open_round_at, close_round_at, behind_comma}
+use Rattle.gt_parse.specs.Markers.{gty_at, open_round_at, close_round_at, after_comma}
 use Rattle.gt_parse.specs.Outcome.{Outcome, Read, Stops, Ends, ◌>>=◌, unexpected}
 use Rattle.gt_parse.specs.Search.{is_gty}
 
@@ -28,7 +28,7 @@ comes (Read x ts) = read x ts
 comes (Stops number at) = unread (Fault number at)
 comes Ends = unread Early
 
--- a step behind what was not read
+-- a step after what was not read
 pub failed_step : {A B : Type 0} (why : Failure) (f : A × List Lexeme → Outcome B) → (failed why >>= f) ≡ failed why
 failed_step (Fault number at) f = refl
 failed_step Early f = refl
@@ -37,7 +37,7 @@ pub unexpected_step : {A B : Type 0} (ts : List Lexeme) (f : A × List Lexeme �
 unexpected_step [] f = refl
 unexpected_step (t ∷ ts) f = refl
 
--- at most so many tokens stand behind what was read
+-- at most so many tokens stand after what was read
 abbrev pub Leaves : {A : Type 0} → ℕ → Outcome A → Type 0
 Leaves n (Read x ts) = length ts ≤ n
 Leaves n (Stops number at) = Unit {0}
@@ -51,7 +51,7 @@ pub unexpected_leaves : (A : Type 0) (ts : List Lexeme) (n : ℕ) → Leaves {A 
 unexpected_leaves A [] n = tt
 unexpected_leaves A (t ∷ ts) n = tt
 
--- what was read of a list, behind what was read before
+-- what was read of a list, after what was read before
 abbrev pub prefixed : {A : Type 0} → List A → Outcome (List A) → Outcome (List A)
 prefixed before o = o >>= λ rest. Read (before ++ rest.0) rest.1
 
@@ -82,7 +82,7 @@ no_close_round [] h = refl
 no_close_round (lexeme.Close Round s ∷ ts) h = absurd cc
 no_close_round (t ∷ ts) h = refl
 
-pub no_comma : {A : Type 0} (go : List Lexeme → Outcome A) (stop : Outcome A) (ts : List Lexeme) → begins is_comma ts ≡ false → behind_comma go stop ts ≡ stop
+pub no_comma : {A : Type 0} (go : List Lexeme → Outcome A) (stop : Outcome A) (ts : List Lexeme) → begins is_comma ts ≡ false → after_comma go stop ts ≡ stop
 no_comma go stop [] h = refl
 no_comma go stop (lexeme.Comma s ∷ ts) h = absurd cc
 no_comma go stop (t ∷ ts) h = refl

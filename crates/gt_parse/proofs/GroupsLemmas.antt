@@ -43,7 +43,7 @@ inside_none (t ∷ ts) zero h =
 inside_none (t ∷ ts) (suc depth) h =
     inside_suc depth t ts ∙ ap (λ (out : Outcome (List Lexeme)). with_token t out) (inside_none ts (depth_after (suc depth) t) h)
 
--- what stands in brackets, behind the one that opens
+-- what stands in brackets, after the one that opens
 pub inside-closed : {inside : List Lexeme} → IsFree closes_any inside → (b : Bracket) (p : Spot) (ts : List Lexeme) → inside_from 0 (inside ++ lexeme.Close b p ∷ ts) ≡ Read inside ts
 inside-closed {inside} f b p ts = inside_found inside 0 b p ts f.closed (not-stands closes_any inside f.free)
 
@@ -55,12 +55,12 @@ pub data Closes : List Lexeme → Type 0 where
   closed : {inside : List Lexeme} (rest : List Lexeme) (b : Bracket) (p : Spot) → IsFree closes_any inside → Closes (inside ++ lexeme.Close b p ∷ rest)
   unclosed : {ts : List Lexeme} → ¬ Stands closes_any ts → Closes ts
 
-closes_here : (front : List Lexeme) (t : Lexeme) (behind : List Lexeme) → closes_any t ≡ true → IsFree closes_any front → Closes (front ++ t ∷ behind)
-closes_here front (lexeme.Close b p) behind h f = closed {inside = front} behind b p f
-closes_here front t behind h f = absurd cc
+closes_here : (front : List Lexeme) (t : Lexeme) (following : List Lexeme) → closes_any t ≡ true → IsFree closes_any front → Closes (front ++ t ∷ following)
+closes_here front (lexeme.Close b p) following h f = closed {inside = front} following b p f
+closes_here front t following h f = absurd cc
 
 closes_first : (ts : List Lexeme) → FirstPlace closes_any 0 ts → Closes ts
-closes_first ts s = rw (s.parts) (closes_here s.front s.token s.behind s.passes (record { closed = s.outside; free = stands-not closes_any s.front s.none }))
+closes_first ts s = rw (s.parts) (closes_here s.front s.token s.following s.passes (record { closed = s.outside; free = stands-not closes_any s.front s.none }))
 
 pub closes : (ts : List Lexeme) → Closes ts
 closes ts = cases (stands closes_any 0 ts) refl
@@ -125,7 +125,7 @@ pub data EndsText : List Lexeme → Type 0 where
   endless : {ts : List Lexeme} → ¬ Stands ends_text ts → EndsText ts
 
 ends_first : (ts : List Lexeme) → FirstPlace ends_text 0 ts → EndsText ts
-ends_first ts s = rw (s.parts) (ended {text = s.front} s.behind s.token (record { closed = s.outside; free = stands-not ends_text s.front s.none }) s.passes)
+ends_first ts s = rw (s.parts) (ended {text = s.front} s.following s.token (record { closed = s.outside; free = stands-not ends_text s.front s.none }) s.passes)
 
 pub ends : (ts : List Lexeme) → EndsText ts
 ends ts = cases (stands ends_text 0 ts) refl

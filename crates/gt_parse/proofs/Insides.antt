@@ -4,16 +4,16 @@ use Rattle.std.proofs.lemmas.List.{append-nil, drop_all, take_more, take_rest}
 use Rattle.gt_parse.specs.declared.lexeme.Lexeme.{Lexeme}
 use Rattle.gt_parse.specs.declared.lexeme.Lexeme.TheVariants as lexeme
 use Rattle.gt_parse.specs.Outcome.{Outcome, Read, Stops, Ends, ◌>>=◌}
-use Rattle.gt_parse.specs.Groups.{depth_behind, depth_in_part, with_token, inside_from, before_end}
+use Rattle.gt_parse.specs.Groups.{depth_past, depth_in_part, with_token, inside_from, before_end}
 
 -- tokens before those that were read
-abbrev pub behind_tokens : List Lexeme → Outcome (List Lexeme) → Outcome (List Lexeme)
-behind_tokens before o = o >>= λ read. Read (before ++ read.0) read.1
+abbrev pub after_tokens : List Lexeme → Outcome (List Lexeme) → Outcome (List Lexeme)
+after_tokens before o = o >>= λ read. Read (before ++ read.0) read.1
 
-behind_one : (before : List Lexeme) (t : Lexeme) (o : Outcome (List Lexeme)) → behind_tokens before (with_token t o) ≡ behind_tokens (before ++ t ∷ []) o
-behind_one before t (Read x ts) = rw append_assoc refl
-behind_one before t (Stops number at) = refl
-behind_one before t Ends = refl
+after_one : (before : List Lexeme) (t : Lexeme) (o : Outcome (List Lexeme)) → after_tokens before (with_token t o) ≡ after_tokens (before ++ t ∷ []) o
+after_one before t (Read x ts) = rw append_assoc refl
+after_one before t (Stops number at) = refl
+after_one before t Ends = refl
 
 -- the tokens from a place on, by the token there
 pub drop_at : (tokens : List Lexeme) (at : ℕ) (t : Lexeme) → at < length tokens → t ≡ get_or tokens at t → drop at tokens ≡ t ∷ drop (at + 1) tokens
@@ -23,25 +23,25 @@ pub take_at : (tokens : List Lexeme) (at : ℕ) (t : Lexeme) → at < length tok
 take_at tokens at t lt is = take_more tokens at t lt ∙ ap (λ x. take at tokens ++ x ∷ []) (sym is)
 
 -- a token opens one bracket at the most
-pub depth_behind-le : (depth : ℕ) (t : Lexeme) (next : ℕ) → depth_behind depth t ≡ Some next → next ≤ depth + 1
-depth_behind-le depth (lexeme.Open b s) next e = let k : suc depth ≡ next = cc in omega arith
-depth_behind-le zero (lexeme.Close b s) next e = absurd cc
-depth_behind-le (suc depth) (lexeme.Close b s) next e = let k : depth ≡ next = cc in omega arith
-depth_behind-le depth t next e = let k : depth ≡ next = cc in omega arith
+pub depth_past-le : (depth : ℕ) (t : Lexeme) (next : ℕ) → depth_past depth t ≡ Some next → next ≤ depth + 1
+depth_past-le depth (lexeme.Open b s) next e = let k : suc depth ≡ next = cc in omega arith
+depth_past-le zero (lexeme.Close b s) next e = absurd cc
+depth_past-le (suc depth) (lexeme.Close b s) next e = let k : depth ≡ next = cc in omega arith
+depth_past-le depth t next e = let k : depth ≡ next = cc in omega arith
 
 pub depth_in_part-le : (depth : ℕ) (t : Lexeme) (next : ℕ) → depth_in_part depth t ≡ Some next → next ≤ depth + 1
 depth_in_part-le zero (lexeme.Comma s) next e = absurd cc
 depth_in_part-le zero (lexeme.Semicolon s) next e = absurd cc
-depth_in_part-le depth t next e = depth_behind-le depth t next e
+depth_in_part-le depth t next e = depth_past-le depth t next e
 
-inside_goes_on : (depth : ℕ) (t : Lexeme) (ts : List Lexeme) (next : ℕ) → depth_behind depth t ≡ Some next → inside_from depth (t ∷ ts) ≡ with_token t (inside_from next ts)
+inside_goes_on : (depth : ℕ) (t : Lexeme) (ts : List Lexeme) (next : ℕ) → depth_past depth t ≡ Some next → inside_from depth (t ∷ ts) ≡ with_token t (inside_from next ts)
 unfolding inside_from
 inside_goes_on depth (lexeme.Open b s) ts next e = let k : suc depth ≡ next = cc in rw (← k) refl
 inside_goes_on zero (lexeme.Close b s) ts next e = absurd cc
 inside_goes_on (suc depth) (lexeme.Close b s) ts next e = let k : depth ≡ next = cc in rw (← k) refl
 inside_goes_on depth t ts next e = let k : depth ≡ next = cc in rw (← k) refl
 
-inside_closes : (depth : ℕ) (t : Lexeme) (ts : List Lexeme) → depth_behind depth t ≡ None → inside_from depth (t ∷ ts) ≡ Read [] ts
+inside_closes : (depth : ℕ) (t : Lexeme) (ts : List Lexeme) → depth_past depth t ≡ None → inside_from depth (t ∷ ts) ≡ Read [] ts
 unfolding inside_from
 inside_closes depth (lexeme.Open b s) ts e = absurd cc
 inside_closes zero (lexeme.Close b s) ts e = refl
@@ -68,40 +68,40 @@ part_ends depth t ts e = absurd cc
 
 -- at a token
 module _ (tokens : List Lexeme) (depth at : ℕ) (t : Lexeme) (total : Outcome (List Lexeme)) (lt : at < length tokens) (is : t ≡ get_or tokens at t) where
-  module _ (so_far : behind_tokens (take at tokens) (inside_from depth (drop at tokens)) ≡ total) where
-    pub inside_more : (next : ℕ) → depth_behind depth t ≡ Some next → behind_tokens (take (at + 1) tokens) (inside_from next (drop (at + 1) tokens)) ≡ total
+  module _ (so_far : after_tokens (take at tokens) (inside_from depth (drop at tokens)) ≡ total) where
+    pub inside_more : (next : ℕ) → depth_past depth t ≡ Some next → after_tokens (take (at + 1) tokens) (inside_from next (drop (at + 1) tokens)) ≡ total
     inside_more next e =
-        ap (λ before. behind_tokens before (inside_from next (drop (at + 1) tokens))) (take_at tokens at t lt is)
-        ∙ sym (behind_one (take at tokens) t (inside_from next (drop (at + 1) tokens)))
-        ∙ ap (behind_tokens (take at tokens)) (sym (ap (inside_from depth) (drop_at tokens at t lt is) ∙ inside_goes_on depth t _ next e))
+        ap (λ before. after_tokens before (inside_from next (drop (at + 1) tokens))) (take_at tokens at t lt is)
+        ∙ sym (after_one (take at tokens) t (inside_from next (drop (at + 1) tokens)))
+        ∙ ap (after_tokens (take at tokens)) (sym (ap (inside_from depth) (drop_at tokens at t lt is) ∙ inside_goes_on depth t _ next e))
         ∙ so_far
 
-    pub inside_read : depth_behind depth t ≡ None → total ≡ Read (take at tokens) (take (length tokens - (at + 1)) (drop (at + 1) tokens))
+    pub inside_read : depth_past depth t ≡ None → total ≡ Read (take at tokens) (take (length tokens - (at + 1)) (drop (at + 1) tokens))
     inside_read e =
         sym so_far
-        ∙ ap (behind_tokens (take at tokens)) (ap (inside_from depth) (drop_at tokens at t lt is) ∙ inside_closes depth t _ e)
+        ∙ ap (after_tokens (take at tokens)) (ap (inside_from depth) (drop_at tokens at t lt is) ∙ inside_closes depth t _ e)
         ∙ rw (append-nil (take at tokens), take_rest tokens (at + 1)) refl
 
-  module _ (so_far : behind_tokens (take at tokens) (before_end depth (drop at tokens)) ≡ total) where
-    pub part_more : (next : ℕ) → depth_in_part depth t ≡ Some next → behind_tokens (take (at + 1) tokens) (before_end next (drop (at + 1) tokens)) ≡ total
+  module _ (so_far : after_tokens (take at tokens) (before_end depth (drop at tokens)) ≡ total) where
+    pub part_more : (next : ℕ) → depth_in_part depth t ≡ Some next → after_tokens (take (at + 1) tokens) (before_end next (drop (at + 1) tokens)) ≡ total
     part_more next e =
-        ap (λ before. behind_tokens before (before_end next (drop (at + 1) tokens))) (take_at tokens at t lt is)
-        ∙ sym (behind_one (take at tokens) t (before_end next (drop (at + 1) tokens)))
-        ∙ ap (behind_tokens (take at tokens)) (sym (ap (before_end depth) (drop_at tokens at t lt is) ∙ part_goes_on depth t _ next e))
+        ap (λ before. after_tokens before (before_end next (drop (at + 1) tokens))) (take_at tokens at t lt is)
+        ∙ sym (after_one (take at tokens) t (before_end next (drop (at + 1) tokens)))
+        ∙ ap (after_tokens (take at tokens)) (sym (ap (before_end depth) (drop_at tokens at t lt is) ∙ part_goes_on depth t _ next e))
         ∙ so_far
 
     pub part_read : depth_in_part depth t ≡ None → total ≡ Read (take at tokens) (take (length tokens - at) (drop at tokens))
     part_read e =
         sym so_far
-        ∙ ap (behind_tokens (take at tokens)) (ap (before_end depth) (drop_at tokens at t lt is) ∙ part_ends depth t _ e ∙ ap (Read []) (sym (drop_at tokens at t lt is)))
+        ∙ ap (after_tokens (take at tokens)) (ap (before_end depth) (drop_at tokens at t lt is) ∙ part_ends depth t _ e ∙ ap (Read []) (sym (drop_at tokens at t lt is)))
         ∙ rw (append-nil (take at tokens), take_rest tokens at) refl
 
 -- at the end of the tokens
 module _ (tokens before : List Lexeme) (depth at : ℕ) (total : Outcome (List Lexeme)) (end : length tokens ≤ at) where
-  pub inside_end : behind_tokens before (inside_from depth (drop at tokens)) ≡ total → total ≡ Ends
+  pub inside_end : after_tokens before (inside_from depth (drop at tokens)) ≡ total → total ≡ Ends
   unfolding inside_from
-  inside_end so_far = sym so_far ∙ ap (λ ts. behind_tokens before (inside_from depth ts)) (drop_all at tokens end)
+  inside_end so_far = sym so_far ∙ ap (λ ts. after_tokens before (inside_from depth ts)) (drop_all at tokens end)
 
-  pub part_end : behind_tokens before (before_end depth (drop at tokens)) ≡ total → total ≡ Ends
+  pub part_end : after_tokens before (before_end depth (drop at tokens)) ≡ total → total ≡ Ends
   unfolding before_end
-  part_end so_far = sym so_far ∙ ap (λ ts. behind_tokens before (before_end depth ts)) (drop_all at tokens end)
+  part_end so_far = sym so_far ∙ ap (λ ts. after_tokens before (before_end depth ts)) (drop_all at tokens end)

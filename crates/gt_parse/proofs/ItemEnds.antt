@@ -7,7 +7,7 @@ use Rattle.gt_parse.specs.declared.search.ItemEnd.{ItemEnd}
 use Rattle.gt_parse.specs.declared.search.ItemEnd.TheVariants.{Whole, Unmatched, Unended}
 use Rattle.gt_parse.specs.declared.search.Step.{Step}
 use Rattle.gt_parse.specs.declared.search.Step.TheVariants.{Goes}
-use Rattle.gt_parse.specs.Searching.{none_begun, step, one_longer, end_behind, item_end}
+use Rattle.gt_parse.specs.Searching.{none_begun, step, one_longer, end_after, item_end}
 
 -- so many tokens stand before
 abbrev pub longer : ℕ → ItemEnd → ItemEnd
@@ -20,7 +20,7 @@ longer-one_longer n (Whole len) = let e : n + suc len ≡ n + 1 + len = omega ar
 longer-one_longer n (Unmatched at) = refl
 longer-one_longer n Unended = refl
 
-pub item_end-step : (begun : Begun) (t : Lexeme) (ts : List Lexeme) → item_end begun (t ∷ ts) ≡ end_behind (λ next. item_end next ts) (step begun t)
+pub item_end-step : (begun : Begun) (t : Lexeme) (ts : List Lexeme) → item_end begun (t ∷ ts) ≡ end_after (λ next. item_end next ts) (step begun t)
 unfolding item_end
 item_end-step begun t ts = refl
 
@@ -28,13 +28,13 @@ pub item_end-nil : (begun : Begun) → item_end begun [] ≡ Unended
 unfolding item_end
 item_end-nil begun = refl
 
--- the state behind the first tokens tells the rest
+-- the state after the first tokens tells the rest
 module _ (tokens : List Lexeme) (i : ℕ) (begun : Begun) (so_far : item_end none_begun tokens ≡ longer i (item_end begun (drop i tokens))) where
   pub at_step : (t : Lexeme) (next : Step) → i < length tokens → t ≡ get_or tokens i t → next ≡ step begun t
-      → item_end none_begun tokens ≡ longer i (end_behind (λ further. item_end further (drop (i + 1) tokens)) next)
+      → item_end none_begun tokens ≡ longer i (end_after (λ further. item_end further (drop (i + 1) tokens)) next)
   at_step t next lt is e =
       so_far ∙ ap (longer i) (at_drop_more (item_end begun) tokens i t lt ∙ item_end-step begun (get_or tokens i t) (drop (i + 1) tokens)
-      ∙ ap (end_behind (λ further. item_end further (drop (i + 1) tokens))) (ap (step begun) (sym is) ∙ sym e))
+      ∙ ap (end_after (λ further. item_end further (drop (i + 1) tokens))) (ap (step begun) (sym is) ∙ sym e))
 
   pub at_next : (t : Lexeme) (next : Begun) → i < length tokens → t ≡ get_or tokens i t → Goes next ≡ step begun t → item_end none_begun tokens ≡ longer (i + 1) (item_end next (drop (i + 1) tokens))
   at_next t next lt is e = at_step t (Goes next) lt is e ∙ longer-one_longer i (item_end next (drop (i + 1) tokens))

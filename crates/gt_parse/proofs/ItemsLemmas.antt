@@ -56,13 +56,13 @@ no_marker whole (t ∷ ts) h =
     let parts = or_false (is_gty t) (list_any is_gty ts) h in
     unmarked_step whole t ts parts.0 ∙ no_marker whole ts parts.1
 
-first_marker : (whole front : List Lexeme) (g : Spot) (behind : List Lexeme) → list_any is_gty front ≡ false
-    → unmarked_at whole (front ++ lexeme.Gty g ∷ behind) ≡ Stops BAD_MARKER_PLACE g.start
+first_marker : (whole front : List Lexeme) (g : Spot) (following : List Lexeme) → list_any is_gty front ≡ false
+    → unmarked_at whole (front ++ lexeme.Gty g ∷ following) ≡ Stops BAD_MARKER_PLACE g.start
 unfolding unmarked_at
-first_marker whole [] g behind h = refl
-first_marker whole (t ∷ front) g behind h =
+first_marker whole [] g following h = refl
+first_marker whole (t ∷ front) g following h =
     let parts = or_false (is_gty t) (list_any is_gty front) h in
-    unmarked_step whole t (front ++ lexeme.Gty g ∷ behind) parts.0 ∙ first_marker whole front g behind parts.1
+    unmarked_step whole t (front ++ lexeme.Gty g ∷ following) parts.0 ∙ first_marker whole front g following parts.1
 
 -- ---- markers
 
@@ -107,24 +107,24 @@ pub item-alone : (ts : List Lexeme) (o : Outcome (Option Item)) → AnItem ts o 
 item-alone ts o (AnItem.marked {rest} {found} s d) = rw (item_marked ts s, ← marked-alone ts (Read found rest) d) refl
 item-alone ts o (AnItem.in_marked why s d) = rw (item_marked ts s, ← marked-alone ts (failed why) d) (sym (failed_step why _))
 item-alone ts o (AnItem.unmarked h d) = rw (item_unmarked ts (none_stands is_gty ts 0 h), no_marker ts ts h, unmarked-one d) refl
-item-alone ts o (AnItem.bad_place front behind g h k) =
-    let whole = front ++ lexeme.Gty g ∷ behind in
-    rw (item_unmarked whole (not-stands is_gty whole h), first_marker whole front g behind k) refl
+item-alone ts o (AnItem.bad_place front following g h k) =
+    let whole = front ++ lexeme.Gty g ∷ following in
+    rw (item_unmarked whole (not-stands is_gty whole h), first_marker whole front g following k) refl
 
 record HasMarker (ts : List Lexeme) : Type 0 where
   front : List Lexeme
   marker : Spot
-  behind : List Lexeme
-  parts : ts ≡ front ++ lexeme.Gty marker ∷ behind
+  following : List Lexeme
+  parts : ts ≡ front ++ lexeme.Gty marker ∷ following
   first : list_any is_gty front ≡ false
 
 marker_further : (t : Lexeme) (ts : List Lexeme) → is_gty t ≡ false → HasMarker ts → HasMarker (t ∷ ts)
 marker_further t ts h m =
-    record { front = t ∷ m.front; marker = m.marker; behind = m.behind; parts = ap (λ (us : List Lexeme). t ∷ us) m.parts; first = rw h m.first }
+    record { front = t ∷ m.front; marker = m.marker; following = m.following; parts = ap (λ (us : List Lexeme). t ∷ us) m.parts; first = rw h m.first }
 
 has_marker : (ts : List Lexeme) → list_any is_gty ts ≡ true → HasMarker ts
 has_marker [] e = absurd cc
-has_marker (lexeme.Gty g ∷ ts) e = record { front = []; marker = g; behind = ts; parts = refl; first = refl }
+has_marker (lexeme.Gty g ∷ ts) e = record { front = []; marker = g; following = ts; parts = refl; first = refl }
 has_marker (t ∷ ts) e = marker_further t ts refl (has_marker ts e)
 
 marked_comes : (ts : List Lexeme) → Stands is_gty ts → {o : Outcome Item} → MarkedItem ts o → Comes o → Has AnItem ts
@@ -133,7 +133,7 @@ marked_comes ts s d (unread why) = record { outcome = failed why; holds = AnItem
 
 marker_comes : (ts : List Lexeme) → ¬ Stands is_gty ts → HasMarker ts → Has AnItem ts
 marker_comes ts h m =
-    record { outcome = Stops BAD_MARKER_PLACE m.marker.start; holds = rw (m.parts) (AnItem.bad_place m.front m.behind m.marker (rw (← m.parts) h) m.first) }
+    record { outcome = Stops BAD_MARKER_PLACE m.marker.start; holds = rw (m.parts) (AnItem.bad_place m.front m.following m.marker (rw (← m.parts) h) m.first) }
 
 unmarked_comes : (ts : List Lexeme) → stands is_gty 0 ts ≡ false → (b : Bool) → list_any is_gty ts ≡ b → Has AnItem ts
 unmarked_comes ts h false e = record { outcome = _; holds = AnItem.unmarked e (unmarked_has ts).holds }

@@ -19,7 +19,7 @@ use Rattle.gt_parse.specs.declared.types.Place.TheVariants.{Elsewhere}
 use Rattle.gt_parse.specs.FieldGrammar.{is_semicolon, is_colon, Bounds, FieldsToBrace}
 use Rattle.gt_parse.specs.Fields.{fields_from}
 use Rattle.gt_parse.specs.Groups.{bounds_from}
-use Rattle.gt_parse.specs.Marked.{semicolon_at, comma_at, greater_at, open_brace_at, marker_behind_tag, tag_at, alias_at, maybe_alias, structure_at, initialiser_at, root_at, pointed_at, traits_at, is_cache, cache_name_at, cache_at, behind_marker_at, global_at, typedef_structure_at, marked_at}
+use Rattle.gt_parse.specs.Marked.{semicolon_at, comma_at, greater_at, open_brace_at, marker_after_tag, tag_at, alias_at, maybe_alias, structure_at, initialiser_at, root_at, pointed_at, traits_at, is_cache, cache_name_at, cache_at, after_marker_at, global_at, typedef_structure_at, marked_at}
 use Rattle.gt_parse.specs.MarkedGrammar.{is_greater, is_structure, begins_marked, begins_map, TagAndMarker, AnAlias, AStructure, ARoot, APointed, Traits, ACache, AGlobal, MarkedItem}
 use Rattle.gt_parse.specs.MarkerGrammar.{failed, begins, is_comma, Marker}
 use Rattle.gt_parse.specs.Markers.{marker_at}
@@ -60,8 +60,8 @@ no_open_brace (t ∷ ts) h k = refl
 no_marker : (ts : List Lexeme) → begins is_gty ts ≡ false → marker_at ts ≡ unexpected ts
 no_marker ts h = sym (marker-one (Marker.no_word h))
 
-marker_no_colon : (ts : List Lexeme) → begins is_colon ts ≡ false → marker_behind_tag ts ≡ marker_at ts
-unfolding marker_behind_tag
+marker_no_colon : (ts : List Lexeme) → begins is_colon ts ≡ false → marker_after_tag ts ≡ marker_at ts
+unfolding marker_after_tag
 marker_no_colon [] h = refl
 marker_no_colon (lexeme.Colon s ∷ ts) h = absurd cc
 marker_no_colon (t ∷ ts) h = refl
@@ -73,7 +73,7 @@ no_tag (lexeme.Name s ∷ ts) h = absurd cc
 no_tag (t ∷ ts) h = refl
 
 tag-one : {ts : List Lexeme} {o : Outcome (Name × List RawOption)} → TagAndMarker ts o → o ≡ tag_at ts
-unfolding tag_at marker_behind_tag name_at
+unfolding tag_at marker_after_tag name_at
 tag-one (TagAndMarker.marker_first a n m) = rw (← marker-one m) refl
 tag-one (TagAndMarker.name_first n a m) = rw (← marker-one m) refl
 tag-one (TagAndMarker.base_class n c) = refl
@@ -113,13 +113,13 @@ pub alias-leaves : {ts : List Lexeme} {o : Outcome Alias} → AnAlias ts o → L
 alias-leaves (AnAlias.alias n a) = omega (arith, stars-leaves a)
 alias-leaves (AnAlias.no_name {rest} a h) = unexpected_leaves Alias rest _
 
-alias_behind : {ts : List Lexeme} {stars : Stars} (us : List Lexeme) → AreStars ts stars us → Has AnAlias ts
-alias_behind (lexeme.Name n ∷ rest) a = record { outcome = _; holds = AnAlias.alias n a }
-alias_behind [] a = record { outcome = unexpected []; holds = AnAlias.no_name a refl }
-alias_behind (u ∷ us) a = record { outcome = unexpected (u ∷ us); holds = AnAlias.no_name a refl }
+alias_after : {ts : List Lexeme} {stars : Stars} (us : List Lexeme) → AreStars ts stars us → Has AnAlias ts
+alias_after (lexeme.Name n ∷ rest) a = record { outcome = _; holds = AnAlias.alias n a }
+alias_after [] a = record { outcome = unexpected []; holds = AnAlias.no_name a refl }
+alias_after (u ∷ us) a = record { outcome = unexpected (u ∷ us); holds = AnAlias.no_name a refl }
 
 pub alias_has : (ts : List Lexeme) → Has AnAlias ts
-alias_has ts = alias_behind (stars_has ts).behind (stars_has ts).are
+alias_has ts = alias_after (stars_has ts).following (stars_has ts).are
 
 -- ---- structures
 
@@ -207,7 +207,7 @@ root_name options (u ∷ us) t a = record { outcome = unexpected (u ∷ us); hol
 
 root_type : (options : List RawOption) {ts : List Lexeme} {o : Outcome RawType} → AType Elsewhere ts o → Comes o → Has (ARoot options) ts
 root_type options t (unread why) = record { outcome = failed why; holds = ARoot.in_type why t }
-root_type options t (read type us) = root_name options (stars_has us).behind t (stars_has us).are
+root_type options t (read type us) = root_name options (stars_has us).following t (stars_has us).are
 
 root_has : (options : List RawOption) (ts : List Lexeme) → Has (ARoot options) ts
 root_has options ts = root_type options (type_has Elsewhere ts).holds (comes (type_has Elsewhere ts).outcome)
@@ -260,7 +260,7 @@ cache-one (ACache.no_name {rest} c g s k v t q h) =
 cache-one (ACache.not_ended {rest} c g s n k v t q h l) =
     rw (← pointed-one k, ← pointed-one v, ← traits-one t, qualifiers-one q, h, no_semicolon rest l) (sym (unexpected_step rest _))
 
--- a key, a value and what stands behind them
+-- a key, a value and what stands after them
 record Map (ts ws : List Lexeme) : Type 0 where
   us : List Lexeme
   vs : List Lexeme
@@ -285,7 +285,7 @@ cache_name options g s [] m q = record { outcome = unexpected []; holds = ACache
 cache_name options g s (u ∷ us) m q = record { outcome = unexpected (u ∷ us); holds = ACache.no_name m.comma g s m.has_key m.has_value m.has_traits q refl }
 
 cache_closed : (options : List RawOption) {ts : List Lexeme} (ws : List Lexeme) → Map ts ws → Has (ACache options) ts
-cache_closed options (lexeme.Greater g ∷ lexeme.Star s ∷ ws) m = cache_name options g s (qualifiers_has ws).behind m (qualifiers_has ws).qualifiers
+cache_closed options (lexeme.Greater g ∷ lexeme.Star s ∷ ws) m = cache_name options g s (qualifiers_has ws).following m (qualifiers_has ws).qualifiers
 cache_closed options (lexeme.Greater g ∷ []) m = record { outcome = unexpected []; holds = ACache.no_star m.comma g m.has_key m.has_value m.has_traits refl }
 cache_closed options (lexeme.Greater g ∷ u ∷ us) m = record { outcome = unexpected (u ∷ us); holds = ACache.no_star m.comma g m.has_key m.has_value m.has_traits refl }
 cache_closed options [] m = record { outcome = unexpected []; holds = ACache.not_closed m.comma m.has_key m.has_value m.has_traits refl }
@@ -313,8 +313,8 @@ cache_has options ts = cache_key options (pointed_has ts).holds (comes (pointed_
 
 -- ---- globals
 
-no_map : (options : List RawOption) (ts : List Lexeme) → begins_map ts ≡ false → behind_marker_at options ts ≡ root_at options ts
-unfolding behind_marker_at
+no_map : (options : List RawOption) (ts : List Lexeme) → begins_map ts ≡ false → after_marker_at options ts ≡ root_at options ts
+unfolding after_marker_at
 no_map options (lexeme.Name s ∷ lexeme.Less l ∷ ts) h = rw h refl
 no_map options [] h = refl
 no_map options (lexeme.Name s ∷ []) h = refl
@@ -322,7 +322,7 @@ no_map options (lexeme.Name s ∷ t ∷ ts) h = refl
 no_map options (t ∷ ts) h = refl
 
 global-one : {ts : List Lexeme} {o : Outcome Item} → AGlobal ts o → o ≡ global_at ts
-unfolding global_at behind_marker_at
+unfolding global_at after_marker_at
 global-one (AGlobal.root {us} {options} m h r) = rw (← marker-one m, no_map options us h) (root-one r)
 global-one (AGlobal.cache s l m h c) = rw (← marker-one m, h) (cache-one c)
 global-one (AGlobal.in_marker why m) = rw (← marker-one m) (sym (failed_step why _))

@@ -15,7 +15,7 @@ use Rattle.gt_parse.specs.declared.lexeme.Lexeme.TheVariants as lexeme
 use Rattle.gt_parse.specs.Lexemes.{spot_of, is_identifier}
 use Rattle.gt_parse.specs.MarkerGrammar.{Early, failed, begins, is_quoted, opens_round, closes_round, Unescapes, nothing, byte, quote, backslash, other, alone, IsParameter, empty, text, expression, no_expression, bad_backslash}
 use Rattle.gt_parse.specs.MarkerGrammar.{Joins, AnOption, Options, MaybeOptions, Marker, MaybeMarker}
-use Rattle.gt_parse.specs.Markers.{inside_quotes, unescaped, takes_expression, parameter_at, more_strings, strings_at, parameters_at, option_at, behind_comma, options_from, options_at, marker_at, maybe_marker}
+use Rattle.gt_parse.specs.Markers.{inside_quotes, unescaped, takes_expression, parameter_at, more_strings, strings_at, parameters_at, option_at, after_comma, options_from, options_at, marker_at, maybe_marker}
 use Rattle.gt_parse.specs.Outcome.{Outcome, Read, Stops, ◌>>=◌, unexpected}
 use Rattle.gt_parse.specs.Search.{is_gty}
 use Rattle.gt_parse.proofs.GrammarWords.{Has, allowed, Comes, read, unread, comes, failed_step, unexpected_step, Leaves, failed_leaves, unexpected_leaves, prefixed, prefixed_nothing, prefixed_twice, no_gty, no_open_round, no_close_round, no_comma}
@@ -42,19 +42,19 @@ record HasTexts (bytes : List ℕ) : Type 0 where
   plain : HasText bytes
   escaped : HasText (92 ∷ bytes)
 
-behind_byte : (b : ℕ) (bytes : List ℕ) (is : Bool) → (b == 92) ≡ is → HasTexts bytes → HasText (b ∷ bytes)
-behind_byte b bytes true e has = rw (eqb-true b 92 e) has.escaped
-behind_byte b bytes false e has = text_of (byte b e has.plain.unescapes)
+after_byte : (b : ℕ) (bytes : List ℕ) (is : Bool) → (b == 92) ≡ is → HasTexts bytes → HasText (b ∷ bytes)
+after_byte b bytes true e has = rw (eqb-true b 92 e) has.escaped
+after_byte b bytes false e has = text_of (byte b e has.plain.unescapes)
 
-behind_backslash : (b : ℕ) (bytes : List ℕ) (quotes is : Bool) → (b == 34) ≡ quotes → (b == 92) ≡ is → HasTexts bytes → HasText (92 ∷ b ∷ bytes)
-behind_backslash b bytes true is d e has = rw (eqb-true b 34 d) (text_of (quote has.plain.unescapes))
-behind_backslash b bytes false true d e has = rw (eqb-true b 92 e) (text_of (backslash has.plain.unescapes))
-behind_backslash b bytes false false d e has = text_of (other b d e)
+after_backslash : (b : ℕ) (bytes : List ℕ) (quotes is : Bool) → (b == 34) ≡ quotes → (b == 92) ≡ is → HasTexts bytes → HasText (92 ∷ b ∷ bytes)
+after_backslash b bytes true is d e has = rw (eqb-true b 34 d) (text_of (quote has.plain.unescapes))
+after_backslash b bytes false true d e has = rw (eqb-true b 92 e) (text_of (backslash has.plain.unescapes))
+after_backslash b bytes false false d e has = text_of (other b d e)
 
 has_texts : (bytes : List ℕ) → HasTexts bytes
 has_texts [] = record { plain = text_of nothing; escaped = text_of alone }
 has_texts (b ∷ bytes) =
-    record { plain = behind_byte b bytes (b == 92) refl (has_texts bytes); escaped = behind_backslash b bytes (b == 34) (b == 92) refl refl (has_texts bytes) }
+    record { plain = after_byte b bytes (b == 92) refl (has_texts bytes); escaped = after_backslash b bytes (b == 34) (b == 92) refl refl (has_texts bytes) }
 
 -- ---- parameters
 
@@ -111,14 +111,14 @@ joins-leaves (Joins.string s j) = omega (arith, joins-leaves j)
 
 record HasJoined (ts : List Lexeme) : Type 0 where
   joined : List ℕ
-  behind : List Lexeme
-  joins : Joins ts joined behind
+  following : List Lexeme
+  joins : Joins ts joined following
 
 joins_has : (ts : List Lexeme) → HasJoined ts
 joins_has (lexeme.Quoted s ∷ ts) =
-    record { joined = inside_quotes (encode_utf8_all s.word) ++ (joins_has ts).joined; behind = (joins_has ts).behind; joins = Joins.string s (joins_has ts).joins }
-joins_has [] = record { joined = []; behind = []; joins = Joins.no_string refl }
-joins_has (t ∷ ts) = record { joined = []; behind = t ∷ ts; joins = Joins.no_string refl }
+    record { joined = inside_quotes (encode_utf8_all s.word) ++ (joins_has ts).joined; following = (joins_has ts).following; joins = Joins.string s (joins_has ts).joins }
+joins_has [] = record { joined = []; following = []; joins = Joins.no_string refl }
+joins_has (t ∷ ts) = record { joined = []; following = t ∷ ts; joins = Joins.no_string refl }
 
 -- at least one string
 strings-one : {ts us : List Lexeme} {text : List ℕ} (q : Spot) → Joins (lexeme.Quoted q ∷ ts) text us → strings_at (lexeme.Quoted q ∷ ts) ≡ Read text us
@@ -163,18 +163,18 @@ option-leaves (AnOption.no_identifier {ts} h) = unexpected_leaves RawOption ts _
 option-leaves (AnOption.no_string {ts} t o h k) = unexpected_leaves RawOption ts _
 option-leaves (AnOption.not_closed {rest} t o q h j k) = unexpected_leaves RawOption rest _
 
-option_behind : (t : Lexeme) (o q : Spot) (ts : List Lexeme) {text : List ℕ} (rest : List Lexeme) → is_identifier t ≡ true → Joins (lexeme.Quoted q ∷ ts) text rest
+option_past : (t : Lexeme) (o q : Spot) (ts : List Lexeme) {text : List ℕ} (rest : List Lexeme) → is_identifier t ≡ true → Joins (lexeme.Quoted q ∷ ts) text rest
     → (answer : Result Parameter ℕ) → IsParameter (spot_of t).word text answer → Has AnOption (t ∷ lexeme.Open Round o ∷ lexeme.Quoted q ∷ ts)
-option_behind t o q ts (lexeme.Close Round c ∷ rest) h j (Ok parameter) p = record { outcome = _; holds = AnOption.with_strings t o q c h j p }
-option_behind t o q ts (lexeme.Close Round c ∷ rest) h j (Err number) p = record { outcome = _; holds = AnOption.bad_strings t o q c h j p }
-option_behind t o q ts [] h j answer p = record { outcome = unexpected []; holds = AnOption.not_closed t o q h j refl }
-option_behind t o q ts (u ∷ rest) h j answer p = record { outcome = unexpected (u ∷ rest); holds = AnOption.not_closed t o q h j refl }
+option_past t o q ts (lexeme.Close Round c ∷ rest) h j (Ok parameter) p = record { outcome = _; holds = AnOption.with_strings t o q c h j p }
+option_past t o q ts (lexeme.Close Round c ∷ rest) h j (Err number) p = record { outcome = _; holds = AnOption.bad_strings t o q c h j p }
+option_past t o q ts [] h j answer p = record { outcome = unexpected []; holds = AnOption.not_closed t o q h j refl }
+option_past t o q ts (u ∷ rest) h j answer p = record { outcome = unexpected (u ∷ rest); holds = AnOption.not_closed t o q h j refl }
 
 option_after : (t : Lexeme) (ts : List Lexeme) → is_identifier t ≡ true → Has AnOption (t ∷ ts)
 option_after t (lexeme.Open Round o ∷ lexeme.Quoted q ∷ ts) h =
     let has = joins_has (lexeme.Quoted q ∷ ts) in
     let is = parameter_has (spot_of t).word has.joined in
-    option_behind t o q ts has.behind h has.joins is.answer is.is
+    option_past t o q ts has.following h has.joins is.answer is.is
 option_after t (lexeme.Open Round o ∷ []) h = record { outcome = unexpected []; holds = AnOption.no_string t o h refl }
 option_after t (lexeme.Open Round o ∷ u ∷ ts) h = record { outcome = unexpected (u ∷ ts); holds = AnOption.no_string t o h refl }
 option_after t [] h = record { outcome = _; holds = AnOption.name_alone t h refl }
@@ -191,7 +191,7 @@ option_has (t ∷ ts) = option_from t ts (is_identifier t) refl
 -- ---- lists of options
 
 one_turn : (count : ℕ) (before : List RawOption) (ts : List Lexeme) → length ts ≤ count
-    → options_from count before ts ≡ (option_at ts >>= λ one. behind_comma (options_from (count - 1) (before ++ one.0 ∷ [])) (Read (before ++ one.0 ∷ []) one.1) one.1)
+    → options_from count before ts ≡ (option_at ts >>= λ one. after_comma (options_from (count - 1) (before ++ one.0 ∷ [])) (Read (before ++ one.0 ∷ []) one.1) one.1)
 unfolding options_from option_at
 one_turn zero before [] h = refl
 one_turn zero before (t ∷ ts) h = absurd (omega arith)
@@ -218,17 +218,17 @@ options_more : {ts us : List Lexeme} {option : RawOption} (c : Spot) {o : Outcom
 options_more c d m (read options rest) = record { outcome = _; holds = Options.more c d m }
 options_more c d m (unread why) = record { outcome = failed why; holds = Options.in_more c why d m }
 
-options_behind : (ts : List Lexeme) {o : Outcome RawOption} → AnOption ts o → Comes o → ((us : List Lexeme) → suc (length us) ≤ length ts → Has Options us) → Has Options ts
-options_behind ts d (unread why) again = record { outcome = failed why; holds = Options.in_option why d }
-options_behind ts d (read option (lexeme.Comma c ∷ us)) again =
+options_after : (ts : List Lexeme) {o : Outcome RawOption} → AnOption ts o → Comes o → ((us : List Lexeme) → suc (length us) ≤ length ts → Has Options us) → Has Options ts
+options_after ts d (unread why) again = record { outcome = failed why; holds = Options.in_option why d }
+options_after ts d (read option (lexeme.Comma c ∷ us)) again =
     let has = again us (option-leaves d) in options_more c d has.holds (comes has.outcome)
-options_behind ts d (read option []) again = record { outcome = _; holds = Options.last d refl }
-options_behind ts d (read option (u ∷ us)) again = record { outcome = _; holds = Options.last d refl }
+options_after ts d (read option []) again = record { outcome = _; holds = Options.last d refl }
+options_after ts d (read option (u ∷ us)) again = record { outcome = _; holds = Options.last d refl }
 
 options_has : (n : ℕ) (ts : List Lexeme) → length ts ≤ n → Has Options ts
 options_has zero [] h = record { outcome = unexpected []; holds = Options.in_option Early (AnOption.no_identifier refl) }
 options_has zero (t ∷ ts) h = absurd (omega arith)
-options_has (suc n) ts h = options_behind ts (option_has ts).holds (comes (option_has ts).outcome) (λ us k. options_has n us (omega arith))
+options_has (suc n) ts h = options_after ts (option_has ts).holds (comes (option_has ts).outcome) (λ us k. options_has n us (omega arith))
 
 maybe_options-one : {ts : List Lexeme} {o : Outcome (List RawOption)} → MaybeOptions ts o → o ≡ options_at ts
 unfolding options_at
@@ -273,16 +273,16 @@ marker-leaves (Marker.not_opened_twice {ts} a b h) = unexpected_leaves (List Raw
 marker-leaves (Marker.not_closed {rest} a b c m h) = unexpected_leaves (List RawOption) rest _
 marker-leaves (Marker.not_closed_twice {rest} a b c d m h) = unexpected_leaves (List RawOption) rest _
 
-marker_behind : (a b c : Spot) (ts : List Lexeme) {o : Outcome (List RawOption)} → MaybeOptions ts o → Comes o → Has Marker (lexeme.Gty a ∷ lexeme.Open Round b ∷ lexeme.Open Round c ∷ ts)
-marker_behind a b c ts m (unread why) = record { outcome = failed why; holds = Marker.in_options a b c why m }
-marker_behind a b c ts m (read options (lexeme.Close Round d ∷ lexeme.Close Round e ∷ rest)) = record { outcome = _; holds = Marker.marker a b c d e m }
-marker_behind a b c ts m (read options (lexeme.Close Round d ∷ [])) = record { outcome = unexpected []; holds = Marker.not_closed_twice a b c d m refl }
-marker_behind a b c ts m (read options (lexeme.Close Round d ∷ u ∷ us)) = record { outcome = unexpected (u ∷ us); holds = Marker.not_closed_twice a b c d m refl }
-marker_behind a b c ts m (read options []) = record { outcome = unexpected []; holds = Marker.not_closed a b c m refl }
-marker_behind a b c ts m (read options (u ∷ us)) = record { outcome = unexpected (u ∷ us); holds = Marker.not_closed a b c m refl }
+marker_after : (a b c : Spot) (ts : List Lexeme) {o : Outcome (List RawOption)} → MaybeOptions ts o → Comes o → Has Marker (lexeme.Gty a ∷ lexeme.Open Round b ∷ lexeme.Open Round c ∷ ts)
+marker_after a b c ts m (unread why) = record { outcome = failed why; holds = Marker.in_options a b c why m }
+marker_after a b c ts m (read options (lexeme.Close Round d ∷ lexeme.Close Round e ∷ rest)) = record { outcome = _; holds = Marker.marker a b c d e m }
+marker_after a b c ts m (read options (lexeme.Close Round d ∷ [])) = record { outcome = unexpected []; holds = Marker.not_closed_twice a b c d m refl }
+marker_after a b c ts m (read options (lexeme.Close Round d ∷ u ∷ us)) = record { outcome = unexpected (u ∷ us); holds = Marker.not_closed_twice a b c d m refl }
+marker_after a b c ts m (read options []) = record { outcome = unexpected []; holds = Marker.not_closed a b c m refl }
+marker_after a b c ts m (read options (u ∷ us)) = record { outcome = unexpected (u ∷ us); holds = Marker.not_closed a b c m refl }
 
 pub marker_has : (ts : List Lexeme) → Has Marker ts
-marker_has (lexeme.Gty a ∷ lexeme.Open Round b ∷ lexeme.Open Round c ∷ ts) = marker_behind a b c ts (maybe_options_has ts).holds (comes (maybe_options_has ts).outcome)
+marker_has (lexeme.Gty a ∷ lexeme.Open Round b ∷ lexeme.Open Round c ∷ ts) = marker_after a b c ts (maybe_options_has ts).holds (comes (maybe_options_has ts).outcome)
 marker_has (lexeme.Gty a ∷ lexeme.Open Round b ∷ []) = record { outcome = unexpected []; holds = Marker.not_opened_twice a b refl }
 marker_has (lexeme.Gty a ∷ lexeme.Open Round b ∷ t ∷ ts) = record { outcome = unexpected (t ∷ ts); holds = Marker.not_opened_twice a b refl }
 marker_has (lexeme.Gty a ∷ []) = record { outcome = unexpected []; holds = Marker.not_opened a refl }

@@ -6,18 +6,18 @@ use Rattle.gt_parse.specs.declared.lexeme.Lexeme.TheVariants as lexeme
 use Rattle.gt_parse.specs.declared.unread.Unread.{Unread}
 use Rattle.gt_parse.specs.declared.unread.Unread.TheVariants.{Memory, Ended, Fault}
 use Rattle.gt_parse.specs.Outcome.{Outcome, Read, Ends, Fails, ◌>>=◌}
-use Rattle.gt_parse.specs.Markers.{comma_behind, behind_comma, option_at, options_from}
+use Rattle.gt_parse.specs.Markers.{comma_after, after_comma, option_at, options_from}
 
-goes_on : {A : Type 0} (go : List Lexeme → Outcome A) (stop : Outcome A) (ts next : List Lexeme) → comma_behind ts ≡ Some next → behind_comma go stop ts ≡ go next
+goes_on : {A : Type 0} (go : List Lexeme → Outcome A) (stop : Outcome A) (ts next : List Lexeme) → comma_after ts ≡ Some next → after_comma go stop ts ≡ go next
 goes_on go stop (lexeme.Comma s ∷ ts) next e = let k : ts ≡ next = cc in rw k refl
 goes_on go stop ts next e = absurd cc
 
-stops : {A : Type 0} (go : List Lexeme → Outcome A) (stop : Outcome A) (ts : List Lexeme) → comma_behind ts ≡ None → behind_comma go stop ts ≡ stop
+stops : {A : Type 0} (go : List Lexeme → Outcome A) (stop : Outcome A) (ts : List Lexeme) → comma_after ts ≡ None → after_comma go stop ts ≡ stop
 stops go stop (lexeme.Comma s ∷ ts) e = absurd cc
 stops go stop ts e = refl
 
 module _ (count i : ℕ) (options : List RawOption) (ts : List Lexeme) (total : Outcome (List RawOption)) (lt : i < count) (so_far : options_from (count - i) options ts ≡ total) where
-  here : total ≡ (option_at ts >>= λ one. behind_comma (options_from (count - (i + 1)) (options ++ one.0 ∷ [])) (Read (options ++ one.0 ∷ []) one.1) one.1)
+  here : total ≡ (option_at ts >>= λ one. after_comma (options_from (count - (i + 1)) (options ++ one.0 ∷ [])) (Read (options ++ one.0 ∷ []) one.1) one.1)
   unfolding options_from
   here = let k : count - i ≡ suc (count - (i + 1)) = omega arith in sym so_far ∙ rw k refl
 
@@ -27,10 +27,10 @@ module _ (count i : ℕ) (options : List RawOption) (ts : List Lexeme) (total : 
   options_fail (Fault number at) f = here ∙ rw f refl
 
   module _ (one : RawOption) (rest : List Lexeme) (read : option_at ts ≡ Read one rest) where
-    pub options_go_on : (next : List Lexeme) → comma_behind rest ≡ Some next → options_from (count - (i + 1)) (options ++ one ∷ []) next ≡ total
+    pub options_go_on : (next : List Lexeme) → comma_after rest ≡ Some next → options_from (count - (i + 1)) (options ++ one ∷ []) next ≡ total
     options_go_on next e = sym (here ∙ rw read (goes_on _ _ rest next e))
 
-    pub options_stop : comma_behind rest ≡ None → total ≡ Read (options ++ one ∷ []) rest
+    pub options_stop : comma_after rest ≡ None → total ≡ Read (options ++ one ∷ []) rest
     options_stop e = here ∙ rw read (stops _ _ rest e)
 
 pub options_end : (count i : ℕ) (options : List RawOption) (ts : List Lexeme) (total : Outcome (List RawOption)) → count ≤ i → options_from (count - i) options ts ≡ total → total ≡ Ends

@@ -37,8 +37,8 @@ empty_reads e = let no : Read (unmarked_of []) [] ≡ Ends = e in cc
 
 declares_by : (one : List Lexeme) (others : List (List Lexeme)) (o : Outcome (Option Item)) → item_at one ≡ o → first_of (faults_by one o ++ faults_of others) ≡ Complete
     → (first_of (faults_of others) ≡ Complete → Declare others (items_of others)) → Declare (one ∷ others) (items_by o ++ items_of others)
-declares_by one others (Read (Some found) behind) e none rest = inl (found, behind, items_of others, e, refl, rest none)
-declares_by one others (Read None behind) e none rest = inr (behind, e, rest none)
+declares_by one others (Read (Some found) following) e none rest = inl (found, following, items_of others, e, refl, rest none)
+declares_by one others (Read None following) e none rest = inr (following, e, rest none)
 declares_by one others (Stops number at) e none rest = absurd (earlier-fails number at (first_of (faults_of others)) none)
 declares_by [] others Ends e none rest = absurd (empty_reads e)
 declares_by (t ∷ ts) others Ends e none rest = absurd (earlier-fails _ _ (first_of (faults_of others)) none)
@@ -54,13 +54,13 @@ record ReadSo (cut : List (List Lexeme)) (items : List Item) : Type 0 where
 
 declared : (cut : List (List Lexeme)) (items : List Item) → Declare cut items → ReadSo cut items
 declared [] items e = record { none = refl; are = e }
-declared (one ∷ others) items (inl (found, behind, rest, e, is, more)) =
+declared (one ∷ others) items (inl (found, following, rest, e, is, more)) =
     let so : ReadSo others rest = declared others rest more in
     record {
       none = ap (λ (o : Outcome (Option Item)). first_of (faults_by one o ++ faults_of others)) e ∙ so.none;
       are = is ∙ ap (λ (items : List Item). found ∷ items) so.are ∙ sym (ap (λ (o : Outcome (Option Item)). items_by o ++ items_of others) e);
     }
-declared (one ∷ others) items (inr (behind, e, more)) =
+declared (one ∷ others) items (inr (following, e, more)) =
     let so : ReadSo others items = declared others items more in
     record {
       none = ap (λ (o : Outcome (Option Item)). first_of (faults_by one o ++ faults_of others)) e ∙ so.none;

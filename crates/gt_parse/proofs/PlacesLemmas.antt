@@ -24,23 +24,23 @@ stands is (suc depth) (t ∷ ts) = stands is (depth_after (suc depth) t) ts
 pub record FirstPlace (is : Lexeme → Bool) (depth : ℕ) (ts : List Lexeme) : Type 0 where
   pub front : List Lexeme
   pub token : Lexeme
-  pub behind : List Lexeme
-  pub parts : ts ≡ front ++ token ∷ behind
+  pub following : List Lexeme
+  pub parts : ts ≡ front ++ token ∷ following
   pub outside : depth_through depth front ≡ 0
   pub none : stands is depth front ≡ false
   pub passes : is token ≡ true
 
 further_zero : (is : Lexeme → Bool) (t : Lexeme) (ts : List Lexeme) → is t ≡ false → FirstPlace is (depth_after zero t) ts → FirstPlace is zero (t ∷ ts)
 further_zero is t ts h s =
-    record { front = t ∷ s.front; token = s.token; behind = s.behind; parts = ap (λ (us : List Lexeme). t ∷ us) s.parts; outside = s.outside; none = rw h s.none; passes = s.passes }
+    record { front = t ∷ s.front; token = s.token; following = s.following; parts = ap (λ (us : List Lexeme). t ∷ us) s.parts; outside = s.outside; none = rw h s.none; passes = s.passes }
 
 further : (is : Lexeme → Bool) (depth : ℕ) (t : Lexeme) (ts : List Lexeme) → FirstPlace is (depth_after (suc depth) t) ts → FirstPlace is (suc depth) (t ∷ ts)
 further is depth t ts s =
-    record { front = t ∷ s.front; token = s.token; behind = s.behind; parts = ap (λ (us : List Lexeme). t ∷ us) s.parts; outside = s.outside; none = s.none; passes = s.passes }
+    record { front = t ∷ s.front; token = s.token; following = s.following; parts = ap (λ (us : List Lexeme). t ∷ us) s.parts; outside = s.outside; none = s.none; passes = s.passes }
 
 first_zero : (is : Lexeme → Bool) (t : Lexeme) (ts : List Lexeme) (b : Bool) → is t ≡ b → stands is zero (t ∷ ts) ≡ true
     → (stands is (depth_after zero t) ts ≡ true → FirstPlace is (depth_after zero t) ts) → FirstPlace is zero (t ∷ ts)
-first_zero is t ts true h e again = record { front = []; token = t; behind = ts; parts = refl; outside = refl; none = refl; passes = h }
+first_zero is t ts true h e again = record { front = []; token = t; following = ts; parts = refl; outside = refl; none = refl; passes = h }
 first_zero is t ts false h e again = further_zero is t ts h (again (rw h at e))
 
 pub first_place : (is : Lexeme → Bool) (ts : List Lexeme) (depth : ℕ) → stands is depth ts ≡ true → FirstPlace is depth ts
@@ -48,20 +48,20 @@ first_place is [] depth e = absurd cc
 first_place is (t ∷ ts) zero e = first_zero is t ts (is t) refl e (first_place is ts (depth_after zero t))
 first_place is (t ∷ ts) (suc depth) e = further is depth t ts (first_place is ts (depth_after (suc depth) t) e)
 
-stands-is : (is : Lexeme → Bool) (front : List Lexeme) (depth : ℕ) (token : Lexeme) (behind : List Lexeme) → depth_through depth front ≡ 0 → is token ≡ true
-    → stands is depth (front ++ token ∷ behind) ≡ true
-stands-is is [] zero token behind o p = rw p refl
-stands-is is [] (suc depth) token behind o p = absurd (omega arith)
-stands-is is (t ∷ front) zero token behind o p = rw (stands-is is front (depth_after zero t) token behind o p) (or_true (is t))
-stands-is is (t ∷ front) (suc depth) token behind o p = stands-is is front (depth_after (suc depth) t) token behind o p
+stands-is : (is : Lexeme → Bool) (front : List Lexeme) (depth : ℕ) (token : Lexeme) (following : List Lexeme) → depth_through depth front ≡ 0 → is token ≡ true
+    → stands is depth (front ++ token ∷ following) ≡ true
+stands-is is [] zero token following o p = rw p refl
+stands-is is [] (suc depth) token following o p = absurd (omega arith)
+stands-is is (t ∷ front) zero token following o p = rw (stands-is is front (depth_after zero t) token following o p) (or_true (is t))
+stands-is is (t ∷ front) (suc depth) token following o p = stands-is is front (depth_after (suc depth) t) token following o p
 
 pub Stands-stands : {is : Lexeme → Bool} {ts : List Lexeme} → Stands is ts → stands is 0 ts ≡ true
-Stands-stands {is} {ts} s = rw s.parts (stands-is is s.front 0 s.token s.behind s.outside s.passes)
+Stands-stands {is} {ts} s = rw s.parts (stands-is is s.front 0 s.token s.following s.outside s.passes)
 
 pub stands-Stands : (is : Lexeme → Bool) (ts : List Lexeme) → stands is 0 ts ≡ true → Stands is ts
 stands-Stands is ts e =
     let s = first_place is ts 0 e in
-    record { front = s.front; token = s.token; behind = s.behind; parts = s.parts; outside = s.outside; passes = s.passes }
+    record { front = s.front; token = s.token; following = s.following; parts = s.parts; outside = s.outside; passes = s.passes }
 
 pub stands-not : (is : Lexeme → Bool) (ts : List Lexeme) → stands is 0 ts ≡ false → ¬ Stands is ts
 stands-not is ts e s = let f : true ≡ false = sym (Stands-stands s) ∙ e in absurd cc

@@ -28,50 +28,50 @@ pub record Found : Type 0 where
 abbrev pub with_item : List Lexeme → Found → Found
 with_item one found = record { items = one ∷ found.items; end = found.end }
 
-abbrev pub found_behind : (List ℕ → List Lexeme → Found) → List ℕ → List Lexeme → Turn → Found
-found_behind go ws ts (Wrapper brace len) = go (brace ∷ ws) (drop len ts)
-found_behind go [] ts WrapperEnd = record { items = []; end = Complete }
-found_behind go (w ∷ ws) ts WrapperEnd = go ws (drop 1 ts)
-found_behind go ws ts (Item len) = with_item (take len ts) (go ws (drop len ts))
-found_behind go ws ts (Last end) = record { items = []; end = end }
+abbrev pub found_after : (List ℕ → List Lexeme → Found) → List ℕ → List Lexeme → Turn → Found
+found_after go ws ts (Wrapper brace len) = go (brace ∷ ws) (drop len ts)
+found_after go [] ts WrapperEnd = record { items = []; end = Complete }
+found_after go (w ∷ ws) ts WrapperEnd = go ws (drop 1 ts)
+found_after go ws ts (Item len) = with_item (take len ts) (go ws (drop len ts))
+found_after go ws ts (Last end) = record { items = []; end = end }
 
 -- what is found turn by turn, in fewer than so many turns
 pub found : ℕ → List ℕ → List Lexeme → Found
 found zero ws ts = record { items = []; end = Complete }
-found (suc n) ws ts = found_behind (found n) ws ts (turn_at ws ts)
+found (suc n) ws ts = found_after (found n) ws ts (turn_at ws ts)
 
 -- ---- it is so
 
-rest_shorter : (ts front behind : List Lexeme) (len n : ℕ) → ts ≡ front ++ behind → len ≡ length front → 0 < len → length ts < suc n → length (drop len ts) < n
-rest_shorter ts front behind len n is len_is some lt =
-    let rest : drop len ts ≡ behind = ap (drop len) is ∙ drop_at front behind len (sym len_is) in
-    omega (arith, ap length rest, ap length is, length-append front behind)
+rest_shorter : (ts front following : List Lexeme) (len n : ℕ) → ts ≡ front ++ following → len ≡ length front → 0 < len → length ts < suc n → length (drop len ts) < n
+rest_shorter ts front following len n is len_is some lt =
+    let rest : drop len ts ≡ following = ap (drop len) is ∙ drop_at front following len (sym len_is) in
+    omega (arith, ap length rest, ap length is, length-append front following)
 
 abbrev pub IsSo : List ℕ → List Lexeme → Found → Type 0
 IsSo ws ts f = Searches ws ts f.items f.end
 
 leaves_so : (go : List ℕ → List Lexeme → Found) (ws : List ℕ) (ts : List Lexeme) (n : ℕ) → ((ws : List ℕ) (ts : List Lexeme) → length ts < n → IsSo ws ts (go ws ts)) → length ts < suc n → LeavesSo ws ts
-    → IsSo ws ts (found_behind go ws ts WrapperEnd)
+    → IsSo ws ts (found_after go ws ts WrapperEnd)
 leaves_so go [] ts n goes lt l = let are : [] ≡ l.brace ∷ l.inner = l.are in absurd cc
 leaves_so go (w ∷ ws) ts n goes lt l =
     let are : w ∷ ws ≡ l.brace ∷ l.inner = l.are in
     let inner : l.inner ≡ ws = cc in
     let p : PassesSo (w ∷ ws) ws ts 1 = subst (λ (inner : List ℕ). PassesSo (w ∷ ws) inner ts 1) inner l.passed in
-    pass (w ∷ ws) ws ts 1 p (go ws (drop 1 ts)).items (go ws (drop 1 ts)).end (goes ws (drop 1 ts) (rest_shorter ts p.front p.behind 1 n p.is p.len_is p.some lt))
+    pass (w ∷ ws) ws ts 1 p (go ws (drop 1 ts)).items (go ws (drop 1 ts)).end (goes ws (drop 1 ts) (rest_shorter ts p.front p.following 1 n p.is p.len_is p.some lt))
 
-behind_so : (go : List ℕ → List Lexeme → Found) (ws : List ℕ) (ts : List Lexeme) (n : ℕ) → ((ws : List ℕ) (ts : List Lexeme) → length ts < n → IsSo ws ts (go ws ts)) → length ts < suc n
-    → (turn : Turn) → TurnTells ws ts turn → IsSo ws ts (found_behind go ws ts turn)
-behind_so go ws ts n goes lt (Wrapper brace len) p =
-    pass ws (brace ∷ ws) ts len p (go (brace ∷ ws) (drop len ts)).items (go (brace ∷ ws) (drop len ts)).end (goes (brace ∷ ws) (drop len ts) (rest_shorter ts p.front p.behind len n p.is p.len_is p.some lt))
-behind_so go ws ts n goes lt WrapperEnd l = leaves_so go ws ts n goes lt l
-behind_so go ws ts n goes lt (Item len) p =
-    take_item ws ts len p (go ws (drop len ts)).items (go ws (drop len ts)).end (goes ws (drop len ts) (rest_shorter ts p.one p.behind len n p.is p.len_is p.some lt))
-behind_so go ws ts n goes lt (Last end) searches = searches
+after_so : (go : List ℕ → List Lexeme → Found) (ws : List ℕ) (ts : List Lexeme) (n : ℕ) → ((ws : List ℕ) (ts : List Lexeme) → length ts < n → IsSo ws ts (go ws ts)) → length ts < suc n
+    → (turn : Turn) → TurnTells ws ts turn → IsSo ws ts (found_after go ws ts turn)
+after_so go ws ts n goes lt (Wrapper brace len) p =
+    pass ws (brace ∷ ws) ts len p (go (brace ∷ ws) (drop len ts)).items (go (brace ∷ ws) (drop len ts)).end (goes (brace ∷ ws) (drop len ts) (rest_shorter ts p.front p.following len n p.is p.len_is p.some lt))
+after_so go ws ts n goes lt WrapperEnd l = leaves_so go ws ts n goes lt l
+after_so go ws ts n goes lt (Item len) p =
+    take_item ws ts len p (go ws (drop len ts)).items (go ws (drop len ts)).end (goes ws (drop len ts) (rest_shorter ts p.one p.following len n p.is p.len_is p.some lt))
+after_so go ws ts n goes lt (Last end) searches = searches
 
 pub found_so : (n : ℕ) (ws : List ℕ) (ts : List Lexeme) → length ts < n → IsSo ws ts (found n ws ts)
 unfolding found
 found_so zero ws ts lt = absurd (omega arith)
-found_so (suc n) ws ts lt = behind_so (found n) ws ts n (found_so n) lt (turn_at ws ts) (turn_tells ws ts)
+found_so (suc n) ws ts lt = after_so (found n) ws ts n (found_so n) lt (turn_at ws ts) (turn_tells ws ts)
 
 pub some_search : (ts : List Lexeme) → (items : List (List Lexeme)) × (end : End) × Searches [] ts items end
 some_search ts = ((found (suc (length ts)) [] ts).items, (found (suc (length ts)) [] ts).end, found_so (suc (length ts)) [] ts (omega arith))
@@ -174,15 +174,15 @@ turn_at-closed_wrapper : (w : ℕ) (ws : List ℕ) (s : Spot) (ts : List Lexeme)
 unfolding turn_at wrapper_at
 turn_at-closed_wrapper w ws s ts = refl
 
-found_at : (n : ℕ) (ws : List ℕ) (ts : List Lexeme) (turn : Turn) → turn_at ws ts ≡ turn → found (suc n) ws ts ≡ found_behind (found n) ws ts turn
+found_at : (n : ℕ) (ws : List ℕ) (ts : List Lexeme) (turn : Turn) → turn_at ws ts ≡ turn → found (suc n) ws ts ≡ found_after (found n) ws ts turn
 unfolding found
-found_at n ws ts turn e = ap (found_behind (found n) ws ts) e
+found_at n ws ts turn e = ap (found_after (found n) ws ts) e
 
 shorter : (front ts : List Lexeme) (n : ℕ) → 0 < length front → length (front ++ ts) < suc n → length ts < n
 shorter front ts n some lt = omega (arith, length-append front ts)
 
-item_behind : (a b : List Lexeme) (x y : Found) → a ≡ b → x ≡ y → with_item a x ≡ with_item b y
-item_behind a b x y e f = ap (λ (one : List Lexeme). with_item one x) e ∙ ap (with_item b) f
+item_after : (a b : List Lexeme) (x y : Found) → a ≡ b → x ≡ y → with_item a x ≡ with_item b y
+item_after a b x y e f = ap (λ (one : List Lexeme). with_item one x) e ∙ ap (with_item b) f
 
 found_is : {ws : List ℕ} {ts : List Lexeme} {items : List (List Lexeme)} {end : End} → Searches ws ts items end → (n : ℕ) → length ts < n → found n ws ts ≡ record { items = items; end = end }
 found_is s zero lt = absurd (omega arith)
@@ -193,7 +193,7 @@ found_is (Searches.wrapper {wrappers = ws} {front = front} {ts = ts} brace is be
 found_is (Searches.closed_wrapper {wrappers = ws} {ts = ts} w s more) (suc n) lt = found_at n (w ∷ ws) (lexeme.Close Brace s ∷ ts) WrapperEnd (turn_at-closed_wrapper w ws s ts) ∙ found_is more n (omega arith)
 found_is (Searches.item {wrappers = ws} {one = one} {ts = ts} {items = items} {end = end} none ends more) (suc n) lt =
     found_at n ws (one ++ ts) (Item (length one)) (turn_at-item ws one ts none ends)
-    ∙ item_behind (take (length one) (one ++ ts)) one (found n ws (drop (length one) (one ++ ts))) (record { items = items; end = end }) (take_at one ts (length one) refl)
+    ∙ item_after (take (length one) (one ++ ts)) one (found n ws (drop (length one) (one ++ ts))) (record { items = items; end = end }) (take_at one ts (length one) refl)
     (ap (found n ws) (drop_at one ts (length one) refl) ∙ found_is more n (shorter one ts n (EndsItem-some ends) lt))
 found_is (Searches.unmatched {wrappers = ws} {front = front} {opened = opened} b s ts none begins other stays) (suc n) lt =
     found_at n ws (front ++ lexeme.Close b s ∷ ts) (Last (Fails UNEXPECTED s.start)) (turn_at-unmatched ws front opened b s ts none (unmatched b s ts begins other) stays begins)

@@ -24,8 +24,8 @@ use Rattle.gt_parse.proofs.Sound.{Tells, EndsSo, tells}
 
 pub record WrapsSo (ts : List Lexeme) (brace len : ℕ) : Type 0 where
   pub front : List Lexeme
-  pub behind : List Lexeme
-  pub is : ts ≡ front ++ behind
+  pub following : List Lexeme
+  pub is : ts ≡ front ++ following
   pub len_is : len ≡ length front
   pub wrapper : IsWrapper front brace
   pub begins : begins_wrapper ts ≡ true
@@ -34,10 +34,10 @@ abbrev pub WrapperTells : List Lexeme → Option (ℕ × ℕ) → Type 0
 WrapperTells ts (Some found) = WrapsSo ts found.0 found.1
 WrapperTells ts None = begins_wrapper ts ≡ false
 
-wrapper_if : (ts front behind : List Lexeme) (brace len : ℕ) (x : Bool) → begins_wrapper ts ≡ x → ts ≡ front ++ behind → len ≡ length front → IsWrapper front brace
+wrapper_if : (ts front following : List Lexeme) (brace len : ℕ) (x : Bool) → begins_wrapper ts ≡ x → ts ≡ front ++ following → len ≡ length front → IsWrapper front brace
     → WrapperTells ts (if x then Some (brace, len) else None)
-wrapper_if ts front behind brace len true begins is len_is wrapper = record { front = front; behind = behind; is = is; len_is = len_is; wrapper = wrapper; begins = begins }
-wrapper_if ts front behind brace len false begins is len_is wrapper = begins
+wrapper_if ts front following brace len true begins is len_is wrapper = record { front = front; following = following; is = is; len_is = len_is; wrapper = wrapper; begins = begins }
+wrapper_if ts front following brace len false begins is len_is wrapper = begins
 
 pub wrapper_tells : (ts : List Lexeme) → WrapperTells ts (wrapper_at ts)
 unfolding wrapper_at begins_wrapper
@@ -56,20 +56,20 @@ wrapper_tells ts = refl
 -- some tokens at the front are passed over
 pub record PassesSo (wrappers inner : List ℕ) (ts : List Lexeme) (len : ℕ) : Type 0 where
   pub front : List Lexeme
-  pub behind : List Lexeme
-  pub is : ts ≡ front ++ behind
+  pub following : List Lexeme
+  pub is : ts ≡ front ++ following
   pub len_is : len ≡ length front
   pub some : 0 < len
-  pub passes : (items : List (List Lexeme)) (end : End) → Searches inner behind items end → Searches wrappers ts items end
+  pub passes : (items : List (List Lexeme)) (end : End) → Searches inner following items end → Searches wrappers ts items end
 
 -- an item stands at the front
 pub record ItemSo (wrappers : List ℕ) (ts : List Lexeme) (len : ℕ) : Type 0 where
   pub one : List Lexeme
-  pub behind : List Lexeme
-  pub is : ts ≡ one ++ behind
+  pub following : List Lexeme
+  pub is : ts ≡ one ++ following
   pub len_is : len ≡ length one
   pub some : 0 < len
-  pub passes : (items : List (List Lexeme)) (end : End) → Searches wrappers behind items end → Searches wrappers ts (one ∷ items) end
+  pub passes : (items : List (List Lexeme)) (end : End) → Searches wrappers following items end → Searches wrappers ts (one ∷ items) end
 
 -- a closing brace is that of the innermost wrapper
 pub record LeavesSo (wrappers : List ℕ) (ts : List Lexeme) : Type 0 where
@@ -92,9 +92,9 @@ abbrev begins_close_brace : List Lexeme → Bool
 begins_close_brace [] = false
 begins_close_brace (t ∷ ts) = is_close_brace t
 
-close_brace_first : (t : Lexeme) (ts front : List Lexeme) (b : Bracket) (s : Spot) (behind : List Lexeme) → t ∷ ts ≡ front ++ lexeme.Close b s ∷ behind → front ≡ [] → b ≡ Brace → is_close_brace t ≡ true
-close_brace_first t ts front b s behind is none brace =
-    ap begins_close_brace (is ∙ ap (λ (f : List Lexeme). f ++ lexeme.Close b s ∷ behind) none) ∙ ap (λ (b : Bracket). is_close_brace (lexeme.Close b s)) brace
+close_brace_first : (t : Lexeme) (ts front : List Lexeme) (b : Bracket) (s : Spot) (following : List Lexeme) → t ∷ ts ≡ front ++ lexeme.Close b s ∷ following → front ≡ [] → b ≡ Brace → is_close_brace t ≡ true
+close_brace_first t ts front b s following is none brace =
+    ap begins_close_brace (is ∙ ap (λ (f : List Lexeme). f ++ lexeme.Close b s ∷ following) none) ∙ ap (λ (b : Bracket). is_close_brace (lexeme.Close b s)) brace
 
 pub EndsItem-some : {marks called : Bool} {one : List Lexeme} → EndsItem marks called one → 0 < length one
 EndsItem-some (EndsItem.semicolon s) = omega arith
@@ -108,7 +108,7 @@ item_tells : (wrappers : List ℕ) (t : Lexeme) (ts : List Lexeme) (end : ItemEn
     → Tells [] false false (t ∷ ts) end → TurnTells wrappers (t ∷ ts) (item_turn wrappers t end)
 item_tells wrappers t ts (Whole len) none no_close e = record {
   one = e.one;
-  behind = e.behind;
+  following = e.following;
   is = e.is;
   len_is = e.len_is;
   some = omega (arith, EndsItem-some e.ends, e.len_is);
@@ -118,10 +118,10 @@ item_tells wrappers t ts (Whole len) none no_close e = record {
 item_tells wrappers t ts (Unmatched at) none no_close e =
     subst (λ (n : ℕ). Searches wrappers (t ∷ ts) [] (Fails UNEXPECTED n)) (sym e.at_is)
     (subst (λ (ts : List Lexeme). Searches wrappers ts [] (Fails UNEXPECTED e.spot.start)) (sym e.is)
-    (Searches.unmatched e.bracket e.spot e.behind (subst (λ (ts : List Lexeme). begins_wrapper ts ≡ false) e.is none) e.begins e.unmatched
+    (Searches.unmatched e.bracket e.spot e.following (subst (λ (ts : List Lexeme). begins_wrapper ts ≡ false) e.is none) e.begins e.unmatched
     (λ closes. elim no_close [
       | inl empty ↦ closes.2 empty
-      | inr other ↦ false≢true (sym other ∙ close_brace_first t ts e.front e.bracket e.spot e.behind e.is closes.0 closes.1)
+      | inr other ↦ false≢true (sym other ∙ close_brace_first t ts e.front e.bracket e.spot e.following e.is closes.0 closes.1)
     ])))
 item_tells wrappers t ts Unended none no_close (opened, e) = Searches.unclosed_item t none e
 
@@ -132,7 +132,7 @@ plain_tells (w ∷ ws) (lexeme.Close Brace s ∷ ts) none = record {
   brace = w;
   inner = ws;
   are = refl;
-  passed = record { front = lexeme.Close Brace s ∷ []; behind = ts; is = refl; len_is = refl; some = omega arith; passes = λ items end searches. Searches.closed_wrapper w s searches };
+  passed = record { front = lexeme.Close Brace s ∷ []; following = ts; is = refl; len_is = refl; some = omega arith; passes = λ items end searches. Searches.closed_wrapper w s searches };
 }
 plain_tells [] (t ∷ ts) none = item_tells [] t ts (item_end none_begun (t ∷ ts)) none (inl refl) (tells [] false false (t ∷ ts))
 plain_tells (w ∷ ws) (t ∷ ts) none = item_tells (w ∷ ws) t ts (item_end none_begun (t ∷ ts)) none (inr refl) (tells [] false false (t ∷ ts))
@@ -145,7 +145,7 @@ IsWrapper-some (IsWrapper.named_namespace r n b) = omega arith
 with_tells : (wrappers : List ℕ) (ts : List Lexeme) (found : Option (ℕ × ℕ)) → WrapperTells ts found → TurnTells wrappers ts (turn_with wrappers ts found)
 with_tells wrappers ts (Some found) w = record {
   front = w.front;
-  behind = w.behind;
+  following = w.following;
   is = w.is;
   len_is = w.len_is;
   some = omega (arith, IsWrapper-some w.wrapper, w.len_is);
@@ -161,31 +161,31 @@ turn_tells wrappers ts = with_tells wrappers ts (wrapper_at ts) (wrapper_tells t
 
 -- ---- what a turn takes
 
-front_fits : (ts front behind : List Lexeme) (len : ℕ) → ts ≡ front ++ behind → len ≡ length front → len ≤ length ts
-front_fits ts front behind len is len_is = omega (arith, ap length is, length-append front behind)
+front_fits : (ts front following : List Lexeme) (len : ℕ) → ts ≡ front ++ following → len ≡ length front → len ≤ length ts
+front_fits ts front following len is len_is = omega (arith, ap length is, length-append front following)
 
 pub wrapper_at-fits : (ts : List Lexeme) (brace len : ℕ) → Some (brace, len) ≡ wrapper_at ts → (0 < len) × (len ≤ length ts)
 wrapper_at-fits ts brace len e =
     let w : WrapsSo ts brace len = subst (λ (found : Option (ℕ × ℕ)). WrapperTells ts found) (sym e) (wrapper_tells ts) in
-    (omega (arith, IsWrapper-some w.wrapper, w.len_is), front_fits ts w.front w.behind len w.is w.len_is)
+    (omega (arith, IsWrapper-some w.wrapper, w.len_is), front_fits ts w.front w.following len w.is w.len_is)
 
 pub item_end-fits : (ts : List Lexeme) (len : ℕ) → Whole len ≡ item_end none_begun ts → (0 < len) × (len ≤ length ts)
 item_end-fits ts len e =
     let t : EndsSo [] false false ts len = subst (λ (end : ItemEnd). Tells [] false false ts end) (sym e) (tells [] false false ts) in
-    (omega (arith, EndsItem-some t.ends, t.len_is), front_fits ts t.one t.behind len t.is t.len_is)
+    (omega (arith, EndsItem-some t.ends, t.len_is), front_fits ts t.one t.following len t.is t.len_is)
 
 -- ---- one turn of the search
 
 -- some tokens at the front are passed over
 pub pass : (wrappers inner : List ℕ) (ts : List Lexeme) (len : ℕ) → PassesSo wrappers inner ts len → (items : List (List Lexeme)) (end : End) → Searches inner (drop len ts) items end → Searches wrappers ts items end
 pass wrappers inner ts len p items end searches =
-    p.passes items end (subst (λ (ts : List Lexeme). Searches inner ts items end) (ap (drop len) p.is ∙ drop_at p.front p.behind len (sym p.len_is)) searches)
+    p.passes items end (subst (λ (ts : List Lexeme). Searches inner ts items end) (ap (drop len) p.is ∙ drop_at p.front p.following len (sym p.len_is)) searches)
 
 -- an item is taken
 pub take_item : (wrappers : List ℕ) (ts : List Lexeme) (len : ℕ) → ItemSo wrappers ts len → (items : List (List Lexeme)) (end : End) → Searches wrappers (drop len ts) items end → Searches wrappers ts (take len ts ∷ items) end
 take_item wrappers ts len p items end searches =
-    subst (λ (one : List Lexeme). Searches wrappers ts (one ∷ items) end) (sym (ap (take len) p.is ∙ take_at p.one p.behind len (sym p.len_is)))
-    (p.passes items end (subst (λ (ts : List Lexeme). Searches wrappers ts items end) (ap (drop len) p.is ∙ drop_at p.one p.behind len (sym p.len_is)) searches))
+    subst (λ (one : List Lexeme). Searches wrappers ts (one ∷ items) end) (sym (ap (take len) p.is ∙ take_at p.one p.following len (sym p.len_is)))
+    (p.passes items end (subst (λ (ts : List Lexeme). Searches wrappers ts items end) (ap (drop len) p.is ∙ drop_at p.one p.following len (sym p.len_is)) searches))
 
 -- a wrapper is left
 leave : (old new : List ℕ) (taken : Option ℕ) (ts : List Lexeme) → MatchOption taken ((old ≡ []) × (new ≡ [])) (λ item. old ≡ item ∷ new) → LeavesSo old ts → (items : List (List Lexeme)) (end : End)
@@ -200,22 +200,22 @@ module _ (wrappers : List ℕ) (ts : List Lexeme) (turn : Turn) (e : turn ≡ tu
   tells_so : (this : Turn) → turn ≡ this → TurnTells wrappers ts this
   tells_so this is = subst (λ (turn : Turn). TurnTells wrappers ts turn) (sym e ∙ is) (turn_tells wrappers ts)
 
-  pub at_wrapper : (brace len : ℕ) (inner : List ℕ) (behind : List Lexeme) → turn ≡ Wrapper brace len → inner ≡ brace ∷ wrappers → behind ≡ drop len ts → (items : List (List Lexeme)) (end : End)
-      → Searches inner behind items end → Searches wrappers ts items end
-  at_wrapper brace len inner behind is inner_is behind_is items end searches =
+  pub at_wrapper : (brace len : ℕ) (inner : List ℕ) (following : List Lexeme) → turn ≡ Wrapper brace len → inner ≡ brace ∷ wrappers → following ≡ drop len ts → (items : List (List Lexeme)) (end : End)
+      → Searches inner following items end → Searches wrappers ts items end
+  at_wrapper brace len inner following is inner_is after_is items end searches =
       pass wrappers (brace ∷ wrappers) ts len (tells_so (Wrapper brace len) is) items end
-      (subst (λ (ws : List ℕ). Searches ws (drop len ts) items end) inner_is (subst (λ (ts : List Lexeme). Searches inner ts items end) behind_is searches))
+      (subst (λ (ws : List ℕ). Searches ws (drop len ts) items end) inner_is (subst (λ (ts : List Lexeme). Searches inner ts items end) after_is searches))
 
-  pub at_wrapper_end : (inner : List ℕ) (taken : Option ℕ) (behind : List Lexeme) → turn ≡ WrapperEnd → MatchOption taken ((wrappers ≡ []) × (inner ≡ [])) (λ item. wrappers ≡ item ∷ inner) → behind ≡ drop 1 ts
-      → (items : List (List Lexeme)) (end : End) → Searches inner behind items end → Searches wrappers ts items end
-  at_wrapper_end inner taken behind is m behind_is items end searches =
-      leave wrappers inner taken ts m (tells_so WrapperEnd is) items end (subst (λ (ts : List Lexeme). Searches inner ts items end) behind_is searches)
+  pub at_wrapper_end : (inner : List ℕ) (taken : Option ℕ) (following : List Lexeme) → turn ≡ WrapperEnd → MatchOption taken ((wrappers ≡ []) × (inner ≡ [])) (λ item. wrappers ≡ item ∷ inner) → following ≡ drop 1 ts
+      → (items : List (List Lexeme)) (end : End) → Searches inner following items end → Searches wrappers ts items end
+  at_wrapper_end inner taken following is m after_is items end searches =
+      leave wrappers inner taken ts m (tells_so WrapperEnd is) items end (subst (λ (ts : List Lexeme). Searches inner ts items end) after_is searches)
 
-  pub at_item : (len : ℕ) (one behind : List Lexeme) → turn ≡ Item len → one ≡ take len ts → behind ≡ drop len ts → (items : List (List Lexeme)) (end : End) → Searches wrappers behind items end
+  pub at_item : (len : ℕ) (one following : List Lexeme) → turn ≡ Item len → one ≡ take len ts → following ≡ drop len ts → (items : List (List Lexeme)) (end : End) → Searches wrappers following items end
       → Searches wrappers ts (one ∷ items) end
-  at_item len one behind is one_is behind_is items end searches =
+  at_item len one following is one_is after_is items end searches =
       subst (λ (one : List Lexeme). Searches wrappers ts (one ∷ items) end) (sym one_is)
-      (take_item wrappers ts len (tells_so (Item len) is) items end (subst (λ (ts : List Lexeme). Searches wrappers ts items end) behind_is searches))
+      (take_item wrappers ts len (tells_so (Item len) is) items end (subst (λ (ts : List Lexeme). Searches wrappers ts items end) after_is searches))
 
   pub at_last : (end : End) → turn ≡ Last end → Searches wrappers ts [] end
   at_last end is = tells_so (Last end) is

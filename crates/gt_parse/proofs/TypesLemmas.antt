@@ -21,7 +21,7 @@ use Rattle.gt_parse.specs.Markers.{marker_at}
 use Rattle.gt_parse.specs.Outcome.{Outcome, Read, Stops, Ends, ◌>>=◌, unexpected}
 use Rattle.gt_parse.specs.Search.{is_gty}
 use Rattle.gt_parse.specs.TypeGrammar.{is_name, is_star, is_qualifier, opens_brace, begins_type, goes_on, in_field, Qualifiers, AreStars, MoreWords, BareType, AType}
-use Rattle.gt_parse.specs.Types.{no_words, with_word, is_unsigned_alone, one_more, without_qualifiers, stars_from, stars_at, name_at, words_from, no_brace_at, no_body_at, tagged_at, bitfield_at, behind_bitfield, bare_type_at, type_at}
+use Rattle.gt_parse.specs.Types.{no_words, with_word, is_unsigned_alone, one_more, without_qualifiers, stars_from, stars_at, name_at, words_from, no_brace_at, no_body_at, tagged_at, bitfield_at, after_bitfield, bare_type_at, type_at}
 use Rattle.gt_parse.proofs.GrammarWords.{Has, allowed, Comes, read, unread, comes, failed_step, unexpected_step, Leaves, failed_leaves, unexpected_leaves, no_close_round}
 use Rattle.gt_parse.proofs.MarkersLemmas.{marker-one, marker_has}
 
@@ -53,13 +53,13 @@ qualifiers-leaves (Qualifiers.no_qualifier h) = omega arith
 qualifiers-leaves (Qualifiers.qualifier s q) = omega (arith, qualifiers-leaves q)
 
 pub record HasQualified (ts : List Lexeme) : Type 0 where
-  pub behind : List Lexeme
-  pub qualifiers : Qualifiers ts behind
+  pub following : List Lexeme
+  pub qualifiers : Qualifiers ts following
 
 pub qualifiers_has : (ts : List Lexeme) → HasQualified ts
-qualifiers_has (lexeme.Qualifier s ∷ ts) = record { behind = (qualifiers_has ts).behind; qualifiers = Qualifiers.qualifier s (qualifiers_has ts).qualifiers }
-qualifiers_has [] = record { behind = []; qualifiers = Qualifiers.no_qualifier refl }
-qualifiers_has (t ∷ ts) = record { behind = t ∷ ts; qualifiers = Qualifiers.no_qualifier refl }
+qualifiers_has (lexeme.Qualifier s ∷ ts) = record { following = (qualifiers_has ts).following; qualifiers = Qualifiers.qualifier s (qualifiers_has ts).qualifiers }
+qualifiers_has [] = record { following = []; qualifiers = Qualifiers.no_qualifier refl }
+qualifiers_has (t ∷ ts) = record { following = t ∷ ts; qualifiers = Qualifiers.no_qualifier refl }
 
 pub qualifiers-done : {ts us : List Lexeme} → Qualifiers ts us → begins is_qualifier us ≡ false
 qualifiers-done (Qualifiers.no_qualifier h) = h
@@ -84,10 +84,10 @@ no_more_stars stars (lexeme.Star s ∷ ts) h k = absurd cc
 no_more_stars stars (lexeme.Qualifier s ∷ ts) h k = absurd cc
 no_more_stars stars (t ∷ ts) h k = refl
 
-stars_behind : {ts us : List Lexeme} → Qualifiers ts us → (stars : Stars) → stars_from stars ts ≡ stars_from stars us
+stars_after : {ts us : List Lexeme} → Qualifiers ts us → (stars : Stars) → stars_from stars ts ≡ stars_from stars us
 unfolding stars_from
-stars_behind (Qualifiers.no_qualifier h) stars = refl
-stars_behind (Qualifiers.qualifier s q) stars = stars_behind q stars
+stars_after (Qualifiers.no_qualifier h) stars = refl
+stars_after (Qualifiers.qualifier s q) stars = stars_after q stars
 
 plus_zero : (stars : Stars) → plus stars Zero ≡ stars
 plus_zero Zero = refl
@@ -108,7 +108,7 @@ stars-from : {ts us : List Lexeme} {n : Stars} → AreStars ts n us → begins i
 unfolding stars_from
 stars-from (AreStars.no_star {ts} h) k stars = rw (plus_zero stars) (no_more_stars stars ts h k)
 stars-from (AreStars.star {rest} {stars = n} s q a) k stars =
-    stars_behind q (one_more stars) ∙ stars-from a (qualifiers-done q) (one_more stars) ∙ ap (λ (m : Stars). (m, rest)) (plus_more stars n)
+    stars_after q (one_more stars) ∙ stars-from a (qualifiers-done q) (one_more stars) ∙ ap (λ (m : Stars). (m, rest)) (plus_more stars n)
 
 no_stars : (ts : List Lexeme) → begins is_star ts ≡ false → stars_at ts ≡ (Zero, ts)
 unfolding stars_at
@@ -119,7 +119,7 @@ no_stars (t ∷ ts) h = refl
 pub stars-one : {ts us : List Lexeme} {n : Stars} → AreStars ts n us → stars_at ts ≡ (n, us)
 unfolding stars_at
 stars-one (AreStars.no_star {ts} h) = no_stars ts h
-stars-one (AreStars.star s q a) = stars_behind q One ∙ stars-from a (qualifiers-done q) One
+stars-one (AreStars.star s q a) = stars_after q One ∙ stars-from a (qualifiers-done q) One
 
 pub stars-leaves : {ts us : List Lexeme} {n : Stars} → AreStars ts n us → length us ≤ length ts
 stars-leaves (AreStars.no_star h) = omega arith
@@ -127,19 +127,19 @@ stars-leaves (AreStars.star s q a) = omega (arith, qualifiers-leaves q, stars-le
 
 pub record HasStars (ts : List Lexeme) : Type 0 where
   pub stars : Stars
-  pub behind : List Lexeme
-  pub are : AreStars ts stars behind
+  pub following : List Lexeme
+  pub are : AreStars ts stars following
 
 one_star_has : (s : Spot) (ts us : List Lexeme) → Qualifiers ts us → HasStars us → HasStars (lexeme.Star s ∷ ts)
-one_star_has s ts us q has = record { stars = one_more has.stars; behind = has.behind; are = AreStars.star s q has.are }
+one_star_has s ts us q has = record { stars = one_more has.stars; following = has.following; are = AreStars.star s q has.are }
 
 stars_up_to : (n : ℕ) (ts : List Lexeme) → length ts ≤ n → HasStars ts
 stars_up_to zero (t ∷ ts) h = absurd (omega arith)
 stars_up_to (suc n) (lexeme.Star s ∷ ts) h =
     let q = qualifiers_has ts in
-    one_star_has s ts q.behind q.qualifiers (stars_up_to n q.behind (omega (arith, qualifiers-leaves q.qualifiers)))
-stars_up_to n [] h = record { stars = Zero; behind = []; are = AreStars.no_star refl }
-stars_up_to n (t ∷ ts) h = record { stars = Zero; behind = t ∷ ts; are = AreStars.no_star refl }
+    one_star_has s ts q.following q.qualifiers (stars_up_to n q.following (omega (arith, qualifiers-leaves q.qualifiers)))
+stars_up_to n [] h = record { stars = Zero; following = []; are = AreStars.no_star refl }
+stars_up_to n (t ∷ ts) h = record { stars = Zero; following = t ∷ ts; are = AreStars.no_star refl }
 
 pub stars_has : (ts : List Lexeme) → HasStars ts
 stars_has ts = stars_up_to (length ts) ts (omega arith)
@@ -160,7 +160,7 @@ words-one (MoreWords.word w s e m) = rw e (words-one m)
 words-one (MoreWords.bad_word w s e) = rw e refl
 words-one (MoreWords.qualifier s m) = words-one m
 words-one (MoreWords.host_wide s h k q) = rw (h, k, qualifiers-one q) refl
-words-one (MoreWords.name_behind s h) = rw h refl
+words-one (MoreWords.name_after s h) = rw h refl
 words-one (MoreWords.no_word {before} {ts} h) = sym (no_more_words before ts h)
 
 words-leaves : {before : Combination} {ts : List Lexeme} {o : Outcome RawType} → MoreWords before ts o → Leaves (length ts) o
@@ -172,7 +172,7 @@ words-leaves (MoreWords.qualifier {o = Read x us} s m) = omega (arith, words-lea
 words-leaves (MoreWords.qualifier {o = Stops number at} s m) = tt
 words-leaves (MoreWords.qualifier {o = Ends} s m) = tt
 words-leaves (MoreWords.host_wide s h k q) = omega (arith, qualifiers-leaves q)
-words-leaves (MoreWords.name_behind s h) = omega arith
+words-leaves (MoreWords.name_after s h) = omega arith
 words-leaves (MoreWords.no_word h) = omega arith
 
 word_has : (before : Combination) (w : TypeWord) (s : Spot) (ts : List Lexeme) (with_it : Option Combination) → with_word w before ≡ with_it
@@ -183,8 +183,8 @@ word_has before w s ts None e has = record { outcome = _; holds = MoreWords.bad_
 name_has : (before : Combination) (s : Spot) (ts : List Lexeme) (alone host : Bool) → is_unsigned_alone before ≡ alone → bytes_eq s.word (codes "HOST_WIDE_INT") ≡ host
     → Has (MoreWords before) (lexeme.Name s ∷ ts)
 name_has before s ts true true h k = record { outcome = _; holds = MoreWords.host_wide s h k (qualifiers_has ts).qualifiers }
-name_has before s ts false host h k = record { outcome = _; holds = MoreWords.name_behind s (rw h refl) }
-name_has before s ts true false h k = record { outcome = _; holds = MoreWords.name_behind s (rw (h, k) refl) }
+name_has before s ts false host h k = record { outcome = _; holds = MoreWords.name_after s (rw h refl) }
+name_has before s ts true false h k = record { outcome = _; holds = MoreWords.name_after s (rw (h, k) refl) }
 
 words_has : (ts : List Lexeme) (before : Combination) → Has (MoreWords before) ts
 words_has (lexeme.Type w s ∷ ts) before = word_has before w s ts (with_word w before) refl (words_has ts)
@@ -226,7 +226,7 @@ no_tags place k (lexeme.Name s ∷ ts) h g = absurd cc
 no_tags place k (lexeme.Open Brace s ∷ ts) h g = absurd cc
 no_tags place k (t ∷ ts) h g = refl
 
-no_bracket : (place : Place) (s : Spot) (ts : List Lexeme) → begins opens_round ts ≡ false → behind_bitfield place s ts ≡ Read (Named (name_of s)) ts
+no_bracket : (place : Place) (s : Spot) (ts : List Lexeme) → begins opens_round ts ≡ false → after_bitfield place s ts ≡ Read (Named (name_of s)) ts
 no_bracket InField s [] h = refl
 no_bracket InField s (lexeme.Open Round p ∷ ts) h = absurd cc
 no_bracket InField s (t ∷ ts) h = refl
@@ -234,16 +234,16 @@ no_bracket Elsewhere s [] h = refl
 no_bracket Elsewhere s (lexeme.Open Round p ∷ ts) h = absurd cc
 no_bracket Elsewhere s (t ∷ ts) h = refl
 
--- a name has to stand behind a bracket, where no pointer to a function is declared
+-- a name has to stand after a bracket, where no pointer to a function is declared
 bitfield_bracket : (place : Place) (s a : Spot) (ts : List Lexeme) → (in_field place && begins is_star ts) ≡ false
-    → behind_bitfield place s (lexeme.Open Round a ∷ ts) ≡ bitfield_at ts
+    → after_bitfield place s (lexeme.Open Round a ∷ ts) ≡ bitfield_at ts
 bitfield_bracket InField s a [] h = refl
 bitfield_bracket InField s a (lexeme.Star p ∷ ts) h = absurd cc
 bitfield_bracket InField s a (t ∷ ts) h = refl
 bitfield_bracket Elsewhere s a ts h = refl
 
 pointer : (place : Place) (s a p : Spot) (ts : List Lexeme) → in_field place ≡ true
-    → behind_bitfield place s (lexeme.Open Round a ∷ lexeme.Star p ∷ ts) ≡ Read (Named (name_of s)) (lexeme.Open Round a ∷ lexeme.Star p ∷ ts)
+    → after_bitfield place s (lexeme.Open Round a ∷ lexeme.Star p ∷ ts) ≡ Read (Named (name_of s)) (lexeme.Open Round a ∷ lexeme.Star p ∷ ts)
 pointer InField s a p ts h = refl
 pointer Elsewhere s a p ts h = absurd cc
 
@@ -263,8 +263,8 @@ pub bare_type-one : {place : Place} {ts : List Lexeme} {o : Outcome RawType} →
 unfolding bare_type_at tagged_at bitfield_at words_from
 bare_type-one (BareType.words w s m) = words-one m
 bare_type-one {place} (BareType.tagged {rest} k t s q r h g) = rw (qualifiers-one q, qualifiers-one r, unmarked place rest g, no_brace place rest h) refl
-bare_type-one {place} (BareType.before_marker {rest} {behind} k t s g f q r m h) =
-    rw (qualifiers-one q, qualifiers-one r, marked place g rest f, ← marker-one m, no_brace InField behind h) refl
+bare_type-one {place} (BareType.before_marker {rest} {following} k t s g f q r m h) =
+    rw (qualifiers-one q, qualifiers-one r, marked place g rest f, ← marker-one m, no_brace InField following h) refl
 bare_type-one {place} (BareType.with_body {rest} k t s b q r) = rw (qualifiers-one q, qualifiers-one r, brace_body place b rest) refl
 bare_type-one {place} (BareType.marked_body {rest} k t s g b f q r m) = rw (qualifiers-one q, qualifiers-one r, marked place g rest f, ← marker-one m) refl
 bare_type-one {place} (BareType.in_marker {rest} k t s g why f q r m) =
@@ -299,25 +299,25 @@ bare_type-leaves (BareType.bitfield_no_name {rest} s a e q h r k) = unexpected_l
 bare_type-leaves (BareType.bitfield_not_closed {rest} s a n e q r p k) = unexpected_leaves RawType rest _
 bare_type-leaves (BareType.no_type {ts} h) = unexpected_leaves RawType ts _
 
--- a marker behind a tag in a field
-marker_behind_tag : (k : Keyword) (t s g : Spot) (ts us rest : List Lexeme) → Qualifiers ts (lexeme.Name s ∷ us) → Qualifiers us (lexeme.Gty g ∷ rest)
+-- a marker after a tag in a field
+marker_after_tag : (k : Keyword) (t s g : Spot) (ts us rest : List Lexeme) → Qualifiers ts (lexeme.Name s ∷ us) → Qualifiers us (lexeme.Gty g ∷ rest)
     → {o : Outcome (List RawOption)} → Marker (lexeme.Gty g ∷ rest) o → Comes o → Has (BareType InField) (lexeme.Tag k t ∷ ts)
-marker_behind_tag k t s g ts us rest q r m (unread why) = record { outcome = failed why; holds = BareType.in_marker k t s g why refl q r m }
-marker_behind_tag k t s g ts us rest q r m (read options (lexeme.Open Brace b ∷ behind)) = record { outcome = _; holds = BareType.marked_body k t s g b refl q r m }
-marker_behind_tag k t s g ts us rest q r m (read options []) = record { outcome = _; holds = BareType.before_marker k t s g refl q r m refl }
-marker_behind_tag k t s g ts us rest q r m (read options (u ∷ behind)) = record { outcome = _; holds = BareType.before_marker k t s g refl q r m refl }
+marker_after_tag k t s g ts us rest q r m (unread why) = record { outcome = failed why; holds = BareType.in_marker k t s g why refl q r m }
+marker_after_tag k t s g ts us rest q r m (read options (lexeme.Open Brace b ∷ following)) = record { outcome = _; holds = BareType.marked_body k t s g b refl q r m }
+marker_after_tag k t s g ts us rest q r m (read options []) = record { outcome = _; holds = BareType.before_marker k t s g refl q r m refl }
+marker_after_tag k t s g ts us rest q r m (read options (u ∷ following)) = record { outcome = _; holds = BareType.before_marker k t s g refl q r m refl }
 
-tag_behind : (place : Place) (k : Keyword) (t s : Spot) (ts us rest : List Lexeme) → Qualifiers ts (lexeme.Name s ∷ us) → Qualifiers us rest → Has (BareType place) (lexeme.Tag k t ∷ ts)
-tag_behind place k t s ts us (lexeme.Open Brace b ∷ rest) q r = record { outcome = _; holds = BareType.with_body k t s b q r }
-tag_behind InField k t s ts us (lexeme.Gty g ∷ rest) q r =
-    let has = marker_has (lexeme.Gty g ∷ rest) in marker_behind_tag k t s g ts us rest q r has.holds (comes has.outcome)
-tag_behind InField k t s ts us [] q r = record { outcome = _; holds = BareType.tagged k t s q r refl refl }
-tag_behind InField k t s ts us (u ∷ rest) q r = record { outcome = _; holds = BareType.tagged k t s q r refl refl }
-tag_behind Elsewhere k t s ts us [] q r = record { outcome = _; holds = BareType.tagged k t s q r refl refl }
-tag_behind Elsewhere k t s ts us (u ∷ rest) q r = record { outcome = _; holds = BareType.tagged k t s q r refl refl }
+tag_after : (place : Place) (k : Keyword) (t s : Spot) (ts us rest : List Lexeme) → Qualifiers ts (lexeme.Name s ∷ us) → Qualifiers us rest → Has (BareType place) (lexeme.Tag k t ∷ ts)
+tag_after place k t s ts us (lexeme.Open Brace b ∷ rest) q r = record { outcome = _; holds = BareType.with_body k t s b q r }
+tag_after InField k t s ts us (lexeme.Gty g ∷ rest) q r =
+    let has = marker_has (lexeme.Gty g ∷ rest) in marker_after_tag k t s g ts us rest q r has.holds (comes has.outcome)
+tag_after InField k t s ts us [] q r = record { outcome = _; holds = BareType.tagged k t s q r refl refl }
+tag_after InField k t s ts us (u ∷ rest) q r = record { outcome = _; holds = BareType.tagged k t s q r refl refl }
+tag_after Elsewhere k t s ts us [] q r = record { outcome = _; holds = BareType.tagged k t s q r refl refl }
+tag_after Elsewhere k t s ts us (u ∷ rest) q r = record { outcome = _; holds = BareType.tagged k t s q r refl refl }
 
 tagged_has : (place : Place) (k : Keyword) (t : Spot) (ts us : List Lexeme) → Qualifiers ts us → Has (BareType place) (lexeme.Tag k t ∷ ts)
-tagged_has place k t ts (lexeme.Name s ∷ us) q = tag_behind place k t s ts us (qualifiers_has us).behind q (qualifiers_has us).qualifiers
+tagged_has place k t ts (lexeme.Name s ∷ us) q = tag_after place k t s ts us (qualifiers_has us).following q (qualifiers_has us).qualifiers
 tagged_has place k t ts (lexeme.Open Brace b ∷ us) q = record { outcome = _; holds = BareType.body_alone k t b q }
 tagged_has place k t ts [] q = record { outcome = unexpected []; holds = BareType.no_tag k t q refl refl }
 tagged_has place k t ts (u ∷ us) q = record { outcome = unexpected (u ∷ us); holds = BareType.no_tag k t q refl refl }
@@ -330,16 +330,16 @@ bitfield_closes place s a n ts us vs (u ∷ rest) e q r p = record { outcome = u
 
 bitfield_name : (place : Place) (s a : Spot) (ts us rest : List Lexeme) → bytes_eq s.word (codes "ENUM_BITFIELD") ≡ true
     → Qualifiers ts (lexeme.Open Round a ∷ us) → (in_field place && begins is_star us) ≡ false → Qualifiers us rest → Has (BareType place) (lexeme.Name s ∷ ts)
-bitfield_name place s a ts us (lexeme.Name n ∷ rest) e q h r = bitfield_closes place s a n ts us rest (qualifiers_has rest).behind e q r (qualifiers_has rest).qualifiers
+bitfield_name place s a ts us (lexeme.Name n ∷ rest) e q h r = bitfield_closes place s a n ts us rest (qualifiers_has rest).following e q r (qualifiers_has rest).qualifiers
 bitfield_name place s a ts us [] e q h r = record { outcome = unexpected []; holds = BareType.bitfield_no_name s a e q h r refl }
 bitfield_name place s a ts us (u ∷ rest) e q h r = record { outcome = unexpected (u ∷ rest); holds = BareType.bitfield_no_name s a e q h r refl }
 
 bitfield_opened : (place : Place) (s a : Spot) (ts us : List Lexeme) → bytes_eq s.word (codes "ENUM_BITFIELD") ≡ true
     → Qualifiers ts (lexeme.Open Round a ∷ us) → Has (BareType place) (lexeme.Name s ∷ ts)
 bitfield_opened InField s a ts (lexeme.Star p ∷ us) e q = record { outcome = _; holds = BareType.function_pointer s a p refl e q }
-bitfield_opened InField s a ts [] e q = bitfield_name InField s a ts [] (qualifiers_has []).behind e q refl (qualifiers_has []).qualifiers
-bitfield_opened InField s a ts (u ∷ us) e q = bitfield_name InField s a ts (u ∷ us) (qualifiers_has (u ∷ us)).behind e q refl (qualifiers_has (u ∷ us)).qualifiers
-bitfield_opened Elsewhere s a ts us e q = bitfield_name Elsewhere s a ts us (qualifiers_has us).behind e q refl (qualifiers_has us).qualifiers
+bitfield_opened InField s a ts [] e q = bitfield_name InField s a ts [] (qualifiers_has []).following e q refl (qualifiers_has []).qualifiers
+bitfield_opened InField s a ts (u ∷ us) e q = bitfield_name InField s a ts (u ∷ us) (qualifiers_has (u ∷ us)).following e q refl (qualifiers_has (u ∷ us)).qualifiers
+bitfield_opened Elsewhere s a ts us e q = bitfield_name Elsewhere s a ts us (qualifiers_has us).following e q refl (qualifiers_has us).qualifiers
 
 bitfield_has : (place : Place) (s : Spot) (ts us : List Lexeme) → bytes_eq s.word (codes "ENUM_BITFIELD") ≡ true → Qualifiers ts us → Has (BareType place) (lexeme.Name s ∷ ts)
 bitfield_has place s ts (lexeme.Open Round a ∷ us) e q = bitfield_opened place s a ts us e q
@@ -347,12 +347,12 @@ bitfield_has place s ts [] e q = record { outcome = _; holds = BareType.no_bitfi
 bitfield_has place s ts (u ∷ us) e q = record { outcome = _; holds = BareType.no_bitfield s e q refl }
 
 named_has : (place : Place) (s : Spot) (ts : List Lexeme) (is : Bool) → bytes_eq s.word (codes "ENUM_BITFIELD") ≡ is → Has (BareType place) (lexeme.Name s ∷ ts)
-named_has place s ts true e = bitfield_has place s ts (qualifiers_has ts).behind e (qualifiers_has ts).qualifiers
+named_has place s ts true e = bitfield_has place s ts (qualifiers_has ts).following e (qualifiers_has ts).qualifiers
 named_has place s ts false e = record { outcome = _; holds = BareType.named s e (qualifiers_has ts).qualifiers }
 
 bare_type_has : (place : Place) (ts : List Lexeme) → Has (BareType place) ts
 bare_type_has place (lexeme.Type w s ∷ ts) = record { outcome = _; holds = BareType.words w s (words_has (lexeme.Type w s ∷ ts) no_words).holds }
-bare_type_has place (lexeme.Tag k t ∷ ts) = tagged_has place k t ts (qualifiers_has ts).behind (qualifiers_has ts).qualifiers
+bare_type_has place (lexeme.Tag k t ∷ ts) = tagged_has place k t ts (qualifiers_has ts).following (qualifiers_has ts).qualifiers
 bare_type_has place (lexeme.Name s ∷ ts) = named_has place s ts (bytes_eq s.word (codes "ENUM_BITFIELD")) refl
 bare_type_has place [] = record { outcome = unexpected []; holds = BareType.no_type refl }
 bare_type_has place (t ∷ ts) = record { outcome = unexpected (t ∷ ts); holds = BareType.no_type refl }
@@ -368,7 +368,7 @@ type-leaves (AType.type {o = Ends} q b) = tt
 
 pub type_has : (place : Place) (ts : List Lexeme) → Has (AType place) ts
 type_has place ts =
-    let bare = bare_type_has place (qualifiers_has ts).behind in
+    let bare = bare_type_has place (qualifiers_has ts).following in
     record { outcome = bare.outcome; holds = AType.type (qualifiers_has ts).qualifiers bare.holds }
 
 pub type-alone : (place : Place) (ts : List Lexeme) (o : Outcome RawType) → AType place ts o → o ≡ type_at place ts

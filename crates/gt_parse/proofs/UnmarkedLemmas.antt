@@ -30,7 +30,7 @@ use Rattle.gt_parse.specs.Outcome.{Outcome, Read, Stops, Ends, ◌>>=◌, unexpe
 use Rattle.gt_parse.specs.Search.{is_equals}
 use Rattle.gt_parse.specs.TypeGrammar.{is_name, is_qualifier, opens_brace, Qualifiers, AreStars, BareType, AType}
 use Rattle.gt_parse.specs.Types.{type_at, bare_type_at}
-use Rattle.gt_parse.specs.Unmarked.{enumerator_of, pieces_from, enumerators_of, enum_body_at, enum_at, body_at, plain_meaning_at, tagged_meaning_at, keyword_meaning_at, bare_meaning_at, meaning_at, behind_alias, aliases_from, first_form_at, last_name, behind_round, starred_name, opaque_name, opaque_typedef, typedef_of, typedef_at}
+use Rattle.gt_parse.specs.Unmarked.{enumerator_of, pieces_from, enumerators_of, enum_body_at, enum_at, body_at, plain_meaning_at, tagged_meaning_at, keyword_meaning_at, bare_meaning_at, meaning_at, after_alias, aliases_from, first_form_at, last_name, after_round, starred_name, opaque_name, opaque_typedef, typedef_of, typedef_at}
 use Rattle.gt_parse.proofs.GroupsLemmas.{inside-closed, inside-unclosed, Closes, closed, unclosed, closes}
 use Rattle.gt_parse.proofs.MarkedLemmas.{alias-one, alias_has}
 use Rattle.gt_parse.proofs.PlacesLemmas.{stands, stands-not, not-stands, depth_one_more, stands_one_more}
@@ -42,12 +42,12 @@ use Rattle.gt_parse.proofs.GrammarWords.{Has}
 
 record Steps {A B : Type 0} (o : Outcome A) (f : A × List Lexeme → Outcome B) (y : B) (us : List Lexeme) : Type 0 where
   found : A
-  behind : List Lexeme
-  first : o ≡ Read found behind
-  second : f (found, behind) ≡ Read y us
+  following : List Lexeme
+  first : o ≡ Read found following
+  second : f (found, following) ≡ Read y us
 
 steps : {A B : Type 0} (o : Outcome A) (f : A × List Lexeme → Outcome B) (y : B) (us : List Lexeme) → (o >>= f) ≡ Read y us → Steps o f y us
-steps (Read x ts) f y us e = record { found = x; behind = ts; first = refl; second = e }
+steps (Read x ts) f y us e = record { found = x; following = ts; first = refl; second = e }
 steps (Stops number at) f y us e = absurd cc
 steps Ends f y us e = absurd cc
 
@@ -210,17 +210,17 @@ body-sound : (k : Keyword) (tag : Option Name) (ts : List Lexeme) (means : Meani
 body-sound k tag ts means rest e = cases (body_comes k tag ts)
   where
     cases : ComesToBody k tag ts → HasBody k tag ts means rest
-    cases (is_body found behind b) =
-        let same = read_is means found rest behind (sym e ∙ body-one b) in rw (same.0, same.1) b
+    cases (is_body found following b) =
+        let same = read_is means found rest following (sym e ∙ body-one b) in rw (same.0, same.1) b
     cases (is_none none) = let apart : Ends ≡ Read means rest = sym none ∙ e in absurd cc
 
 -- ---- meanings of typedefs
 
--- no body stands behind a type, so that it means itself
-no_body_behind : (k : Keyword) (tag : Name) (whole ts : List Lexeme) → begins opens_brace ts ≡ false → tagged_meaning_at k tag whole ts ≡ plain_meaning_at whole
-no_body_behind k tag whole [] h = refl
-no_body_behind k tag whole (lexeme.Open Brace o ∷ ts) h = absurd cc
-no_body_behind k tag whole (t ∷ ts) h = refl
+-- no body stands after a type, so that it means itself
+no_body_after : (k : Keyword) (tag : Name) (whole ts : List Lexeme) → begins opens_brace ts ≡ false → tagged_meaning_at k tag whole ts ≡ plain_meaning_at whole
+no_body_after k tag whole [] h = refl
+no_body_after k tag whole (lexeme.Open Brace o ∷ ts) h = absurd cc
+no_body_after k tag whole (t ∷ ts) h = refl
 
 plain_means : (us : List Lexeme) {rest : List Lexeme} {type : RawType} → begins is_qualifier us ≡ false → bare_type_at Elsewhere us ≡ Read type rest → plain_meaning_at us ≡ Read (meaning.Type type) rest
 unfolding plain_meaning_at type_at
@@ -231,7 +231,7 @@ bare_means : {us rest : List Lexeme} {type : RawType} {o : Outcome RawType} → 
 unfolding bare_meaning_at
 bare_means h (BareType.words w s m) e = plain_means _ h (sym (bare_type-one (BareType.words w s m)) ∙ e)
 bare_means {us} h (BareType.tagged {rest} k t s q r l g) e =
-    rw (qualifiers-one q, qualifiers-one r) (no_body_behind k (name_of s) us rest l ∙ plain_means _ h (sym (bare_type-one (BareType.tagged k t s q r l g)) ∙ e))
+    rw (qualifiers-one q, qualifiers-one r) (no_body_after k (name_of s) us rest l ∙ plain_means _ h (sym (bare_type-one (BareType.tagged k t s q r l g)) ∙ e))
 bare_means h (BareType.before_marker k t s g f q r m l) e = absurd cc
 bare_means h (BareType.with_body k t s b q r) e = absurd cc
 bare_means h (BareType.body_alone k t b q) e = absurd cc
@@ -271,7 +271,7 @@ plain_sound : (ts us : List Lexeme) (means : Meaning) (rest : List Lexeme) → Q
 unfolding plain_meaning_at
 plain_sound ts us means rest q e =
     let step = steps (type_at Elsewhere us) (λ type. Read (meaning.Type type.0) type.1) means rest e in
-    type_meaning ts step.found step.behind means rest (same_type q ∙ step.first) step.second
+    type_meaning ts step.found step.following means rest (same_type q ∙ step.first) step.second
 
 tagged_sound : (ts : List Lexeme) (k : Keyword) (t n : Spot) (us vs ws : List Lexeme) (means : Meaning) (rest : List Lexeme) → Qualifiers ts (lexeme.Tag k t ∷ us)
     → Qualifiers us (lexeme.Name n ∷ vs) → Qualifiers vs ws → tagged_meaning_at k (name_of n) (lexeme.Tag k t ∷ us) ws ≡ Read means rest → HasMeaning ts means rest
@@ -284,7 +284,7 @@ keyword_sound : (ts : List Lexeme) (k : Keyword) (t : Spot) (us vs : List Lexeme
 keyword_sound ts k t us (lexeme.Open Brace o ∷ vs) means rest q r e = HasMeaning.untagged k t o q r (body-sound k None vs means rest e)
 keyword_sound ts k t us (lexeme.Name n ∷ vs) means rest q r e =
     let p = qualifiers_has vs in
-    tagged_sound ts k t n us vs p.behind means rest q r p.qualifiers (rw (qualifiers-one p.qualifiers) at e)
+    tagged_sound ts k t n us vs p.following means rest q r p.qualifiers (rw (qualifiers-one p.qualifiers) at e)
 keyword_sound ts k t us [] means rest q r e = absurd (unexpected_read [] means rest e)
 keyword_sound ts k t us (v ∷ vs) means rest q r e = absurd (unexpected_read (v ∷ vs) means rest e)
 
@@ -292,7 +292,7 @@ bare_sound : (ts us : List Lexeme) (means : Meaning) (rest : List Lexeme) → Qu
 unfolding bare_meaning_at
 bare_sound ts (lexeme.Tag k t ∷ us) means rest q e =
     let r = qualifiers_has us in
-    keyword_sound ts k t us r.behind means rest q r.qualifiers (rw (qualifiers-one r.qualifiers) at e)
+    keyword_sound ts k t us r.following means rest q r.qualifiers (rw (qualifiers-one r.qualifiers) at e)
 bare_sound ts [] means rest q e = plain_sound ts [] means rest q e
 bare_sound ts (u ∷ us) means rest q e = plain_sound ts (u ∷ us) means rest q e
 
@@ -300,7 +300,7 @@ meaning-sound : (ts : List Lexeme) (means : Meaning) (rest : List Lexeme) → me
 unfolding meaning_at
 meaning-sound ts means rest e =
     let q = qualifiers_has ts in
-    bare_sound ts q.behind means rest q.qualifiers (rw (qualifiers-one q.qualifiers) at e)
+    bare_sound ts q.following means rest q.qualifiers (rw (qualifiers-one q.qualifiers) at e)
 
 -- ---- names of typedefs
 
@@ -339,24 +339,24 @@ record Added (before : List Alias) (ts : List Lexeme) (names : List Alias) : Typ
   same : names ≡ before ++ added
   are : Aliases ts added
 
-aliases_behind : (go : List Lexeme → Outcome (List Alias)) (before : List Alias) (ts : List Lexeme) (x : Alias) (us : List Lexeme) (names : List Alias) (rest : List Lexeme)
-    → IsAlias ts x us → behind_alias go (before ++ x ∷ []) us ≡ Read names rest
+aliases_after : (go : List Lexeme → Outcome (List Alias)) (before : List Alias) (ts : List Lexeme) (x : Alias) (us : List Lexeme) (names : List Alias) (rest : List Lexeme)
+    → IsAlias ts x us → after_alias go (before ++ x ∷ []) us ≡ Read names rest
     → ((vs : List Lexeme) → go vs ≡ Read names rest → Added (before ++ x ∷ []) vs names) → Added before ts names
-aliases_behind go before ts x (lexeme.Comma c ∷ us) names rest i e again =
+aliases_after go before ts x (lexeme.Comma c ∷ us) names rest i e again =
     let more = again us e in
     record { added = x ∷ more.added; same = more.same ∙ append_assoc before (x ∷ []) more.added; are = rw (← i.same) (Aliases.more i.name c i.are more.are) }
-aliases_behind go before ts x (lexeme.Semicolon s ∷ us) names rest i e again =
+aliases_after go before ts x (lexeme.Semicolon s ∷ us) names rest i e again =
     let same = read_is (before ++ x ∷ []) names us rest e in
     record { added = x ∷ []; same = sym same.0; are = rw (← i.same) (Aliases.last i.name s i.are) }
-aliases_behind go before ts x [] names rest i e again = absurd (unexpected_read [] names rest e)
-aliases_behind go before ts x (u ∷ us) names rest i e again = absurd (unexpected_read (u ∷ us) names rest e)
+aliases_after go before ts x [] names rest i e again = absurd (unexpected_read [] names rest e)
+aliases_after go before ts x (u ∷ us) names rest i e again = absurd (unexpected_read (u ∷ us) names rest e)
 
 aliases-sound : (count : ℕ) (before : List Alias) (ts : List Lexeme) (names : List Alias) (rest : List Lexeme) → aliases_from count before ts ≡ Read names rest → Added before ts names
 unfolding aliases_from
 aliases-sound zero before ts names rest e = absurd cc
 aliases-sound (suc count) before ts names rest e =
-    let step = steps (alias_at ts) (λ one. behind_alias (aliases_from count (before ++ one.0 ∷ [])) (before ++ one.0 ∷ []) one.1) names rest e in
-    aliases_behind (aliases_from count (before ++ step.found ∷ [])) before ts step.found step.behind names rest (alias-sound ts step.found step.behind step.first) step.second
+    let step = steps (alias_at ts) (λ one. after_alias (aliases_from count (before ++ one.0 ∷ [])) (before ++ one.0 ∷ []) one.1) names rest e in
+    aliases_after (aliases_from count (before ++ step.found ∷ [])) before ts step.found step.following names rest (alias-sound ts step.found step.following step.first) step.second
     (λ vs f. aliases-sound count (before ++ step.found ∷ []) vs names rest f)
 
 -- ---- the first form
@@ -371,18 +371,18 @@ first_form-one (FirstForm.first_form {us} m a) =
     let names = aliases-from a (length us) [] (omega arith) in
     record { rest = names.rest; here = rw (meaning-one m, names.here) refl }
 
-form_of : (ts us : List Lexeme) (means : Meaning) (names : List Alias) (behind : List Lexeme) (found : RawTypedef) (rest : List Lexeme) → meaning_at ts ≡ Read means us
-    → Added [] us names → ◌≡◌ {A = Outcome RawTypedef} (Read (record { means = means; names = names }) behind) (Read found rest) → FirstForm ts found
-form_of ts us means names behind found rest m a e =
-    let same = read_is (record { means = means; names = names }) found behind rest e in
+form_of : (ts us : List Lexeme) (means : Meaning) (names : List Alias) (following : List Lexeme) (found : RawTypedef) (rest : List Lexeme) → meaning_at ts ≡ Read means us
+    → Added [] us names → ◌≡◌ {A = Outcome RawTypedef} (Read (record { means = means; names = names }) following) (Read found rest) → FirstForm ts found
+form_of ts us means names following found rest m a e =
+    let same = read_is (record { means = means; names = names }) found following rest e in
     rw (← same.0, a.same) (FirstForm.first_form (meaning-sound ts means us m) a.are)
 
 first_form-sound : (ts : List Lexeme) (found : RawTypedef) (rest : List Lexeme) → first_form_at ts ≡ Read found rest → FirstForm ts found
 unfolding first_form_at
 first_form-sound ts found rest e =
     let m = steps (meaning_at ts) (λ means. aliases_from (length means.1) [] means.1 >>= λ names. Read (record { means = means.0; names = names.0 }) names.1) found rest e in
-    let a = steps (aliases_from (length m.behind) [] m.behind) (λ names. Read (record { means = m.found; names = names.0 }) names.1) found rest m.second in
-    form_of ts m.behind m.found a.found a.behind found rest m.first (aliases-sound (length m.behind) [] m.behind a.found a.behind a.first) a.second
+    let a = steps (aliases_from (length m.following) [] m.following) (λ names. Read (record { means = m.found; names = names.0 }) names.1) found rest m.second in
+    form_of ts m.following m.found a.found a.following found rest m.first (aliases-sound (length m.following) [] m.following a.found a.following a.first) a.second
 
 -- ---- other typedefs
 
@@ -409,24 +409,24 @@ starred_has [] = record { outcome = _; holds = StarredName.no_name refl }
 starred_has (t ∷ ts) = record { outcome = _; holds = StarredName.no_name refl }
 
 last-one : {ts : List Lexeme} {found : Option Name} → LastName ts found → last_name 0 None ts ≡ found
-last-one (LastName.name front {behind} n o h) = last_found front 0 None n behind o ∙ last_stays behind 0 (Some (name_of n)) (not-stands is_name behind h)
+last-one (LastName.name front {following} n o h) = last_found front 0 None n following o ∙ last_stays following 0 (Some (name_of n)) (not-stands is_name following h)
 last-one (LastName.no_name {ts} h) = last_stays ts 0 None (not-stands is_name ts h)
 
 last_has : (ts : List Lexeme) → Has LastName ts
 last_has ts = cases (stands is_name 0 ts) refl
   where
     named : HasLast 0 ts → Has LastName ts
-    named l = record { outcome = Some (name_of l.name); holds = rw (l.parts) (LastName.name l.front l.name l.outside (stands-not is_name l.behind l.none)) }
+    named l = record { outcome = Some (name_of l.name); holds = rw (l.parts) (LastName.name l.front l.name l.outside (stands-not is_name l.following l.none)) }
 
     cases : (b : Bool) → stands is_name 0 ts ≡ b → Has LastName ts
     cases true e = named (last_place ts 0 e)
     cases false e = record { outcome = None; holds = LastName.no_name (stands-not is_name ts e) }
 
-not_first : (ts : List Lexeme) → ((first : RawTypedef) → ¬ FirstForm ts first) → typedef_at ts ≡ opaque_typedef (opaque_name ts (behind_round 0 ts))
+not_first : (ts : List Lexeme) → ((first : RawTypedef) → ¬ FirstForm ts first) → typedef_at ts ≡ opaque_typedef (opaque_name ts (after_round 0 ts))
 unfolding typedef_at
 not_first ts h = cases (first_form_at ts) refl
   where
-    cases : (o : Outcome RawTypedef) → first_form_at ts ≡ o → typedef_of ts o ≡ opaque_typedef (opaque_name ts (behind_round 0 ts))
+    cases : (o : Outcome RawTypedef) → first_form_at ts ≡ o → typedef_of ts o ≡ opaque_typedef (opaque_name ts (after_round 0 ts))
     cases (Read found rest) e = absurd (h found (first_form-sound ts found rest e))
     cases (Stops number at) e = refl
     cases Ends e = refl
@@ -441,15 +441,15 @@ typedef-alone ts found (UnmarkedTypedef.pointer h p s) = rw (not_first ts h, poi
 typedef-alone ts found (UnmarkedTypedef.other h p l) = rw (not_first ts h, no-pointer ts p, last-one l) refl
 
 other_has : (ts : List Lexeme) → ((first : RawTypedef) → ¬ FirstForm ts first) → Has UnmarkedTypedef ts
-other_has ts h = cases (behind_round 0 ts) refl
+other_has ts h = cases (after_round 0 ts) refl
   where
     pointed : HasPointer ts → Has UnmarkedTypedef ts
-    pointed p = record { outcome = _; holds = UnmarkedTypedef.pointer h p (starred_has p.behind).holds }
+    pointed p = record { outcome = _; holds = UnmarkedTypedef.pointer h p (starred_has p.following).holds }
 
-    cases : (us : List Lexeme) → behind_round 0 ts ≡ us → Has UnmarkedTypedef ts
+    cases : (us : List Lexeme) → after_round 0 ts ≡ us → Has UnmarkedTypedef ts
     cases (lexeme.Star s ∷ us) e = pointed (round-pointer ts s us e)
-    cases [] e = record { outcome = _; holds = UnmarkedTypedef.other h (λ p. let apart : lexeme.Star p.star ∷ p.behind ≡ [] = sym (pointer-round p) ∙ e in cc) (last_has ts).holds }
-    cases (u ∷ us) e = record { outcome = _; holds = UnmarkedTypedef.other h (λ p. let apart : lexeme.Star p.star ∷ p.behind ≡ u ∷ us = sym (pointer-round p) ∙ e in cc) (last_has ts).holds }
+    cases [] e = record { outcome = _; holds = UnmarkedTypedef.other h (λ p. let apart : lexeme.Star p.star ∷ p.following ≡ [] = sym (pointer-round p) ∙ e in cc) (last_has ts).holds }
+    cases (u ∷ us) e = record { outcome = _; holds = UnmarkedTypedef.other h (λ p. let apart : lexeme.Star p.star ∷ p.following ≡ u ∷ us = sym (pointer-round p) ∙ e in cc) (last_has ts).holds }
 
 not_read : (ts : List Lexeme) (o : Outcome RawTypedef) → first_form_at ts ≡ o → ((x : RawTypedef) (us : List Lexeme) → o ≡ Read x us → ⊥) → (first : RawTypedef) → ¬ FirstForm ts first
 not_read ts o e h first f = let r = first_form-one f in h first r.rest (sym e ∙ r.here)

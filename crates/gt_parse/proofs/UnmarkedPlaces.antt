@@ -12,7 +12,7 @@ use Rattle.gt_parse.specs.ItemGrammar.{HasPointer}
 use Rattle.gt_parse.specs.Lexemes.{name_of}
 use Rattle.gt_parse.specs.MarkerGrammar.{is_comma, opens_round}
 use Rattle.gt_parse.specs.TypeGrammar.{is_name}
-use Rattle.gt_parse.specs.Unmarked.{pieces_from, last_name, behind_round, opaque_name}
+use Rattle.gt_parse.specs.Unmarked.{pieces_from, last_name, after_round, opaque_name}
 use Rattle.gt_parse.proofs.PlacesLemmas.{or_false, stands, stands-not, not-stands}
 
 -- ---- pieces between commas
@@ -71,27 +71,27 @@ last_stays (t ∷ ts) zero last h =
     last_step zero last t ts ∙ last_stays ts (depth_after zero t) (new_last zero last t) parts.1 ∙ same_last last t parts.0
 last_stays (t ∷ ts) (suc depth) last h = last_step (suc depth) last t ts ∙ last_stays ts (depth_after (suc depth) t) last h
 
-pub last_found : (front : List Lexeme) (depth : ℕ) (last : Option Name) (n : Spot) (behind : List Lexeme) → depth_through depth front ≡ 0
-    → last_name depth last (front ++ lexeme.Name n ∷ behind) ≡ last_name 0 (Some (name_of n)) behind
-last_found [] zero last n behind o = last_step zero last (lexeme.Name n) behind
-last_found [] (suc depth) last n behind o = absurd (omega arith)
-last_found (t ∷ front) depth last n behind o =
-    last_step depth last t (front ++ lexeme.Name n ∷ behind) ∙ last_found front (depth_after depth t) (new_last depth last t) n behind o
+pub last_found : (front : List Lexeme) (depth : ℕ) (last : Option Name) (n : Spot) (following : List Lexeme) → depth_through depth front ≡ 0
+    → last_name depth last (front ++ lexeme.Name n ∷ following) ≡ last_name 0 (Some (name_of n)) following
+last_found [] zero last n following o = last_step zero last (lexeme.Name n) following
+last_found [] (suc depth) last n following o = absurd (omega arith)
+last_found (t ∷ front) depth last n following o =
+    last_step depth last t (front ++ lexeme.Name n ∷ following) ∙ last_found front (depth_after depth t) (new_last depth last t) n following o
 
 pub record HasLast (depth : ℕ) (ts : List Lexeme) : Type 0 where
   pub front : List Lexeme
   pub name : Spot
-  pub behind : List Lexeme
-  pub parts : ts ≡ front ++ lexeme.Name name ∷ behind
+  pub following : List Lexeme
+  pub parts : ts ≡ front ++ lexeme.Name name ∷ following
   pub outside : depth_through depth front ≡ 0
-  pub none : stands is_name 0 behind ≡ false
+  pub none : stands is_name 0 following ≡ false
 
 last_further : (depth : ℕ) (t : Lexeme) (ts : List Lexeme) → HasLast (depth_after depth t) ts → HasLast depth (t ∷ ts)
 last_further depth t ts s =
-    record { front = t ∷ s.front; name = s.name; behind = s.behind; parts = ap (λ (us : List Lexeme). t ∷ us) s.parts; outside = s.outside; none = s.none }
+    record { front = t ∷ s.front; name = s.name; following = s.following; parts = ap (λ (us : List Lexeme). t ∷ us) s.parts; outside = s.outside; none = s.none }
 
 last_here : (t : Lexeme) (ts : List Lexeme) → is_name t ≡ true → stands is_name (depth_after zero t) ts ≡ false → HasLast zero (t ∷ ts)
-last_here (lexeme.Name n) ts h k = record { front = []; name = n; behind = ts; parts = refl; outside = refl; none = k }
+last_here (lexeme.Name n) ts h k = record { front = []; name = n; following = ts; parts = refl; outside = refl; none = k }
 last_here t ts h k = absurd cc
 
 pub last_place : (ts : List Lexeme) (depth : ℕ) → stands is_name depth ts ≡ true → HasLast depth ts
@@ -109,21 +109,21 @@ last_place (t ∷ ts) (suc depth) e = last_further (suc depth) t ts (last_place 
 
 -- ---- the first round bracket
 
-round_zero : (t : Lexeme) (ts : List Lexeme) → opens_round t ≡ false → behind_round zero (t ∷ ts) ≡ behind_round (depth_after zero t) ts
-unfolding behind_round
+round_zero : (t : Lexeme) (ts : List Lexeme) → opens_round t ≡ false → after_round zero (t ∷ ts) ≡ after_round (depth_after zero t) ts
+unfolding after_round
 round_zero (lexeme.Open Round s) ts h = absurd cc
 round_zero (lexeme.Close b s) ts h = refl
 round_zero t ts h = refl
 
-round_suc : (depth : ℕ) (t : Lexeme) (ts : List Lexeme) → behind_round (suc depth) (t ∷ ts) ≡ behind_round (depth_after (suc depth) t) ts
-unfolding behind_round
+round_suc : (depth : ℕ) (t : Lexeme) (ts : List Lexeme) → after_round (suc depth) (t ∷ ts) ≡ after_round (depth_after (suc depth) t) ts
+unfolding after_round
 round_suc depth (lexeme.Open Round s) ts = refl
 round_suc depth (lexeme.Close b s) ts = refl
 round_suc depth t ts = refl
 
 round_found : (front : List Lexeme) (depth : ℕ) (a : Spot) (ts : List Lexeme) → depth_through depth front ≡ 0 → stands opens_round depth front ≡ false
-    → behind_round depth (front ++ lexeme.Open Round a ∷ ts) ≡ ts
-unfolding behind_round
+    → after_round depth (front ++ lexeme.Open Round a ∷ ts) ≡ ts
+unfolding after_round
 round_found [] zero a ts o h = refl
 round_found [] (suc depth) a ts o h = absurd (omega arith)
 round_found (t ∷ front) zero a ts o h =
@@ -132,8 +132,8 @@ round_found (t ∷ front) zero a ts o h =
 round_found (t ∷ front) (suc depth) a ts o h =
     round_suc depth t (front ++ lexeme.Open Round a ∷ ts) ∙ round_found front (depth_after (suc depth) t) a ts o h
 
-pub pointer-round : {ts : List Lexeme} (p : HasPointer ts) → behind_round 0 ts ≡ lexeme.Star p.star ∷ p.behind
-pointer-round {ts} p = rw (p.parts) (round_found p.front 0 p.bracket (lexeme.Star p.star ∷ p.behind) p.first.closed (not-stands opens_round p.front p.first.free))
+pub pointer-round : {ts : List Lexeme} (p : HasPointer ts) → after_round 0 ts ≡ lexeme.Star p.star ∷ p.following
+pointer-round {ts} p = rw (p.parts) (round_found p.front 0 p.bracket (lexeme.Star p.star ∷ p.following) p.first.closed (not-stands opens_round p.front p.first.free))
 
 record HasRound (depth : ℕ) (ts rest : List Lexeme) : Type 0 where
   front : List Lexeme
@@ -150,23 +150,23 @@ round_further : (depth : ℕ) (t : Lexeme) (ts rest : List Lexeme) → HasRound 
 round_further depth t ts rest s =
     record { front = t ∷ s.front; bracket = s.bracket; parts = ap (λ (us : List Lexeme). t ∷ us) s.parts; outside = s.outside; first = s.first }
 
-round_place : (ts : List Lexeme) (depth : ℕ) (u : Lexeme) (us : List Lexeme) → behind_round depth ts ≡ u ∷ us → HasRound depth ts (u ∷ us)
-unfolding behind_round
+round_place : (ts : List Lexeme) (depth : ℕ) (u : Lexeme) (us : List Lexeme) → after_round depth ts ≡ u ∷ us → HasRound depth ts (u ∷ us)
+unfolding after_round
 round_place [] depth u us e = absurd cc
 round_place (lexeme.Open Round a ∷ ts) zero u us e = record { front = []; bracket = a; parts = ap (λ (vs : List Lexeme). lexeme.Open Round a ∷ vs) e; outside = refl; first = refl }
 round_place (lexeme.Close b s ∷ ts) zero u us e = round_further_zero (lexeme.Close b s) ts (u ∷ us) refl (round_place ts zero u us e)
 round_place (t ∷ ts) zero u us e = round_further_zero t ts (u ∷ us) refl (round_place ts (depth_after zero t) u us (sym (round_zero t ts refl) ∙ e))
 round_place (t ∷ ts) (suc depth) u us e = round_further depth t ts (u ∷ us) (round_place ts (depth_after (suc depth) t) u us (sym (round_suc depth t ts) ∙ e))
 
-pub round-pointer : (ts : List Lexeme) (s : Spot) (us : List Lexeme) → behind_round 0 ts ≡ lexeme.Star s ∷ us → HasPointer ts
+pub round-pointer : (ts : List Lexeme) (s : Spot) (us : List Lexeme) → after_round 0 ts ≡ lexeme.Star s ∷ us → HasPointer ts
 round-pointer ts s us e =
     let r = round_place ts 0 (lexeme.Star s) us e in
-    record { front = r.front; bracket = r.bracket; star = s; behind = us; parts = r.parts; first = record { closed = r.outside; free = stands-not opens_round r.front r.first } }
+    record { front = r.front; bracket = r.bracket; star = s; following = us; parts = r.parts; first = record { closed = r.outside; free = stands-not opens_round r.front r.first } }
 
-pub no-pointer : (ts : List Lexeme) → ¬ HasPointer ts → opaque_name ts (behind_round 0 ts) ≡ last_name 0 None ts
-no-pointer ts h = cases (behind_round 0 ts) refl
+pub no-pointer : (ts : List Lexeme) → ¬ HasPointer ts → opaque_name ts (after_round 0 ts) ≡ last_name 0 None ts
+no-pointer ts h = cases (after_round 0 ts) refl
   where
-    cases : (us : List Lexeme) → behind_round 0 ts ≡ us → opaque_name ts us ≡ last_name 0 None ts
+    cases : (us : List Lexeme) → after_round 0 ts ≡ us → opaque_name ts us ≡ last_name 0 None ts
     cases (lexeme.Star s ∷ us) e = absurd (h (round-pointer ts s us e))
     cases [] e = refl
     cases (u ∷ us) e = refl

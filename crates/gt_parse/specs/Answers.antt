@@ -18,8 +18,8 @@ use Rattle.gt_parse.specs.Header.{constant_in, item_faults}
 
 -- what a whole item declares, if anything
 abbrev pub items_by : Outcome (Option Item) → List Item
-items_by (Read (Some found) behind) = found ∷ []
-items_by (Read None behind) = []
+items_by (Read (Some found) following) = found ∷ []
+items_by (Read None following) = []
 items_by (Stops number at) = []
 items_by Ends = []
 

@@ -55,14 +55,14 @@ begins_label ts = false
 
 -- ---- brackets. That each is closed by its like is known of a whole item, and not asked again.
 
--- how many brackets are open behind a token, where so many are open before it; a bracket that closes none counts for nothing
+-- how many brackets are open after a token, where so many are open before it; a bracket that closes none counts for nothing
 abbrev pub depth_after : ℕ → Lexeme → ℕ
 depth_after depth (lexeme.Open b s) = suc depth
 depth_after zero (lexeme.Close b s) = zero
 depth_after (suc depth) (lexeme.Close b s) = depth
 depth_after depth t = depth
 
--- how many are open behind some tokens
+-- how many are open after some tokens
 abbrev pub depth_through : ℕ → List Lexeme → ℕ
 depth_through depth [] = depth
 depth_through depth (t ∷ ts) = depth_through (depth_after depth t) ts
@@ -71,8 +71,8 @@ depth_through depth (t ∷ ts) = depth_through (depth_after depth t) ts
 pub record Stands (is : Lexeme → Bool) (ts : List Lexeme) : Type 0 where
   pub front : List Lexeme
   pub token : Lexeme
-  pub behind : List Lexeme
-  pub parts : ts ≡ front ++ token ∷ behind
+  pub following : List Lexeme
+  pub parts : ts ≡ front ++ token ∷ following
   pub outside : depth_through 0 front ≡ 0
   pub passes : is token ≡ true
 
@@ -106,7 +106,7 @@ pub data PlainDeclarator : List Lexeme → Outcome Declarator → Type 0 where
   plain : {ts us vs ws rest : List Lexeme} {stars : Stars} {options : List RawOption} {bounds : List (List ℕ)} {bits : Option (List ℕ)} (n : Spot)
       → AreStars ts stars us → MaybeMarker us (Read options (lexeme.Name n ∷ vs)) → begins opens_round vs ≡ false → Bounds vs (Read bounds ws) → Bits ws (Read bits rest)
       → PlainDeclarator ts (Read (record { is_function = false; stars = stars; options = options; name = name_of n; bounds = bounds; bits = bits }) rest)
-  -- 9: a member function, at the bracket behind its name
+  -- 9: a member function, at the bracket after its name
   member_function : {ts us vs : List Lexeme} {stars : Stars} {options : List RawOption} (n o : Spot)
       → AreStars ts stars us → MaybeMarker us (Read options (lexeme.Name n ∷ lexeme.Open Round o ∷ vs)) → PlainDeclarator ts (Stops UNSUPPORTED o.start)
   -- the fault of the marker, of a bound, of the bit count

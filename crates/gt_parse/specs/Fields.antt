@@ -15,12 +15,12 @@ use Rattle.gt_parse.specs.Markers.{maybe_marker, open_round_at, close_round_at}
 use Rattle.gt_parse.specs.Types.{without_qualifiers, stars_at, name_at, type_at}
 use Rattle.gt_parse.specs.Groups.{inside_from, before_end, bounds_from}
 
--- the text of a bit count behind a colon, or none
+-- the text of a bit count after a colon, or none
 unfoldable pub bits_at : List Lexeme → Outcome (Option (List ℕ))
 bits_at (lexeme.Colon s ∷ ts) = before_end 0 ts >>= λ text. Read (Some (kept_text text.0)) text.1
 bits_at ts = Read None ts
 
--- no bracket may stand behind the name of a field: it would be a member function
+-- no bracket may stand after the name of a field: it would be a member function
 unfoldable pub no_function_at : List Lexeme → Outcome (Unit {0})
 no_function_at (lexeme.Open Round s ∷ ts) = Stops UNSUPPORTED s.start
 no_function_at ts = Read tt ts
@@ -40,7 +40,7 @@ abbrev pub star_at : List Lexeme → Outcome (Unit {0})
 star_at (lexeme.Star s ∷ ts) = Read tt ts
 star_at ts = unexpected ts
 
--- "(" "*" [marker] NAME ")" "(" skipped ")", behind the first bracket
+-- "(" "*" [marker] NAME ")" "(" skipped ")", after the first bracket
 unfoldable pub function_declarator_at : List Lexeme → Outcome Declarator
 function_declarator_at ts = do
   star ← star_at ts
@@ -56,24 +56,24 @@ unfoldable pub declarator_at : List Lexeme → Outcome Declarator
 declarator_at (lexeme.Open Round s ∷ ts) = function_declarator_at ts
 declarator_at ts = plain_declarator_at ts
 
--- whether a list goes on behind a comma, or a semicolon ends it
+-- whether a list goes on after a comma, or a semicolon ends it
 abbrev pub goes_on_at : List Lexeme → Outcome Bool
 goes_on_at (lexeme.Comma s ∷ ts) = Read true ts
 goes_on_at (lexeme.Semicolon s ∷ ts) = Read false ts
 goes_on_at ts = unexpected ts
 
--- what goes on behind a comma, and what was read where a semicolon ends it
-abbrev pub behind_declarator : {A : Type 0} → (List Lexeme → Outcome A) → A → List Lexeme → Outcome A
-behind_declarator go declarators (lexeme.Comma s ∷ ts) = go ts
-behind_declarator go declarators (lexeme.Semicolon s ∷ ts) = Read declarators ts
-behind_declarator go declarators ts = unexpected ts
+-- what goes on after a comma, and what was read where a semicolon ends it
+abbrev pub after_declarator : {A : Type 0} → (List Lexeme → Outcome A) → A → List Lexeme → Outcome A
+after_declarator go declarators (lexeme.Comma s ∷ ts) = go ts
+after_declarator go declarators (lexeme.Semicolon s ∷ ts) = Read declarators ts
+after_declarator go declarators ts = unexpected ts
 
--- declarators with commas between them and a semicolon behind them, behind those that were read; at most count
+-- declarators with commas between them and a semicolon after them, after those that were read; at most count
 unfoldable pub declarators_from : ℕ → List Declarator → List Lexeme → Outcome (List Declarator)
 declarators_from zero declarators ts = Ends
 declarators_from (suc count) declarators ts = do
   one ← declarator_at ts
-  behind_declarator (declarators_from count (declarators ++ one.0 ∷ [])) (declarators ++ one.0 ∷ []) one.1
+  after_declarator (declarators_from count (declarators ++ one.0 ∷ [])) (declarators ++ one.0 ∷ []) one.1
 
 -- the words of access labels
 abbrev pub is_access : List ℕ → Bool
@@ -92,17 +92,17 @@ field_at ts = do
   declarators ← declarators_from (length type.1) [] type.1
   Read (record { ty = type.0; declarators = declarators.0 }) declarators.1
 
--- the tokens behind a brace that closes at the front
-abbrev pub brace_behind : List Lexeme → Option (List Lexeme)
-brace_behind (lexeme.Close Brace s ∷ ts) = Some ts
-brace_behind ts = None
+-- the tokens after a brace that closes at the front
+abbrev pub brace_after : List Lexeme → Option (List Lexeme)
+brace_after (lexeme.Close Brace s ∷ ts) = Some ts
+brace_after ts = None
 
 -- what was read where a brace ends it, or else what goes on
 abbrev pub until_brace : {A : Type 0} → (List Lexeme → Outcome A) → A → List Lexeme → Outcome A
 until_brace go fields (lexeme.Close Brace s ∷ ts) = Read fields ts
 until_brace go fields ts = go ts
 
--- one field or more up to a closing brace, behind those that were read; at most count
+-- one field or more up to a closing brace, after those that were read; at most count
 unfoldable pub fields_from : ℕ → List RawField → List Lexeme → Outcome (List RawField)
 fields_from zero fields ts = Ends
 fields_from (suc count) fields ts = do

@@ -6,31 +6,31 @@ use Rattle.gt_parse.specs.declared.lexeme.Lexeme.TheVariants as lexeme
 use Rattle.gt_parse.specs.Lexemes.{kept_text}
 use Rattle.gt_parse.specs.Outcome.{Outcome, Read, Ends, ◌>>=◌}
 
--- how many brackets are open behind a token, or none where it closes one that opens before
-abbrev pub depth_behind : ℕ → Lexeme → Option ℕ
-depth_behind depth (lexeme.Open b s) = Some (suc depth)
-depth_behind zero (lexeme.Close b s) = None
-depth_behind (suc depth) (lexeme.Close b s) = Some depth
-depth_behind depth t = Some depth
+-- how many brackets are open after a token, or none where it closes one that opens before
+abbrev pub depth_past : ℕ → Lexeme → Option ℕ
+depth_past depth (lexeme.Open b s) = Some (suc depth)
+depth_past zero (lexeme.Close b s) = None
+depth_past (suc depth) (lexeme.Close b s) = Some depth
+depth_past depth t = Some depth
 
--- how many brackets are open behind a token, where one that closes none of them counts for nothing
+-- how many brackets are open after a token, where one that closes none of them counts for nothing
 abbrev pub depth_after : ℕ → Lexeme → ℕ
 depth_after depth (lexeme.Open b s) = suc depth
 depth_after zero (lexeme.Close b s) = zero
 depth_after (suc depth) (lexeme.Close b s) = depth
 depth_after depth t = depth
 
--- how many are open behind a token as above, or none where a comma or a semicolon stands in no brackets
+-- how many are open after a token as above, or none where a comma or a semicolon stands in no brackets
 abbrev pub depth_in_part : ℕ → Lexeme → Option ℕ
 depth_in_part zero (lexeme.Comma s) = None
 depth_in_part zero (lexeme.Semicolon s) = None
-depth_in_part depth t = depth_behind depth t
+depth_in_part depth t = depth_past depth t
 
 -- one more token at the front of what was read
 abbrev pub with_token : Lexeme → Outcome (List Lexeme) → Outcome (List Lexeme)
 with_token t o = o >>= λ read. Read (t ∷ read.0) read.1
 
--- the tokens up to the bracket that closes the one before them, and those behind it; depth other brackets are open
+-- the tokens up to the bracket that closes the one before them, and those after it; depth other brackets are open
 unfoldable pub inside_from : ℕ → List Lexeme → Outcome (List Lexeme)
 inside_from depth [] = Ends
 inside_from depth (lexeme.Open b s ∷ ts) = with_token (lexeme.Open b s) (inside_from (suc depth) ts)
@@ -48,12 +48,12 @@ before_end zero (lexeme.Comma s ∷ ts) = Read [] (lexeme.Comma s ∷ ts)
 before_end zero (lexeme.Semicolon s ∷ ts) = Read [] (lexeme.Semicolon s ∷ ts)
 before_end depth (t ∷ ts) = with_token t (before_end depth ts)
 
--- the tokens behind a square bracket that opens at the front
-abbrev pub square_behind : List Lexeme → Option (List Lexeme)
-square_behind (lexeme.Open Square s ∷ ts) = Some ts
-square_behind ts = None
+-- the tokens after a square bracket that opens at the front
+abbrev pub square_after : List Lexeme → Option (List Lexeme)
+square_after (lexeme.Open Square s ∷ ts) = Some ts
+square_after ts = None
 
--- the texts of bounds, behind those that were read; at most count
+-- the texts of bounds, after those that were read; at most count
 unfoldable pub bounds_from : ℕ → List (List ℕ) → List Lexeme → Outcome (List (List ℕ))
 bounds_from zero bounds ts = Read bounds ts
 bounds_from (suc count) bounds (lexeme.Open Square s ∷ ts) = do

@@ -27,8 +27,8 @@ constant_in text d = record { name = record { word = chars (slice_range text d.s
 abbrev pub Declare : List (List Lexeme) → List Item → Type 0
 Declare [] items = items ≡ []
 Declare (one ∷ others) items =
-    ((found : Item) × (behind : List Lexeme) × (rest : List Item) × (item_at one ≡ Read (Some found) behind) × (items ≡ found ∷ rest) × Declare others rest)
-    ⊎ ((behind : List Lexeme) × (item_at one ≡ Read None behind) × Declare others items)
+    ((found : Item) × (following : List Lexeme) × (rest : List Item) × (item_at one ≡ Read (Some found) following) × (items ≡ found ∷ rest) × Declare others rest)
+    ⊎ ((following : List Lexeme) × (item_at one ≡ Read None following) × Declare others items)
 
 -- the text's tokens are items to its end, which declare these; and these are its constants
 pub record AreItems (text : List ℕ) (tokens : List Token) (defines : List Define) (items : Items) : Type 0 where
@@ -44,7 +44,7 @@ unclosed_faults (t ∷ ts) = (UNCLOSED, (spot_of t).start) ∷ []
 
 -- the fault of a whole item, its number and place, if it has one
 abbrev pub faults_by : {A : Type 0} → List Lexeme → Outcome A → List (ℕ × ℕ)
-faults_by one (Read found behind) = []
+faults_by one (Read found following) = []
 faults_by one (Stops number at) = (number, at) ∷ []
 faults_by one Ends = unclosed_faults one
 
@@ -68,7 +68,7 @@ pub record IsFirstFault (text : List ℕ) (tokens : List Token) (number at : ℕ
   pub earlier : All (λ fault. at < fault.1) before
   pub later : All (λ fault. at ≤ fault.1) after
 
--- what may be answered in place of items: want of memory, or the first fault
+-- what may be answered in place of items: out of memory, or the first fault
 abbrev pub IsStop : ℕ → List ℕ → List Token → Stop → Type 0
 IsStop file text tokens Memory = Unit {0}
 IsStop file text tokens (At fault) = (fault.file ≡ file) × IsFirstFault text tokens fault.number fault.at

@@ -38,7 +38,7 @@ is_enum keyword.Struct = false
 is_enum keyword.Union = false
 is_enum keyword.Enum = true
 
--- whether a brace opens the body of an enum here, or behind a name
+-- whether a brace opens the body of an enum here, or after a name
 abbrev pub begins_body : List Lexeme → Bool
 begins_body (lexeme.Open Brace o ∷ ts) = true
 begins_body (lexeme.Name n ∷ lexeme.Open Brace o ∷ ts) = true
@@ -73,12 +73,12 @@ pub data Enumerators : List Lexeme → List Enumerator → Type 0 where
   more : {piece ts : List Lexeme} {one : Enumerator} {others : List Enumerator} (c : Spot) → IsFree is_comma piece
       → IsEnumerator piece one → Enumerators ts others → Enumerators (piece ++ lexeme.Comma c ∷ ts) (one ∷ others)
 
--- pieces "}", and the tokens behind them
+-- pieces "}", and the tokens after them
 pub data EnumBody (tag : Option Name) : List Lexeme → RawEnum → List Lexeme → Type 0 where
   body : {inside rest : List Lexeme} {constants : List Enumerator} (b : Bracket) (c : Spot) → IsFree closes_any inside → Enumerators inside constants
       → EnumBody tag (inside ++ lexeme.Close b c ∷ rest) (record { tag = tag; constants = constants }) rest
 
--- enum := "enum" [NAME] "{" pieces "}", behind the keyword; another enum declares nothing
+-- enum := "enum" [NAME] "{" pieces "}", after the keyword; another enum declares nothing
 pub data UnmarkedEnum : List Lexeme → Option Item → Type 0 where
   untagged : {ts rest : List Lexeme} {found : RawEnum} (o : Spot) → EnumBody None ts found rest → UnmarkedEnum (lexeme.Open Brace o ∷ ts) (Some (Enum found))
   tagged : {ts rest : List Lexeme} {found : RawEnum} (n o : Spot) → EnumBody (Some (name_of n)) ts found rest
@@ -89,7 +89,7 @@ pub data UnmarkedEnum : List Lexeme → Option Item → Type 0 where
 
 -- ---- typedefs of the first form
 
--- a body behind its brace, what it means, and the tokens behind it: fields, which are not read, or the constants of an enum
+-- a body after its brace, what it means, and the tokens after it: fields, which are not read, or the constants of an enum
 pub data HasBody : Keyword → Option Name → List Lexeme → Meaning → List Lexeme → Type 0 where
   fields : {k : Keyword} {tag : Option Name} {inside ts rest : List Lexeme} (b : Bracket) (c : Spot) → is_enum k ≡ false → IsFree closes_any inside → Qualifiers ts rest
       → HasBody k tag (inside ++ lexeme.Close b c ∷ ts) (meaning.Body k tag) rest
@@ -111,23 +111,23 @@ pub data Aliases : List Lexeme → List Alias → Type 0 where
   more : {ts us : List Lexeme} {stars : Stars} {others : List Alias} (n c : Spot) → AreStars ts stars (lexeme.Name n ∷ lexeme.Comma c ∷ us) → Aliases us others
       → Aliases ts (record { stars = stars; name = name_of n } ∷ others)
 
--- a typedef of the first form, behind the word typedef
+-- a typedef of the first form, after the word typedef
 pub data FirstForm : List Lexeme → RawTypedef → Type 0 where
   first_form : {ts us : List Lexeme} {means : Meaning} {names : List Alias} → HasMeaning ts means us → Aliases us names
       → FirstForm ts (record { means = means; names = names })
 
 -- ---- other typedefs
 
--- the first "(" that stands in no brackets has a star directly behind it
+-- the first "(" that stands in no brackets has a star directly after it
 pub record HasPointer (ts : List Lexeme) : Type 0 where
   pub front : List Lexeme
   pub bracket : Spot
   pub star : Spot
-  pub behind : List Lexeme
-  pub parts : ts ≡ front ++ lexeme.Open Round bracket ∷ lexeme.Star star ∷ behind
+  pub following : List Lexeme
+  pub parts : ts ≡ front ++ lexeme.Open Round bracket ∷ lexeme.Star star ∷ following
   pub first : IsFree opens_round front
 
--- the name behind stars, if there is one
+-- the name after stars, if there is one
 pub data StarredName : List Lexeme → Option Name → Type 0 where
   name : {ts : List Lexeme} (n : Spot) → StarredName (lexeme.Name n ∷ ts) (Some (name_of n))
   star : {ts : List Lexeme} {found : Option Name} (s : Spot) → StarredName ts found → StarredName (lexeme.Star s ∷ ts) found
@@ -136,13 +136,13 @@ pub data StarredName : List Lexeme → Option Name → Type 0 where
 
 -- the last name that stands in no brackets, if there is one
 pub data LastName : List Lexeme → Option Name → Type 0 where
-  name : (front : List Lexeme) {behind : List Lexeme} (n : Spot) → depth_through 0 front ≡ 0 → ¬ Stands is_name behind → LastName (front ++ lexeme.Name n ∷ behind) (Some (name_of n))
+  name : (front : List Lexeme) {following : List Lexeme} (n : Spot) → depth_through 0 front ≡ 0 → ¬ Stands is_name following → LastName (front ++ lexeme.Name n ∷ following) (Some (name_of n))
   no_name : {ts : List Lexeme} → ¬ Stands is_name ts → LastName ts None
 
--- an unmarked typedef, behind the word; one that is not of the first form declares one opaque name, or nothing where it has none
+-- an unmarked typedef, after the word; one that is not of the first form declares one opaque name, or nothing where it has none
 pub data UnmarkedTypedef : List Lexeme → Option Item → Type 0 where
   first_form : {ts : List Lexeme} {found : RawTypedef} → FirstForm ts found → UnmarkedTypedef ts (Some (Typedef found))
-  pointer : {ts : List Lexeme} {found : Option Name} → ((first : RawTypedef) → ¬ FirstForm ts first) → (p : HasPointer ts) → StarredName p.behind found
+  pointer : {ts : List Lexeme} {found : Option Name} → ((first : RawTypedef) → ¬ FirstForm ts first) → (p : HasPointer ts) → StarredName p.following found
       → UnmarkedTypedef ts (opaque_typedef found)
   other : {ts : List Lexeme} {found : Option Name} → ((first : RawTypedef) → ¬ FirstForm ts first) → ¬ HasPointer ts → LastName ts found
       → UnmarkedTypedef ts (opaque_typedef found)
@@ -163,5 +163,5 @@ pub data AnItem : List Lexeme → Outcome (Option Item) → Type 0 where
   -- one without GTY is not; all of it is read
   unmarked : {ts : List Lexeme} {found : Option Item} → list_any is_gty ts ≡ false → UnmarkedItem ts found → AnItem ts (Read found [])
   -- 10: GTY stands in brackets alone; at the first
-  bad_place : (front behind : List Lexeme) (g : Spot) → ¬ Stands is_gty (front ++ lexeme.Gty g ∷ behind) → list_any is_gty front ≡ false
-      → AnItem (front ++ lexeme.Gty g ∷ behind) (Stops BAD_MARKER_PLACE g.start)
+  bad_place : (front following : List Lexeme) (g : Spot) → ¬ Stands is_gty (front ++ lexeme.Gty g ∷ following) → list_any is_gty front ≡ false
+      → AnItem (front ++ lexeme.Gty g ∷ following) (Stops BAD_MARKER_PLACE g.start)

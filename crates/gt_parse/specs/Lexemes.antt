@@ -119,12 +119,12 @@ is_identifier t = false
 abbrev pub name_of : Spot → Name
 name_of s = record { word = s.word; at = s.start }
 
--- the texts of tokens behind one that ends at an offset, with one space where something that is no token stood before one
-unfoldable pub text_behind : ℕ → List Lexeme → List ℕ
-text_behind end [] = []
-text_behind end (t ∷ ts) = (if end == (spot_of t).start then [] else 32 ∷ []) ++ encode_utf8_all (spot_of t).word ++ text_behind (spot_of t).end ts
+-- the texts of tokens after one that ends at an offset, with one space where something that is no token stood before one
+unfoldable pub text_after : ℕ → List Lexeme → List ℕ
+text_after end [] = []
+text_after end (t ∷ ts) = (if end == (spot_of t).start then [] else 32 ∷ []) ++ encode_utf8_all (spot_of t).word ++ text_after (spot_of t).end ts
 
 -- the kept text of tokens
 unfoldable pub kept_text : List Lexeme → List ℕ
 kept_text [] = []
-kept_text (t ∷ ts) = encode_utf8_all (spot_of t).word ++ text_behind (spot_of t).end ts
+kept_text (t ∷ ts) = encode_utf8_all (spot_of t).word ++ text_after (spot_of t).end ts

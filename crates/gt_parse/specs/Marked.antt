@@ -22,7 +22,7 @@ use Rattle.gt_parse.specs.Types.{without_qualifiers, stars_at, name_at, type_at}
 use Rattle.gt_parse.specs.Groups.{bounds_from}
 use Rattle.gt_parse.specs.Fields.{star_at, fields_from}
 
--- a token that has to stand at the front, and those behind it
+-- a token that has to stand at the front, and those after it
 abbrev pub semicolon_at : List Lexeme → Outcome (Unit {0})
 semicolon_at (lexeme.Semicolon s ∷ ts) = Read tt ts
 semicolon_at ts = unexpected ts
@@ -41,14 +41,14 @@ open_brace_at (lexeme.Open Brace s ∷ ts) = Read tt ts
 open_brace_at (lexeme.Colon s ∷ ts) = Stops UNSUPPORTED s.start
 open_brace_at ts = unexpected ts
 
--- a marker behind a tag; a colon would begin base classes
-unfoldable pub marker_behind_tag : List Lexeme → Outcome (List RawOption)
-marker_behind_tag (lexeme.Colon s ∷ ts) = Stops UNSUPPORTED s.start
-marker_behind_tag ts = marker_at ts
+-- a marker after a tag; a colon would begin base classes
+unfoldable pub marker_after_tag : List Lexeme → Outcome (List RawOption)
+marker_after_tag (lexeme.Colon s ∷ ts) = Stops UNSUPPORTED s.start
+marker_after_tag ts = marker_at ts
 
 -- marker NAME | NAME marker
 unfoldable pub tag_at : List Lexeme → Outcome (Name × List RawOption)
-tag_at (lexeme.Name s ∷ ts) = marker_behind_tag ts >>= λ options. Read (name_of s, options.0) options.1
+tag_at (lexeme.Name s ∷ ts) = marker_after_tag ts >>= λ options. Read (name_of s, options.0) options.1
 tag_at ts = do
   options ← marker_at ts
   tag ← name_at options.1
@@ -58,12 +58,12 @@ tag_at ts = do
 unfoldable pub alias_at : List Lexeme → Outcome Alias
 alias_at ts = name_at (stars_at ts).1 >>= λ name. Read (record { stars = (stars_at ts).0; name = name.0 }) name.1
 
--- there is such a name behind a structure's body exactly with typedef
+-- there is such a name after a structure's body exactly with typedef
 unfoldable pub maybe_alias : Bool → List Lexeme → Outcome (Option Alias)
 maybe_alias true ts = alias_at ts >>= λ alias. Read (Some alias.0) alias.1
 maybe_alias false ts = Read None ts
 
--- structure := ["typedef"] ("struct" | "union") (marker NAME | NAME marker) "{" field+ "}" [{"*"} NAME] ";", behind the keyword
+-- structure := ["typedef"] ("struct" | "union") (marker NAME | NAME marker) "{" field+ "}" [{"*"} NAME] ";", after the keyword
 unfoldable pub structure_at : (has_alias is_union : Bool) → List Lexeme → Outcome Item
 structure_at has_alias is_union ts = do
   tag ← tag_at ts
@@ -78,7 +78,7 @@ unfoldable pub initialiser_at : List Lexeme → Outcome (Unit {0})
 initialiser_at (lexeme.Equals s ∷ ts) = Read tt []
 initialiser_at ts = semicolon_at ts
 
--- type {"*"} NAME {"[" text "]"} ["=" skipped] ";", behind the marker
+-- type {"*"} NAME {"[" text "]"} ["=" skipped] ";", after the marker
 unfoldable pub root_at : List RawOption → List Lexeme → Outcome Item
 root_at options ts = do
   type ← type_at Elsewhere ts
@@ -103,7 +103,7 @@ is_cache options = list_any (λ option. bytes_eq option.name.word (codes "cache"
 unfoldable pub cache_name_at : List RawOption → List Lexeme → Outcome Name
 cache_name_at options ts = name_at ts >>= λ name. if is_cache options then Read name.0 name.1 else Stops UNSUPPORTED name.0.at
 
--- "<" type {"*"} "," type {"*"} ["," NAME] ">" "*" NAME ";", behind the sign "<"
+-- "<" type {"*"} "," type {"*"} ["," NAME] ">" "*" NAME ";", after the sign "<"
 unfoldable pub cache_at : List RawOption → List Lexeme → Outcome Item
 cache_at options ts = do
   key ← pointed_at ts
@@ -116,17 +116,17 @@ cache_at options ts = do
   ended ← semicolon_at name.1
   Read (Cache (record { options = options; key = key.0; value = value.0; name = name.0 })) ended.1
 
--- what stands behind the marker of a global: a map, or a type
-unfoldable pub behind_marker_at : List RawOption → List Lexeme → Outcome Item
-behind_marker_at options (lexeme.Name s ∷ lexeme.Less l ∷ ts) =
+-- what stands after the marker of a global: a map, or a type
+unfoldable pub after_marker_at : List RawOption → List Lexeme → Outcome Item
+after_marker_at options (lexeme.Name s ∷ lexeme.Less l ∷ ts) =
     if bytes_eq s.word (codes "hash_map") then cache_at options ts else root_at options (lexeme.Name s ∷ lexeme.Less l ∷ ts)
-behind_marker_at options ts = root_at options ts
+after_marker_at options ts = root_at options ts
 
--- global := ("static" | "extern") marker .., behind the first word
+-- global := ("static" | "extern") marker .., after the first word
 unfoldable pub global_at : List Lexeme → Outcome Item
-global_at ts = marker_at ts >>= λ options. behind_marker_at options.0 options.1
+global_at ts = marker_at ts >>= λ options. after_marker_at options.0 options.1
 
--- a structure behind the word typedef
+-- a structure after the word typedef
 unfoldable pub typedef_structure_at : List Lexeme → Outcome Item
 typedef_structure_at (lexeme.Tag Struct s ∷ ts) = structure_at true false ts
 typedef_structure_at (lexeme.Tag Union s ∷ ts) = structure_at true true ts

@@ -77,7 +77,7 @@ pub data AnAlias : List Lexeme → Outcome Alias → Type 0 where
   -- 8: a name has to stand here
   no_name : {ts rest : List Lexeme} {stars : Stars} → AreStars ts stars rest → begins is_name rest ≡ false → AnAlias ts (unexpected rest)
 
--- structure := ["typedef"] ("struct" | "union") (marker NAME | NAME marker) "{" field+ "}" [alias] ";", behind the keyword; the alias
+-- structure := ["typedef"] ("struct" | "union") (marker NAME | NAME marker) "{" field+ "}" [alias] ";", after the keyword; the alias
 -- stands there exactly with typedef
 pub data AStructure : (has_alias is_union : Bool) → List Lexeme → Outcome Item → Type 0 where
   structure : {is_union : Bool} {ts us rest : List Lexeme} {tag : Name × List RawOption} {fields : List RawField} (b s : Spot)
@@ -107,7 +107,7 @@ pub data AStructure : (has_alias is_union : Bool) → List Lexeme → Outcome It
 
 -- ---- globals
 
--- type {"*"} NAME bounds ["=" skipped] ";", behind a marker with these options
+-- type {"*"} NAME bounds ["=" skipped] ";", after a marker with these options
 pub data ARoot (options : List RawOption) : List Lexeme → Outcome Item → Type 0 where
   root : {ts us vs rest : List Lexeme} {type : RawType} {stars : Stars} {bounds : List (List ℕ)} (n s : Spot) → AType Elsewhere ts (Read type us)
       → AreStars us stars (lexeme.Name n ∷ vs) → Bounds vs (Read bounds (lexeme.Semicolon s ∷ rest))
@@ -140,7 +140,7 @@ pub data Traits : List Lexeme → Outcome (Unit {0}) → Type 0 where
   -- 8: a name has to stand here
   no_name : {ts : List Lexeme} (c : Spot) → begins is_name ts ≡ false → Traits (lexeme.Comma c ∷ ts) (unexpected ts)
 
--- type {"*"} "," type {"*"} traits ">" "*" NAME ";", behind `hash_map <` and a marker with these options
+-- type {"*"} "," type {"*"} traits ">" "*" NAME ";", after `hash_map <` and a marker with these options
 pub data ACache (options : List RawOption) : List Lexeme → Outcome Item → Type 0 where
   cache : {ts us vs ws rest : List Lexeme} {key value : PointedType} (c g s n e : Spot) → APointed ts (Read key (lexeme.Comma c ∷ us)) → APointed us (Read value vs)
       → Traits vs (Read tt (lexeme.Greater g ∷ lexeme.Star s ∷ ws)) → Qualifiers ws (lexeme.Name n ∷ lexeme.Semicolon e ∷ rest) → is_cache options ≡ true
@@ -167,7 +167,7 @@ pub data ACache (options : List RawOption) : List Lexeme → Outcome Item → Ty
       → Traits vs (Read tt (lexeme.Greater g ∷ lexeme.Star s ∷ ws)) → Qualifiers ws (lexeme.Name n ∷ rest) → is_cache options ≡ true → begins is_semicolon rest ≡ false
       → ACache options ts (unexpected rest)
 
--- global := ("static" | "extern") marker root | ("static" | "extern") marker "hash_map" "<" cache, behind the first word
+-- global := ("static" | "extern") marker root | ("static" | "extern") marker "hash_map" "<" cache, after the first word
 pub data AGlobal : List Lexeme → Outcome Item → Type 0 where
   root : {ts us : List Lexeme} {options : List RawOption} {o : Outcome Item} → Marker ts (Read options us) → begins_map us ≡ false → ARoot options us o → AGlobal ts o
   cache : {ts us : List Lexeme} {options : List RawOption} {o : Outcome Item} (s l : Spot) → Marker ts (Read options (lexeme.Name s ∷ lexeme.Less l ∷ us))

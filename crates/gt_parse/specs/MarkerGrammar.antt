@@ -74,7 +74,7 @@ pub data IsParameter : List ℕ → List ℕ → Result Parameter ℕ → Type 0
   -- 5: a backslash before something else
   bad_backslash : {name bytes : List ℕ} → Unescapes bytes None → IsParameter name bytes (Err BAD_EXPR)
 
--- as many string literals as follow one another, the text that they join to, and the tokens behind them
+-- as many string literals as follow one another, the text that they join to, and the tokens after them
 pub data Joins : List Lexeme → List ℕ → List Lexeme → Type 0 where
   no_string : {ts : List Lexeme} → begins is_quoted ts ≡ false → Joins ts [] ts
   string : {ts us : List Lexeme} {text : List ℕ} (s : Spot) → Joins ts text us

@@ -48,7 +48,7 @@ parameter_at name (Some []) ts = Read Absent ts
 parameter_at name (Some (b ∷ bs)) ts =
     if takes_expression name.word then expression_at name.start (expression_of (b ∷ bs)) ts else Read (Text (b ∷ bs)) ts
 
--- a token that has to stand at the front, and those behind it
+-- a token that has to stand at the front, and those after it
 abbrev pub open_round_at : List Lexeme → Outcome (Unit {0})
 open_round_at (lexeme.Open Round s ∷ ts) = Read tt ts
 open_round_at ts = unexpected ts
@@ -61,7 +61,7 @@ abbrev pub gty_at : List Lexeme → Outcome (Unit {0})
 gty_at (lexeme.Gty s ∷ ts) = Read tt ts
 gty_at ts = unexpected ts
 
--- string literals one after another join to one text, which stands behind what came before
+-- string literals one after another join to one text, which stands after what came before
 unfoldable pub more_strings : List ℕ → List Lexeme → Outcome (List ℕ)
 more_strings text (lexeme.Quoted s ∷ ts) = more_strings (text ++ inside_quotes (encode_utf8_all s.word)) ts
 more_strings text ts = Read text ts
@@ -71,7 +71,7 @@ unfoldable pub strings_at : List Lexeme → Outcome (List ℕ)
 strings_at (lexeme.Quoted s ∷ ts) = more_strings (inside_quotes (encode_utf8_all s.word)) ts
 strings_at ts = unexpected ts
 
--- the parameter of an option, behind its name: strings in brackets, or none
+-- the parameter of an option, after its name: strings in brackets, or none
 unfoldable pub parameters_at : Spot → List Lexeme → Outcome Parameter
 parameters_at name (lexeme.Open Round s ∷ ts) = do
   text ← strings_at ts
@@ -87,22 +87,22 @@ option_at (t ∷ ts) =
     then (parameters_at (spot_of t) ts >>= λ parameter. Read (record { name = name_of (spot_of t); parameter = parameter.0 }) parameter.1)
     else unexpected (t ∷ ts)
 
--- the tokens behind a comma at the front
-abbrev pub comma_behind : List Lexeme → Option (List Lexeme)
-comma_behind (lexeme.Comma s ∷ ts) = Some ts
-comma_behind ts = None
+-- the tokens after a comma at the front
+abbrev pub comma_after : List Lexeme → Option (List Lexeme)
+comma_after (lexeme.Comma s ∷ ts) = Some ts
+comma_after ts = None
 
--- what goes on behind a comma, or else what was read so far
-abbrev pub behind_comma : {A : Type 0} → (List Lexeme → Outcome A) → Outcome A → List Lexeme → Outcome A
-behind_comma go stop (lexeme.Comma s ∷ ts) = go ts
-behind_comma go stop ts = stop
+-- what goes on after a comma, or else what was read so far
+abbrev pub after_comma : {A : Type 0} → (List Lexeme → Outcome A) → Outcome A → List Lexeme → Outcome A
+after_comma go stop (lexeme.Comma s ∷ ts) = go ts
+after_comma go stop ts = stop
 
--- options with commas between them, behind those that were read; at most count
+-- options with commas between them, after those that were read; at most count
 unfoldable pub options_from : ℕ → List RawOption → List Lexeme → Outcome (List RawOption)
 options_from zero options ts = Ends
 options_from (suc count) options ts = do
   one ← option_at ts
-  behind_comma (options_from count (options ++ one.0 ∷ [])) (Read (options ++ one.0 ∷ []) one.1) one.1
+  after_comma (options_from count (options ++ one.0 ∷ [])) (Read (options ++ one.0 ∷ []) one.1) one.1
 
 -- no option where the bracket is closed at once
 unfoldable pub options_at : List Lexeme → Outcome (List RawOption)

@@ -6,13 +6,13 @@ use Rattle.gt_parse.specs.declared.unread.Unread.{Unread}
 use Rattle.gt_parse.specs.declared.unread.Unread.TheVariants.{Memory, Ended, Fault}
 use Rattle.gt_parse.specs.Lexemes.{spot_of}
 
--- something was read, and these tokens stand behind it; or reading stops with a fault, its number and its place; or the tokens end
+-- something was read, and these tokens stand after it; or reading stops with a fault, its number and its place; or the tokens end
 pub data Outcome (A : Type 0) : Type 0 where
   Read : A → List Lexeme → Outcome A
   Stops : (number at : ℕ) → Outcome A
   Ends : Outcome A
 
--- a step on what the one before read, and on the tokens behind it
+-- a step on what the one before read, and on the tokens after it
 infixl 10 ◌>>=◌
 abbrev pub ◌>>=◌ : {A B : Type 0} → Outcome A → (A × List Lexeme → Outcome B) → Outcome B
 (Read x ts) >>= f = f (x, ts)
@@ -30,12 +30,12 @@ Fails Memory o = Unit {0}
 Fails Ended o = o ≡ Ends
 Fails (Fault number at) o = o ≡ Stops number at
 
--- what a function returned, seen as a value and the tokens behind it, is the outcome, unless memory ran out
+-- what a function returned, seen as a value and the tokens after it, is the outcome, unless memory ran out
 abbrev pub Gives : {X A : Type 0} → (X → A × List Lexeme) → Result X Unread → Outcome A → Type 0
 Gives view (Ok x) o = o ≡ Read (view x).0 (view x).1
 Gives view (Err e) o = Fails e o
 
--- what a function returned is what reading gives, whatever stands behind, unless memory ran out
+-- what a function returned is what reading gives, whatever stands after, unless memory ran out
 abbrev pub GivesBefore : {A : Type 0} → Result A Unread → (List Lexeme → Outcome A) → Type 0
 GivesBefore result reading = (ts : List Lexeme) → Gives (λ x. (x, ts)) result (reading ts)
 
@@ -44,7 +44,7 @@ abbrev pub unexpected_as : List Lexeme → Unread
 unexpected_as [] = Ended
 unexpected_as (t ∷ ts) = Fault UNEXPECTED (spot_of t).start
 
--- what the reading of an item returned is the outcome, whatever stands behind the item, unless memory ran out
+-- what the reading of an item returned is the outcome, whatever stands after the item, unless memory ran out
 abbrev pub ItemGives : {A : Type 0} → Result A Unread → Outcome A → Type 0
-ItemGives (Ok found) o = (behind : List Lexeme) × (o ≡ Read found behind)
+ItemGives (Ok found) o = (following : List Lexeme) × (o ≡ Read found following)
 ItemGives (Err e) o = Fails e o

@@ -38,7 +38,7 @@ pub data Balanced : List Lexeme → Type 0 where
 
 -- The tokens with which an item ends. It ends at the first semicolon that stands in no brackets, or with the body of a function: a
 -- brace opens one where a round bracket was closed before it in the item, which is in no other bracket and closes no marker, and no
--- `=` stood behind that. marks says whether GTY stands directly before these tokens, called whether such a bracket was closed.
+-- `=` stood after that. marks says whether GTY stands directly before these tokens, called whether such a bracket was closed.
 pub data EndsItem : (marks called : Bool) → List Lexeme → Type 0 where
   semicolon : {marks called : Bool} (s : Spot) → EndsItem marks called (lexeme.Semicolon s ∷ [])
   body : {marks : Bool} {inside : List Lexeme} (o c : Spot) → Balanced inside
@@ -52,7 +52,7 @@ pub data EndsItem : (marks called : Bool) → List Lexeme → Type 0 where
   braces : {marks : Bool} {inside ts : List Lexeme} (o c : Spot) → Balanced inside → EndsItem false false ts
       → EndsItem marks false (lexeme.Open Brace o ∷ inside ++ lexeme.Close Brace c ∷ ts)
 
--- tokens behind an opening bracket that does not close, and the brackets that are open behind them within it, the last one first
+-- tokens after an opening bracket that does not close, and the brackets that are open after them within it, the last one first
 pub data Inside : List Lexeme → List Bracket → Type 0 where
   nothing : Inside [] []
   token : {ts : List Lexeme} {opened : List Bracket} (t : Lexeme) → is_no_bracket t ≡ true → Inside ts opened → Inside (t ∷ ts) opened
@@ -60,7 +60,7 @@ pub data Inside : List Lexeme → List Bracket → Type 0 where
       → Inside (lexeme.Open b o ∷ inside ++ lexeme.Close b c ∷ ts) opened
   unclosed : {ts : List Lexeme} {opened : List Bracket} (b : Bracket) (o : Spot) → Inside ts opened → Inside (lexeme.Open b o ∷ ts) (opened ++ b ∷ [])
 
--- tokens with which an item begins and does not end, and the brackets that are open behind them, the last one first
+-- tokens with which an item begins and does not end, and the brackets that are open after them, the last one first
 pub data BeginsItem : (marks called : Bool) → List Lexeme → List Bracket → Type 0 where
   nothing : {marks called : Bool} → BeginsItem marks called [] []
   token : {marks called : Bool} {ts : List Lexeme} {opened : List Bracket} (t : Lexeme) → is_plain t ≡ true

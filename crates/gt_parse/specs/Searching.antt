@@ -26,20 +26,20 @@ same_bracket Square Square = true
 same_bracket Brace Brace = true
 same_bracket a b = false
 
--- whether a brace would begin a function's body behind a bracket, where marks says whether GTY stands before it
-abbrev pub called_behind : Bracket → (marks called : Bool) → Bool
-called_behind Round marks called = called || not marks
-called_behind Square marks called = called
-called_behind Brace marks called = called
+-- whether a brace would begin a function's body after a bracket, where marks says whether GTY stands before it
+abbrev pub called_after : Bracket → (marks called : Bool) → Bool
+called_after Round marks called = called || not marks
+called_after Square marks called = called
+called_after Brace marks called = called
 
 -- whether a bracket closes the body of a function, where no other stays open
 abbrev pub ends_body : Bracket → Bool → List Bracket → Bool
 ends_body Brace called [] = called
 ends_body b called opened = false
 
--- behind an opening bracket
+-- after an opening bracket
 abbrev pub opened_with : List Bracket → (marks called : Bool) → Bracket → Begun
-opened_with [] marks called b = record { opened = b ∷ []; marks = false; called = called_behind b marks called }
+opened_with [] marks called b = record { opened = b ∷ []; marks = false; called = called_after b marks called }
 opened_with (last ∷ others) marks called b = record { opened = b ∷ last ∷ others; marks = marks; called = called }
 
 abbrev pub opened_in : Begun → Bracket → Begun
@@ -75,16 +75,16 @@ one_longer (Whole len) = Whole (suc len)
 one_longer (Unmatched at) = Unmatched at
 one_longer Unended = Unended
 
--- how an item ends behind a token, by how it goes on
-abbrev pub end_behind : (Begun → ItemEnd) → Step → ItemEnd
-end_behind go (Goes begun) = one_longer (go begun)
-end_behind go Ends = Whole 1
-end_behind go (Stops at) = Unmatched at
+-- how an item ends after a token, by how it goes on
+abbrev pub end_after : (Begun → ItemEnd) → Step → ItemEnd
+end_after go (Goes begun) = one_longer (go begun)
+end_after go Ends = Whole 1
+end_after go (Stops at) = Unmatched at
 
 -- how an item ends that has begun so
 unfoldable pub item_end : Begun → List Lexeme → ItemEnd
 item_end begun [] = Unended
-item_end begun (t ∷ ts) = end_behind (λ next. item_end next ts) (step begun t)
+item_end begun (t ∷ ts) = end_after (λ next. item_end next ts) (step begun t)
 
 -- no token of an item stands before
 abbrev pub none_begun : Begun

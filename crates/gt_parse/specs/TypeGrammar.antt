@@ -62,12 +62,12 @@ in_field Elsewhere = false
 
 -- ---- qualifiers and stars
 
--- as many of const and volatile as follow one another, which mean nothing, and the tokens behind them
+-- as many of const and volatile as follow one another, which mean nothing, and the tokens after them
 pub data Qualifiers : List Lexeme → List Lexeme → Type 0 where
   no_qualifier : {ts : List Lexeme} → begins is_qualifier ts ≡ false → Qualifiers ts ts
   qualifier : {ts rest : List Lexeme} (s : Spot) → Qualifiers ts rest → Qualifiers (lexeme.Qualifier s ∷ ts) rest
 
--- as many stars as follow one another, with const and volatile behind each, how many they are, and the tokens behind them
+-- as many stars as follow one another, with const and volatile after each, how many they are, and the tokens after them
 pub data AreStars : List Lexeme → Stars → List Lexeme → Type 0 where
   no_star : {ts : List Lexeme} → begins is_star ts ≡ false → AreStars ts Zero ts
   star : {ts us rest : List Lexeme} {stars : Stars} (s : Spot) → Qualifiers ts us → AreStars us stars rest
@@ -87,7 +87,7 @@ pub data MoreWords : Combination → List Lexeme → Outcome RawType → Type 0 
   -- unsigned HOST_WIDE_INT; another name is no part of the combination
   host_wide : {before : Combination} {ts rest : List Lexeme} (s : Spot) → is_unsigned_alone before ≡ true → bytes_eq s.word (codes "HOST_WIDE_INT") ≡ true
       → Qualifiers ts rest → MoreWords before (lexeme.Name s ∷ ts) (Read UnsignedHostWide rest)
-  name_behind : {before : Combination} {ts : List Lexeme} (s : Spot) → (is_unsigned_alone before && bytes_eq s.word (codes "HOST_WIDE_INT")) ≡ false
+  name_after : {before : Combination} {ts : List Lexeme} (s : Spot) → (is_unsigned_alone before && bytes_eq s.word (codes "HOST_WIDE_INT")) ≡ false
       → MoreWords before (lexeme.Name s ∷ ts) (Read (Words before) (lexeme.Name s ∷ ts))
   -- no more words
   no_word : {before : Combination} {ts : List Lexeme} → begins goes_on ts ≡ false → MoreWords before ts (Read (Words before) ts)
@@ -101,17 +101,17 @@ pub data BareType (place : Place) : List Lexeme → Outcome RawType → Type 0 w
   tagged : {ts us rest : List Lexeme} (k : Keyword) (t s : Spot) → Qualifiers ts (lexeme.Name s ∷ us) → Qualifiers us rest
       → begins opens_brace rest ≡ false → (in_field place && begins is_gty rest) ≡ false → BareType place (lexeme.Tag k t ∷ ts) (Read (Tagged k (name_of s)) rest)
   -- in a field, before the marker of its name
-  before_marker : {ts us rest behind : List Lexeme} {options : List RawOption} (k : Keyword) (t s g : Spot) → in_field place ≡ true
-      → Qualifiers ts (lexeme.Name s ∷ us) → Qualifiers us (lexeme.Gty g ∷ rest) → Marker (lexeme.Gty g ∷ rest) (Read options behind) → begins opens_brace behind ≡ false
+  before_marker : {ts us rest following : List Lexeme} {options : List RawOption} (k : Keyword) (t s g : Spot) → in_field place ≡ true
+      → Qualifiers ts (lexeme.Name s ∷ us) → Qualifiers us (lexeme.Gty g ∷ rest) → Marker (lexeme.Gty g ∷ rest) (Read options following) → begins opens_brace following ≡ false
       → BareType place (lexeme.Tag k t ∷ ts) (Read (Tagged k (name_of s)) (lexeme.Gty g ∷ rest))
-  -- a body may stand neither behind the tag nor in its place
+  -- a body may stand neither after the tag nor in its place
   with_body : {ts us rest : List Lexeme} (k : Keyword) (t s b : Spot) → Qualifiers ts (lexeme.Name s ∷ us) → Qualifiers us (lexeme.Open Brace b ∷ rest)
       → BareType place (lexeme.Tag k t ∷ ts) (Stops (definition_fault place) b.start)
   body_alone : {ts rest : List Lexeme} (k : Keyword) (t b : Spot) → Qualifiers ts (lexeme.Open Brace b ∷ rest)
       → BareType place (lexeme.Tag k t ∷ ts) (Stops (definition_fault place) b.start)
-  -- in a field it may not stand behind a tag and a marker either; the fault of that marker
-  marked_body : {ts us rest behind : List Lexeme} {options : List RawOption} (k : Keyword) (t s g b : Spot) → in_field place ≡ true
-      → Qualifiers ts (lexeme.Name s ∷ us) → Qualifiers us (lexeme.Gty g ∷ rest) → Marker (lexeme.Gty g ∷ rest) (Read options (lexeme.Open Brace b ∷ behind))
+  -- in a field it may not stand after a tag and a marker either; the fault of that marker
+  marked_body : {ts us rest following : List Lexeme} {options : List RawOption} (k : Keyword) (t s g b : Spot) → in_field place ≡ true
+      → Qualifiers ts (lexeme.Name s ∷ us) → Qualifiers us (lexeme.Gty g ∷ rest) → Marker (lexeme.Gty g ∷ rest) (Read options (lexeme.Open Brace b ∷ following))
       → BareType place (lexeme.Tag k t ∷ ts) (Stops UNSUPPORTED b.start)
   in_marker : {ts us rest : List Lexeme} (k : Keyword) (t s g : Spot) (why : Failure) → in_field place ≡ true
       → Qualifiers ts (lexeme.Name s ∷ us) → Qualifiers us (lexeme.Gty g ∷ rest) → Marker (lexeme.Gty g ∷ rest) (failed why)
@@ -126,7 +126,7 @@ pub data BareType (place : Place) : List Lexeme → Outcome RawType → Type 0 w
   bitfield : {ts us vs ws rest : List Lexeme} (s a n b : Spot) → bytes_eq s.word (codes "ENUM_BITFIELD") ≡ true
       → Qualifiers ts (lexeme.Open Round a ∷ us) → Qualifiers us (lexeme.Name n ∷ vs) → Qualifiers vs (lexeme.Close Round b ∷ ws) → Qualifiers ws rest
       → BareType place (lexeme.Name s ∷ ts) (Read (Tagged keyword.Enum (name_of n)) rest)
-  -- that word is a name like another, where no bracket stands behind it, or in a field one with a star: a pointer to a function
+  -- that word is a name like another, where no bracket stands after it, or in a field one with a star: a pointer to a function
   no_bitfield : {ts rest : List Lexeme} (s : Spot) → bytes_eq s.word (codes "ENUM_BITFIELD") ≡ true → Qualifiers ts rest → begins opens_round rest ≡ false
       → BareType place (lexeme.Name s ∷ ts) (Read (Named (name_of s)) rest)
   function_pointer : {ts rest : List Lexeme} (s a p : Spot) → in_field place ≡ true → bytes_eq s.word (codes "ENUM_BITFIELD") ≡ true

@@ -83,12 +83,12 @@ are_unsigned_alone s z c = false
 abbrev pub is_unsigned_alone : Combination → Bool
 is_unsigned_alone c = are_unsigned_alone c.sign c.size c.core
 
--- const and volatile mean nothing, in a type and behind a star
+-- const and volatile mean nothing, in a type and after a star
 unfoldable pub without_qualifiers : List Lexeme → List Lexeme
 without_qualifiers (lexeme.Qualifier s ∷ ts) = without_qualifiers ts
 without_qualifiers ts = ts
 
--- as many stars as stand at the front, behind those that were read, with const and volatile behind each
+-- as many stars as stand at the front, after those that were read, with const and volatile after each
 abbrev pub one_more : Stars → Stars
 one_more Zero = One
 one_more One = Two
@@ -114,12 +114,12 @@ abbrev pub words_with : (Combination → Outcome RawType) → ℕ → Option Com
 words_with go at (Some c) = go c
 words_with go at None = Stops UNEXPECTED at
 
--- a name behind a combination is no part of it, but for unsigned HOST_WIDE_INT
+-- a name after a combination is no part of it, but for unsigned HOST_WIDE_INT
 abbrev pub words_before : Combination → Spot → List Lexeme → Outcome RawType
 words_before c s ts =
     if is_unsigned_alone c && bytes_eq s.word (codes "HOST_WIDE_INT") then Read UnsignedHostWide (without_qualifiers ts) else Read (Words c) (lexeme.Name s ∷ ts)
 
--- the words of a combination, behind those that were read
+-- the words of a combination, after those that were read
 unfoldable pub words_from : Combination → List Lexeme → Outcome RawType
 words_from c (lexeme.Type w s ∷ ts) = words_with (λ d. words_from d ts) s.start (with_word w c)
 words_from c (lexeme.Qualifier s ∷ ts) = words_from c ts
@@ -136,7 +136,7 @@ abbrev pub no_brace_at : Place → List Lexeme → Outcome (Unit {0})
 no_brace_at place (lexeme.Open Brace s ∷ ts) = Stops (definition_fault place) s.start
 no_brace_at place ts = Read tt ts
 
--- no body may stand behind a tag, nor in a field behind a tag and a marker
+-- no body may stand after a tag, nor in a field after a tag and a marker
 unfoldable pub no_body_at : Place → List Lexeme → Outcome (Unit {0})
 no_body_at InField (lexeme.Gty s ∷ ts) = do
   options ← marker_at (lexeme.Gty s ∷ ts)
@@ -144,7 +144,7 @@ no_body_at InField (lexeme.Gty s ∷ ts) = do
   Read tt (lexeme.Gty s ∷ ts)
 no_body_at place ts = no_brace_at place ts
 
--- the tag behind a keyword
+-- the tag after a keyword
 unfoldable pub tagged_at : Place → Keyword → List Lexeme → Outcome RawType
 tagged_at place k (lexeme.Name s ∷ ts) = no_body_at place (without_qualifiers ts) >>= λ no_body. Read (Tagged k (name_of s)) no_body.1
 tagged_at place k (lexeme.Open Brace s ∷ ts) = Stops (definition_fault place) s.start
@@ -157,15 +157,15 @@ bitfield_at ts = do
   closed ← close_round_at (without_qualifiers tag.1)
   Read (Tagged keyword.Enum tag.0) (without_qualifiers closed.1)
 
--- what stands behind the word ENUM_BITFIELD: an enum in brackets, but for `(*` in a field, which declares a pointer to a function
-abbrev pub behind_bitfield : Place → Spot → List Lexeme → Outcome RawType
-behind_bitfield InField s (lexeme.Open Round p ∷ lexeme.Star q ∷ ts) = Read (Named (name_of s)) (lexeme.Open Round p ∷ lexeme.Star q ∷ ts)
-behind_bitfield place s (lexeme.Open Round p ∷ ts) = bitfield_at ts
-behind_bitfield place s ts = Read (Named (name_of s)) ts
+-- what stands after the word ENUM_BITFIELD: an enum in brackets, but for `(*` in a field, which declares a pointer to a function
+abbrev pub after_bitfield : Place → Spot → List Lexeme → Outcome RawType
+after_bitfield InField s (lexeme.Open Round p ∷ lexeme.Star q ∷ ts) = Read (Named (name_of s)) (lexeme.Open Round p ∷ lexeme.Star q ∷ ts)
+after_bitfield place s (lexeme.Open Round p ∷ ts) = bitfield_at ts
+after_bitfield place s ts = Read (Named (name_of s)) ts
 
 -- a type that begins with a name
 abbrev pub named_at : Place → Spot → List Lexeme → Outcome RawType
-named_at place s ts = if bytes_eq s.word (codes "ENUM_BITFIELD") then behind_bitfield place s (without_qualifiers ts) else Read (Named (name_of s)) (without_qualifiers ts)
+named_at place s ts = if bytes_eq s.word (codes "ENUM_BITFIELD") then after_bitfield place s (without_qualifiers ts) else Read (Named (name_of s)) (without_qualifiers ts)
 
 -- a type at the front, without qualifiers before it
 unfoldable pub bare_type_at : Place → List Lexeme → Outcome RawType
@@ -174,6 +174,6 @@ bare_type_at place (lexeme.Tag k s ∷ ts) = tagged_at place k (without_qualifie
 bare_type_at place (lexeme.Name s ∷ ts) = named_at place s ts
 bare_type_at place ts = unexpected ts
 
--- a type that stands at a place, with the qualifiers before and behind it
+-- a type that stands at a place, with the qualifiers before and after it
 unfoldable pub type_at : Place → List Lexeme → Outcome RawType
 type_at place ts = bare_type_at place (without_qualifiers ts)

@@ -53,7 +53,7 @@ unfoldable pub enumerators_of : List (List Lexeme) → List Enumerator
 enumerators_of [] = []
 enumerators_of (piece ∷ pieces) = enumerator_of piece ∷ enumerators_of pieces
 
--- an enum with a tag or without, behind the brace of its body
+-- an enum with a tag or without, after the brace of its body
 unfoldable pub enum_body_at : Option Name → List Lexeme → Outcome RawEnum
 enum_body_at tag ts = inside_from 0 ts >>= λ body. Read (record { tag = tag; constants = enumerators_of (pieces_from 0 [] body.0) }) body.1
 
@@ -70,7 +70,7 @@ enum_at ts = None
 
 -- ---- typedefs of the first form: a type, which may be defined here, and names
 
--- a structure or an enum with a body, behind its brace
+-- a structure or an enum with a body, after its brace
 unfoldable pub body_at : Keyword → Option Name → List Lexeme → Outcome Meaning
 body_at keyword.Struct tag ts = inside_from 0 ts >>= λ body. Read (meaning.Body keyword.Struct tag) (without_qualifiers body.1)
 body_at keyword.Union tag ts = inside_from 0 ts >>= λ body. Read (meaning.Body keyword.Union tag) (without_qualifiers body.1)
@@ -80,12 +80,12 @@ body_at keyword.Enum tag ts = enum_body_at tag ts >>= λ found. Read (meaning.En
 unfoldable pub plain_meaning_at : List Lexeme → Outcome Meaning
 plain_meaning_at ts = type_at Elsewhere ts >>= λ type. Read (meaning.Type type.0) type.1
 
--- what stands behind a keyword and a tag: a body, or else the type ends here
+-- what stands after a keyword and a tag: a body, or else the type ends here
 abbrev pub tagged_meaning_at : Keyword → Name → List Lexeme → List Lexeme → Outcome Meaning
 tagged_meaning_at k tag whole (lexeme.Open Brace s ∷ ts) = body_at k (Some tag) ts
 tagged_meaning_at k tag whole ts = plain_meaning_at whole
 
--- what stands behind a keyword: a body without a tag, a tag, or else no type
+-- what stands after a keyword: a body without a tag, a tag, or else no type
 abbrev pub keyword_meaning_at : Keyword → List Lexeme → List Lexeme → Outcome Meaning
 keyword_meaning_at k whole (lexeme.Open Brace s ∷ ts) = body_at k None ts
 keyword_meaning_at k whole (lexeme.Name s ∷ ts) = tagged_meaning_at k (name_of s) whole (without_qualifiers ts)
@@ -99,18 +99,18 @@ bare_meaning_at ts = plain_meaning_at ts
 unfoldable pub meaning_at : List Lexeme → Outcome Meaning
 meaning_at ts = bare_meaning_at (without_qualifiers ts)
 
--- what goes on behind a comma, and what was read where a semicolon ends the item
-abbrev pub behind_alias : {A : Type 0} → (List Lexeme → Outcome A) → A → List Lexeme → Outcome A
-behind_alias go names (lexeme.Comma s ∷ ts) = go ts
-behind_alias go names (lexeme.Semicolon s ∷ ts) = Read names ts
-behind_alias go names ts = unexpected ts
+-- what goes on after a comma, and what was read where a semicolon ends the item
+abbrev pub after_alias : {A : Type 0} → (List Lexeme → Outcome A) → A → List Lexeme → Outcome A
+after_alias go names (lexeme.Comma s ∷ ts) = go ts
+after_alias go names (lexeme.Semicolon s ∷ ts) = Read names ts
+after_alias go names ts = unexpected ts
 
--- names with commas between them and a semicolon behind them, behind those that were read; at most count
+-- names with commas between them and a semicolon after them, after those that were read; at most count
 unfoldable pub aliases_from : ℕ → List Alias → List Lexeme → Outcome (List Alias)
 aliases_from zero names ts = Ends
 aliases_from (suc count) names ts = do
   one ← alias_at ts
-  behind_alias (aliases_from count (names ++ one.0 ∷ [])) (names ++ one.0 ∷ []) one.1
+  after_alias (aliases_from count (names ++ one.0 ∷ [])) (names ++ one.0 ∷ []) one.1
 
 unfoldable pub first_form_at : List Lexeme → Outcome RawTypedef
 first_form_at ts = do
@@ -134,37 +134,37 @@ abbrev pub opens_round : Lexeme → Bool
 opens_round (lexeme.Open Round s) = true
 opens_round t = false
 
--- the tokens behind the first round bracket that opens in no other bracket; none where there is no such bracket
-unfoldable pub behind_round : ℕ → List Lexeme → List Lexeme
-behind_round depth [] = []
-behind_round zero (lexeme.Open Round s ∷ ts) = ts
-behind_round depth (lexeme.Open b s ∷ ts) = behind_round (suc depth) ts
-behind_round zero (lexeme.Close b s ∷ ts) = behind_round zero ts
-behind_round (suc depth) (lexeme.Close b s ∷ ts) = behind_round depth ts
-behind_round depth (t ∷ ts) = behind_round depth ts
+-- the tokens after the first round bracket that opens in no other bracket; none where there is no such bracket
+unfoldable pub after_round : ℕ → List Lexeme → List Lexeme
+after_round depth [] = []
+after_round zero (lexeme.Open Round s ∷ ts) = ts
+after_round depth (lexeme.Open b s ∷ ts) = after_round (suc depth) ts
+after_round zero (lexeme.Close b s ∷ ts) = after_round zero ts
+after_round (suc depth) (lexeme.Close b s ∷ ts) = after_round depth ts
+after_round depth (t ∷ ts) = after_round depth ts
 
--- the name behind stars
+-- the name after stars
 unfoldable pub starred_name : List Lexeme → Option Name
 starred_name (lexeme.Star s ∷ ts) = starred_name ts
 starred_name (lexeme.Qualifier s ∷ ts) = starred_name ts
 starred_name (lexeme.Name s ∷ ts) = Some (name_of s)
 starred_name ts = None
 
--- the one opaque name of a typedef: where a star stands directly behind its first round bracket, the name behind the stars there;
+-- the one opaque name of a typedef: where a star stands directly after its first round bracket, the name after the stars there;
 -- otherwise the last name
 abbrev pub opaque_name : List Lexeme → List Lexeme → Option Name
-opaque_name ts (lexeme.Star s ∷ behind) = starred_name behind
-opaque_name ts behind = last_name 0 None ts
+opaque_name ts (lexeme.Star s ∷ following) = starred_name following
+opaque_name ts following = last_name 0 None ts
 
 abbrev pub opaque_typedef : Option Name → Option Item
 opaque_typedef None = None
 opaque_typedef (Some name) = Some (Typedef (record { means = meaning.Opaque; names = record { stars = Zero; name = name } ∷ [] }))
 
--- an unmarked typedef, behind the word
+-- an unmarked typedef, after the word
 abbrev pub typedef_of : List Lexeme → Outcome RawTypedef → Option Item
-typedef_of ts (Read found behind) = Some (Typedef found)
-typedef_of ts (Stops number at) = opaque_typedef (opaque_name ts (behind_round 0 ts))
-typedef_of ts Ends = opaque_typedef (opaque_name ts (behind_round 0 ts))
+typedef_of ts (Read found following) = Some (Typedef found)
+typedef_of ts (Stops number at) = opaque_typedef (opaque_name ts (after_round 0 ts))
+typedef_of ts Ends = opaque_typedef (opaque_name ts (after_round 0 ts))
 
 unfoldable pub typedef_at : List Lexeme → Option Item
 typedef_at ts = typedef_of ts (first_form_at ts)

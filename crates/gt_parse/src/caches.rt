@@ -14,7 +14,7 @@ use gt_items::{Item, Name, PointedType, RawCache, RawOption};
 use gt_types::List;
 use std::alloc::Global;
 
-/// A map that is a cache, behind the sign `<`.
+/// A map that is a cache, after the sign `<`.
 #[tactic(auto, unfolding(crate::specs::Marked::cache_at))]
 pub fn cache(
     alloc: Global,
@@ -50,7 +50,7 @@ fn pointed(alloc: Global, tokens: &[Lexeme]) -> Result<(PointedType, &[Lexeme]),
     Ok((PointedType { ty, stars }, rest))
 }
 
-// The tokens behind the name of a third type, where there is one.
+// The tokens after the name of a third type, where there is one.
 #[tactic(auto, unfolding(crate::specs::Marked::traits_at))]
 fn traits(alloc: Global, tokens: &[Lexeme]) -> Result<&[Lexeme], Unread>
     ensures { Gives (λ rest. (tt, rest.now)) result (traits_at tokens.now) }

@@ -22,7 +22,7 @@ pub fn words(tokens: &[Lexeme]) -> Result<(RawType, &[Lexeme]), Unread>
     more_words(words, tokens)
 }
 
-// The words of a combination at the front, behind those that were read.
+// The words of a combination at the front, after those that were read.
 #[tactic(auto, unfolding(crate::specs::Types::words_from))]
 fn more_words(words: Combination, tokens: &[Lexeme]) -> Result<(RawType, &[Lexeme]), Unread>
     ensures { Gives (λ x. (x.0, x.1.now)) result (words_from words tokens.now) }

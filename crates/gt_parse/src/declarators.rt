@@ -1,4 +1,4 @@
-// What declares a field: stars, a marker, a name and what stands behind it.
+// What declares a field: stars, a marker, a name and what stands after it.
 ghost use Rattle.std.specs.Prelude.{◌≡◌, [], length};
 ghost use Rattle.gt_parse.specs.Outcome.{Gives};
 ghost use Rattle.gt_parse.specs.Fields.{bits_at, no_function_at, plain_declarator_at, star_at, function_declarator_at, declarator_at, goes_on_at, declarators_from};
@@ -13,7 +13,7 @@ use gt_items::{Declarator, Stars};
 use gt_types::{Bytes, List};
 use std::alloc::Global;
 
-/// Declarators with commas between them and a semicolon behind them.
+/// Declarators with commas between them and a semicolon after them.
 pub fn declarators(
     alloc: Global,
     tokens: &[Lexeme],
@@ -34,7 +34,7 @@ pub fn declarators(
     Err(Unread::Ended)
 }
 
-/// Whether a list goes on behind a comma, or a semicolon ends it. One of them has to stand at the front.
+/// Whether a list goes on after a comma, or a semicolon ends it. One of them has to stand at the front.
 pub fn goes_on(tokens: &[Lexeme]) -> Result<(bool, &[Lexeme]), Unread>
     ensures { Gives (λ x. (x.0, x.1.now)) result (goes_on_at tokens.now) }
 {
@@ -55,7 +55,7 @@ fn declarator(alloc: Global, tokens: &[Lexeme]) -> Result<(Declarator, &[Lexeme]
     }
 }
 
-// A name behind stars and a marker, with bounds and a bit count.
+// A name after stars and a marker, with bounds and a bit count.
 #[tactic(auto, unfolding(crate::specs::Fields::plain_declarator_at))]
 fn plain_declarator(alloc: Global, tokens: &[Lexeme]) -> Result<(Declarator, &[Lexeme]), Unread>
     ensures { Gives (λ x. (x.0, x.1.now)) result (plain_declarator_at tokens.now) }
@@ -77,7 +77,7 @@ fn plain_declarator(alloc: Global, tokens: &[Lexeme]) -> Result<(Declarator, &[L
     Ok((declarator, rest))
 }
 
-// A pointer to a function, behind the first bracket of `(*NAME) (..)`.
+// A pointer to a function, after the first bracket of `(*NAME) (..)`.
 #[tactic(auto, unfolding(crate::specs::Fields::function_declarator_at))]
 fn function_declarator(alloc: Global, tokens: &[Lexeme]) -> Result<(Declarator, &[Lexeme]), Unread>
     ensures { Gives (λ x. (x.0, x.1.now)) result (function_declarator_at tokens.now) }
@@ -99,7 +99,7 @@ fn function_declarator(alloc: Global, tokens: &[Lexeme]) -> Result<(Declarator, 
     Ok((declarator, rest))
 }
 
-/// The tokens behind a star, which has to stand at the front.
+/// The tokens after a star, which has to stand at the front.
 pub fn star(tokens: &[Lexeme]) -> Result<&[Lexeme], Unread>
     ensures { Gives (λ rest. (tt, rest.now)) result (star_at tokens.now) }
 {
@@ -109,7 +109,7 @@ pub fn star(tokens: &[Lexeme]) -> Result<&[Lexeme], Unread>
     }
 }
 
-// No bracket may stand behind the name of a field: it would be a member function.
+// No bracket may stand after the name of a field: it would be a member function.
 #[tactic(auto, unfolding(crate::specs::Fields::no_function_at))]
 fn no_function(tokens: &[Lexeme]) -> Result<&[Lexeme], Unread>
     ensures { Gives (λ rest. (tt, rest.now)) result (no_function_at tokens.now) }
@@ -123,7 +123,7 @@ fn no_function(tokens: &[Lexeme]) -> Result<&[Lexeme], Unread>
     }
 }
 
-// The text of a bit count behind a colon, or none.
+// The text of a bit count after a colon, or none.
 #[tactic(auto, unfolding(crate::specs::Fields::bits_at))]
 fn bits(alloc: Global, tokens: &[Lexeme]) -> Result<(Option<Bytes>, &[Lexeme]), Unread>
     ensures { Gives (λ x. (x.0, x.1.now)) result (bits_at tokens.now) }

@@ -10,7 +10,7 @@ use gt_items::{Enumerator, Item, Name, RawEnum};
 use gt_types::List;
 use std::alloc::{AllocError, Global};
 
-/// What an unmarked enum declares, behind its keyword: `enum [NAME] {` begins a definition, and another declares nothing.
+/// What an unmarked enum declares, after its keyword: `enum [NAME] {` begins a definition, and another declares nothing.
 #[tactic(auto, unfolding(crate::specs::Unmarked::enum_at))]
 pub fn enum_item(alloc: Global, tokens: &[Lexeme]) -> Result<Option<Item>, AllocError>
     ensures { IfOk result (λ found. found ≡ enum_at tokens.now) }
@@ -26,7 +26,7 @@ pub fn enum_item(alloc: Global, tokens: &[Lexeme]) -> Result<Option<Item>, Alloc
     }
 }
 
-// The enum behind the brace of its body.
+// The enum after the brace of its body.
 fn enum_definition(
     alloc: Global,
     tag: Option<Name>,
@@ -41,7 +41,7 @@ fn enum_definition(
     }
 }
 
-/// An enum with a tag or without, behind the brace of its body.
+/// An enum with a tag or without, after the brace of its body.
 #[tactic(auto, unfolding(crate::specs::Unmarked::enum_body_at))]
 pub fn enum_body(
     alloc: Global,

@@ -2,7 +2,7 @@
 ghost use Rattle.std.specs.Prelude.{◌≡◌, [], length};
 ghost use Rattle.std.specs.Option.{option_map};
 ghost use Rattle.gt_parse.specs.Outcome.{Gives};
-ghost use Rattle.gt_parse.specs.Fields.{is_access, no_label_at, field_at, brace_behind, fields_from};
+ghost use Rattle.gt_parse.specs.Fields.{is_access, no_label_at, field_at, brace_after, fields_from};
 
 use crate::declarators::declarators;
 use crate::faults::UNSUPPORTED;
@@ -23,17 +23,17 @@ pub fn fields(alloc: Global, tokens: &[Lexeme]) -> Result<(List<RawField>, &[Lex
     for _ in 0..tokens.len() {
         let (one, after) = field(alloc, rest)?;
         fields.push(one)?;
-        if let Some(behind) = behind_brace(after) {
-            return Ok((fields, behind));
+        if let Some(following) = after_brace(after) {
+            return Ok((fields, following));
         }
         rest = after;
     }
     Err(Unread::Ended)
 }
 
-// The tokens behind a brace that closes at the front.
-fn behind_brace(tokens: &[Lexeme]) -> Option<&[Lexeme]>
-    ensures { option_map (λ rest. rest.now) result ≡ brace_behind tokens.now }
+// The tokens after a brace that closes at the front.
+fn after_brace(tokens: &[Lexeme]) -> Option<&[Lexeme]>
+    ensures { option_map (λ rest. rest.now) result ≡ brace_after tokens.now }
 {
     match tokens {
         [Lexeme::Close(Bracket::Brace, _), rest @ ..] => Some(rest),

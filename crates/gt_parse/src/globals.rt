@@ -1,7 +1,7 @@
 // Marked globals.
 ghost use Rattle.std.specs.Prelude.{◌≡◌};
 ghost use Rattle.gt_parse.specs.Outcome.{Gives};
-ghost use Rattle.gt_parse.specs.Marked.{initialiser_at, root_at, behind_marker_at, global_at};
+ghost use Rattle.gt_parse.specs.Marked.{initialiser_at, root_at, after_marker_at, global_at};
 
 use crate::caches::cache;
 use crate::groups::bounds;
@@ -15,23 +15,23 @@ use gt_items::{Item, RawOption, RawRoot};
 use gt_types::List;
 use std::alloc::Global;
 
-/// A marked global behind its first word.
+/// A marked global after its first word.
 #[tactic(auto, unfolding(crate::specs::Marked::global_at))]
 pub fn global(alloc: Global, tokens: &[Lexeme]) -> Result<(Item, &[Lexeme]), Unread>
     ensures { Gives (λ x. (x.0, x.1.now)) result (global_at tokens.now) }
 {
     let (options, rest) = marker(alloc, tokens)?;
-    behind_marker(alloc, options, rest)
+    after_marker(alloc, options, rest)
 }
 
-// What stands behind the marker of a global: a map, or a type.
-#[tactic(auto, unfolding(crate::specs::Marked::behind_marker_at))]
-fn behind_marker(
+// What stands after the marker of a global: a map, or a type.
+#[tactic(auto, unfolding(crate::specs::Marked::after_marker_at))]
+fn after_marker(
     alloc: Global,
     options: List<RawOption>,
     tokens: &[Lexeme],
 ) -> Result<(Item, &[Lexeme]), Unread>
-    ensures { Gives (λ x. (x.0, x.1.now)) result (behind_marker_at options tokens.now) }
+    ensures { Gives (λ x. (x.0, x.1.now)) result (after_marker_at options tokens.now) }
 {
     let [Lexeme::Name(spot), Lexeme::Less(_), after @ ..] = tokens else {
         return root(alloc, options, tokens);
@@ -42,7 +42,7 @@ fn behind_marker(
     root(alloc, options, tokens)
 }
 
-// A global of a type, behind its marker.
+// A global of a type, after its marker.
 #[tactic(auto, unfolding(crate::specs::Marked::root_at))]
 fn root(
     alloc: Global,

@@ -1,22 +1,22 @@
 // What stands in brackets, and what is passed over.
 ghost use Rattle.std.specs.Prelude.{◌≡◌, ℕ, ◌+◌, ◌<◌, ◌^◌, [], ◌++◌, length, IfOk};
 ghost use Rattle.std.specs.Option.{option_map};
-ghost use Rattle.gt_parse.specs.Lexemes.{kept_text, text_behind};
+ghost use Rattle.gt_parse.specs.Lexemes.{kept_text, text_after};
 ghost use Rattle.gt_parse.specs.Outcome.{Gives};
-ghost use Rattle.gt_parse.specs.Groups.{depth_behind, depth_after, depth_in_part, inside_from, before_end, square_behind, bounds_from};
+ghost use Rattle.gt_parse.specs.Groups.{depth_past, depth_after, depth_in_part, inside_from, before_end, square_after, bounds_from};
 
 use crate::lexeme::{Bracket, Lexeme};
 use crate::unread::Unread;
 use gt_types::{Bytes, List};
 use std::alloc::{AllocError, Global};
 
-/// The tokens up to the bracket that closes the one before them, and those behind it.
+/// The tokens up to the bracket that closes the one before them, and those after it.
 pub fn inside(tokens: &[Lexeme]) -> Result<(&[Lexeme], &[Lexeme]), Unread>
     ensures { Gives (λ x. (x.0.now, x.1.now)) result (inside_from 0 tokens.now) }
 {
     let mut depth = 0;
     for at in 0..tokens.len() {
-        let Some(next) = depth_behind(depth, &tokens[at]) else {
+        let Some(next) = depth_past(depth, &tokens[at]) else {
             return Ok((&tokens[..at], &tokens[at + 1..]));
         };
         depth = next;
@@ -38,10 +38,10 @@ pub fn before_end(tokens: &[Lexeme]) -> Result<(&[Lexeme], &[Lexeme]), Unread>
     Err(Unread::Ended)
 }
 
-/// How many brackets are open behind a token, or None where it closes one that opens before.
-pub fn depth_behind(depth: usize, token: &Lexeme) -> Option<usize>
+/// How many brackets are open after a token, or None where it closes one that opens before.
+pub fn depth_past(depth: usize, token: &Lexeme) -> Option<usize>
     requires { depth + 1 < 2 ^ 64 }
-    ensures { result ≡ depth_behind depth token.now }
+    ensures { result ≡ depth_past depth token.now }
 {
     match token {
         Lexeme::Open(..) => Some(depth + 1),
@@ -50,7 +50,7 @@ pub fn depth_behind(depth: usize, token: &Lexeme) -> Option<usize>
     }
 }
 
-/// How many brackets are open behind a token, where one that closes none of them counts for nothing.
+/// How many brackets are open after a token, where one that closes none of them counts for nothing.
 pub fn depth_after(depth: usize, token: &Lexeme) -> usize
     requires { depth + 1 < 2 ^ 64 }
     ensures { result ≡ depth_after depth token.now }
@@ -62,14 +62,14 @@ pub fn depth_after(depth: usize, token: &Lexeme) -> usize
     }
 }
 
-// As `depth_behind`, or None where a comma or a semicolon stands in no brackets.
+// As `depth_after`, or None where a comma or a semicolon stands in no brackets.
 fn depth_in_part(depth: usize, token: &Lexeme) -> Option<usize>
     requires { depth + 1 < 2 ^ 64 }
     ensures { result ≡ depth_in_part depth token.now }
 {
     match token {
         Lexeme::Comma(_) | Lexeme::Semicolon(_) if depth == 0 => None,
-        _ => depth_behind(depth, token),
+        _ => depth_past(depth, token),
     }
 }
 
@@ -80,7 +80,7 @@ pub fn bounds(alloc: Global, tokens: &[Lexeme]) -> Result<(List<Bytes>, &[Lexeme
     let mut bounds = List::new(alloc);
     let mut rest = tokens;
     for _ in 0..tokens.len() {
-        let Some(after) = behind_square(rest) else {
+        let Some(after) = after_square(rest) else {
             return Ok((bounds, rest));
         };
         let (text, after) = inside(after)?;
@@ -90,9 +90,9 @@ pub fn bounds(alloc: Global, tokens: &[Lexeme]) -> Result<(List<Bytes>, &[Lexeme
     Ok((bounds, rest))
 }
 
-// The tokens behind a square bracket that opens at the front.
-fn behind_square(tokens: &[Lexeme]) -> Option<&[Lexeme]>
-    ensures { option_map (λ rest. rest.now) result ≡ square_behind tokens.now }
+// The tokens after a square bracket that opens at the front.
+fn after_square(tokens: &[Lexeme]) -> Option<&[Lexeme]>
+    ensures { option_map (λ rest. rest.now) result ≡ square_after tokens.now }
 {
     match tokens {
         [Lexeme::Open(Bracket::Square, _), rest @ ..] => Some(rest),
@@ -109,12 +109,12 @@ pub fn kept_text(alloc: Global, tokens: &[Lexeme]) -> Result<Bytes, AllocError>
         return Ok(Bytes::new(alloc));
     };
     let text = Bytes::of(alloc, first.spot().word.as_str().as_bytes())?;
-    text_behind(text, first.spot().end, rest)
+    text_after(text, first.spot().end, rest)
 }
 
-// The text of tokens behind a text that ends at an offset.
-fn text_behind(mut text: Bytes, end: u32, tokens: &[Lexeme]) -> Result<Bytes, AllocError>
-    ensures { IfOk result (λ made. made ≡ text ++ text_behind end tokens.now) }
+// The text of tokens after a text that ends at an offset.
+fn text_after(mut text: Bytes, end: u32, tokens: &[Lexeme]) -> Result<Bytes, AllocError>
+    ensures { IfOk result (λ made. made ≡ text ++ text_after end tokens.now) }
 {
     let mut end = end;
     for token in tokens {

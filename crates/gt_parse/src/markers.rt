@@ -47,7 +47,7 @@ fn gty(tokens: &[Lexeme]) -> Result<&[Lexeme], Unread>
     }
 }
 
-/// The tokens behind an opening round bracket, which has to stand at the front.
+/// The tokens after an opening round bracket, which has to stand at the front.
 pub fn open_round(tokens: &[Lexeme]) -> Result<&[Lexeme], Unread>
     ensures { Gives (λ rest. (tt, rest.now)) result (open_round_at tokens.now) }
 {
@@ -57,7 +57,7 @@ pub fn open_round(tokens: &[Lexeme]) -> Result<&[Lexeme], Unread>
     }
 }
 
-/// The tokens behind a closing round bracket, which has to stand at the front.
+/// The tokens after a closing round bracket, which has to stand at the front.
 pub fn close_round(tokens: &[Lexeme]) -> Result<&[Lexeme], Unread>
     ensures { Gives (λ rest. (tt, rest.now)) result (close_round_at tokens.now) }
 {

@@ -3,7 +3,7 @@ ghost use Rattle.std.specs.Prelude.{◌≡◌, false, [], length};
 ghost use Rattle.std.specs.Option.{option_map};
 ghost use Rattle.gt_expr.specs.Expression.{expression_of};
 ghost use Rattle.gt_parse.specs.Outcome.{Gives, GivesBefore};
-ghost use Rattle.gt_parse.specs.Markers.{takes_expression, unescaped, expression_at, parameter_at, parameters_at, option_at, comma_behind, options_from, options_at};
+ghost use Rattle.gt_parse.specs.Markers.{takes_expression, unescaped, expression_at, parameter_at, parameters_at, option_at, comma_after, options_from, options_at};
 
 use crate::lexeme::{Bracket, Lexeme, Spot};
 use crate::markers::close_round;
@@ -35,7 +35,7 @@ fn some_options(alloc: Global, tokens: &[Lexeme]) -> Result<(List<RawOption>, &[
     for _ in 0..tokens.len() {
         let (one, after) = option(alloc, rest)?;
         options.push(one)?;
-        let Some(next) = behind_comma(after) else {
+        let Some(next) = after_comma(after) else {
             return Ok((options, after));
         };
         rest = next;
@@ -43,9 +43,9 @@ fn some_options(alloc: Global, tokens: &[Lexeme]) -> Result<(List<RawOption>, &[
     Err(Unread::Ended)
 }
 
-// The tokens behind a comma at the front.
-fn behind_comma(tokens: &[Lexeme]) -> Option<&[Lexeme]>
-    ensures { option_map (λ rest. rest.now) result ≡ comma_behind tokens.now }
+// The tokens after a comma at the front.
+fn after_comma(tokens: &[Lexeme]) -> Option<&[Lexeme]>
+    ensures { option_map (λ rest. rest.now) result ≡ comma_after tokens.now }
 {
     match tokens {
         [Lexeme::Comma(_), rest @ ..] => Some(rest),
@@ -69,7 +69,7 @@ fn option(alloc: Global, tokens: &[Lexeme]) -> Result<(RawOption, &[Lexeme]), Un
     Ok((RawOption { name, parameter }, rest))
 }
 
-// The parameter of an option behind its name: strings in brackets, or none.
+// The parameter of an option after its name: strings in brackets, or none.
 #[tactic(auto, unfolding(crate::specs::Markers::parameters_at))]
 fn parameters<'a>(
     alloc: Global,

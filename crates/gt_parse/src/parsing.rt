@@ -19,7 +19,7 @@ use gt_lex::Lexed;
 use gt_types::{Fault, List, Stop};
 use std::alloc::{AllocError, Global};
 
-/// The items of a text of fewer than 2 to the 32 bytes, from what `gt_lex::lex` made of it. Otherwise want of memory, or the
+/// The items of a text of fewer than 2 to the 32 bytes, from what `gt_lex::lex` made of it. Otherwise out of memory, or the
 /// first fault, at its byte offset in the file that the caller names: `UNCLOSED`, `UNEXPECTED`, `UNSUPPORTED`,
 /// `BAD_MARKER_PLACE`, and for the texts of options `gt_expr::BAD_EXPR` and `gt_expr::EXPR_TOO_LARGE`. What is a marker and
 /// where it stands is said in GCC Internals, "Memory Management and Type Information".
@@ -38,7 +38,7 @@ pub fn parse(alloc: Global, file: u32, text: &[u8], lexed: &Lexed) -> Result<Ite
     read(alloc, file, text, lexed)
 }
 
-// The search for items, and the reading of each of them, also behind a fault: an earlier one may follow.
+// The search for items, and the reading of each of them, also after a fault: an earlier one may follow.
 fn read(alloc: Global, file: u32, text: &[u8], lexed: &Lexed) -> Result<Items, Stop>
     requires { IsLexed text.now lexed.now.tokens lexed.now.defines }
     ensures { IsAnswer file text.now lexed.now.tokens lexed.now.defines result }

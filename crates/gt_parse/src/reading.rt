@@ -68,7 +68,7 @@ fn marked(alloc: Global, tokens: &[Lexeme]) -> Result<(Item, &[Lexeme]), Unread>
     }
 }
 
-// A structure behind the word `typedef`.
+// A structure after the word `typedef`.
 #[tactic(auto, unfolding(crate::specs::Marked::typedef_structure_at))]
 fn typedef_structure(alloc: Global, tokens: &[Lexeme]) -> Result<(Item, &[Lexeme]), Unread>
     ensures { Gives (λ x. (x.0, x.1.now)) result (typedef_structure_at tokens.now) }

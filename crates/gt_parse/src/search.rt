@@ -16,7 +16,7 @@ pub enum End {
     Fails { number: u8, at: u32 },
 }
 
-/// The tokens of an item so far: the brackets that are open behind them, whether `GTY` stands directly before what follows, and
+/// The tokens of an item so far: the brackets that are open after them, whether `GTY` stands directly before what follows, and
 /// whether a brace that follows begins the body of a function.
 #[derive(Drop)]
 pub struct Begun {
@@ -52,7 +52,7 @@ pub enum Turn {
 }
 
 impl Begun {
-    // An opening bracket. Within it the state is the one behind it.
+    // An opening bracket. Within it the state is the one after it.
     fn open(mut self, bracket: Bracket) -> Result<Begun, AllocError>
         ensures { IfOk result (λ begun. begun ≡ opened_in self bracket) }
     {
@@ -212,9 +212,9 @@ pub fn search(alloc: Global, tokens: &[Lexeme]) -> Result<(Vec<&[Lexeme]>, End),
                 (_, rest) = rest.split_at(1);
             }
             Turn::Item { len } => {
-                let (item, behind) = rest.split_at(len);
+                let (item, following) = rest.split_at(len);
                 items.push(item)?;
-                rest = behind;
+                rest = following;
             }
             Turn::Last(end) => return Ok((items, end)),
         }

@@ -30,7 +30,7 @@ impl<X> Stack<X> {
         }
     }
 
-    /// Puts an item on top. For want of memory the items are as before.
+    /// Puts an item on top. Out of memory, the items are as before.
     pub fn push(&mut self, item: X) -> Result<(), AllocFailed<X>>
         ensures added { OnOk result (self.new ≡ item ∷ self.old) }
         ensures unchanged { OnErr result (self.new ≡ self.old) }

@@ -20,7 +20,7 @@ pub fn strings(alloc: Global, tokens: &[Lexeme]) -> Result<(Bytes, &[Lexeme]), U
     more_strings(text, rest)
 }
 
-// What the literals at the front join to behind a text.
+// What the literals at the front join to after a text.
 #[tactic(auto, unfolding(crate::specs::Markers::more_strings))]
 fn more_strings(mut text: Bytes, tokens: &[Lexeme]) -> Result<(Bytes, &[Lexeme]), Unread>
     ensures { Gives (λ x. (x.0, x.1.now)) result (more_strings text tokens.now) }

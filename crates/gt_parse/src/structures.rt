@@ -1,7 +1,7 @@
 // Marked structures and unions.
 ghost use Rattle.std.specs.Prelude.{◌≡◌};
 ghost use Rattle.gt_parse.specs.Outcome.{Gives};
-ghost use Rattle.gt_parse.specs.Marked.{semicolon_at, open_brace_at, marker_behind_tag, tag_at, alias_at, maybe_alias, structure_at};
+ghost use Rattle.gt_parse.specs.Marked.{semicolon_at, open_brace_at, marker_after_tag, tag_at, alias_at, maybe_alias, structure_at};
 
 use crate::faults::UNSUPPORTED;
 use crate::fields::fields;
@@ -13,7 +13,7 @@ use gt_items::{Alias, Item, Name, RawOption, RawStructure};
 use gt_types::List;
 use std::alloc::Global;
 
-/// A marked structure behind its keyword. It declares a name too where it is a typedef.
+/// A marked structure after its keyword. It declares a name too where it is a typedef.
 #[tactic(auto, unfolding(crate::specs::Marked::structure_at))]
 pub fn structure(
     alloc: Global,
@@ -38,14 +38,14 @@ pub fn structure(
     Ok((Item::Structure(structure), rest))
 }
 
-// The tag of a structure, and the options of the marker before or behind it.
+// The tag of a structure, and the options of the marker before or after it.
 #[tactic(auto, unfolding(crate::specs::Marked::tag_at))]
 fn tag(alloc: Global, tokens: &[Lexeme]) -> Result<((Name, List<RawOption>), &[Lexeme]), Unread>
     ensures { Gives (λ x. ((x.0.0, x.0.1), x.1.now)) result (tag_at tokens.now) }
 {
     match tokens {
         [Lexeme::Name(spot), after @ ..] => {
-            let (options, rest) = marker_behind_tag(alloc, after)?;
+            let (options, rest) = marker_after_tag(alloc, after)?;
             Ok(((spot.name(alloc)?, options), rest))
         }
         _ => {
@@ -56,13 +56,13 @@ fn tag(alloc: Global, tokens: &[Lexeme]) -> Result<((Name, List<RawOption>), &[L
     }
 }
 
-// A marker behind a tag; a colon would begin base classes.
-#[tactic(auto, unfolding(crate::specs::Marked::marker_behind_tag))]
-fn marker_behind_tag(
+// A marker after a tag; a colon would begin base classes.
+#[tactic(auto, unfolding(crate::specs::Marked::marker_after_tag))]
+fn marker_after_tag(
     alloc: Global,
     tokens: &[Lexeme],
 ) -> Result<(List<RawOption>, &[Lexeme]), Unread>
-    ensures { Gives (λ x. (x.0, x.1.now)) result (marker_behind_tag tokens.now) }
+    ensures { Gives (λ x. (x.0, x.1.now)) result (marker_after_tag tokens.now) }
 {
     match tokens {
         [Lexeme::Colon(spot), ..] => Err(Unread::Fault {
@@ -73,7 +73,7 @@ fn marker_behind_tag(
     }
 }
 
-// The tokens behind the brace that opens a body; a colon would begin base classes.
+// The tokens after the brace that opens a body; a colon would begin base classes.
 fn open_brace(tokens: &[Lexeme]) -> Result<&[Lexeme], Unread>
     ensures { Gives (λ rest. (tt, rest.now)) result (open_brace_at tokens.now) }
 {
@@ -87,7 +87,7 @@ fn open_brace(tokens: &[Lexeme]) -> Result<&[Lexeme], Unread>
     }
 }
 
-// The name behind the body of a structure that is a typedef.
+// The name after the body of a structure that is a typedef.
 #[tactic(auto, unfolding(crate::specs::Marked::maybe_alias))]
 fn maybe_alias(
     alloc: Global,
@@ -103,7 +103,7 @@ fn maybe_alias(
     Ok((Some(alias), rest))
 }
 
-/// A name that a typedef declares, behind stars.
+/// A name that a typedef declares, after stars.
 #[tactic(auto, unfolding(crate::specs::Marked::alias_at))]
 pub fn alias(alloc: Global, tokens: &[Lexeme]) -> Result<(Alias, &[Lexeme]), Unread>
     ensures { Gives (λ x. (x.0, x.1.now)) result (alias_at tokens.now) }
@@ -113,7 +113,7 @@ pub fn alias(alloc: Global, tokens: &[Lexeme]) -> Result<(Alias, &[Lexeme]), Unr
     Ok((Alias { stars, name }, rest))
 }
 
-/// The tokens behind a semicolon, which has to stand at the front.
+/// The tokens after a semicolon, which has to stand at the front.
 pub fn semicolon(tokens: &[Lexeme]) -> Result<&[Lexeme], Unread>
     ensures { Gives (λ rest. (tt, rest.now)) result (semicolon_at tokens.now) }
 {

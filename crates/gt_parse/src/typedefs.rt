@@ -3,7 +3,7 @@ ghost use Rattle.std.specs.Prelude.{◌≡◌, [], length, None, IfOk};
 ghost use Rattle.std.specs.Option.{option_map};
 ghost use Rattle.gt_parse.specs.Lexemes.{name_of};
 ghost use Rattle.gt_parse.specs.Outcome.{Gives};
-ghost use Rattle.gt_parse.specs.Unmarked.{body_at, plain_meaning_at, tagged_meaning_at, keyword_meaning_at, bare_meaning_at, meaning_at, aliases_from, first_form_at, last_name, opens_round, behind_round, starred_name, opaque_name, opaque_typedef, typedef_at};
+ghost use Rattle.gt_parse.specs.Unmarked.{body_at, plain_meaning_at, tagged_meaning_at, keyword_meaning_at, bare_meaning_at, meaning_at, aliases_from, first_form_at, last_name, opens_round, after_round, starred_name, opaque_name, opaque_typedef, typedef_at};
 
 use crate::declarators::goes_on;
 use crate::enums::enum_body;
@@ -16,7 +16,7 @@ use gt_items::{Alias, Item, Keyword, Meaning, Name, RawTypedef, Stars};
 use gt_types::List;
 use std::alloc::{AllocError, Global};
 
-/// What an unmarked typedef declares, behind the word: a type and names, or else one opaque name.
+/// What an unmarked typedef declares, after the word: a type and names, or else one opaque name.
 #[tactic(auto, unfolding(crate::specs::Unmarked::typedef_at))]
 pub fn typedef_item(alloc: Global, tokens: &[Lexeme]) -> Result<Option<Item>, AllocError>
     ensures { IfOk result (λ found. found ≡ typedef_at tokens.now) }
@@ -38,7 +38,7 @@ fn first_form(alloc: Global, tokens: &[Lexeme]) -> Result<(RawTypedef, &[Lexeme]
     Ok((RawTypedef { means, names }, rest))
 }
 
-// Names with commas between them and a semicolon behind them.
+// Names with commas between them and a semicolon after them.
 fn aliases(alloc: Global, tokens: &[Lexeme]) -> Result<(List<Alias>, &[Lexeme]), Unread>
     ensures { Gives (λ x. (x.0, x.1.now)) result (aliases_from (length tokens.now) [] tokens.now) }
 {
@@ -76,7 +76,7 @@ fn bare_meaning(alloc: Global, tokens: &[Lexeme]) -> Result<(Meaning, &[Lexeme])
     }
 }
 
-// What stands behind a keyword: a body without a tag, a tag, or else no type.
+// What stands after a keyword: a body without a tag, a tag, or else no type.
 fn keyword_meaning<'a>(
     alloc: Global,
     keyword: Keyword,
@@ -95,7 +95,7 @@ fn keyword_meaning<'a>(
     }
 }
 
-// What stands behind a keyword and a tag: a body, or else the type ends here.
+// What stands after a keyword and a tag: a body, or else the type ends here.
 fn tagged_meaning<'a>(
     alloc: Global,
     keyword: Keyword,
@@ -111,7 +111,7 @@ fn tagged_meaning<'a>(
     }
 }
 
-// A structure or an enum with a body, behind its brace.
+// A structure or an enum with a body, after its brace.
 #[tactic(auto, unfolding(crate::specs::Unmarked::body_at))]
 fn body(
     alloc: Global,
@@ -158,18 +158,18 @@ fn opaque_typedef(alloc: Global, spot: Option<&Spot>) -> Result<Option<Item>, Al
     Ok(Some(Item::Typedef(RawTypedef { means, names })))
 }
 
-// The one opaque name: where a star stands directly behind the first round bracket, the name behind the stars there; otherwise
+// The one opaque name: where a star stands directly after the first round bracket, the name after the stars there; otherwise
 // the last name.
 fn opaque_name(tokens: &[Lexeme]) -> Option<&Spot>
-    ensures { option_map (λ s. name_of s.now) result ≡ opaque_name tokens.now (behind_round 0 tokens.now) }
+    ensures { option_map (λ s. name_of s.now) result ≡ opaque_name tokens.now (after_round 0 tokens.now) }
 {
-    match behind_round(tokens) {
-        [Lexeme::Star(_), behind @ ..] => starred_name(behind),
+    match after_round(tokens) {
+        [Lexeme::Star(_), following @ ..] => starred_name(following),
         _ => last_name(tokens),
     }
 }
 
-// The name behind stars.
+// The name after stars.
 #[tactic(auto, unfolding(crate::specs::Unmarked::starred_name))]
 fn starred_name(tokens: &[Lexeme]) -> Option<&Spot>
     ensures { option_map (λ s. name_of s.now) result ≡ starred_name tokens.now }
@@ -184,9 +184,9 @@ fn starred_name(tokens: &[Lexeme]) -> Option<&Spot>
     }
 }
 
-// The tokens behind the first round bracket that opens in no other bracket; none where there is no such bracket.
-fn behind_round(tokens: &[Lexeme]) -> &[Lexeme]
-    ensures { result.now ≡ behind_round 0 tokens.now }
+// The tokens after the first round bracket that opens in no other bracket; none where there is no such bracket.
+fn after_round(tokens: &[Lexeme]) -> &[Lexeme]
+    ensures { result.now ≡ after_round 0 tokens.now }
 {
     let mut depth = 0;
     for at in 0..tokens.len() {

@@ -1,7 +1,7 @@
-// Types, and the stars and names behind them.
+// Types, and the stars and names after them.
 ghost use Rattle.std.specs.Prelude.{◌≡◌};
 ghost use Rattle.gt_parse.specs.Outcome.{Gives};
-ghost use Rattle.gt_parse.specs.Types.{without_qualifiers, one_more, stars_from, stars_at, name_at, definition_fault, no_brace_at, no_body_at, tagged_at, bitfield_at, behind_bitfield, named_at, bare_type_at, type_at};
+ghost use Rattle.gt_parse.specs.Types.{without_qualifiers, one_more, stars_from, stars_at, name_at, definition_fault, no_brace_at, no_body_at, tagged_at, bitfield_at, after_bitfield, named_at, bare_type_at, type_at};
 
 use crate::combinations::words;
 use crate::faults::{UNEXPECTED, UNSUPPORTED};
@@ -20,7 +20,7 @@ pub enum Place {
     Elsewhere,
 }
 
-/// A type at the front, with the qualifiers before and behind it.
+/// A type at the front, with the qualifiers before and after it.
 #[tactic(auto, unfolding(crate::specs::Types::type_at, crate::specs::Types::bare_type_at))]
 pub fn base_type(
     alloc: Global,
@@ -46,7 +46,7 @@ fn bare_type(alloc: Global, place: Place, tokens: &[Lexeme]) -> Result<(RawType,
     }
 }
 
-// The tag behind a keyword.
+// The tag after a keyword.
 #[tactic(auto, unfolding(crate::specs::Types::tagged_at))]
 fn tagged(
     alloc: Global,
@@ -70,7 +70,7 @@ fn tagged(
     }
 }
 
-// No body may stand behind a tag, nor in a field behind a tag and a marker.
+// No body may stand after a tag, nor in a field after a tag and a marker.
 #[tactic(auto, unfolding(crate::specs::Types::no_body_at))]
 fn no_body(alloc: Global, place: Place, tokens: &[Lexeme]) -> Result<&[Lexeme], Unread>
     ensures { Gives (λ rest. (tt, rest.now)) result (no_body_at place tokens.now) }
@@ -119,20 +119,20 @@ fn named<'a>(
 {
     let rest = without_qualifiers(tokens);
     if is_word(&spot.word, "ENUM_BITFIELD") {
-        return behind_bitfield(alloc, place, spot, rest);
+        return after_bitfield(alloc, place, spot, rest);
     }
     Ok((RawType::Named(spot.name(alloc)?), rest))
 }
 
-// What stands behind the word `ENUM_BITFIELD`: an enum in brackets, but for `(*` in a field, which declares a pointer to a
+// What stands after the word `ENUM_BITFIELD`: an enum in brackets, but for `(*` in a field, which declares a pointer to a
 // function.
-fn behind_bitfield<'a>(
+fn after_bitfield<'a>(
     alloc: Global,
     place: Place,
     spot: &Spot,
     tokens: &'a [Lexeme],
 ) -> Result<(RawType, &'a [Lexeme]), Unread>
-    ensures { Gives (λ x. (x.0, x.1.now)) result (behind_bitfield place spot.now tokens.now) }
+    ensures { Gives (λ x. (x.0, x.1.now)) result (after_bitfield place spot.now tokens.now) }
 {
     match (place, tokens) {
         (Place::InField, [Lexeme::Open(Bracket::Round, _), Lexeme::Star(_), ..]) => {
@@ -165,7 +165,7 @@ pub fn name(alloc: Global, tokens: &[Lexeme]) -> Result<(Name, &[Lexeme]), Unrea
     }
 }
 
-/// How many stars stand at the front, with `const` and `volatile` behind each, and the tokens behind them.
+/// How many stars stand at the front, with `const` and `volatile` after each, and the tokens after them.
 #[tactic(auto, unfolding(crate::specs::Types::stars_at))]
 pub fn stars(tokens: &[Lexeme]) -> (Stars, &[Lexeme])
     ensures stars { result.0 ≡ (stars_at tokens.now).0 }
@@ -206,7 +206,7 @@ fn one_more(stars: Stars) -> Stars
     }
 }
 
-/// The tokens behind `const` and `volatile` at the front, which mean nothing.
+/// The tokens after `const` and `volatile` at the front, which mean nothing.
 #[tactic(auto, unfolding(crate::specs::Types::without_qualifiers))]
 pub fn without_qualifiers(tokens: &[Lexeme]) -> &[Lexeme]
     ensures { result.now ≡ without_qualifiers tokens.now }

@@ -5,7 +5,7 @@ use crate::faults::UNEXPECTED;
 use crate::lexeme::Lexeme;
 use std::alloc::{AllocError, AllocFailed};
 
-/// Why nothing was read: want of memory; the tokens of the item end too early; or a fault, with the offset of the token at
+/// Why nothing was read: out of memory; the tokens of the item end too early; or a fault, with the offset of the token at
 /// which it stands.
 #[derive(Clone, Copy, Debug, PartialEq, Eq)]
 pub enum Unread {

@@ -73,7 +73,7 @@ rest_of-cons x xs =
 abbrev pub IsLeft : {X : Type 0} → (X → X → Type 0) → List X → List X → Type 0
 IsLeft R xs rest = (AllPairs R rest → AllPairs R xs) × (AllPairs R xs → AllPairs R rest)
 
--- the first is as it should be with each behind it: the pairs behind it are left
+-- the first is as it should be with each after it: the pairs after it are left
 pub goes_on :
     {X : Type 0} (R : X → X → Type 0) (xs rest : List X) (x : X) (b : Bool) → 1 ≤ length rest → x ≡ get_or rest 0 x
     → Decides b (All (R x) (rest_of rest)) → b ≡ true → IsLeft R xs rest → IsLeft R xs (rest_of rest)

@@ -1,4 +1,4 @@
--- What is said of the list that the parts of an expression add to, one behind the other.
+-- What is said of the list that the parts of an expression add to, one after the other.
 use Rattle.std.proofs.Common.{◌≡◌, ◌⊎◌, inl, inr, ℕ, ◌<◌, Bool, true, false, List, [], ◌∷◌, ◌++◌, length, get_or, sym, subst, refl, arith}
 use Rattle.std.specs.Prelude.{All, Any, Option, Some, None, filter_map}
 use Rattle.std.specs.List.{cons_option}
@@ -103,11 +103,11 @@ some_of_one P x b decides =
 here : {X : Type 0} (P : X → Type 0) (x : X) (xs : List X) → P x → Any P (x ∷ xs)
 here P x xs holds = (0, x, omega arith, refl, holds)
 
-behind : {X : Type 0} (P : X → Type 0) (x : X) (xs : List X) → Any P xs → Any P (x ∷ xs)
-behind P x xs any = any_of_second P (x ∷ []) xs any
+following : {X : Type 0} (P : X → Type 0) (x : X) (xs : List X) → Any P xs → Any P (x ∷ xs)
+following P x xs any = any_of_second P (x ∷ []) xs any
 
-here_or_behind : {X : Type 0} (P : X → Type 0) (x : X) (xs : List X) → Any P (x ∷ xs) → P x ⊎ Any P xs
-here_or_behind P x xs any =
+here_or_after : {X : Type 0} (P : X → Type 0) (x : X) (xs : List X) → Any P (x ∷ xs) → P x ⊎ Any P xs
+here_or_after P x xs any =
     elim (any_cases P (x ∷ []) xs any) [
       | inl first ↦ inl (of_one P x first.1 first.0 first.2 first.3 first.4)
       | inr rest ↦ inr rest
@@ -116,11 +116,11 @@ here_or_behind P x xs any =
 result_at :
     {X Y : Type 0} (h : X → Option Y) (P : Y → Type 0) (x : X) (xs : List X) (o : Option Y) → h x ≡ o
     → (Any P (filter_map h xs) → Any (HasResult h P) xs) → Any P (cons_option o (filter_map h xs)) → Any (HasResult h P) (x ∷ xs)
-result_at h P x xs None is rest any = behind (HasResult h P) x xs (rest any)
+result_at h P x xs None is rest any = following (HasResult h P) x xs (rest any)
 result_at h P x xs (Some y) is rest any =
-    elim (here_or_behind P y (filter_map h xs) any) [
+    elim (here_or_after P y (filter_map h xs) any) [
       | inl first ↦ here (HasResult h P) x xs (y, is, first)
-      | inr later ↦ behind (HasResult h P) x xs (rest later)
+      | inr later ↦ following (HasResult h P) x xs (rest later)
     ]
 
 pub result_of : {X Y : Type 0} (h : X → Option Y) (P : Y → Type 0) (xs : List X) → Any P (filter_map h xs) → Any (HasResult h P) xs
@@ -129,12 +129,12 @@ result_of h P (x ∷ xs) any = result_at h P x xs (h x) refl (result_of h P xs) 
 
 more : {Y : Type 0} (P : Y → Type 0) (o : Option Y) (ys : List Y) → Any P ys → Any P (cons_option o ys)
 more P None ys any = any
-more P (Some y) ys any = behind P y ys any
+more P (Some y) ys any = following P y ys any
 
 pub result_in : {X Y : Type 0} (h : X → Option Y) (P : Y → Type 0) (xs : List X) → Any (HasResult h P) xs → Any P (filter_map h xs)
 result_in h P [] any = absurd (omega (arith, any.2))
 result_in h P (x ∷ xs) any =
-    elim (here_or_behind (HasResult h P) x xs any) [
+    elim (here_or_after (HasResult h P) x xs any) [
       | inl first ↦ subst (λ o. Any P (cons_option o (filter_map h xs))) (sym first.1) (here P first.0 (filter_map h xs) first.2)
       | inr rest ↦ more P (h x) (filter_map h xs) (result_in h P xs rest)
     ]

@@ -162,7 +162,7 @@ fn row_of(
     }
 }
 
-/// For each structure, whether a path may go to each of its fields. It answers want of memory alone.
+/// For each structure, whether a path may go to each of its fields. Its only error is out of memory.
 pub fn step_rows(
     alloc: Global,
     program: &Program,

@@ -37,7 +37,7 @@ fn with_number(ids: List<u32>, id: u32) -> Result<List<u32>, AllocError>
 }
 
 impl Containers {
-    /// The containers of each structure of a program. It answers want of memory alone.
+    /// The containers of each structure of a program. Its only error is out of memory.
     pub fn of_program(alloc: Global, program: &Program) -> Result<Containers, AllocError>
         requires few { length program.now.structures ≤ MAX_STRUCTURES }
         ensures containers { IfOk result (AreContainersOf program.now) }

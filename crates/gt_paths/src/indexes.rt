@@ -31,7 +31,7 @@ pub struct PathIndex {
 }
 
 impl PathIndex {
-    /// The index of a program. It answers want of memory alone.
+    /// The index of a program. Its only error is out of memory.
     pub fn new(alloc: Global, program: &Program) -> Result<PathIndex, AllocError>
         requires few { length program.now.structures ≤ MAX_STRUCTURES }
         requires fields { All (λ s. length s.fields ≤ MAX_FIELDS) program.now.structures }

@@ -52,7 +52,7 @@ fn names_container(s: &Structure) -> bool
     has_outer_desc(&s.desc)
 }
 
-/// For each structure, whether it is inner. It answers want of memory alone.
+/// For each structure, whether it is inner. Its only error is out of memory.
 pub fn inner_marks(alloc: Global, program: &Program) -> Result<List<bool>, AllocError>
     ensures inner { IfOk result (AreInner program.now) }
 {

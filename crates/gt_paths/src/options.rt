@@ -217,8 +217,8 @@ fn all_paths_fit(
 
 // ---- the expressions of options
 
-/// Whether an expression is good as the length of a field of a structure, or as the `desc` of a union itself. It answers
-/// want of memory alone.
+/// Whether an expression is good as the length of a field of a structure, or as the `desc` of a union itself. Its only
+/// error is out of memory.
 pub fn is_option(
     alloc: Global,
     program: &Program,
@@ -239,8 +239,8 @@ pub fn is_option(
     Ok(all_paths_fit(program, index, Place::Own(node), &outermost, e))
 }
 
-/// Whether an expression is good as the `desc` of a field of a structure that holds a union. It answers want of memory
-/// alone.
+/// Whether an expression is good as the `desc` of a field of a structure that holds a union. Its only error is out
+/// of memory.
 pub fn is_field_desc(
     alloc: Global,
     program: &Program,

@@ -20,7 +20,7 @@ use Rattle.gt_resolve.specs.declared.declaration.Declaration.{Declaration}
 use Rattle.gt_resolve.specs.declared.declaration.What.{What}
 use Rattle.gt_resolve.specs.declared.declaration.What.TheVariants as what
 use Rattle.gt_resolve.specs.declared.meaning.TypeName.{TypeName}
-use Rattle.gt_resolve.specs.Meanings.{means_behind, resolved_type}
+use Rattle.gt_resolve.specs.Meanings.{means_after, resolved_type}
 use Rattle.gt_resolve.specs.Faults.{agree, same_base, same_bool, same_keyword, same_scalar, same_stars, same_type, same_width}
 
 never : {A : Type 0} → false ≡ true → A
@@ -104,8 +104,8 @@ module _ (ds : List Declaration) (types : List TypeName) where
   agree_two (what.Constant a) (what.Constant b) (what.Constant c) h k = two int_eq int_is a b c h k
   agree_two (what.Constant a) (what.Constant b) c h k = never k
   agree_two (what.Typedef t s) (what.Typedef u r) (what.Typedef v q) h k =
-      two same_type same_type_is (means_behind s (resolved_type ds types t Zero)) (means_behind r (resolved_type ds types u Zero))
-      (means_behind q (resolved_type ds types v Zero)) h k
+      two same_type same_type_is (means_after s (resolved_type ds types t Zero)) (means_after r (resolved_type ds types u Zero))
+      (means_after q (resolved_type ds types v Zero)) h k
   agree_two (what.Typedef t s) (what.Typedef u r) c h k = never k
   agree_two a b c h k = never h
 
@@ -115,8 +115,8 @@ module _ (ds : List Declaration) (types : List TypeName) where
   agree_through (what.Enum a) (what.Enum b) (what.Enum c) h k = through_one same_bool same_bool_is a b c h k
   agree_through (what.Constant a) (what.Constant b) (what.Constant c) h k = through_one int_eq int_is a b c h k
   agree_through (what.Typedef t s) (what.Typedef u r) (what.Typedef v q) h k =
-      through_one same_type same_type_is (means_behind s (resolved_type ds types t Zero)) (means_behind r (resolved_type ds types u Zero))
-      (means_behind q (resolved_type ds types v Zero)) h k
+      through_one same_type same_type_is (means_after s (resolved_type ds types t Zero)) (means_after r (resolved_type ds types u Zero))
+      (means_after q (resolved_type ds types v Zero)) h k
   agree_through (what.Enum a) (what.Enum b) c h k = never h
   agree_through (what.Constant a) (what.Constant b) c h k = never h
   agree_through (what.Typedef t s) (what.Typedef u r) c h k = never h

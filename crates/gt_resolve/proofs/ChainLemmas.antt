@@ -13,18 +13,18 @@ use Rattle.gt_resolve.specs.declared.types.Resolved.{Resolved}
 use Rattle.gt_resolve.specs.declared.link.Link.{Link}
 use Rattle.gt_resolve.specs.declared.link.Target.{Target}
 use Rattle.gt_resolve.specs.declared.link.Target.TheVariants.{End, Next}
-use Rattle.gt_resolve.specs.Meanings.{means_behind, behind, opaque}
+use Rattle.gt_resolve.specs.Meanings.{means_after, following, opaque}
 use Rattle.gt_resolve.specs.declared.meaning.TypeName.{TypeName}
 use Rattle.gt_resolve.specs.declared.table.Entry.{Entry}
 use Rattle.gt_resolve.specs.Chains.{AreMeanings, follow_links, follow_link, follow_target, IsTargetMeaning, IsOneOf, LeadsTo, IsWay, IsMemo, IsWalk, IsWalked}
 
--- what is behind stars of an opaque name is opaque
-pub opaque_behind : (s : Stars) → means_behind s opaque ≡ opaque
-unfolding behind
-opaque_behind stars.Zero = refl
-opaque_behind stars.One = refl
-opaque_behind stars.Two = refl
-opaque_behind stars.More = refl
+-- what is after stars of an opaque name is opaque
+pub opaque_after : (s : Stars) → means_after s opaque ≡ opaque
+unfolding following
+opaque_after stars.Zero = refl
+opaque_after stars.One = refl
+opaque_after stars.Two = refl
+opaque_after stars.More = refl
 
 -- an end is its own meaning
 pub end_means : (links : List Link) (base : BaseType) → IsTargetMeaning links (End base) (record { base = base; stars = stars.Zero })
@@ -43,16 +43,16 @@ no_step : (links : List Link) (p : ℕ) (to : Target) → LeadsTo links p to →
 unfolding follow_links
 no_step links p to l never zero = refl
 no_step links p to l never (suc steps) =
-    ap (follow_link (follow_links links steps)) l.found ∙ ap (option_map (means_behind l.link.stars)) (ap (follow_target (follow_links links steps)) l.leads ∙ never steps)
+    ap (follow_link (follow_links links steps)) l.found ∙ ap (option_map (means_after l.link.stars)) (ap (follow_target (follow_links links steps)) l.leads ∙ never steps)
 
--- a typedef means what it leads to, behind its stars
+-- a typedef means what it leads to, after its stars
 pub one_means : (links : List Link) (p : ℕ) (to : Target) (l : LeadsTo links p to) (m : Resolved) → IsTargetMeaning links to m
-    → IsTargetMeaning links (Next p) (means_behind l.link.stars m)
+    → IsTargetMeaning links (Next p) (means_after l.link.stars m)
 unfolding follow_links
 one_means links p to l m (inl found) =
-    inl (suc found.0, ap (follow_link (follow_links links found.0)) l.found ∙ ap (option_map (means_behind l.link.stars)) (ap (follow_target (follow_links links found.0)) l.leads ∙ found.1))
+    inl (suc found.0, ap (follow_link (follow_links links found.0)) l.found ∙ ap (option_map (means_after l.link.stars)) (ap (follow_target (follow_links links found.0)) l.leads ∙ found.1))
 one_means links p to l m (inr never) =
-    inr (no_step links p to l never.0, ap (means_behind l.link.stars) never.1 ∙ opaque_behind l.link.stars)
+    inr (no_step links p to l never.0, ap (means_after l.link.stars) never.1 ∙ opaque_after l.link.stars)
 
 -- ---- a way back to itself
 
@@ -81,7 +81,7 @@ never_ends links whole closed zero p one = refl
 never_ends links whole closed (suc steps) p one =
     let g = closed p one in
     ap (follow_link (follow_links links steps)) g.leads.found
-    ∙ ap (option_map (means_behind g.leads.link.stars)) (ap (follow_target (follow_links links steps)) g.leads.leads ∙ never_ends links whole closed steps g.next g.stays)
+    ∙ ap (option_map (means_after g.leads.link.stars)) (ap (follow_target (follow_links links steps)) g.leads.leads ∙ never_ends links whole closed steps g.next g.stays)
 
 -- ---- walking
 
@@ -159,17 +159,17 @@ walk_back_case links start p way memo to m means w h i n e (inr apart) =
 -- the last on the way has its meaning
 pub walk_back : (links : List Link) (start p : ℕ) (way : List ℕ) (memo : List (Option Resolved)) (link : Link) (m : Resolved)
     → IsWalked links start (p ∷ way) memo m → p < length memo → slice_get links p ≡ Some link
-    → IsWalked links start way (set memo p (Some (means_behind link.stars m))) (means_behind link.stars m)
+    → IsWalked links start way (set memo p (Some (means_after link.stars m))) (means_after link.stars m)
 walk_back links start p way memo link m w h found =
     let l : LeadsTo links p w.to = record { link = link; found = found; leads = ap (λ l. l.to) (some_inj link w.walk.is_way.0.link (sym found ∙ w.walk.is_way.0.found)) ∙ w.walk.is_way.0.leads } in
-    let means : IsTargetMeaning links (Next p) (means_behind link.stars m) = one_means links p w.to l m w.means in
+    let means : IsTargetMeaning links (Next p) (means_after link.stars m) = one_means links p w.to l m w.means in
     record {
       to = Next p;
       means = means;
       walk = record {
-        counted = length-set memo p (Some (means_behind link.stars m)) ∙ w.walk.counted;
+        counted = length-set memo p (Some (means_after link.stars m)) ∙ w.walk.counted;
         is_way = w.walk.is_way.1;
-        known = λ i n e. walk_back_case links start p way memo w.to (means_behind link.stars m) means w.walk h i n e (cases_eq i p);
+        known = λ i n e. walk_back_case links start p way memo w.to (means_after link.stars m) means w.walk h i n e (cases_eq i p);
       };
     }
 
@@ -292,7 +292,7 @@ no_back links start way rest memo p m w e h =
 
 -- going back by one
 pub one_back : (links : List Link) (start : ℕ) (way rest : List ℕ) (memo noted : List (Option Resolved)) (p : ℕ) (link : Link) (m n copy : Resolved)
-    → IsWalked links start (reverse way) memo m → way ≡ rest ++ p ∷ [] → Some link ≡ slice_get links p → n ≡ means_behind link.stars m
+    → IsWalked links start (reverse way) memo m → way ≡ rest ++ p ∷ [] → Some link ≡ slice_get links p → n ≡ means_after link.stars m
     → noted ≡ set memo p (Some copy) → copy ≡ n → IsWalked links start (reverse rest) noted n
 one_back links start way rest memo noted p link m n copy w e h b k same =
     let v : IsWalked links start (p ∷ reverse rest) memo m = subst (λ ps. IsWalked links start ps memo m) (ap reverse e ∙ reverse_push rest p) w in
@@ -333,7 +333,7 @@ meanings_push links names more types t place a m e one =
       meant = λ i u h. meant_case links types t i u a.meant (subst (λ n. IsTargetMeaning links (Next n) t.means) e one) (get_pushed types t i u h);
     }
 
--- less is unknown behind each step
+-- less is unknown after each step
 pub walk_smaller : (memo noted : List (Option Resolved)) (at : ℕ) (m : Resolved) → slice_get memo at ≡ Some None → noted ≡ set memo at (Some m)
     → unknown_count noted < unknown_count memo
 walk_smaller memo noted at m h e =

@@ -62,10 +62,10 @@ by-first {X} q x xs false e more =
     let c : take_while q (x ∷ xs) ≡ [] = take_while-cons q x xs ∙ ap (λ b. if b then x ∷ take_while q xs else []) e in
     ap (λ (ys : List X). take_while q (drop (length ys) (x ∷ xs))) c ∙ c
 
--- behind what passes from the front on, nothing passes at the front
-none-behind : {X : Type 0} (q : X → Bool) (xs : List X) → take_while q (drop (length (take_while q xs)) xs) ≡ []
-none-behind q [] = refl
-none-behind q (x ∷ xs) = by-first q x xs (q x) refl (none-behind q xs)
+-- after what passes from the front on, nothing passes at the front
+none-after : {X : Type 0} (q : X → Bool) (xs : List X) → take_while q (drop (length (take_while q xs)) xs) ≡ []
+none-after q [] = refl
+none-after q (x ∷ xs) = by-first q x xs (q x) refl (none-after q xs)
 
 nothing-more : (file : ℕ) (p : Progress) (before rest : List RawConstant) → before ≡ []
     → record p { done = p.done ++ map (define_of file) before; defines = drop (length before) rest } ≡ record p { defines = rest }
@@ -76,7 +76,7 @@ nothing-more file p before rest e =
 up_to-twice : (file at : ℕ) (p : Progress) → up_to file at (up_to file at p) ≡ up_to file at p
 unfolding up_to
 up_to-twice file at p =
-    nothing-more file (up_to file at p) (defines_before at (up_to file at p).defines) (up_to file at p).defines (none-behind _ p.defines)
+    nothing-more file (up_to file at p) (defines_before at (up_to file at p).defines) (up_to file at p).defines (none-after _ p.defines)
 
 in-range : (b : Bool) (x y z w : Progress) → x ≡ y → z ≡ w → (if b then x else z) ≡ (if b then y else w)
 in-range true x y z w e f = e

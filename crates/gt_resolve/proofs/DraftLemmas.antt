@@ -68,7 +68,7 @@ filter_map_more h xs k x l at =
     ap (filter_map h) (take_more xs k x l ∙ ap (λ y. take k xs ++ y ∷ []) (sym at)) ∙ filter_map-append h (take k xs) (x ∷ [])
     ∙ ap (λ ys. filter_map h (take k xs) ++ ys) (cons_one (h x))
 
--- one more item, behind what was there
+-- one more item, after what was there
 pub item_more : {A B : Type 0} (h : A → Option B) (xs : List A) (before made more : List B) (one : Option B) (k : ℕ) (x : A) → k < length xs → x ≡ get_or xs k x
     → made ≡ before ++ filter_map h (take k xs) → one ≡ h x → more ≡ made ++ option_to_list one → more ≡ before ++ filter_map h (take (k + 1) xs)
 item_more h xs before made more one k x l at m o e =

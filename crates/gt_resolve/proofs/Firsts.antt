@@ -78,7 +78,7 @@ trans_no_later a b c h k =
 first_alone : (f : Fault) → IsFirst (f ∷ []) f
 first_alone f = record { there = Contains-push [] f; first = All-push (λ other. IsTrue (is_no_later f other)) [] f (All-nil (λ other. IsTrue (is_no_later f other))) (refl_no_later f) }
 
--- one more fault behind those that have a first
+-- one more fault after those that have a first
 first_pushed : (faults : List Fault) (f g : Fault) (b : Bool) → is_no_later f g ≡ b → IsFirst faults f → IsFirstOf (faults ++ g ∷ []) (if b then Some f else Some g)
 first_pushed faults f g true e h =
     record { there = Contains-append_left faults (g ∷ []) f h.there; first = All-push (λ other. IsTrue (is_no_later f other)) faults g h.first e }
@@ -117,7 +117,7 @@ if_ok (Err e) P Q f h = h
 pub first_from_if : (e e1 : Option Fault) (b there : Bool) (number file at : ℕ) → e1 ≡ first_from e (fault_if b number file at) → b ≡ there → e1 ≡ first_from e (fault_if there number file at)
 first_from_if e e1 b there number file at h same = h ∙ ap (λ (x : Bool). first_from e (fault_if x number file at)) same
 
--- behind the last item
+-- after the last item
 pub first_from_end : {X : Type 0} (F : ℕ → List X → List Fault) → ((i : ℕ) → F i [] ≡ []) → (e : Option Fault) (i : ℕ) (xs : List X) → length xs ≤ i → e ≡ first_from e (F i (drop i xs))
 first_from_end {X} F none e i xs l =
     sym (first_from_nil e) ∙ ap (first_from e) (sym (none i)) ∙ ap (λ (ys : List X). first_from e (F i ys)) (sym (drop_all i xs l))
@@ -137,14 +137,14 @@ pub length_names : (i : ℕ) (fields : List DraftField) → i ≤ length fields 
 length_names i fields l = length-map (take i fields) (λ g. g.name.word) ∙ length-take-le i fields l
 
 module _ (tails : List Bool) (file : ℕ) (in_union : Bool) where
-  abbrev pub fields_behind : ℕ → List DraftField → List Fault
-  fields_behind i fields = fields_faults tails file in_union (names_of (take i fields)) (drop i fields)
+  abbrev pub fields_after : ℕ → List DraftField → List Fault
+  fields_after i fields = fields_faults tails file in_union (names_of (take i fields)) (drop i fields)
 
   -- one more field
   pub first_from_field :
       (e e1 : Option Fault) (i : ℕ) (fields : List DraftField) (f : DraftField) → i < length fields → f ≡ get_or fields i f
       → e1 ≡ first_from e (field_faults tails file in_union (names_of (take i fields)) f)
-      → first_from e1 (fields_behind (i + 1) fields) ≡ first_from e (fields_behind i fields)
+      → first_from e1 (fields_after (i + 1) fields) ≡ first_from e (fields_after i fields)
   unfolding fields_faults
   first_from_field e e1 i fields f l is h =
       let before = names_of (take i fields) in
@@ -156,8 +156,8 @@ module _ (tails : List Bool) (file : ℕ) (in_union : Bool) where
       (fields_faults tails file in_union (before ++ f.name.word ∷ []) rest) h refl
       ∙ ap (λ (fs : List DraftField). first_from e (fields_faults tails file in_union before fs)) (sym item)
 
-  -- behind the last field
-  pub first_from_fields : (e : Option Fault) (i : ℕ) (fields : List DraftField) → length fields ≤ i → e ≡ first_from e (fields_behind i fields)
+  -- after the last field
+  pub first_from_fields : (e : Option Fault) (i : ℕ) (fields : List DraftField) → length fields ≤ i → e ≡ first_from e (fields_after i fields)
   unfolding fields_faults
   first_from_fields e i fields l =
       sym (first_from_nil e) ∙ ap (λ (fs : List DraftField). first_from e (fields_faults tails file in_union (names_of (take i fields)) fs)) (sym (drop_all i fields l))

@@ -64,15 +64,15 @@ first_value-more name value word (n ∷ ns) (v ∷ vs) h =
     ∙ first_some-assoc (value_named n v word) (first_value ns vs word) (value_named name value word)
 
 -- a value of a name that is there already changes nothing
-behind-other : (name n word : List ℕ) (value : ℤ) (rest : Option ℤ) → bytes_eq n name ≡ true → bytes_eq n word ≡ false → rest ≡ first_some rest (value_named name value word)
-behind-other name n word value rest same other =
+after-other : (name n word : List ℕ) (value : ℤ) (rest : Option ℤ) → bytes_eq n name ≡ true → bytes_eq n word ≡ false → rest ≡ first_some rest (value_named name value word)
+after-other name n word value rest same other =
     sym (ap (λ b. first_some rest (if b then Some value else None)) (ap (λ (x : List ℕ). bytes_eq x word) (sym ((bytes_eq-Decides n name).0 same)) ∙ other) ∙ some-or-none rest)
 
 module _ (name word : List ℕ) (value : ℤ) where
   known-step : (n : List ℕ) (v : ℤ) (rest : Option ℤ) (b c : Bool) → bytes_eq n word ≡ b → bytes_eq n name ≡ c → (c ≡ false → rest ≡ first_some rest (value_named name value word))
       → first_some (if b then Some v else None) rest ≡ first_some (first_some (if b then Some v else None) rest) (value_named name value word)
   known-step n v rest true c e f more = refl
-  known-step n v rest false true e f more = behind-other name n word value rest f e
+  known-step n v rest false true e f more = after-other name n word value rest f e
   known-step n v rest false false e f more = more refl
 
   rest-any : (c b : Bool) → (c || b) ≡ true → c ≡ false → b ≡ true

@@ -17,7 +17,7 @@ use Rattle.gt_resolve.specs.declared.types.Spelled.TheVariants as spelled
 use Rattle.gt_resolve.specs.Declarations.{declarations}
 use Rattle.gt_resolve.specs.Drafts.{draft_of}
 use Rattle.gt_resolve.specs.Faults.{IsFirst, faults_of, is_no_later}
-use Rattle.gt_resolve.specs.Meanings.{IsMeaning, follow, follow_type, follow_typedef, means_behind, plain_type, typedef_in}
+use Rattle.gt_resolve.specs.Meanings.{IsMeaning, follow, follow_type, follow_typedef, means_after, plain_type, typedef_in}
 use Rattle.gt_resolve.specs.Resolution.{IsRead, Resolves, HasFirstFault}
 use Rattle.gt_resolve.specs.Shapes.{AreShapes}
 use Rattle.gt_resolve.proofs.FewLemmas.{not_nil}
@@ -57,7 +57,7 @@ module _ (ds : List Declaration) where
 
   typedef_extends : (f g : List ℕ → Option Resolved) → Extends f g → (t : Option (Spelled × Stars)) (m : Resolved) → follow_typedef ds f t ≡ Some m → follow_typedef ds g t ≡ Some m
   typedef_extends f g x None m e = e
-  typedef_extends f g x (Some t) m e = mapped (means_behind t.1) (follow_type ds f t.0) (follow_type ds g t.0) m (type_extends f g x t.0) e
+  typedef_extends f g x (Some t) m e = mapped (means_after t.1) (follow_type ds f t.0) (follow_type ds g t.0) m (type_extends f g x t.0) e
 
   follow_next : (steps : ℕ) → Extends (follow ds steps) (follow ds (suc steps))
   unfolding follow

@@ -25,18 +25,18 @@ same_ok a b e = ap (λ (r : Result Fault ℕ). ok_or a r) e
     ok_or other (Ok fault) = fault
     ok_or other (Err place) = other
 
--- what is found in a list, and behind it in another
-abbrev pub or_behind : Result Fault ℕ → List Fault → Result Fault ℕ
-or_behind (Ok fault) faults = Ok fault
-or_behind (Err place) faults = item_or_rest faults place
+-- what is found in a list, and after it in another
+abbrev pub or_after : Result Fault ℕ → List Fault → Result Fault ℕ
+or_after (Ok fault) faults = Ok fault
+or_after (Err place) faults = item_or_rest faults place
 
-found_append : (xs ys : List Fault) (place : ℕ) → item_or_rest (xs ++ ys) place ≡ or_behind (item_or_rest xs place) ys
+found_append : (xs ys : List Fault) (place : ℕ) → item_or_rest (xs ++ ys) place ≡ or_after (item_or_rest xs place) ys
 found_append [] ys place = refl
 found_append (x ∷ xs) ys zero = refl
 found_append (x ∷ xs) ys (suc place) = found_append xs ys place
 
 one_more_item : (h : Item → Option Fault) (x : Item) (xs : List Item) (o : Option Fault) (place : ℕ) → h x ≡ o
-    → item_or_rest (filter_map h (x ∷ xs)) place ≡ or_behind (one_item o place) (filter_map h xs)
+    → item_or_rest (filter_map h (x ∷ xs)) place ≡ or_after (one_item o place) (filter_map h xs)
 one_more_item h x xs None place e = ap (λ (o : Option Fault). item_or_rest (cons_option o (filter_map h xs)) place) e
 one_more_item h x xs (Some fault) zero e = ap (λ (o : Option Fault). item_or_rest (cons_option o (filter_map h xs)) zero) e
 one_more_item h x xs (Some fault) (suc place) e = ap (λ (o : Option Fault). item_or_rest (cons_option o (filter_map h xs)) (suc place)) e
@@ -44,7 +44,7 @@ one_more_item h x xs (Some fault) (suc place) e = ap (λ (o : Option Fault). ite
 -- ---- items of a file
 
 pub next_item : (h : Item → Option Fault) (items : List Item) (i : ℕ) (x : Item) (fault : Option Fault) (place : ℕ) → i < length items → x ≡ get_or items i x → fault ≡ h x
-    → item_or_rest (filter_map h (drop i items)) place ≡ or_behind (one_item fault place) (filter_map h (drop (i + 1) items))
+    → item_or_rest (filter_map h (drop i items)) place ≡ or_after (one_item fault place) (filter_map h (drop (i + 1) items))
 next_item h items i x fault place l is e =
     ap (λ (xs : List Item). item_or_rest (filter_map h xs) place) (drop_more items i x l ∙ ap (λ (y : Item). y ∷ drop (i + 1) items) (sym is))
     ∙ one_more_item h x (drop (i + 1) items) fault place (sym e)
@@ -57,7 +57,7 @@ no_item h items i place l = ap (λ (xs : List Item). item_or_rest (filter_map h 
 pub next_file : (tags : Bool) (files : List Items) (i : ℕ) (x : Items) (items : List Item) (file place : ℕ) → i < length files → x ≡ get_or files i x → items ≡ x.items
     → file ≡ i + 1
     → item_or_rest (faults_from tags (i + 1) (drop i files)) place
-    ≡ or_behind (item_or_rest (filter_map (fault_item tags file) items) place) (faults_from tags (i + 1 + 1) (drop (i + 1) files))
+    ≡ or_after (item_or_rest (filter_map (fault_item tags file) items) place) (faults_from tags (i + 1 + 1) (drop (i + 1) files))
 unfolding items_from
 next_file tags files i x items file place l is same at =
     let item : drop i files ≡ x ∷ drop (i + 1) files = drop_more files i x l ∙ ap (λ (y : Items). y ∷ drop (i + 1) files) (sym is) in
@@ -66,20 +66,20 @@ next_file tags files i x items file place l is same at =
     ap₂ (λ (n : ℕ) (xs : List Item). filter_map (fault_item tags n) xs) (sym at) (sym same) in
     ap (λ (xs : List Items). item_or_rest (faults_from tags (i + 1) xs) place) item
     ∙ found_append (filter_map (fault_item tags (i + 1)) x.items) (faults_from tags (suc (i + 1)) (drop (i + 1) files)) place
-    ∙ ap₂ (λ (fs : List Fault) (n : ℕ). or_behind (item_or_rest fs place) (faults_from tags n (drop (i + 1) files))) here next
+    ∙ ap₂ (λ (fs : List Fault) (n : ℕ). or_after (item_or_rest fs place) (faults_from tags n (drop (i + 1) files))) here next
 
 pub no_file : (tags : Bool) (files : List Items) (i file place : ℕ) → length files ≤ i → Err place ≡ item_or_rest (faults_from tags file (drop i files)) place
 unfolding items_from
 no_file tags files i file place l = ap (λ (xs : List Items). item_or_rest (faults_from tags file xs) place) (sym (drop_all i files l))
 
 -- what is found here
-pub found_here : (r s : Result Fault ℕ) (whole : Result Fault ℕ) (faults : List Fault) (fault : Fault) → whole ≡ or_behind r faults → s ≡ r → s ≡ Ok fault → Ok fault ≡ whole
-found_here r s whole faults fault h e k = sym (h ∙ ap (λ (x : Result Fault ℕ). or_behind x faults) (sym e ∙ k))
+pub found_here : (r s : Result Fault ℕ) (whole : Result Fault ℕ) (faults : List Fault) (fault : Fault) → whole ≡ or_after r faults → s ≡ r → s ≡ Ok fault → Ok fault ≡ whole
+found_here r s whole faults fault h e k = sym (h ∙ ap (λ (x : Result Fault ℕ). or_after x faults) (sym e ∙ k))
 
--- and behind
-pub found_behind : (r s : Result Fault ℕ) (whole : Result Fault ℕ) (faults : List Fault) (place : ℕ) → whole ≡ or_behind r faults → s ≡ r → s ≡ Err place
+-- and after
+pub found_after : (r s : Result Fault ℕ) (whole : Result Fault ℕ) (faults : List Fault) (place : ℕ) → whole ≡ or_after r faults → s ≡ r → s ≡ Err place
     → item_or_rest faults place ≡ whole
-found_behind r s whole faults place h e k = sym (h ∙ ap (λ (x : Result Fault ℕ). or_behind x faults) (sym e ∙ k))
+found_after r s whole faults place h e k = sym (h ∙ ap (λ (x : Result Fault ℕ). or_after x faults) (sym e ∙ k))
 
 -- ---- the place
 

@@ -8,7 +8,7 @@ use Rattle.gt_resolve.specs.FirstValues.{value_named}
 use Rattle.gt_resolve.proofs.NamedValues.{some-or-none, first_some-assoc}
 use Rattle.gt_resolve.proofs.NameLists.{length-added}
 
--- the first of a name, with one more declaration behind the others
+-- the first of a name, with one more declaration after the others
 first_named-added : {A : Type 0} (kind : What → Option A) (word : List ℕ) (ds : List Declaration) (d : Declaration)
     → first_named kind word (ds ++ d ∷ []) ≡ first_some (first_named kind word ds) (if bytes_eq d.name.word word then kind d.what else None)
 first_named-added kind word [] d = some-or-none _

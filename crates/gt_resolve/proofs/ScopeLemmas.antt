@@ -16,9 +16,9 @@ use Rattle.gt_resolve.specs.declared.meaning.TypeName.{TypeName}
 use Rattle.gt_resolve.specs.declared.link.Link.{Link}
 use Rattle.gt_resolve.specs.declared.link.Target.TheVariants.{End, Next}
 use Rattle.gt_resolve.specs.declared.table.Entry.{Entry}
-use Rattle.gt_resolve.specs.Meanings.{as_tag, as_typedef, tagged_type, type_of_tag, plain_type, typedef_in, follow_type, follow_typedef, follow, means_behind, IsMeaning, AreTypeNames, typedef_names, with_stars, resolved_type}
+use Rattle.gt_resolve.specs.Meanings.{as_tag, as_typedef, tagged_type, type_of_tag, plain_type, typedef_in, follow_type, follow_typedef, follow, means_after, IsMeaning, AreTypeNames, typedef_names, with_stars, resolved_type}
 use Rattle.gt_resolve.specs.Tables.{values_from}
-use Rattle.gt_resolve.specs.Chains.{plain_by, plain_behind, target_by, link_by, links_by, follow_target, follow_link, follow_links, IsMeaningAt, AreMeanings}
+use Rattle.gt_resolve.specs.Chains.{plain_by, plain_after, target_by, link_by, links_by, follow_target, follow_link, follow_links, IsMeaningAt, AreMeanings}
 use Rattle.gt_resolve.proofs.NameTests.{is_some_position}
 use Rattle.gt_resolve.proofs.TableLemmas.{values_are_first, owned, found_at, none_found, no_value, any_found, equal_words, typedefs_named, position-map}
 
@@ -120,7 +120,7 @@ unfolding follow_links follow link_by
 follow_same ds zero i e h = refl
 follow_same ds (suc steps) i e h =
     ap (follow_link (follow_links (all_links ds) steps)) (link_at ds i e h)
-    ∙ ap (option_map (means_behind e.value.1))
+    ∙ ap (option_map (means_after e.value.1))
     (target_same ds (follow_links (all_links ds) steps) (follow ds steps) (λ j o found. follow_same ds steps j o found) e.value.0)
     ∙ ap (follow_typedef ds (follow ds steps)) (sym (sym (values_are_first as_typedef ds e.name) ∙ (owned as_typedef ds).owned i e h))
 
@@ -180,7 +180,7 @@ meaning_here ds typedefs types word i t d a h found s r e =
     (sym (ap (option_map (λ t. t.means)) (found_at (λ t. bytes_eq t.name word) types i (same_place ds typedefs types word d a ∙ sym h) ∙ sym found)))
 
 plain_named : (ds : List Declaration) (types : List TypeName) (word : List ℕ) (s : Stars) (r : Resolved) → find (λ t. bytes_eq t.name word) types ≡ None
-    → r ≡ plain_behind ds (spelled.Named word) s → r ≡ resolved_type ds types (spelled.Named word) s
+    → r ≡ plain_after ds (spelled.Named word) s → r ≡ resolved_type ds types (spelled.Named word) s
 unfolding resolved_type
 plain_named ds types word s r h e =
     e
@@ -190,13 +190,13 @@ plain_named ds types word s r h e =
 -- a name that is none of a typedef
 pub no_meaning : (ds : List Declaration) (typedefs : List (Entry (Spelled × Stars))) (types : List TypeName) (word : List ℕ)
     → typedefs ≡ values_from as_typedef [] ds → map (λ t. t.name) types ≡ typedef_names [] ds → None ≡ position (λ e. bytes_eq e.name word) typedefs
-    → (s : Stars) (r : Resolved) → r ≡ plain_behind ds (spelled.Named word) s → r ≡ resolved_type ds types (spelled.Named word) s
+    → (s : Stars) (r : Resolved) → r ≡ plain_after ds (spelled.Named word) s → r ≡ resolved_type ds types (spelled.Named word) s
 no_meaning ds typedefs types word d a h s r e =
     plain_named ds types word s r (none_found (λ t. bytes_eq t.name word) types (same_place ds typedefs types word d a ∙ sym h)) e
 
 pub no_meaning_there : (ds : List Declaration) (typedefs : List (Entry (Spelled × Stars))) (types : List TypeName) (word : List ℕ) (i : ℕ)
     → typedefs ≡ values_from as_typedef [] ds → map (λ t. t.name) types ≡ typedef_names [] ds → Some i ≡ position (λ e. bytes_eq e.name word) typedefs → None ≡ slice_get types i
-    → (s : Stars) (r : Resolved) → r ≡ plain_behind ds (spelled.Named word) s → r ≡ resolved_type ds types (spelled.Named word) s
+    → (s : Stars) (r : Resolved) → r ≡ plain_after ds (spelled.Named word) s → r ≡ resolved_type ds types (spelled.Named word) s
 no_meaning_there ds typedefs types word i d a h found s r e =
     plain_named ds types word s r
     (found_at (λ t. bytes_eq t.name word) types i (same_place ds typedefs types word d a ∙ sym h) ∙ sym found) e
@@ -205,7 +205,7 @@ no_meaning_there ds typedefs types word i d a h found s r e =
 
 -- a type is plain where its tags are those of the declarations
 pub plain_scope : (ds : List Declaration) (tags : List (Entry What)) (ty : Spelled) (base : BaseType) (s : Stars) → tags ≡ values_from as_tag [] ds
-    → base ≡ plain_by tags ty → ◌≡◌ {A = Resolved} (record { base = base; stars = s }) (plain_behind ds ty s)
+    → base ≡ plain_by tags ty → ◌≡◌ {A = Resolved} (record { base = base; stars = s }) (plain_after ds ty s)
 plain_scope ds tags ty base s t e =
     ap (λ base. record { base = base; stars = s }) (e ∙ ap (λ tags. plain_by tags ty) t ∙ plain_same ds ty)
 
@@ -216,19 +216,19 @@ ok_then (Err e) P Q f h = h
 -- the answers of the scope, by what is found of a name
 pub none_resolved : {E : Type 0} (result : Result Resolved E) (ds : List Declaration) (typedefs : List (Entry (Spelled × Stars))) (types : List TypeName) (ty : Spelled)
     (word : List ℕ) (s : Stars) → ty ≡ spelled.Named word → typedefs ≡ values_from as_typedef [] ds → map (λ t. t.name) types ≡ typedef_names [] ds
-    → None ≡ position (λ e. bytes_eq e.name word) typedefs → IfOk result (λ r. r ≡ plain_behind ds ty s) → IfOk result (λ r. r ≡ resolved_type ds types ty s)
+    → None ≡ position (λ e. bytes_eq e.name word) typedefs → IfOk result (λ r. r ≡ plain_after ds ty s) → IfOk result (λ r. r ≡ resolved_type ds types ty s)
 none_resolved result ds typedefs types ty word s t d a h ok =
-    ok_then result (λ r. r ≡ plain_behind ds ty s) (λ r. r ≡ resolved_type ds types ty s)
-    (λ r e. subst (λ ty. r ≡ resolved_type ds types ty s) (sym t) (no_meaning ds typedefs types word d a h s r (subst (λ ty. r ≡ plain_behind ds ty s) t e))) ok
+    ok_then result (λ r. r ≡ plain_after ds ty s) (λ r. r ≡ resolved_type ds types ty s)
+    (λ r e. subst (λ ty. r ≡ resolved_type ds types ty s) (sym t) (no_meaning ds typedefs types word d a h s r (subst (λ ty. r ≡ plain_after ds ty s) t e))) ok
 
 pub past_resolved : {E : Type 0} (result : Result Resolved E) (ds : List Declaration) (typedefs : List (Entry (Spelled × Stars))) (types : List TypeName) (ty : Spelled)
     (word : List ℕ) (i : ℕ) (s : Stars) → ty ≡ spelled.Named word → typedefs ≡ values_from as_typedef [] ds → map (λ t. t.name) types ≡ typedef_names [] ds
-    → Some i ≡ position (λ e. bytes_eq e.name word) typedefs → None ≡ slice_get types i → IfOk result (λ r. r ≡ plain_behind ds ty s)
+    → Some i ≡ position (λ e. bytes_eq e.name word) typedefs → None ≡ slice_get types i → IfOk result (λ r. r ≡ plain_after ds ty s)
     → IfOk result (λ r. r ≡ resolved_type ds types ty s)
 past_resolved result ds typedefs types ty word i s t d a h found ok =
-    ok_then result (λ r. r ≡ plain_behind ds ty s) (λ r. r ≡ resolved_type ds types ty s)
+    ok_then result (λ r. r ≡ plain_after ds ty s) (λ r. r ≡ resolved_type ds types ty s)
     (λ r e. subst (λ ty. r ≡ resolved_type ds types ty s) (sym t)
-    (no_meaning_there ds typedefs types word i d a h found s r (subst (λ ty. r ≡ plain_behind ds ty s) t e))) ok
+    (no_meaning_there ds typedefs types word i d a h found s r (subst (λ ty. r ≡ plain_after ds ty s) t e))) ok
 
 pub found_resolved : {E : Type 0} (result : Result Resolved E) (ds : List Declaration) (typedefs : List (Entry (Spelled × Stars))) (types : List TypeName) (ty : Spelled)
     (word : List ℕ) (i : ℕ) (found : TypeName) (s : Stars) → ty ≡ spelled.Named word → typedefs ≡ values_from as_typedef [] ds

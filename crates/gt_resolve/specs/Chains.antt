@@ -1,4 +1,4 @@
--- Typedefs by their places: each leads to another or to an end, and has the meaning of what it leads to, behind its stars.
+-- Typedefs by their places: each leads to another or to an end, and has the meaning of what it leads to, after its stars.
 use Rattle.std.specs.Prelude.{◌≡◌, ℕ, zero, suc, ◌⊎◌, List, [], ◌∷◌, length, map, Option, Some, None, option_map, position, slice_get}
 use Rattle.std.specs.Option.{option_map_or}
 use Rattle.std.specs.Str.{bytes_eq}
@@ -16,7 +16,7 @@ use Rattle.gt_resolve.specs.declared.link.Target.{Target}
 use Rattle.gt_resolve.specs.declared.link.Target.TheVariants.{End, Next}
 use Rattle.gt_resolve.specs.declared.table.Entry.{Entry}
 use Rattle.gt_resolve.specs.declared.declaration.Declaration.{Declaration}
-use Rattle.gt_resolve.specs.Meanings.{tagged_type, type_of_tag, plain_type, means_behind, opaque}
+use Rattle.gt_resolve.specs.Meanings.{tagged_type, type_of_tag, plain_type, means_after, opaque}
 use Rattle.gt_resolve.specs.Tables.{value_in}
 
 -- a type, where a name is no typedef, by what tags define
@@ -34,7 +34,7 @@ target_by tags typedefs (spelled.Named word) =
     option_map_or Next (position (λ e. bytes_eq e.name word) typedefs) (End (plain_by tags (spelled.Named word)))
 target_by tags typedefs ty = End (plain_by tags ty)
 
--- a typedef of a type behind stars
+-- a typedef of a type after stars
 unfoldable pub link_by : List (Entry What) → List (Entry (Spelled × Stars)) → Spelled × Stars → Link
 link_by tags typedefs typedef = record { stars = typedef.1; to = target_by tags typedefs typedef.0 }
 
@@ -50,7 +50,7 @@ follow_target deeper (Next place) = deeper place
 -- what a typedef means, by the meanings of the typedefs at places
 abbrev pub follow_link : (ℕ → Option Resolved) → Option Link → Option Resolved
 follow_link deeper None = None
-follow_link deeper (Some link) = option_map (means_behind link.stars) (follow_target deeper link.to)
+follow_link deeper (Some link) = option_map (means_after link.stars) (follow_target deeper link.to)
 
 -- the meaning of the typedef at a place that is found within so many steps
 unfoldable pub follow_links : List Link → ℕ → ℕ → Option Resolved
@@ -106,6 +106,6 @@ pub record AreMeanings (links : List Link) (names : List (List ℕ)) (types : Li
 
 -- ---- types
 
--- a type behind stars, where a name is no typedef
-abbrev pub plain_behind : List Declaration → Spelled → Stars → Resolved
-plain_behind ds ty stars = record { base = plain_type ds ty; stars = stars }
+-- a type after stars, where a name is no typedef
+abbrev pub plain_after : List Declaration → Spelled → Stars → Resolved
+plain_after ds ty stars = record { base = plain_type ds ty; stars = stars }

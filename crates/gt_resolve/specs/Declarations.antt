@@ -90,7 +90,7 @@ declare file name what p = with_one file name what (up_to file name.at p)
 abbrev pub is_in_range : ℤ → Bool
 is_in_range n = int_le (negsuc (2 ^ 31 - 1)) n && int_lt n (pos (2 ^ 32))
 
--- the count goes on behind a value; one that leaves 64 bits is lost
+-- the count goes on after a value; one that leaves 64 bits is lost
 abbrev pub next_count : Option ℤ → Option ℤ
 next_count value = option_and_then (λ n. within_i64 (n +ℤ pos 1)) value
 
@@ -175,7 +175,7 @@ unfoldable pub declare_items : ℕ → List Item → Progress → Progress
 declare_items file [] p = p
 declare_items file (one ∷ items) p = declare_items file items (declare_item file one p)
 
--- the constants `#define` that stand behind all items
+-- the constants `#define` that stand after all items
 abbrev pub with_rest : ℕ → Progress → Progress
 with_rest file p = record p { done = p.done ++ map (define_of file) p.defines; defines = [] }
 

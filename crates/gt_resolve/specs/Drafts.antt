@@ -62,7 +62,7 @@ bounds_of ds replaced (text ∷ texts) = (if replaced then Unread else amount_in
 
 -- ---- fields, roots and caches
 
--- the type of a declarator behind a type
+-- the type of a declarator after a type
 abbrev pub declarator_type : List Declaration → List TypeName → RawType → Declarator → DeclaredType
 declarator_type ds types ty d =
     record {
@@ -131,7 +131,7 @@ word_by name b stars = None
 abbrev pub word_of : TypeName → Option DraftWord
 word_of t = word_by t.name t.means.base t.means.stars
 
--- constants, each once and with the value of its first declaration, behind those that are there
+-- constants, each once and with the value of its first declaration, after those that are there
 abbrev pub with_constant : List DraftConstant → List ℕ → ℤ → List DraftConstant
 with_constant constants name value =
     if list_any (λ c. bytes_eq c.name name) constants then constants else constants ++ record { name = name; value = value } ∷ []

@@ -30,7 +30,7 @@ use Rattle.gt_resolve.specs.declared.draft.DraftCache.{DraftCache}
 use Rattle.gt_resolve.specs.declared.draft.DraftField.{DraftField}
 use Rattle.gt_resolve.specs.declared.draft.DraftRoot.{DraftRoot}
 use Rattle.gt_resolve.specs.declared.draft.DraftStructure.{DraftStructure}
-use Rattle.gt_resolve.specs.Meanings.{means_behind, resolved_type}
+use Rattle.gt_resolve.specs.Meanings.{means_after, resolved_type}
 use Rattle.gt_resolve.specs.Drafts.{has_option, has_skip}
 use Rattle.gt_resolve.specs.Shapes.{held_type, is_nil}
 
@@ -94,7 +94,7 @@ unfoldable pub agree : List Declaration → List TypeName → What → What → 
 agree ds types (what.Enum a) (what.Enum b) = same_bool a b
 agree ds types (what.Constant a) (what.Constant b) = int_eq a b
 agree ds types (what.Typedef t s) (what.Typedef u r) =
-    same_type (means_behind s (resolved_type ds types t Zero)) (means_behind r (resolved_type ds types u Zero))
+    same_type (means_after s (resolved_type ds types t Zero)) (means_after r (resolved_type ds types u Zero))
 agree ds types a b = false
 
 -- the definition defines the other's name again, as another thing

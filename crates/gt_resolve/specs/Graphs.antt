@@ -5,7 +5,7 @@ use Rattle.std.specs.List.{list_any}
 use Rattle.gt_resolve.specs.Shapes.{is_nil}
 use Rattle.gt_resolve.specs.Faults.{is_tail_type}
 
--- the places to which the edges of a place lead; none behind the last place
+-- the places to which the edges of a place lead; none after the last place
 abbrev pub edges_at : List (List ℕ) → ℕ → List ℕ
 edges_at graph place = option_map_or (λ edges. edges) (slice_get graph place) []
 

@@ -94,14 +94,14 @@ opaque = record { base = Sizeless; stars = Zero }
 abbrev pub transparent : BaseType → Stars → Resolved
 transparent base stars = if is_transparent base then record { base = base; stars = stars } else opaque
 
--- a typedef of what has a meaning, behind stars: a pointer to a pointer is opaque
-unfoldable pub behind : Stars → BaseType → Stars → Resolved
-behind Zero base stars = transparent base stars
-behind One base Zero = transparent base One
-behind stars base others = opaque
+-- a typedef of what has a meaning, after stars: a pointer to a pointer is opaque
+unfoldable pub following : Stars → BaseType → Stars → Resolved
+following Zero base stars = transparent base stars
+following One base Zero = transparent base One
+following stars base others = opaque
 
-abbrev pub means_behind : Stars → Resolved → Resolved
-means_behind stars m = behind stars m.base m.stars
+abbrev pub means_after : Stars → Resolved → Resolved
+means_after stars m = following stars m.base m.stars
 
 -- what a type means, by the meanings of names of typedefs
 abbrev pub follow_type : List Declaration → (List ℕ → Option Resolved) → Spelled → Option Resolved
@@ -112,9 +112,9 @@ follow_type ds deeper ty = Some (record { base = plain_type ds ty; stars = Zero 
 -- what a typedef means, by the meanings of names of typedefs
 abbrev pub follow_typedef : List Declaration → (List ℕ → Option Resolved) → Option (Spelled × Stars) → Option Resolved
 follow_typedef ds deeper None = None
-follow_typedef ds deeper (Some typedef) = option_map (means_behind typedef.1) (follow_type ds deeper typedef.0)
+follow_typedef ds deeper (Some typedef) = option_map (means_after typedef.1) (follow_type ds deeper typedef.0)
 
--- The meaning of a name of a typedef that is found within so many steps: of the type behind its stars, which may be the name of a
+-- The meaning of a name of a typedef that is found within so many steps: of the type after its stars, which may be the name of a
 -- typedef again.
 unfoldable pub follow : List Declaration → ℕ → List ℕ → Option Resolved
 follow ds zero word = None
@@ -124,7 +124,7 @@ follow ds (suc steps) word = follow_typedef ds (follow ds steps) (typedef_in ds 
 abbrev pub IsMeaning : List Declaration → List ℕ → Resolved → Type 0
 IsMeaning ds word m = ((steps : ℕ) × (follow ds steps word ≡ Some m)) ⊎ (((steps : ℕ) → follow ds steps word ≡ None) × (m ≡ opaque))
 
--- the names of typedefs, each once, in the order of their first typedefs, behind those that are there
+-- the names of typedefs, each once, in the order of their first typedefs, after those that are there
 abbrev pub with_name : List (List ℕ) → List ℕ → List (List ℕ)
 with_name names word = if list_any (λ name. bytes_eq name word) names then names else names ++ word ∷ []
 
@@ -143,7 +143,7 @@ pub record AreTypeNames (ds : List Declaration) (types : List TypeName) : Type 0
 abbrev pub meaning_in : List TypeName → List ℕ → Option Resolved
 meaning_in types word = option_map (λ t. t.means) (find (λ t. bytes_eq t.name word) types)
 
--- stars behind stars
+-- stars after stars
 abbrev pub more_stars : Stars → Stars → Stars
 more_stars Zero stars = stars
 more_stars One Zero = One
@@ -153,11 +153,11 @@ more_stars Two Zero = Two
 more_stars Two stars = More
 more_stars More stars = More
 
--- a meaning with stars behind it
+-- a meaning with stars after it
 abbrev pub with_stars : Resolved → Stars → Resolved
 with_stars m stars = record { base = m.base; stars = more_stars m.stars stars }
 
--- a type with stars behind it: a name is a typedef's, or else a tag
+-- a type with stars after it: a name is a typedef's, or else a tag
 unfoldable pub resolved_type : List Declaration → List TypeName → Spelled → Stars → Resolved
 resolved_type ds types (spelled.Named word) stars =
     option_map_or (λ m. with_stars m stars) (meaning_in types word) (record { base = plain_type ds (spelled.Named word); stars = stars })

@@ -34,7 +34,7 @@ pub record HasFirstFault (files : List Items) (fault : Fault) : Type 0 where
   pub is_read : IsRead files draft faults
   pub is_first : IsFirst faults fault
 
--- want of memory, or the first fault
+-- out of memory, or the first fault
 abbrev pub IsResolveStop : List Items → Stop → Type 0
 IsResolveStop files Memory = Unit {0}
 IsResolveStop files (At fault) = HasFirstFault files fault

@@ -20,7 +20,7 @@ abbrev pub with_value : {A : Type 0} → List (Entry A) → List ℕ → A → L
 with_value entries word value =
     if list_any (λ e. bytes_eq e.name word) entries then entries else with_last entries word value
 
--- what the first declarations of each name are of those that are of some kind, behind values that are there
+-- what the first declarations of each name are of those that are of some kind, after values that are there
 unfoldable pub values_from : {A : Type 0} → (What → Option A) → List (Entry A) → List Declaration → List (Entry A)
 values_from kind entries [] = entries
 values_from kind entries (d ∷ ds) = values_from kind (option_map_or (with_value entries d.name.word) (kind d.what) entries) ds

@@ -19,7 +19,7 @@ pub trait Values {
         ensures worth { result ≡ value_of self.now name.now };
 }
 
-/// What a text comes to by these values of names. It answers want of memory alone.
+/// What a text comes to by these values of names. Its only error is out of memory.
 #[tactic(auto, unfolding(crate::specs::Amounts::amount_of))]
 pub fn amount<V: Values>(alloc: Global, values: &V, text: &[u8]) -> Result<Amount, AllocError>
     ensures { IfOk result (λ a. a ≡ amount_of (V.value_of values.now) text.now) }

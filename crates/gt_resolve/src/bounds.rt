@@ -79,7 +79,7 @@ fn is_bad_bit_field(ty: &DeclaredType) -> bool
     }
 }
 
-/// The flag of a structure; there is none behind the last.
+/// The flag of a structure; there is none after the last.
 pub fn flag_at(flags: &[bool], id: usize) -> bool
     ensures same { result ≡ is_tail_type flags.now id }
 {

@@ -38,7 +38,7 @@ impl Constants {
         }
     }
 
-    /// Adds a value, which counts where its name is new. For want of memory the values are as before.
+    /// Adds a value, which counts where its name is new. Out of memory, the values are as before.
     pub fn add(&mut self, name: &Word, value: i64) -> Result<(), AllocError>
         ensures added { OnOk result ((word : List ℕ) → value_in self.new word ≡ first_some (value_in self.old word) (value_named name.now value word)) }
         ensures unchanged { OnErr result (self.new ≡ self.old) }

@@ -97,7 +97,7 @@ pub fn spelled_copy(alloc: Global, ty: &Spelled) -> Result<Spelled, AllocError>
     }
 }
 
-/// A copy of what a type is behind its stars.
+/// A copy of what a type is after its stars.
 pub fn base_copy(alloc: Global, base: &BaseType) -> Result<BaseType, AllocError>
     ensures same { IfOk result (λ made. made ≡ base.now) }
 {

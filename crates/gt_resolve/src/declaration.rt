@@ -18,7 +18,7 @@ pub enum What {
     Enum { is_signed: bool },
     /// A constant with its value.
     Constant(i64),
-    /// A typedef of a type behind stars.
+    /// A typedef of a type after stars.
     Typedef { ty: Spelled, stars: Stars },
     Root,
     Cache,

@@ -25,8 +25,8 @@ const LEAST_CONSTANT: i64 = -0x8000_0000;
 
 const CONSTANTS_END: i64 = 0x1_0000_0000;
 
-/// All that the files declare, in the order of the texts: tags, constants, typedefs, roots and caches. It answers want of memory
-/// alone, also where there are more files than a place of a file can tell.
+/// All that the files declare, in the order of the texts: tags, constants, typedefs, roots and caches. Its only error
+/// is out of memory, also where there are more files than a place of a file can tell.
 pub fn declare_all(alloc: Global, files: &[Items]) -> Result<Vec<Declaration>, AllocError>
     ensures { IfOk result (λ ds. ds.items ≡ declarations files.now) }
 {
@@ -213,7 +213,7 @@ impl<'a> Declaring<'a> {
         }
     }
 
-    // A piece of an enum, and the count behind it.
+    // A piece of an enum, and the count after it.
     #[tactic(auto, unfolding(crate::specs::Declarations::enumerators))]
     fn enumerator(
         &mut self,
@@ -437,7 +437,7 @@ fn is_in_range(value: i64) -> bool
     LEAST_CONSTANT <= value && value < CONSTANTS_END
 }
 
-// The count behind a value. One that leaves 64 bits is lost.
+// The count after a value. One that leaves 64 bits is lost.
 fn next_count(value: Option<i64>) -> Option<i64>
     ensures { result ≡ next_count value }
 {

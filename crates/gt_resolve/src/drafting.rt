@@ -145,7 +145,7 @@ fn field(
     })
 }
 
-// The fields of one type, behind others.
+// The fields of one type, after others.
 fn with_fields(
     alloc: Global,
     scope: &Scope,
@@ -234,7 +234,7 @@ trait OfItem: Drop {
     /// What it is of an item of a file, by the declarations and the meanings of names of typedefs.
     ghost reading: { List Declaration → List TypeName → ℕ → Item → Option Self };
 
-    /// What it is of an item. It answers want of memory alone.
+    /// What it is of an item. Its only error is out of memory.
     fn of_item(
         alloc: Global,
         scope: &Scope,
@@ -389,7 +389,7 @@ fn constants(alloc: Global, scope: &Scope) -> Result<List<DraftConstant>, AllocE
     Ok(List::of(made))
 }
 
-/// What the files declare, by their scope. It answers want of memory alone.
+/// What the files declare, by their scope. Its only error is out of memory.
 pub fn drafted(alloc: Global, files: &[Items], scope: &Scope) -> Result<Draft, AllocError>
     ensures same { IfOk result (λ d. d ≡ draft_of files.now scope.now.declarations.items scope.now.types.items) }
 {

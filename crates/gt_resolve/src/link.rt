@@ -1,7 +1,7 @@
 use crate::BaseType;
 use gt_items::Stars;
 
-/// A typedef of something behind stars.
+/// A typedef of something after stars.
 #[derive(Drop)]
 pub struct Link {
     pub stars: Stars,

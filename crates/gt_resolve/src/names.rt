@@ -42,7 +42,7 @@ impl NameIndex {
         self.names.get_index_of(name.as_str())
     }
 
-    /// Adds a name at the end where it is new, and gives its place. For want of memory the names are as before.
+    /// Adds a name at the end where it is new, and gives its place. Out of memory, the names are as before.
     pub fn add(&mut self, name: &Word) -> Result<usize, AllocError>
         ensures added { OnOk result (self.new ≡ with_name self.old name.now) }
         ensures place { IfOk result (λ i. Some i ≡ position (λ other. bytes_eq other name.now) self.new) }

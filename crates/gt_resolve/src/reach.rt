@@ -13,7 +13,7 @@ struct Search {
     waiting: Vec<usize>,
 }
 
-/// The edges of a place; none behind the last place.
+/// The edges of a place; none after the last place.
 pub fn edges_at(graph: &[List<usize>], place: usize) -> &[usize]
     ensures same { result.now ≡ edges_at graph.now place }
 {

@@ -5,7 +5,7 @@ ghost use Rattle.std.specs.Option.{option_map_or};
 ghost use Rattle.gt_items.specs.declared.items.Stars.TheVariants.{Zero};
 ghost use Rattle.gt_resolve.specs.Faults.{agree, is_tag, redefinitions};
 ghost use Rattle.gt_resolve.specs.FirstFaults.{first_from};
-ghost use Rattle.gt_resolve.specs.Meanings.{is_transparent, means_behind, opaque, resolved_type, transparent};
+ghost use Rattle.gt_resolve.specs.Meanings.{is_transparent, means_after, opaque, resolved_type, transparent};
 ghost use Rattle.gt_resolve.specs.Redefinitions.{agrees_at, first_place, first_places, is_clash, marked_faults, with_clash, with_first};
 ghost use Rattle.gt_resolve.specs.Tables.{value_in};
 
@@ -105,10 +105,10 @@ fn opaque() -> Resolved
     }
 }
 
-// What a typedef of a type behind stars means.
-#[tactic(auto, unfolding(crate::specs::Meanings::behind))]
-fn means_behind(stars: Stars, means: Resolved) -> Resolved
-    ensures means { result ≡ means_behind stars means }
+// What a typedef of a type after stars means.
+#[tactic(auto, unfolding(crate::specs::Meanings::following))]
+fn means_after(stars: Stars, means: Resolved) -> Resolved
+    ensures means { result ≡ means_after stars means }
 {
     match stars {
         Stars::Zero => transparent(means.base, means.stars),
@@ -121,9 +121,9 @@ fn means_behind(stars: Stars, means: Resolved) -> Resolved
 }
 
 fn meaning(alloc: Global, scope: &Scope, ty: &Spelled, stars: Stars) -> Result<Resolved, AllocError>
-    ensures means { IfOk result (λ r. r ≡ means_behind stars (resolved_type scope.now.declarations.items scope.now.types.items ty.now Zero)) }
+    ensures means { IfOk result (λ r. r ≡ means_after stars (resolved_type scope.now.declarations.items scope.now.types.items ty.now Zero)) }
 {
-    Ok(means_behind(stars, scope.resolved(alloc, ty, Stars::Zero)?))
+    Ok(means_after(stars, scope.resolved(alloc, ty, Stars::Zero)?))
 }
 
 // Whether two definitions of one name may stand beside one another.

@@ -3,7 +3,7 @@ ghost use Rattle.std.specs.Prelude.{◌≡◌, [], map, IfOk};
 ghost use Rattle.std.specs.Option.{option_map_or};
 ghost use Rattle.gt_resolve.specs.Declarations.{declarations, as_constant, constant_in};
 ghost use Rattle.gt_resolve.specs.Meanings.{AreTypeNames, as_tag, as_typedef, typedef_names, resolved_type, more_stars, with_stars};
-ghost use Rattle.gt_resolve.specs.Chains.{plain_behind};
+ghost use Rattle.gt_resolve.specs.Chains.{plain_after};
 ghost use Rattle.gt_resolve.specs.Tables.{with_value, values_from};
 
 use crate::amounts::Values;
@@ -147,7 +147,7 @@ fn scope_over(alloc: Global, declarations: Vec<Declaration>) -> Result<Scope, Al
     })
 }
 
-/// The scope of files. It answers want of memory alone.
+/// The scope of files. Its only error is out of memory.
 pub fn scope_of(alloc: Global, files: &[Items]) -> Result<Scope, AllocError>
     ensures declared { IfOk result (λ s. s.declarations.items ≡ declarations files.now) }
     ensures named { IfOk result (λ s. AreTypeNames s.declarations.items s.types.items) }
@@ -166,8 +166,8 @@ fn more_stars(stars: Stars, more: Stars) -> Stars
     }
 }
 
-fn behind(alloc: Global, means: &Resolved, stars: Stars) -> Result<Resolved, AllocError>
-    ensures behind { IfOk result (λ r. r ≡ with_stars means.now stars) }
+fn following(alloc: Global, means: &Resolved, stars: Stars) -> Result<Resolved, AllocError>
+    ensures following { IfOk result (λ r. r ≡ with_stars means.now stars) }
 {
     Ok(Resolved {
         base: base_copy(alloc, &means.base)?,
@@ -176,9 +176,9 @@ fn behind(alloc: Global, means: &Resolved, stars: Stars) -> Result<Resolved, All
 }
 
 impl Scope {
-    /// What a type is behind stars where no name in it is a typedef's.
+    /// What a type is after stars where no name in it is a typedef's.
     fn plain(&self, alloc: Global, ty: &Spelled, stars: Stars) -> Result<Resolved, AllocError>
-        ensures plain { IfOk result (λ r. r ≡ plain_behind self.now.declarations.items ty.now stars) }
+        ensures plain { IfOk result (λ r. r ≡ plain_after self.now.declarations.items ty.now stars) }
     {
         Ok(Resolved {
             base: plain(alloc, &self.tags, ty)?,
@@ -186,7 +186,7 @@ impl Scope {
         })
     }
 
-    /// A type behind stars with its typedefs followed. It answers want of memory alone.
+    /// A type after stars with its typedefs followed. Its only error is out of memory.
     #[tactic(auto, unfolding(crate::specs::Meanings::resolved_type))]
     pub fn resolved(
         &self,
@@ -201,7 +201,7 @@ impl Scope {
                 None => self.plain(alloc, ty, stars),
                 Some(place) => match item_at(&self.types, place) {
                     None => self.plain(alloc, ty, stars),
-                    Some(found) => behind(alloc, &found.means, stars),
+                    Some(found) => following(alloc, &found.means, stars),
                 },
             },
             _ => self.plain(alloc, ty, stars),

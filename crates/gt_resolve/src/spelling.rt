@@ -11,7 +11,7 @@ use gt_items::{Combination, Core, RawType, Sign, Size};
 use gt_types::{Copied, Scalar, Width, Word};
 use std::alloc::{AllocError, Global};
 
-/// A type as it is spelled. It answers want of memory alone.
+/// A type as it is spelled. Its only error is out of memory.
 #[tactic(auto, unfolding(crate::specs::Spelling::spelled_of))]
 pub fn spelled(alloc: Global, ty: &RawType) -> Result<Spelled, AllocError>
     ensures { IfOk result (λ s. s ≡ spelled_of ty.now) }

@@ -95,7 +95,7 @@ fn with_entry<T: Drop>(
 }
 
 impl<T: Drop> Table<T> {
-    /// The table with a value for a name that has none. It answers want of memory alone.
+    /// The table with a value for a name that has none. Its only error is out of memory.
     pub fn with(self, alloc: Global, name: &Word, value: T) -> Result<Table<T>, AllocError>
         ensures added { IfOk result (λ made. made ≡ with_value self name.now value) }
     {

@@ -1,6 +1,6 @@
 // What the names of typedefs mean.
 ghost use Rattle.std.specs.Prelude.{◌≡◌, ◌<◌, [], ◌∷◌, ◌++◌, length, map, reverse, Some, MatchOption, IfOk, OnOk, slice_get, slice_set};
-ghost use Rattle.gt_resolve.specs.Meanings.{opaque, is_transparent, behind, means_behind};
+ghost use Rattle.gt_resolve.specs.Meanings.{opaque, is_transparent, following, means_after};
 ghost use Rattle.gt_resolve.specs.Chains.{target_by, link_by, links_by, IsMemo, IsWalked, IsMeaningAt, AreMeanings};
 
 use crate::copies::{base_copy, resolved_copy};
@@ -34,10 +34,10 @@ fn keeps(base: &BaseType) -> bool
     }
 }
 
-/// What a typedef means of something with this meaning, behind stars.
-#[tactic(auto, unfolding(crate::specs::Meanings::behind))]
-fn behind_stars(stars: Stars, means: Resolved) -> Resolved
-    ensures means { result ≡ means_behind stars means }
+/// What a typedef means of something with this meaning, after stars.
+#[tactic(auto, unfolding(crate::specs::Meanings::following))]
+fn after_stars(stars: Stars, means: Resolved) -> Resolved
+    ensures means { result ≡ means_after stars means }
 {
     let kept = match stars {
         Stars::Zero => true,
@@ -205,7 +205,7 @@ fn walk_back(
             Some(place) => match item_at(links, place) {
                 None => return Ok(means),
                 Some(link) => {
-                    means = behind_stars(link.stars, means);
+                    means = after_stars(link.stars, means);
                     note(memo, place, resolved_copy(alloc, &means)?);
                 }
             },

@@ -18,7 +18,7 @@ pub enum Spelled {
     Named(Word),
 }
 
-/// What a type is behind its stars, with typedefs followed.
+/// What a type is after its stars, with typedefs followed.
 #[derive(Debug, Drop)]
 pub enum BaseType {
     /// A number. A pointer to one that is of `char` is a string.
@@ -37,7 +37,7 @@ pub enum BaseType {
     Unknown,
 }
 
-/// A type with its typedefs followed: a base and the stars behind it.
+/// A type with its typedefs followed: a base and the stars after it.
 #[derive(Debug, Drop)]
 pub struct Resolved {
     pub base: BaseType,

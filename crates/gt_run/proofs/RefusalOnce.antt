@@ -116,16 +116,16 @@ same_read words held call other texts others a b =
     same_pair texts others w.0 w.1
 
 -- what is refused once there are texts
-data Behind (texts : Texts) : Refusal → Type 0 where
-  header : (fault : HeaderFault) → IsFirstFault texts.headers fault → Behind texts (Header fault)
-  script : (number line : ℕ) (program : Program) → Declares texts.headers program → IsScriptFault texts.script number line → Behind texts (Script number line)
-  unbuilt : (program : Program) (lines : List Line) → Declares texts.headers program → Parsed texts.script lines → HasUnbuilt lines → Behind texts NotBuilt
+data After (texts : Texts) : Refusal → Type 0 where
+  header : (fault : HeaderFault) → IsFirstFault texts.headers fault → After texts (Header fault)
+  script : (number line : ℕ) (program : Program) → Declares texts.headers program → IsScriptFault texts.script number line → After texts (Script number line)
+  unbuilt : (program : Program) (lines : List Line) → Declares texts.headers program → Parsed texts.script lines → HasUnbuilt lines → After texts NotBuilt
 
 -- what is refused, by how far the work came
 data Place (words : List (List ℕ)) (held : Held) : Refusal → Type 0 where
   of_words : call_of words ≡ None → Place words held Words
   of_file : (call : Call) (name : List ℕ) (word : ℕ) (why : FileWhy) → Calls words call name → IsRefusedFile (Some held) (files_in_order name call.headers) word why → (why ≡ Fault → ⊥) → Place words held (InFile word why)
-  of_texts : (call : Call) (texts : Texts) (refusal : Refusal) → Reads words (Some held) call texts → Behind texts refusal → Place words held refusal
+  of_texts : (call : Call) (texts : Texts) (refusal : Refusal) → Reads words (Some held) call texts → After texts refusal → Place words held refusal
 
 -- each refusal up to the lines of the script has its place
 place_comes : (words : List (List ℕ)) (held : Held) (texts : Texts) (refusal : Refusal) → Comes words (Some held) texts refusal → IsTold refusal → Place words held refusal
@@ -177,22 +177,22 @@ not_refused words held call other name texts word why calls r reads =
 
 module _ (one : OneOutcome) (no_fault : NoFault) (one_fault : OneFault) where
   -- over the same texts one is refused
-  one_behind : (texts : Texts) (refusal other : Refusal) → Behind texts refusal → Behind texts other → refusal ≡ other
-  one_behind texts _ _ (header f h) (header g k) = ap Header (one_fault texts.headers f g h k)
-  one_behind texts _ _ (header f h) (script n l p d k) = absurd (no_fault texts.headers p f d h)
-  one_behind texts _ _ (header f h) (unbuilt p l d q k) = absurd (no_fault texts.headers p f d h)
-  one_behind texts _ _ (script n l p d h) (header g k) = absurd (no_fault texts.headers p g d k)
-  one_behind texts _ _ (script n l p d h) (script m j r s k) = one_script one texts.script n l m j h k
-  one_behind texts _ _ (script n l p d h) (unbuilt r j s q k) = absurd (no_script_fault one texts.script j n l q h)
-  one_behind texts _ _ (unbuilt p l d q h) (header g k) = absurd (no_fault texts.headers p g d k)
-  one_behind texts _ _ (unbuilt p l d q h) (script m j r s k) = absurd (no_script_fault one texts.script l m j q k)
-  one_behind texts _ _ (unbuilt p l d q h) (unbuilt r j s t k) = refl
+  one_after : (texts : Texts) (refusal other : Refusal) → After texts refusal → After texts other → refusal ≡ other
+  one_after texts _ _ (header f h) (header g k) = ap Header (one_fault texts.headers f g h k)
+  one_after texts _ _ (header f h) (script n l p d k) = absurd (no_fault texts.headers p f d h)
+  one_after texts _ _ (header f h) (unbuilt p l d q k) = absurd (no_fault texts.headers p f d h)
+  one_after texts _ _ (script n l p d h) (header g k) = absurd (no_fault texts.headers p g d k)
+  one_after texts _ _ (script n l p d h) (script m j r s k) = one_script one texts.script n l m j h k
+  one_after texts _ _ (script n l p d h) (unbuilt r j s q k) = absurd (no_script_fault one texts.script j n l q h)
+  one_after texts _ _ (unbuilt p l d q h) (header g k) = absurd (no_fault texts.headers p g d k)
+  one_after texts _ _ (unbuilt p l d q h) (script m j r s k) = absurd (no_script_fault one texts.script l m j q k)
+  one_after texts _ _ (unbuilt p l d q h) (unbuilt r j s t k) = refl
 
   -- nor is anything, where the headers declare a program and the script has lines that are all built
-  none_behind : (texts : Texts) (refusal : Refusal) (program : Program) (lines : List Line) → Declares texts.headers program → Parsed texts.script lines → All (λ (line : Line). IsBuilt line.command) lines → Behind texts refusal → ⊥
-  none_behind texts _ program lines d q b (header f h) = no_fault texts.headers program f d h
-  none_behind texts _ program lines d q b (script n l p s h) = no_script_fault one texts.script lines n l q h
-  none_behind texts _ program lines d q b (unbuilt p l s t h) =
+  none_after : (texts : Texts) (refusal : Refusal) (program : Program) (lines : List Line) → Declares texts.headers program → Parsed texts.script lines → All (λ (line : Line). IsBuilt line.command) lines → After texts refusal → ⊥
+  none_after texts _ program lines d q b (header f h) = no_fault texts.headers program f d h
+  none_after texts _ program lines d q b (script n l p s h) = no_script_fault one texts.script lines n l q h
+  none_after texts _ program lines d q b (unbuilt p l s t h) =
       let same : lines ≡ l = same_lines _ _ (one texts.script (Ok lines) (Ok l) q t) in
       let A : List Line → Type 0 = λ x. All (λ (line : Line). IsBuilt line.command) x in
       h.2 (All-contains (λ (line : Line). IsBuilt line.command) l h.0 (subst A same b) h.1)
@@ -211,16 +211,16 @@ module _ (one : OneOutcome) (no_fault : NoFault) (one_fault : OneFault) where
     one_place _ _ (of_texts d t x k b) (of_words h) = absurd (no_call words d h k.called)
     one_place _ _ (of_texts d t x k b) (of_file c n w y i r m) = absurd (m (not_refused words held c d n t w y i r k))
     one_place _ _ (of_texts d t x k b) (of_texts c s z i a) =
-        let B : Texts → Type 0 = λ texts. Behind texts x in
-        one_behind s x z (subst B (same_read words held d c t s k i) b) a
+        let B : Texts → Type 0 = λ texts. After texts x in
+        one_after s x z (subst B (same_read words held d c t s k i) b) a
 
     -- and none where the words and the files ask for lines that are all built
     none_place : (refusal : Refusal) (call : Call) (program : Program) (lines : List Line) → Asks words (Some held) call program lines → All (λ (line : Line). IsBuilt line.command) lines → Place words held refusal → ⊥
     none_place _ call program lines asks built (of_words h) = no_call words call h asks.reads.called
     none_place _ call program lines asks built (of_file d n w y k r m) = m (not_refused words held d call n asks.texts w y k r asks.reads)
     none_place _ call program lines asks built (of_texts d t x k b) =
-        let B : Texts → Type 0 = λ texts. Behind texts x in
-        none_behind asks.texts x program lines asks.declares asks.parsed built (subst B (same_read words held d call t asks.texts k asks.reads) b)
+        let B : Texts → Type 0 = λ texts. After texts x in
+        none_after asks.texts x program lines asks.declares asks.parsed built (subst B (same_read words held d call t asks.texts k asks.reads) b)
 
     -- so what is refused first is one
     pub one_first : (texts others : Texts) (refusal other : Refusal) → IsRefusedFirst words (Some held) texts refusal → IsRefusedFirst words (Some held) others other → IsTold refusal → IsTold other → refusal ≡ other

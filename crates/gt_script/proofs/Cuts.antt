@@ -104,7 +104,7 @@ word_at-shorter (c ∷ cs) r e =
 
 -- ---- a count that is large enough
 
--- the words behind the first
+-- the words after the first
 abbrev pub others : Option (Piece × List ℕ) → (List ℕ → Option (List Piece)) → Option (List Piece)
 others first read = first >>= λ word. read word.1 >>= λ words. Some (word.0 ∷ words)
 

@@ -17,7 +17,7 @@ fold-grows base h a [] = omega arith
 fold-grows base h a (c ∷ cs) =
     one_more base a (digit_value c) (fold (step base) (a * base + digit_value c) cs) h (fold-grows base h (a * base + digit_value c) cs)
 
--- the digit at a place, and those behind it
+-- the digit at a place, and those after it
 pub fold-drop : (base a : ℕ) (cs : List ℕ) (i : ℕ) → i < length cs → fold (step base) a (drop i cs) ≡ fold (step base) (a * base + digit_value (get_or cs i 0)) (drop (i + 1) cs)
 fold-drop base a cs i h = rw (drop-cons cs i 0, add-one) refl
 

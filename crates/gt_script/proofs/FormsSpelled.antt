@@ -15,7 +15,7 @@ use Rattle.gt_script.specs.declared.command.Command.TheVariants.{New, Array, Tex
 use Rattle.gt_script.specs.declared.command.TypeName.{TypeName}
 use Rattle.gt_script.specs.declared.pieces.Piece.{Piece}
 use Rattle.gt_script.specs.declared.pieces.Piece.TheVariants.{Plain, Quoted}
-use Rattle.gt_script.specs.Texts.{◌>>=◌, behind}
+use Rattle.gt_script.specs.Texts.{◌>>=◌, following}
 use Rattle.gt_script.specs.Cutting.{is_blank, without_blanks, words_within, words_of}
 use Rattle.gt_script.specs.Values.{name_at, variable_at, type_at, integer_at, given_at, file_at}
 use Rattle.gt_script.specs.Steps.{path_at}
@@ -25,7 +25,7 @@ use Rattle.gt_script.specs.Language.{IsNamed, IsVariable, IsTyped, AreWords, no_
 use Rattle.gt_script.proofs.Options.{bind_some, map_or_some, passed, chosen}
 use Rattle.gt_script.proofs.Cuts.{words_of-blanks}
 use Rattle.gt_script.proofs.WordsSpelled.{words_taken, words_again}
-use Rattle.gt_script.proofs.NamesSpelled.{behind_taken, name_taken, name_again, variable_taken, variable_again, type_taken, type_again, file_taken, file_again}
+use Rattle.gt_script.proofs.NamesSpelled.{after_taken, name_taken, name_again, variable_taken, variable_again, type_taken, type_again, file_taken, file_again}
 use Rattle.gt_script.proofs.NumbersSpelled.{integer_taken, integer_again, value_taken, value_again, mapped_some}
 use Rattle.gt_script.proofs.PathsSpelled.{path_taken, path_again}
 
@@ -216,16 +216,16 @@ command_taken verb words c =
 -- the words of a line
 record LineTaken (words : List Piece) (line : Line) : Type 0 where
   verb : List ℕ
-  behind_it : List Piece
-  form : IsForm verb behind_it line.command
-  words_are : words ≡ Plain (cond line.quiet (codes "@") [] ++ verb) ∷ behind_it
+  after_it : List Piece
+  form : IsForm verb after_it line.command
+  words_are : words ≡ Plain (cond line.quiet (codes "@") [] ++ verb) ∷ after_it
 
 told_taken : (quiet : Bool) (words : List Piece) (word verb : List ℕ) (line : Line) → word ≡ cond quiet (codes "@") [] ++ verb → told_at quiet words verb ≡ Some line → LineTaken (Plain word ∷ words) line
 told_taken quiet words word verb line is e =
     let c = mapped_some (λ command. record { quiet = quiet; command = command }) (command_at verb words) line e in
     let here : LineTaken (Plain word ∷ words) (record { quiet = quiet; command = c.0 }) = record {
       verb = verb;
-      behind_it = words;
+      after_it = words;
       form = command_taken verb words c.0 c.1;
       words_are = ap (λ (w : List ℕ). Plain w ∷ words) is;
     } in
@@ -234,8 +234,8 @@ told_taken quiet words word verb line is e =
 line_taken : (words : List Piece) (line : Line) → line_of words ≡ Some line → LineTaken words line
 unfolding line_of
 line_taken (Plain word ∷ words) line e =
-    elim (map_or_some (behind (codes "@") word) (told_at true words) (told_at false words word) line e) [
-      | inl g ↦ told_taken true words word g.0 line (behind_taken (codes "@") word g.0 g.1) g.2
+    elim (map_or_some (following (codes "@") word) (told_at true words) (told_at false words word) line e) [
+      | inl g ↦ told_taken true words word g.0 line (after_taken (codes "@") word g.0 g.1) g.2
       | inr g ↦ told_taken false words word word line refl g.1
     ]
 line_taken _ line e = absurd cc
@@ -247,7 +247,7 @@ spoken_taken text line e =
     let taken = line_taken words.0 line words.2 in
     record {
       verb = taken.verb;
-      words = taken.behind_it;
+      words = taken.after_it;
       form = taken.form;
       spelled = subst (λ (ws : List Piece). AreWords text ws) taken.words_are (words_taken text words.0 words.1);
     }
@@ -301,8 +301,8 @@ command_again is_heap = refl
 command_again is_stats = refl
 
 -- no command begins with @
-unmarked : {verb : List ℕ} {words : List Piece} {c : Command} → IsForm verb words c → behind (codes "@") verb ≡ None
-unfolding behind
+unmarked : {verb : List ℕ} {words : List Piece} {c : Command} → IsForm verb words c → following (codes "@") verb ≡ None
+unfolding following
 unmarked (is_new v t var ty h k) = refl
 unmarked (is_new_sized v t i var ty n h k l) = refl
 unmarked (is_array v t i var ty n h k l) = refl
@@ -327,32 +327,32 @@ abbrev first_hash : List Piece → Bool
 first_hash (Plain (c ∷ cs) ∷ words) = eqb c 35
 first_hash _ = false
 
-unhashed : {verb : List ℕ} {words : List Piece} {c : Command} (behind_it : List Piece) → IsForm verb words c → first_hash (Plain verb ∷ behind_it) ≡ false
-unhashed behind_it (is_new v t var ty h k) = refl
-unhashed behind_it (is_new_sized v t i var ty n h k l) = refl
-unhashed behind_it (is_array v t i var ty n h k l) = refl
-unhashed behind_it (is_string v text var h) = refl
-unhashed behind_it (is_block v i var n h l) = refl
-unhashed behind_it (is_set p g path value h k) = refl
-unhashed behind_it (is_get v p var path h k) = refl
-unhashed behind_it (is_drop v var h) = refl
-unhashed behind_it (is_print p path h) = refl
-unhashed behind_it (is_put a k v cache key value h l m) = refl
-unhashed behind_it (is_find a k cache key h l) = refl
-unhashed behind_it is_collect = refl
-unhashed behind_it is_collect_force = refl
-unhashed behind_it (is_save f i file page h l) = refl
-unhashed behind_it (is_load f file h) = refl
-unhashed behind_it is_tables = refl
-unhashed behind_it is_heap = refl
-unhashed behind_it is_stats = refl
+unhashed : {verb : List ℕ} {words : List Piece} {c : Command} (after_it : List Piece) → IsForm verb words c → first_hash (Plain verb ∷ after_it) ≡ false
+unhashed after_it (is_new v t var ty h k) = refl
+unhashed after_it (is_new_sized v t i var ty n h k l) = refl
+unhashed after_it (is_array v t i var ty n h k l) = refl
+unhashed after_it (is_string v text var h) = refl
+unhashed after_it (is_block v i var n h l) = refl
+unhashed after_it (is_set p g path value h k) = refl
+unhashed after_it (is_get v p var path h k) = refl
+unhashed after_it (is_drop v var h) = refl
+unhashed after_it (is_print p path h) = refl
+unhashed after_it (is_put a k v cache key value h l m) = refl
+unhashed after_it (is_find a k cache key h l) = refl
+unhashed after_it is_collect = refl
+unhashed after_it is_collect_force = refl
+unhashed after_it (is_save f i file page h l) = refl
+unhashed after_it (is_load f file h) = refl
+unhashed after_it is_tables = refl
+unhashed after_it is_heap = refl
+unhashed after_it is_stats = refl
 
-no_hash : {verb : List ℕ} {words : List Piece} {c : Command} (quiet : Bool) (behind_it : List Piece) → IsForm verb words c → first_hash (Plain (cond quiet (codes "@") [] ++ verb) ∷ behind_it) ≡ false
-no_hash true behind_it form = refl
-no_hash false behind_it form = unhashed behind_it form
+no_hash : {verb : List ℕ} {words : List Piece} {c : Command} (quiet : Bool) (after_it : List Piece) → IsForm verb words c → first_hash (Plain (cond quiet (codes "@") [] ++ verb) ∷ after_it) ≡ false
+no_hash true after_it form = refl
+no_hash false after_it form = unhashed after_it form
 
 marked : (verb : List ℕ) (words : List Piece) (c : Command) → command_at verb words ≡ Some c → line_of (Plain (codes "@" ++ verb) ∷ words) ≡ Some (record { quiet = true; command = c })
-unfolding line_of behind
+unfolding line_of following
 marked verb words c e = rw e refl
 
 line_again : (quiet : Bool) (verb : List ℕ) (words : List Piece) (c : Command) → IsForm verb words c → line_of (Plain (cond quiet (codes "@") [] ++ verb) ∷ words) ≡ Some (record { quiet = quiet; command = c })

@@ -16,7 +16,7 @@ use Rattle.std.proofs.lemmas.Slice.Eq.{bytes_eq-Decides}
 use Rattle.std.proofs.lemmas.Str.{is_utf8-from_IsUtf8, IsUtf8-from_is_utf8, encode_ascii, chars-encodes, encodes-chars, scalars-chars, length-le-encodes}
 use Rattle.gt_text.specs.Identifier.{starts_identifier_of, continues_identifier_of}
 use Rattle.gt_script.specs.declared.command.TypeName.{TypeName}
-use Rattle.gt_script.specs.Texts.{behind, before}
+use Rattle.gt_script.specs.Texts.{following, before}
 use Rattle.gt_script.specs.Values.{is_identifier_of, name_at, variable_at, named_type, type_at, file_at}
 use Rattle.gt_script.specs.Language.{IsName, variable_text, type_text, IsFile}
 use Rattle.gt_script.proofs.Options.{bind_some, map_or_some}
@@ -96,9 +96,9 @@ name_some (c ∷ cs) h = omega (arith, length-le-encodes (c ∷ cs))
 
 -- ---- literals at the ends
 
-pub behind_taken : (literal text rest : List ℕ) → behind literal text ≡ Some rest → text ≡ literal ++ rest
-unfolding behind
-behind_taken literal text rest e =
+pub after_taken : (literal text rest : List ℕ) → following literal text ≡ Some rest → text ≡ literal ++ rest
+unfolding following
+after_taken literal text rest e =
     let g = cond_some (bytes_eq (take (length literal) text) literal) (drop (length literal) text) rest e in
     let front : take (length literal) text ≡ literal = (bytes_eq-Decides (take (length literal) text) literal).0 g.0 in
     sym (take-append-drop (length literal) text) ∙ ap (λ (l : List ℕ). l ++ drop (length literal) text) front ∙ ap (λ (l : List ℕ). literal ++ l) g.1
@@ -132,15 +132,15 @@ before_none m text h = go (before (m ∷ []) text) refl
     go (Some front) e = absurd (lacks_last m front (subst (λ (t : List ℕ). list_all (λ b. not (eqb b m)) t ≡ true) (before_taken (m ∷ []) text front e) h))
 
 -- a first byte that is no mark
-pub behind_none : (m : ℕ) (front rest : List ℕ) → list_all (λ b. not (eqb b m)) front ≡ true → 0 < length front → behind (m ∷ []) (front ++ rest) ≡ None
-unfolding behind
-behind_none m [] rest h some = absurd (omega arith)
-behind_none m (c ∷ cs) rest h some =
+pub after_none : (m : ℕ) (front rest : List ℕ) → list_all (λ b. not (eqb b m)) front ≡ true → 0 < length front → following (m ∷ []) (front ++ rest) ≡ None
+unfolding following
+after_none m [] rest h some = absurd (omega arith)
+after_none m (c ∷ cs) rest h some =
     let both = and_parts (not (eqb c m)) (list_all (λ b. not (eqb b m)) cs) h in
     rw (not-true (eqb c m) both.0) refl
 
-pub name_not_dollar : (name rest : List ℕ) → IsName name → behind (codes "$") (encode_utf8_all name ++ rest) ≡ None
-name_not_dollar name rest h = behind_none 36 (encode_utf8_all name) rest (dark_lacks (λ b. eqb b 36) (never_mark 36 dark_dollar) (encode_utf8_all name) (name_dark name h)) (name_some name h)
+pub name_not_dollar : (name rest : List ℕ) → IsName name → following (codes "$") (encode_utf8_all name ++ rest) ≡ None
+name_not_dollar name rest h = after_none 36 (encode_utf8_all name) rest (dark_lacks (λ b. eqb b 36) (never_mark 36 dark_dollar) (encode_utf8_all name) (name_dark name h)) (name_some name h)
 
 pub name_not_star : (name : List ℕ) → IsName name → before (codes "*") (encode_utf8_all name) ≡ None
 name_not_star name h = before_none 42 (encode_utf8_all name) (dark_lacks (λ b. eqb b 42) (never_mark 42 dark_star) (encode_utf8_all name) (name_dark name h))
@@ -173,12 +173,12 @@ name_again (c ∷ cs) h =
 pub variable_taken : (text name : List ℕ) → variable_at text ≡ Some name → IsName name × (text ≡ variable_text name)
 unfolding variable_at
 variable_taken text name e =
-    let rest = bind_some (behind (codes "$") text) (λ rest. name_at rest) name e in
+    let rest = bind_some (following (codes "$") text) (λ rest. name_at rest) name e in
     let taken = name_taken rest.0 name rest.2 in
-    (taken.0, behind_taken (codes "$") text rest.0 rest.1 ∙ ap (λ (l : List ℕ). codes "$" ++ l) taken.1)
+    (taken.0, after_taken (codes "$") text rest.0 rest.1 ∙ ap (λ (l : List ℕ). codes "$" ++ l) taken.1)
 
 pub variable_again : (name : List ℕ) → IsName name → variable_at (variable_text name) ≡ Some name
-unfolding variable_at behind
+unfolding variable_at following
 variable_again name h = name_again name h
 
 -- ---- types

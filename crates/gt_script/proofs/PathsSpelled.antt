@@ -11,12 +11,12 @@ use Rattle.std.proofs.lemmas.List.Folds.{list_all-append}
 use Rattle.gt_script.specs.declared.command.Route.{Route}
 use Rattle.gt_script.specs.declared.command.Hop.{Hop}
 use Rattle.gt_script.specs.declared.command.Hop.TheVariants.{Name, Index}
-use Rattle.gt_script.specs.Texts.{◌>>=◌, behind, before}
+use Rattle.gt_script.specs.Texts.{◌>>=◌, following, before}
 use Rattle.gt_script.specs.Values.{name_at, decimal_at}
 use Rattle.gt_script.specs.Steps.{begins_step, cut_steps, index_at, hop_at, hops_at, route_at, path_at}
 use Rattle.gt_script.specs.Language.{IsName, IsDecimal, AreSteps, no_steps, field_first, element_first, IsPath}
 use Rattle.gt_script.proofs.Options.{bind_some, map_or_some}
-use Rattle.gt_script.proofs.NamesSpelled.{dark, dark_dot, dark_bracket, name_dark, dark_lacks, behind_taken, before_taken, before_again, name_taken, name_again, name_not_dollar}
+use Rattle.gt_script.proofs.NamesSpelled.{dark, dark_dot, dark_bracket, name_dark, dark_lacks, after_taken, before_taken, before_again, name_taken, name_again, name_not_dollar}
 use Rattle.gt_script.proofs.NumbersSpelled.{decimal_taken, decimal_again, mapped_some}
 
 -- ---- what is read is spelled so
@@ -44,18 +44,18 @@ cut_joined (c ∷ cs) = joined_here c cs (begins_step c) refl (cut_joined cs)
 step_taken : (text rest : List ℕ) (hop : Hop) (hops : List Hop) → hop_at text ≡ Some hop → AreSteps rest hops → AreSteps (text ++ rest) (hop ∷ hops)
 unfolding hop_at index_at
 step_taken text rest hop hops e more =
-    elim (map_or_some (behind (codes ".") text) (λ name. option_map Name (name_at name)) (index_at text) hop e) [
+    elim (map_or_some (following (codes ".") text) (λ name. option_map Name (name_at name)) (index_at text) hop e) [
       | inl g ↦
           let n = mapped_some Name (name_at g.0) hop g.2 in
           let taken = name_taken g.0 n.0 n.1 in
-          let whole : text ≡ codes "." ++ encode_utf8_all n.0 = behind_taken (codes ".") text g.0 g.1 ∙ ap (λ (l : List ℕ). codes "." ++ l) taken.1 in
+          let whole : text ≡ codes "." ++ encode_utf8_all n.0 = after_taken (codes ".") text g.0 g.1 ∙ ap (λ (l : List ℕ). codes "." ++ l) taken.1 in
           let here : AreSteps (text ++ rest) (Name n.0 ∷ hops) = subst (λ (t : List ℕ). AreSteps (t ++ rest) (Name n.0 ∷ hops)) (sym whole) (field_first n.0 taken.0 more) in
           subst (λ (h : Hop). AreSteps (text ++ rest) (h ∷ hops)) n.2 here
       | inr g ↦
-          let inner = bind_some (behind (codes "[") text) (λ inner. before (codes "]") inner >>= λ digits. option_map Index (decimal_at digits)) hop g.1 in
+          let inner = bind_some (following (codes "[") text) (λ inner. before (codes "]") inner >>= λ digits. option_map Index (decimal_at digits)) hop g.1 in
           let digits = bind_some (before (codes "]") inner.0) (λ digits. option_map Index (decimal_at digits)) hop inner.2 in
           let n = mapped_some Index (decimal_at digits.0) hop digits.2 in
-          let whole : text ≡ codes "[" ++ (digits.0 ++ codes "]") = behind_taken (codes "[") text inner.0 inner.1 ∙ ap (λ (l : List ℕ). codes "[" ++ l) (before_taken (codes "]") inner.0 digits.0 digits.1) in
+          let whole : text ≡ codes "[" ++ (digits.0 ++ codes "]") = after_taken (codes "[") text inner.0 inner.1 ∙ ap (λ (l : List ℕ). codes "[" ++ l) (before_taken (codes "]") inner.0 digits.0 digits.1) in
           let all : text ++ rest ≡ codes "[" ++ (digits.0 ++ (codes "]" ++ rest)) = ap (λ (l : List ℕ). l ++ rest) whole ∙ ap (λ (l : List ℕ). codes "[" ++ l) (append_assoc digits.0 (codes "]") rest) in
           let here : AreSteps (text ++ rest) (Index n.0 ∷ hops) = subst (λ (t : List ℕ). AreSteps t (Index n.0 ∷ hops)) (sym all) (element_first digits.0 n.0 (decimal_taken digits.0 n.0 n.1) more) in
           subst (λ (h : Hop). AreSteps (text ++ rest) (h ∷ hops)) n.2 here
@@ -87,8 +87,8 @@ route_taken variable text path e =
 pub path_taken : (text : List ℕ) (path : Route) → path_at text ≡ Some path → IsPath text path
 unfolding path_at
 path_taken text path e =
-    elim (map_or_some (behind (codes "$") text) (route_at true) (route_at false text) path e) [
-      | inl g ↦ subst (λ (t : List ℕ). IsPath t path) (sym (behind_taken (codes "$") text g.0 g.1)) (route_taken true g.0 path g.2)
+    elim (map_or_some (following (codes "$") text) (route_at true) (route_at false text) path e) [
+      | inl g ↦ subst (λ (t : List ℕ). IsPath t path) (sym (after_taken (codes "$") text g.0 g.1)) (route_taken true g.0 path g.2)
       | inr g ↦ route_taken false text path g.1
     ]
 
@@ -134,11 +134,11 @@ step_front mark front rest hop hops is solid e more =
     (cut ∙ ap (λ (l : List (List ℕ)). ([], l)) (sym same), ap hops_at same ∙ rw (e, more.1) refl)
 
 field_again : (name : List ℕ) → IsName name → hop_at (codes "." ++ encode_utf8_all name) ≡ Some (Name name)
-unfolding hop_at behind
+unfolding hop_at following
 field_again name h = rw (name_again name h) refl
 
 element_again : (digits : List ℕ) (number : ℕ) → IsDecimal digits number → hop_at (codes "[" ++ (digits ++ codes "]")) ≡ Some (Index number)
-unfolding hop_at index_at behind
+unfolding hop_at index_at following
 element_again digits number h = rw (before_again (codes "]") digits, decimal_again digits number h) refl
 
 steps_again : {rest : List ℕ} {hops : List Hop} → AreSteps rest hops → StepsAgain rest hops
@@ -147,8 +147,8 @@ steps_again no_steps = (refl, refl)
 steps_again (field_first {rest} {hops} name h more) = step_front 46 (encode_utf8_all name) rest (Name name) hops refl (name_solid name h) (field_again name h) (steps_again more)
 steps_again (element_first {rest} {hops} digits number h more) =
     let solid : list_all (λ c. not (begins_step c)) (digits ++ codes "]") ≡ true = list_all-append (λ c. not (begins_step c)) digits (codes "]") ∙ and_from _ _ (digits_solid digits h.digits.1) refl in
-    let behind_it = step_front 91 (digits ++ codes "]") rest (Index number) hops refl solid (element_again digits number h) (steps_again more) in
-    subst (λ (t : List ℕ). StepsAgain t (Index number ∷ hops)) (ap (λ (l : List ℕ). codes "[" ++ l) (append_assoc digits (codes "]") rest)) behind_it
+    let after_it = step_front 91 (digits ++ codes "]") rest (Index number) hops refl solid (element_again digits number h) (steps_again more) in
+    subst (λ (t : List ℕ). StepsAgain t (Index number ∷ hops)) (ap (λ (l : List ℕ). codes "[" ++ l) (append_assoc digits (codes "]") rest)) after_it
 
 route_again : (variable : Bool) (name rest : List ℕ) (hops : List Hop) → IsName name → AreSteps rest hops
     → route_at variable (encode_utf8_all name ++ rest) ≡ Some (record { variable = variable; name = name; steps = hops })
@@ -161,7 +161,7 @@ route_again variable name rest hops h steps =
     rw (cut, name_again name h, again.1) refl
 
 at_dollar : (text : List ℕ) (path : Option Route) → route_at true text ≡ path → path_at (codes "$" ++ text) ≡ path
-unfolding path_at behind
+unfolding path_at following
 at_dollar text path e = e
 
 path_of : (variable : Bool) (name rest : List ℕ) (hops : List Hop) → IsName name → AreSteps rest hops

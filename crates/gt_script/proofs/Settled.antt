@@ -14,7 +14,7 @@ use Rattle.gt_script.proofs.FormsSpelled.{line_is, line_reads, passed_is, passed
 
 -- ---- what is read is so
 
--- the same of the lines behind as many lines and as many commands
+-- the same of the lines after as many lines and as many commands
 record RefusedFrom (number count : ℕ) (texts : List (List ℕ)) (at : ℕ) : Type 0 where
   front : List (List ℕ)
   bad : List ℕ

@@ -81,8 +81,8 @@ quoted_of_bytes no_bytes all = All-nil is_byte
 quoted_of_bytes (byte_itself {inside} {bytes} c no_quote no_slash more) all =
     All-cons is_byte c bytes (All-head is_byte c inside all) (quoted_of_bytes more (All-tail is_byte c inside all))
 quoted_of_bytes (escaped {inside} {bytes} letter meant is more) all =
-    let behind = All-tail is_byte letter inside (All-tail is_byte 92 (letter ∷ inside) all) in
-    All-cons is_byte meant bytes (subst (λ (o : Option ℕ). IfSome o is_byte) is (escape_is_byte letter)) (quoted_of_bytes more behind)
+    let following = All-tail is_byte letter inside (All-tail is_byte 92 (letter ∷ inside) all) in
+    All-cons is_byte meant bytes (subst (λ (o : Option ℕ). IfSome o is_byte) is (escape_is_byte letter)) (quoted_of_bytes more following)
 
 -- the two parts of a text of bytes
 first_part : (xs ys : List ℕ) → All is_byte (xs ++ ys) → All is_byte xs

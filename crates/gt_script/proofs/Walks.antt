@@ -48,7 +48,7 @@ back_here c cs false e h =
     let cut : cut_steps (c ∷ cs) ≡ (c ∷ (cut_steps cs).0, (cut_steps cs).1) = rw e refl in
     rw (next, cut) h
 
--- the steps behind it
+-- the steps after it
 pub cut_back : (text : List ℕ) → cut_steps (drop (place text) text) ≡ ([], (cut_steps text).1)
 unfolding cut_steps
 cut_back [] = refl

@@ -174,8 +174,8 @@ words_within_taken (suc n) text words h e =
           let more = bind_some (words_within n w.0.1) (λ more. Some (w.0.0 ∷ more)) words w.2 in
           let taken = word_taken (without_blanks text) w.0 (blanks_once text) w.1 in
           let less : length w.0.1 ≤ n = omega (arith, h, word_at-shorter (without_blanks text) w.0 w.1, without_blanks-shorter text) in
-          let behind = words_within_taken n w.0.1 more.0 less more.1 in
-          let here : AreWords (without_blanks text) (w.0.0 ∷ more.0) = subst (λ (t : List ℕ). AreWords t (w.0.0 ∷ more.0)) (sym taken.2) (word_first taken.0 w.0.0 taken.1 taken.3 behind) in
+          let following = words_within_taken n w.0.1 more.0 less more.1 in
+          let here : AreWords (without_blanks text) (w.0.0 ∷ more.0) = subst (λ (t : List ℕ). AreWords t (w.0.0 ∷ more.0)) (sym taken.2) (word_first taken.0 w.0.0 taken.1 taken.3 following) in
           blanks_words text words (subst (λ (ws : List Piece). AreWords (without_blanks text) ws) (same_Some (w.0.0 ∷ more.0) words more.2) here)
     ]
 

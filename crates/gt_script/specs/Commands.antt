@@ -7,7 +7,7 @@ use Rattle.gt_script.specs.declared.command.Command.{Command}
 use Rattle.gt_script.specs.declared.command.Command.TheVariants.{New, Array, Text, Block, Set, Get, Drop, Print, Put, Find, Collect, CollectForce, Save, Load, Tables, Heap, Stats}
 use Rattle.gt_script.specs.declared.pieces.Piece.{Piece}
 use Rattle.gt_script.specs.declared.pieces.Piece.TheVariants.{Plain, Quoted}
-use Rattle.gt_script.specs.Texts.{◌>>=◌, behind}
+use Rattle.gt_script.specs.Texts.{◌>>=◌, following}
 use Rattle.gt_script.specs.Values.{name_at, variable_at, type_at, integer_at, given_at, file_at}
 use Rattle.gt_script.specs.Steps.{path_at}
 
@@ -176,5 +176,5 @@ told_at quiet words verb = option_map (λ command. record { quiet = quiet; comma
 
 -- the line that words are: the first is plain, and is quiet where @ stands in front of it
 unfoldable pub line_of : List Piece → Option Line
-line_of (Plain word ∷ words) = option_map_or (told_at true words) (behind (codes "@") word) (told_at false words word)
+line_of (Plain word ∷ words) = option_map_or (told_at true words) (following (codes "@") word) (told_at false words word)
 line_of _ = None

@@ -14,13 +14,13 @@ unfoldable pub without_blanks : List ℕ → List ℕ
 without_blanks [] = []
 without_blanks (c ∷ cs) = if is_blank c then without_blanks cs else c ∷ cs
 
--- what a character behind a backslash (92) means: itself where it is a backslash or a quote (34), a newline (10) where it
+-- what a character after a backslash (92) means: itself where it is a backslash or a quote (34), a newline (10) where it
 -- is n (110), a zero where it is 0 (48)
 unfoldable pub escape_of : ℕ → Option ℕ
 escape_of c =
     if c == 92 then Some 92 else if c == 34 then Some 34 else if c == 110 then Some 10 else if c == 48 then Some 0 else None
 
--- The bytes up to a closing quote and what stands behind it, or None where none closes or an escape means nothing. With
+-- The bytes up to a closing quote and what stands after it, or None where none closes or an escape means nothing. With
 -- escaped a backslash stands directly before the text.
 unfoldable pub quoted_at : Bool → List ℕ → Option (List ℕ × List ℕ)
 quoted_at escaped [] = None
@@ -38,7 +38,7 @@ abbrev pub ends_word : List ℕ → Bool
 ends_word [] = true
 ends_word (c ∷ cs) = is_blank c
 
--- behind an opening quote: a quoted word, which nothing touches, and what stands behind it
+-- after an opening quote: a quoted word, which nothing touches, and what stands after it
 unfoldable pub quoted_word_at : List ℕ → Option (Piece × List ℕ)
 quoted_word_at text = do
   quoted ← quoted_at false text
@@ -48,7 +48,7 @@ quoted_word_at text = do
 abbrev pub plain_len : List ℕ → ℕ
 plain_len text = prefix_len (λ c. not (is_blank c)) text
 
--- the word to which the first byte of a text belongs, and what stands behind it
+-- the word to which the first byte of a text belongs, and what stands after it
 unfoldable pub word_at : List ℕ → Option (Piece × List ℕ)
 word_at [] = None
 word_at (c ∷ cs) = if c == 34 then quoted_word_at cs else Some (Plain (c ∷ take (plain_len cs) cs), drop (plain_len cs) cs)

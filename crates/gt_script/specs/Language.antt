@@ -62,7 +62,7 @@ variable_text name = codes "$" ++ encode_utf8_all name
 abbrev pub IsVariable : List ℕ → List ℕ → Type 0
 IsVariable text name = IsName name × (text ≡ variable_text name)
 
--- a type is its name, and * behind it where it is a pointer
+-- a type is its name, and * after it where it is a pointer
 abbrev pub type_text : TypeName → List ℕ
 type_text ty = encode_utf8_all ty.name ++ cond ty.star (codes "*") []
 
@@ -80,7 +80,7 @@ pub record IsDecimal (text : List ℕ) (number : ℕ) : Type 0 where
   pub number_is : value_of 10 text ≡ number
   pub small : number < 2 ^ 64
 
--- a number below 2 ^ 64, decimal, or hexadecimal behind 0x
+-- a number below 2 ^ 64, decimal, or hexadecimal after 0x
 pub data IsNatural : List ℕ → ℕ → Type 0 where
   is_decimal : (text : List ℕ) (number : ℕ) → IsDecimal text number → IsNatural text number
   is_hexadecimal : (digits : List ℕ) (number : ℕ) → AreDigits 16 digits → value_of 16 digits ≡ number → number < 2 ^ 64 → IsNatural (codes "0x" ++ digits) number
@@ -119,7 +119,7 @@ pub record IsFile (bytes file : List ℕ) : Type 0 where
 
 -- ---- commands
 
--- the first word of a command, and the words behind it
+-- the first word of a command, and the words after it
 pub data IsForm : List ℕ → List Piece → Command → Type 0 where
   -- new $v T, new $v T N
   is_new : (v t var : List ℕ) (ty : TypeName) → IsVariable v var → IsTyped t ty → IsForm (codes "new") (Plain v ∷ Plain t ∷ []) (New var ty None)
@@ -163,7 +163,7 @@ pub record IsSpelled (text : List ℕ) (line : Line) : Type 0 where
 
 -- ---- lines
 
--- a comment is # (35) behind spaces alone
+-- a comment is # (35) after spaces alone
 unfoldable pub is_comment_of : List ℕ → Bool
 is_comment_of [] = false
 is_comment_of (c ∷ cs) = if c == 32 then is_comment_of cs else c == 35

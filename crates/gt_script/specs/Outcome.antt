@@ -38,7 +38,7 @@ pub record IsTooLong (text : List ℕ) : Type 0 where
   pub say : Say front lines
   pub many : 1000000 < length lines
 
--- what a stop says of the text; want of memory says nothing
+-- what a stop says of the text; out of memory says nothing
 abbrev pub IsScriptStop : List ℕ → ScriptStop → Type 0
 IsScriptStop text Memory = Unit {0}
 IsScriptStop text (ScriptSyntax line) = IsRefusedAt text line

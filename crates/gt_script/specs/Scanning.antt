@@ -45,13 +45,13 @@ abbrev pub with_line : Line → Outcome → Outcome
 with_line line (Ok lines) = Ok (line ∷ lines)
 with_line line (Err stop) = Err stop
 
--- behind as many lines and as many commands: what a text says, and then what follows it says
+-- after as many lines and as many commands: what a text says, and then what follows it says
 abbrev pub outcome_step : Option (Option Line) → ℕ → ℕ → Outcome → Outcome → Outcome
 outcome_step None number count skipped added = Err (ScriptSyntax (suc number))
 outcome_step (Some None) number count skipped added = skipped
 outcome_step (Some (Some line)) number count skipped added = if count == 1000000 then Err ScriptTooLong else with_line line added
 
--- the texts of lines, behind as many lines and as many commands
+-- the texts of lines, after as many lines and as many commands
 unfoldable pub outcome_from : ℕ → ℕ → List (List ℕ) → Outcome
 outcome_from number count [] = Ok []
 outcome_from number count (text ∷ texts) =

@@ -4,7 +4,7 @@ use Rattle.std.specs.Option.{option_map, option_map_or}
 use Rattle.gt_script.specs.declared.command.Route.{Route}
 use Rattle.gt_script.specs.declared.command.Hop.{Hop}
 use Rattle.gt_script.specs.declared.command.Hop.TheVariants.{Name, Index}
-use Rattle.gt_script.specs.Texts.{◌>>=◌, behind, before}
+use Rattle.gt_script.specs.Texts.{◌>>=◌, following, before}
 use Rattle.gt_script.specs.Values.{name_at, decimal_at}
 
 -- a step begins with . (46) or [ (91)
@@ -16,16 +16,16 @@ unfoldable pub cut_steps : List ℕ → List ℕ × List (List ℕ)
 cut_steps [] = ([], [])
 cut_steps (c ∷ cs) = if begins_step c then ([], (c ∷ (cut_steps cs).0) ∷ (cut_steps cs).1) else (c ∷ (cut_steps cs).0, (cut_steps cs).1)
 
--- to an element: digits and a closing bracket behind the opening one
+-- to an element: digits and a closing bracket after the opening one
 unfoldable pub index_at : List ℕ → Option Hop
 index_at text = do
-  inner ← behind (codes "[") text
+  inner ← following (codes "[") text
   digits ← before (codes "]") inner
   option_map Index (decimal_at digits)
 
 -- a step: to a field, . and its name, or to an element
 unfoldable pub hop_at : List ℕ → Option Hop
-hop_at text = option_map_or (λ name. option_map Name (name_at name)) (behind (codes ".") text) (index_at text)
+hop_at text = option_map_or (λ name. option_map Name (name_at name)) (following (codes ".") text) (index_at text)
 
 -- each text is a step
 unfoldable pub hops_at : List (List ℕ) → Option (List Hop)
@@ -44,4 +44,4 @@ route_at variable text = do
 
 -- a path begins at a variable where $ stands in front, else at a root
 unfoldable pub path_at : List ℕ → Option Route
-path_at text = option_map_or (route_at true) (behind (codes "$") text) (route_at false text)
+path_at text = option_map_or (route_at true) (following (codes "$") text) (route_at false text)

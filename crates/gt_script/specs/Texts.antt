@@ -9,16 +9,16 @@ abbrev pub ◌>>=◌ : {A B : Type 0} → Option A → (A → Option B) → Opti
 (Some x) >>= f = f x
 None >>= f = None
 
--- what stands behind a literal, where the text begins with it
-unfoldable pub behind : List ℕ → List ℕ → Option (List ℕ)
-behind literal text = if bytes_eq (take (length literal) text) literal then Some (drop (length literal) text) else None
+-- what stands after a literal, where the text begins with it
+unfoldable pub following : List ℕ → List ℕ → Option (List ℕ)
+following literal text = if bytes_eq (take (length literal) text) literal then Some (drop (length literal) text) else None
 
 -- what stands before a literal, where the text ends with it
 unfoldable pub before : List ℕ → List ℕ → Option (List ℕ)
 before literal text =
     if bytes_eq (drop (length text - length literal) text) literal then Some (take (length text - length literal) text) else None
 
--- what stands before and behind the first of a byte
+-- what stands before and after the first of a byte
 unfoldable pub parts_at : ℕ → List ℕ → Option (List ℕ × List ℕ)
 parts_at byte [] = None
 parts_at byte (c ∷ cs) = if c == byte then Some ([], cs) else (do

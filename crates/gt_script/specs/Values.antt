@@ -9,7 +9,7 @@ use Rattle.gt_text.specs.Integer.{value_of}
 use Rattle.gt_script.specs.declared.command.TypeName.{TypeName}
 use Rattle.gt_script.specs.declared.command.Given.{Given}
 use Rattle.gt_script.specs.declared.command.Given.TheVariants.{Integer, Null, Var}
-use Rattle.gt_script.specs.Texts.{◌>>=◌, behind, before}
+use Rattle.gt_script.specs.Texts.{◌>>=◌, following, before}
 
 -- an identifier: a character that may begin one, and then characters that may continue one
 unfoldable pub is_identifier_of : List ℕ → Bool
@@ -23,7 +23,7 @@ name_at text = if is_utf8 text && is_identifier_of (chars text) then Some (chars
 -- a variable is $ and a name
 unfoldable pub variable_at : List ℕ → Option (List ℕ)
 variable_at text = do
-  name ← behind (codes "$") text
+  name ← following (codes "$") text
   name_at name
 
 -- a type is a name, or a name and * for the pointer to it
@@ -48,11 +48,11 @@ leads_with_zero (c ∷ d ∷ cs) = c == 48
 unfoldable pub decimal_at : List ℕ → Option ℕ
 decimal_at text = if leads_with_zero text then None else digits_at 10 text
 
--- behind 0x the digits are hexadecimal, and zeros may lead
+-- after 0x the digits are hexadecimal, and zeros may lead
 unfoldable pub natural_at : List ℕ → Option ℕ
-natural_at text = option_map_or (digits_at 16) (behind (codes "0x") text) (decimal_at text)
+natural_at text = option_map_or (digits_at 16) (following (codes "0x") text) (decimal_at text)
 
--- behind a minus the number is at most 2 ^ 63
+-- after a minus the number is at most 2 ^ 63
 unfoldable pub negative_at : List ℕ → Option ℤ
 negative_at text = do
   number ← natural_at text
@@ -60,13 +60,13 @@ negative_at text = do
 
 -- an integer from - 2 ^ 63 to 2 ^ 64 - 1
 unfoldable pub integer_at : List ℕ → Option ℤ
-integer_at text = option_map_or negative_at (behind (codes "-") text) (option_map pos (natural_at text))
+integer_at text = option_map_or negative_at (following (codes "-") text) (option_map pos (natural_at text))
 
 -- null, a variable or an integer
 unfoldable pub given_at : List ℕ → Option Given
 given_at text =
     if bytes_eq text (codes "null") then Some Null
-    else option_map_or (λ name. option_map Var (name_at name)) (behind (codes "$") text) (option_map Integer (integer_at text))
+    else option_map_or (λ name. option_map Var (name_at name)) (following (codes "$") text) (option_map Integer (integer_at text))
 
 -- the name of a file is not empty and has no zero
 unfoldable pub file_at : List ℕ → Option (List ℕ)

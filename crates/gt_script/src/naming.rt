@@ -37,7 +37,7 @@ fn all_continue(text: &str) -> bool
 }
 
 // The name of the variable that a text is.
-#[tactic(auto, unfolding(crate::specs::Values::variable_at, crate::specs::Texts::behind))]
+#[tactic(auto, unfolding(crate::specs::Values::variable_at, crate::specs::Texts::following))]
 pub fn variable(names: &mut Names, text: &[u8]) -> Result<Option<Word>, AllocError>
     ensures { IfOk result (λ found. found ≡ variable_at text.now) }
 {

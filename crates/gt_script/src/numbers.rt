@@ -11,7 +11,7 @@ use crate::Number;
 const LARGEST_NEGATIVE: u64 = 1 << 63;
 
 // The integer that a text is, decimal or hexadecimal, from -2^63 to 2^64 - 1.
-#[tactic(auto, unfolding(crate::specs::Values::integer_at, crate::specs::Texts::behind))]
+#[tactic(auto, unfolding(crate::specs::Values::integer_at, crate::specs::Texts::following))]
 pub fn integer(text: &[u8]) -> Option<Number>
     ensures { result ≡ integer_at text.now }
 {
@@ -32,7 +32,7 @@ fn negative(text: &[u8]) -> Option<Number>
     Some(Number::negative(number))
 }
 
-#[tactic(auto, unfolding(crate::specs::Values::natural_at, crate::specs::Texts::behind))]
+#[tactic(auto, unfolding(crate::specs::Values::natural_at, crate::specs::Texts::following))]
 fn natural(text: &[u8]) -> Option<u64>
     ensures { result ≡ natural_at text.now }
 {

@@ -32,7 +32,7 @@ fn step_place(text: &[u8]) -> usize
 }
 
 // The path that a text is.
-#[tactic(auto, unfolding(crate::specs::Steps::path_at, crate::specs::Texts::behind))]
+#[tactic(auto, unfolding(crate::specs::Steps::path_at, crate::specs::Texts::following))]
 #[inline(always)]
 pub fn path(names: &mut Names, text: &[u8]) -> Result<Option<Route>, AllocError>
     ensures { IfOk result (λ found. found ≡ path_at text.now) }
@@ -111,7 +111,7 @@ fn hops(names: &mut Names, text: &[u8]) -> Result<Option<List<Hop>>, AllocError>
     }
 }
 
-#[tactic(auto, unfolding(crate::specs::Steps::hop_at, crate::specs::Texts::behind))]
+#[tactic(auto, unfolding(crate::specs::Steps::hop_at, crate::specs::Texts::following))]
 #[inline(always)]
 fn hop(names: &mut Names, text: &[u8]) -> Result<Option<Hop>, AllocError>
     ensures { IfOk result (λ found. found ≡ hop_at text.now) }
@@ -132,7 +132,7 @@ fn field(names: &mut Names, text: &[u8]) -> Result<Option<Hop>, AllocError>
     Ok(Some(Hop::Name(name)))
 }
 
-#[tactic(auto, unfolding(crate::specs::Steps::index_at, crate::specs::Texts::behind, crate::specs::Texts::before))]
+#[tactic(auto, unfolding(crate::specs::Steps::index_at, crate::specs::Texts::following, crate::specs::Texts::before))]
 fn index(text: &[u8]) -> Option<Hop>
     ensures { result ≡ index_at text.now }
 {
@@ -143,7 +143,7 @@ fn index(text: &[u8]) -> Option<Hop>
 }
 
 // The value that a text gives.
-#[tactic(auto, unfolding(crate::specs::Values::given_at, crate::specs::Texts::behind))]
+#[tactic(auto, unfolding(crate::specs::Values::given_at, crate::specs::Texts::following))]
 #[inline(always)]
 pub fn given(names: &mut Names, text: &[u8]) -> Result<Option<Given>, AllocError>
     ensures { IfOk result (λ found. found ≡ given_at text.now) }

@@ -98,7 +98,7 @@ fn spoken<'a>(
 }
 
 // The line that words are.
-#[tactic(auto, unfolding(crate::specs::Commands::line_of, crate::specs::Texts::behind))]
+#[tactic(auto, unfolding(crate::specs::Commands::line_of, crate::specs::Texts::following))]
 #[inline(always)]
 fn line(names: &mut Names, words: &[Piece<'_>]) -> Result<Option<Line>, AllocError>
     ensures { IfOk result (λ found. found ≡ line_of words.now) }

@@ -145,17 +145,17 @@ named_or name [] = inr (λ g inside is. let within = inside.1 in omega (arith, w
 named_or name (f ∷ fs) = elim (name_or f.name name (bytes_eq f.name name) refl) [
   | inl same ↦ inl (f, (0, omega arith, refl), same)
   | inr other ↦ elim (named_or name fs) [
-    | inl (g, inside, is) ↦ inl (g, behind f g fs inside, is)
-    | inr none ↦ inr (λ g inside is. elim (first_or_behind f g fs inside) [ inl first ↦ other (ap (λ (h : Field). h.name) (sym first) ∙ is) | inr more ↦ none g more is ])
+    | inl (g, inside, is) ↦ inl (g, following f g fs inside, is)
+    | inr none ↦ inr (λ g inside is. elim (first_or_after f g fs inside) [ inl first ↦ other (ap (λ (h : Field). h.name) (sym first) ∙ is) | inr more ↦ none g more is ])
   ]
 ]
   where
-    behind : (f g : Field) (fs : List Field) → Contains fs g → Contains (f ∷ fs) g
-    behind f g fs (k, within, e) = (suc k, omega (arith, within), e)
+    following : (f g : Field) (fs : List Field) → Contains fs g → Contains (f ∷ fs) g
+    following f g fs (k, within, e) = (suc k, omega (arith, within), e)
 
-    first_or_behind : (f g : Field) (fs : List Field) → Contains (f ∷ fs) g → (g ≡ f) ⊎ Contains fs g
-    first_or_behind f g fs (zero, within, e) = inl (sym e)
-    first_or_behind f g fs (suc k, within, e) = inr (k, omega (arith, within), e)
+    first_or_after : (f g : Field) (fs : List Field) → Contains (f ∷ fs) g → (g ≡ f) ⊎ Contains fs g
+    first_or_after f g fs (zero, within, e) = inl (sym e)
+    first_or_after f g fs (suc k, within, e) = inr (k, omega (arith, within), e)
 
 pick_name : (name : List ℕ) (s : Structure) → AllPairs (λ (f g : Field). f.name ≢ g.name) s.fields → Picked by_name name s
 pick_name name s distinct = elim (named_or name s.fields) [

@@ -17,7 +17,7 @@ use Rattle.gt_show.specs.Shown.{joined, named, Shows, ShowFields, ShowEach}
 use Rattle.gt_show.specs.Parts.{separator, AllFitSomewhere, IsAdded, ShowsStruct, ShowsRow}
 use Rattle.gt_show.proofs.FitParts.{as-many}
 
--- so many texts, joined, stand behind what was there
+-- so many texts, joined, stand after what was there
 pub record AreAdded (show : List (List ℕ) → Type 0) (count : ℕ) (old new : List ℕ) : Type 0 where
   pub texts : List (List ℕ)
   pub shown : show texts

@@ -70,7 +70,7 @@ HasChars blocks id count = (b : Block) × (blocks id ≡ Some b) × (b.kind ≡ 
 abbrev pub separator : ℕ → List ℕ
 separator place = if place == 0 then [] else codes ", "
 
--- such a text stands behind what was there
+-- such a text stands after what was there
 abbrev pub IsAdded : (List ℕ → Type 0) → List ℕ → List ℕ → Type 0
 IsAdded shows old new = (text : List ℕ) × shows text × (new ≡ old ++ text)
 

@@ -19,7 +19,7 @@ use gt_value::{BlockKind, BlockNames, Value};
 use std::alloc::{AllocError, Global};
 
 /// The text of the value of a whole block, by what it holds: its elements one after another. It takes time by the length of the
-/// text. Its only error is want of memory.
+/// text. Its only error is out of memory.
 pub fn show_block<N: BlockNames>(
     alloc: Global,
     program: &Program,

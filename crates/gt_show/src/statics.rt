@@ -13,7 +13,7 @@ use gt_value::{BlockNames, Value};
 use std::alloc::{AllocError, Global};
 
 /// The text of the static record, in which `names` tells what pointers name: that of a struct of which the roots are the fields. Its
-/// costs are those of [`show`](crate::show). Its only error is want of memory.
+/// costs are those of [`show`](crate::show). Its only error is out of memory.
 pub fn show_statics<N: BlockNames>(
     alloc: Global,
     program: &Program,

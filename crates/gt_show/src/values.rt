@@ -18,7 +18,7 @@ use gt_value::{BlockNames, Value};
 use std::alloc::{AllocError, Global};
 
 /// The text of a value of a type, in which `names` tells what pointers name. It takes time by the length of the text, and stack
-/// by how deep values stand one inside another. Its only error is want of memory.
+/// by how deep values stand one inside another. Its only error is out of memory.
 pub fn show<N: BlockNames>(
     alloc: Global,
     program: &Program,

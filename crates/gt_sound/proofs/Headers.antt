@@ -20,10 +20,10 @@ use Rattle.gt_sound.proofs.Tokens.{AreAllNamed, items_named, lexed_named}
 module _ (law : (text : List ℕ) (t : RawExpr) → expression_of text ≡ Ok t → IsExpression text t) (rules : (tokens : List Lexeme) → AnItem tokens (item_at tokens)) where
   declared_made : (cut : List (List Lexeme)) (items : List Item) → Declare cut items → AreAllNamed cut → All IsWellMadeItem items
   declared_made [] items is named = subst (λ xs. All IsWellMadeItem xs) (sym is) (All-nil IsWellMadeItem)
-  declared_made (one ∷ others) items (inl (found, behind, rest, reads, is, more)) named =
+  declared_made (one ∷ others) items (inl (found, following, rest, reads, is, more)) named =
       let made : IsWellMadeItem found = subst KeepsItem reads (item_read law (rules one) named.0) in
       subst (λ xs. All IsWellMadeItem xs) (sym is) (All-cons IsWellMadeItem found rest made (declared_made others rest more named.1))
-  declared_made (one ∷ others) items (inr (behind, reads, more)) named = declared_made others items more named.1
+  declared_made (one ∷ others) items (inr (following, reads, more)) named = declared_made others items more named.1
 
   pub read_made : (text : List ℕ) (tokens : List Token) (defines : List Define) (items : Items) → IsLexed text tokens defines → AreItems text tokens defines items → IsWellMade items
   read_made text tokens defines items lexed is =

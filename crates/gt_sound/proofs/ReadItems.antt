@@ -139,7 +139,7 @@ starred_read (StarredName.qualifier s more) named = starred_read more named.1
 starred_read (StarredName.no_name h) named = tt
 
 last_read : {ts : List Lexeme} {found : Option Name} → LastName ts found → AreNamed ts → IfSome found (λ n. IsName n.word)
-last_read (LastName.name front {behind = behind} n h none) named = (named_right front (lexeme.Name n ∷ behind) named).0
+last_read (LastName.name front {following = following} n h none) named = (named_right front (lexeme.Name n ∷ following) named).0
 last_read (LastName.no_name h) named = tt
 
 opaque_read : (found : Option Name) → IfSome found (λ n. IsName n.word) → IfSome (opaque_typedef found) IsWellMadeItem
@@ -149,7 +149,7 @@ opaque_read (Some name) h = All-cons IsAlias _ [] h (All-nil IsAlias)
 typedef_read : {ts : List Lexeme} {found : Option Item} → UnmarkedTypedef ts found → AreNamed ts → IfSome found IsWellMadeItem
 typedef_read (UnmarkedTypedef.first_form (FirstForm.first_form means names)) named = aliases_read names (meaning_read means named)
 typedef_read (UnmarkedTypedef.pointer {found = found} h p is) named =
-    opaque_read found (starred_read is (named_right p.front (lexeme.Open Round p.bracket ∷ lexeme.Star p.star ∷ p.behind) (subst AreNamed p.parts named)).1.1)
+    opaque_read found (starred_read is (named_right p.front (lexeme.Open Round p.bracket ∷ lexeme.Star p.star ∷ p.following) (subst AreNamed p.parts named)).1.1)
 typedef_read (UnmarkedTypedef.other {found = found} h p is) named = opaque_read found (last_read is named)
 
 unmarked_enum_read : {ts : List Lexeme} {found : Option Item} → UnmarkedEnum ts found → IfSome found IsWellMadeItem
@@ -165,7 +165,7 @@ unmarked_read (UnmarkedItem.an_enum t h) named = unmarked_enum_read h
 unmarked_read (UnmarkedItem.skipped h) named = tt
 
 abbrev pub KeepsItem : Outcome (Option Item) → Type 0
-KeepsItem (Read found behind) = IfSome found IsWellMadeItem
+KeepsItem (Read found following) = IfSome found IsWellMadeItem
 KeepsItem (Stops number at) = Unit {0}
 KeepsItem Ends = Unit {0}
 
@@ -177,4 +177,4 @@ pub item_read : (law : (text : List ℕ) (t : RawExpr) → expression_of text �
 item_read law (AnItem.marked h m) named = (marked_read law m named).0
 item_read law (AnItem.in_marked why h m) named = failed_item why
 item_read law (AnItem.unmarked h m) named = unmarked_read m named
-item_read law (AnItem.bad_place front behind g h k) named = tt
+item_read law (AnItem.bad_place front following g h k) named = tt

@@ -37,7 +37,7 @@ pub named_left : (xs ys : List Lexeme) → AreNamed (xs ++ ys) → AreNamed xs
 named_left [] ys h = tt
 named_left (x ∷ xs) ys h = (h.0, named_left xs ys h.1)
 
--- what is read is so, and the tokens behind it are named
+-- what is read is so, and the tokens after it are named
 abbrev pub Keeps : {A : Type 0} → (A → Type 0) → Outcome A → Type 0
 Keeps P (Read x ts) = P x × AreNamed ts
 Keeps P (Stops number at) = Unit {0}
@@ -124,7 +124,7 @@ words_read (MoreWords.word w s h1 h2) named = words_read h2 named.1
 words_read (MoreWords.bad_word w s h1) named = tt
 words_read (MoreWords.qualifier s h1) named = words_read h1 named.1
 words_read (MoreWords.host_wide s h1 h2 h3) named = (tt, qualifiers_read h3 named.1)
-words_read (MoreWords.name_behind s h1) named = (tt, named)
+words_read (MoreWords.name_after s h1) named = (tt, named)
 words_read (MoreWords.no_word h1) named = (tt, named)
 
 pub bare_type_read : {place : Place} {ts : List Lexeme} {o : Outcome RawType} → BareType place ts o → AreNamed ts → Keeps IsAnyType o

@@ -18,7 +18,7 @@ use Rattle.gt_resolve.specs.declared.declaration.What.{What}
 use Rattle.gt_resolve.specs.declared.declaration.What.TheVariants as what
 use Rattle.gt_resolve.specs.declared.draft.Draft.{Draft}
 use Rattle.gt_resolve.specs.Declarations.{first_some}
-use Rattle.gt_resolve.specs.Meanings.{as_tag, tag_in, is_keyword_of, defined_type, tagged_type, type_of_tag, plain_type, typedef_in, is_transparent, opaque, transparent, behind, means_behind, follow_type, follow_typedef, follow, IsMeaning, AreTypeNames, meaning_in, with_stars, resolved_type}
+use Rattle.gt_resolve.specs.Meanings.{as_tag, tag_in, is_keyword_of, defined_type, tagged_type, type_of_tag, plain_type, typedef_in, is_transparent, opaque, transparent, following, means_after, follow_type, follow_typedef, follow, IsMeaning, AreTypeNames, meaning_in, with_stars, resolved_type}
 use Rattle.gt_markers.specs.Sound.{NamesStructure}
 use Rattle.gt_sound.proofs.Lists.{IfSome-if, IfSome-find, IfSome-at}
 use Rattle.gt_sound.proofs.Names.{IsBelow}
@@ -92,19 +92,19 @@ module _ (draft : Draft) where
   transparent_means : (base : BaseType) (stars : Stars) → NamesStructure draft base → Means (transparent base stars)
   transparent_means base stars h = either_means (is_transparent base) (record { base = base; stars = stars }) opaque h tt
 
-  behind_means : (stars : Stars) (base : BaseType) (others : Stars) → NamesStructure draft base → Means (behind stars base others)
-  unfolding behind
-  behind_means Zero base others h = transparent_means base others h
-  behind_means One base Zero h = transparent_means base One h
-  behind_means One base One h = tt
-  behind_means One base Two h = tt
-  behind_means One base More h = tt
-  behind_means Two base others h = tt
-  behind_means More base others h = tt
+  after_means : (stars : Stars) (base : BaseType) (others : Stars) → NamesStructure draft base → Means (following stars base others)
+  unfolding following
+  after_means Zero base others h = transparent_means base others h
+  after_means One base Zero h = transparent_means base One h
+  after_means One base One h = tt
+  after_means One base Two h = tt
+  after_means One base More h = tt
+  after_means Two base others h = tt
+  after_means More base others h = tt
 
-  mapped_means : (stars : Stars) (found : Option Resolved) → IfSome found Means → IfSome (option_map (means_behind stars) found) Means
+  mapped_means : (stars : Stars) (found : Option Resolved) → IfSome found Means → IfSome (option_map (means_after stars) found) Means
   mapped_means stars None h = tt
-  mapped_means stars (Some m) h = behind_means stars m.base m.stars h
+  mapped_means stars (Some m) h = after_means stars m.base m.stars h
 
   follow_type_means : (ds : List Declaration) (deeper : List ℕ → Option Resolved) (ty : Spelled) → AreHere ds → ((word : List ℕ) → IfSome (deeper word) Means)
       → IfSome (follow_type ds deeper ty) Means

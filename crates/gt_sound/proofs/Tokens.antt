@@ -46,11 +46,11 @@ slice_is : (text before cs rest : List ℕ) → text ≡ encode_utf8_all (before
 slice_is text before cs rest e =
     let whole : text ≡ encode_utf8_all before ++ (encode_utf8_all cs ++ encode_utf8_all rest) =
     e ∙ encodes-append before (cs ++ rest) ∙ ap (λ bytes. encode_utf8_all before ++ bytes) (encodes-append cs rest) in
-    let behind : drop (byte_len before) text ≡ encode_utf8_all cs ++ encode_utf8_all rest =
+    let following : drop (byte_len before) text ≡ encode_utf8_all cs ++ encode_utf8_all rest =
     ap (λ bytes. drop (byte_len before) bytes) whole ∙ drop_at (encode_utf8_all before) (encode_utf8_all cs ++ encode_utf8_all rest) (byte_len before) refl in
     let size : byte_len before + byte_len cs - byte_len before ≡ byte_len cs = omega arith in
     ap (λ n. take n (drop (byte_len before) text)) size
-    ∙ ap (λ bytes. take (byte_len cs) bytes) behind
+    ∙ ap (λ bytes. take (byte_len cs) bytes) following
     ∙ take_at (encode_utf8_all cs) (encode_utf8_all rest) (byte_len cs) refl
 
 token_named : (text before cs rest : List ℕ) (k : Kind) → text ≡ encode_utf8_all (before ++ (cs ++ rest)) → all_scalars cs ≡ true → Reaches (Item k cs) rest
@@ -69,9 +69,9 @@ piece_named text before rest fresh (Plain (Line inside)) e scalars stands = All-
 piece_named text before rest fresh (Plain (Continuation end)) e scalars stands = All-nil (TokenNamed text)
 piece_named text before rest fresh (Directive ps) e scalars stands = All-nil (TokenNamed text)
 
-nothing_behind : (xs : List ℕ) → xs ++ [] ≡ xs
-nothing_behind [] = refl
-nothing_behind (x ∷ xs) = ap (λ ys. x ∷ ys) (nothing_behind xs)
+nothing_after : (xs : List ℕ) → xs ++ [] ≡ xs
+nothing_after [] = refl
+nothing_after (x ∷ xs) = ap (λ ys. x ∷ ys) (nothing_after xs)
 
 pieces_named : (text before : List ℕ) (fresh : Bool) (ps : List Piece) → text ≡ encode_utf8_all (before ++ text_of ps) → all_scalars (text_of ps) ≡ true → ArePieces fresh ps []
     → All (TokenNamed text) (tokens_from (byte_len before) ps)
@@ -79,7 +79,7 @@ pieces_named text before fresh [] e scalars are = All-nil (TokenNamed text)
 pieces_named text before fresh (p ∷ ps) e scalars are =
     let cs = piece_spelling p in
     let split = scalars_split cs (text_of ps) scalars in
-    let stands = subst (λ rest. Stands fresh p rest) (nothing_behind (text_of ps)) are.0 in
+    let stands = subst (λ rest. Stands fresh p rest) (nothing_after (text_of ps)) are.0 in
     let more = pieces_named text (before ++ cs) (fresh_after fresh p) ps (e ∙ ap encode_utf8_all (sym (append_assoc before cs (text_of ps)))) split.1 are.1 in
     let size : byte_len (before ++ cs) ≡ byte_len before + byte_len cs = ap (λ bytes. length bytes) (encodes-append before cs) ∙ length-append (encode_utf8_all before) (encode_utf8_all cs) in
     All-append (TokenNamed text) (token_at (byte_len before) p) (tokens_from (byte_len before + byte_len cs) ps)

@@ -18,8 +18,8 @@ use Rattle.gt_text.specs.WhiteSpace.{is_white_space_of}
 use Rattle.gt_types.specs.Names.{is_name_character, IsName}
 use Rattle.gt_expr.specs.declared.part.Part.{Part}
 use Rattle.gt_expr.specs.declared.part.Part.TheVariants.{Integer, Name, Other}
-use Rattle.gt_expr.specs.Characters.{front_of, character_at, width_at, begins_with, run_behind}
-use Rattle.gt_expr.specs.Parts.{integer_len, name_len, symbols, symbol_at, word_at, part_at, parts_behind}
+use Rattle.gt_expr.specs.Characters.{front_of, character_at, width_at, begins_with, run_after}
+use Rattle.gt_expr.specs.Parts.{integer_len, name_len, symbols, symbol_at, word_at, part_at, parts_after}
 use Rattle.gt_sound.proofs.Lists.{IfSome-find}
 
 -- ---- characters of identifiers
@@ -72,8 +72,8 @@ front_rest (b ∷ bs) = (drop (1 + continuation_len b) (b ∷ bs), sym (take-app
 
 begins_from : (text rest : List ℕ) (c : ℕ) → IsScalar c → text ≡ encode_utf8 c ++ rest → Begins text c
 begins_from text rest c scalar e =
-    let behind : drop (len_utf8 c) text ≡ rest = ap (λ bytes. drop (len_utf8 c) bytes) e ∙ drop_at (encode_utf8 c) rest (len_utf8 c) (length-encode c) in
-    record { scalar = scalar; parts = e ∙ ap (λ bytes. encode_utf8 c ++ bytes) (sym behind) }
+    let following : drop (len_utf8 c) text ≡ rest = ap (λ bytes. drop (len_utf8 c) bytes) e ∙ drop_at (encode_utf8 c) rest (len_utf8 c) (length-encode c) in
+    record { scalar = scalar; parts = e ∙ ap (λ bytes. encode_utf8 c ++ bytes) (sym following) }
 
 character_begins : (text : List ℕ) (c : ℕ) → character_at text ≡ Some c → Begins text c
 unfolding character_at
@@ -81,11 +81,11 @@ character_begins text c e =
     let found = chosen_some (is_utf8 (front_of text)) (slice_get (chars (front_of text)) 0) c e in
     let utf8 = IsUtf8-from_is_utf8 (front_of text) found.0 in
     let cs = first_some (chars (front_of text)) c found.1 in
-    let behind = front_rest text in
+    let following = front_rest text in
     let scalars : all_scalars (c ∷ cs.0) ≡ true = ap all_scalars (sym cs.1) ∙ scalars-chars (front_of text) utf8 in
     let front : front_of text ≡ encode_utf8_all (c ∷ cs.0) = sym (encodes-chars (front_of text) utf8) ∙ ap encode_utf8_all cs.1 in
-    begins_from text (encode_utf8_all cs.0 ++ behind.0) c (and_parts _ _ scalars).0
-    (behind.1 ∙ ap (λ bytes. bytes ++ behind.0) front ∙ append_assoc (encode_utf8 c) (encode_utf8_all cs.0) behind.0)
+    begins_from text (encode_utf8_all cs.0 ++ following.0) c (and_parts _ _ scalars).0
+    (following.1 ∙ ap (λ bytes. bytes ++ following.0) front ∙ append_assoc (encode_utf8 c) (encode_utf8_all cs.0) following.0)
 
 -- the characters of a text that begins with one
 begins_chars : (more : List ℕ) (c : ℕ) → IsScalar c → chars (encode_utf8 c ++ more) ≡ c ∷ chars more
@@ -96,49 +96,49 @@ begins_chars more c scalar =
 
 -- ---- characters that pass a test
 
-run_behind-drop : (n : ℕ) (p : ℕ → Bool) (text : List ℕ) → n ≤ length text → run_behind n p text ≡ n + run_behind 0 p (drop n text)
-unfolding run_behind
-run_behind-drop zero p text h = omega arith
-run_behind-drop (suc n) p [] h = absurd (omega arith)
-run_behind-drop (suc n) p (b ∷ bs) h = let more : run_behind n p bs ≡ n + run_behind 0 p (drop n bs) = run_behind-drop n p bs (omega arith) in omega arith
+run_after-drop : (n : ℕ) (p : ℕ → Bool) (text : List ℕ) → n ≤ length text → run_after n p text ≡ n + run_after 0 p (drop n text)
+unfolding run_after
+run_after-drop zero p text h = omega arith
+run_after-drop (suc n) p [] h = absurd (omega arith)
+run_after-drop (suc n) p (b ∷ bs) h = let more : run_after n p bs ≡ n + run_after 0 p (drop n bs) = run_after-drop n p bs (omega arith) in omega arith
 
 begins_long : (text : List ℕ) (c : ℕ) → Begins text c → len_utf8 c ≤ length text
 begins_long text c begins = omega (arith, ap length begins.parts, length-append (encode_utf8 c) (drop (len_utf8 c) text), length-encode c)
 
-run_yes : (p : ℕ → Bool) (text : List ℕ) (c : ℕ) → character_at text ≡ Some c → p c ≡ true → run_behind 0 p text ≡ len_utf8 c + run_behind 0 p (drop (len_utf8 c) text)
-unfolding run_behind
+run_yes : (p : ℕ → Bool) (text : List ℕ) (c : ℕ) → character_at text ≡ Some c → p c ≡ true → run_after 0 p text ≡ len_utf8 c + run_after 0 p (drop (len_utf8 c) text)
+unfolding run_after
 run_yes p [] c e passes = let h : 1 ≤ 0 = omega (arith, begins_long [] c (character_begins [] c e), (len_utf8_bounds c).0) in absurd (omega arith)
 run_yes p (b ∷ bs) c e passes =
     let long = begins_long (b ∷ bs) c (character_begins (b ∷ bs) c e) in
     let some = (len_utf8_bounds c).0 in
     let less : len_utf8 c ≡ suc (len_utf8 c - 1) = omega arith in
-    let more = run_behind-drop (len_utf8 c - 1) p bs (omega arith) in
-    let behind : drop (len_utf8 c) (b ∷ bs) ≡ drop (len_utf8 c - 1) bs = ap (λ n. drop n (b ∷ bs)) less in
-    let here : run_behind 0 p (b ∷ bs) ≡ 1 + run_behind (len_utf8 c - 1) p bs = rw (e, passes) refl in
-    rw (here, behind) (omega arith)
+    let more = run_after-drop (len_utf8 c - 1) p bs (omega arith) in
+    let following : drop (len_utf8 c) (b ∷ bs) ≡ drop (len_utf8 c - 1) bs = ap (λ n. drop n (b ∷ bs)) less in
+    let here : run_after 0 p (b ∷ bs) ≡ 1 + run_after (len_utf8 c - 1) p bs = rw (e, passes) refl in
+    rw (here, following) (omega arith)
 
-run_no : (p : ℕ → Bool) (text : List ℕ) → begins_with p text ≡ false → run_behind 0 p text ≡ 0
-unfolding run_behind
+run_no : (p : ℕ → Bool) (text : List ℕ) → begins_with p text ≡ false → run_after 0 p text ≡ 0
+unfolding run_after
 run_no p [] e = refl
 run_no p (b ∷ bs) e = rw e refl
 
 -- what is taken of a text of which the first character passes
 run_chars : (p : ℕ → Bool) (text : List ℕ) (c : ℕ) → character_at text ≡ Some c → p c ≡ true
-    → chars (take (run_behind 0 p text) text) ≡ c ∷ chars (take (run_behind 0 p (drop (len_utf8 c) text)) (drop (len_utf8 c) text))
+    → chars (take (run_after 0 p text) text) ≡ c ∷ chars (take (run_after 0 p (drop (len_utf8 c) text)) (drop (len_utf8 c) text))
 run_chars p text c e passes =
     let begins = character_begins text c e in
     let rest : List ℕ = drop (len_utf8 c) text in
     let front : take (len_utf8 c) text ≡ encode_utf8 c = ap (λ bytes. take (len_utf8 c) bytes) begins.parts ∙ take_at (encode_utf8 c) rest (len_utf8 c) (length-encode c) in
     ap (λ n. chars (take n text)) (run_yes p text c e passes)
-    ∙ ap chars (take-add (len_utf8 c) (run_behind 0 p rest) text ∙ ap (λ bytes. bytes ++ take (run_behind 0 p rest) rest) front)
-    ∙ begins_chars (take (run_behind 0 p rest) rest) c begins.scalar
+    ∙ ap chars (take-add (len_utf8 c) (run_after 0 p rest) text ∙ ap (λ bytes. bytes ++ take (run_after 0 p rest) rest) front)
+    ∙ begins_chars (take (run_after 0 p rest) rest) c begins.scalar
 
-run_none : (p : ℕ → Bool) (text : List ℕ) → begins_with p text ≡ false → list_all is_name_character (chars (take (run_behind 0 p text) text)) ≡ true
+run_none : (p : ℕ → Bool) (text : List ℕ) → begins_with p text ≡ false → list_all is_name_character (chars (take (run_after 0 p text) text)) ≡ true
 run_none p text e = ap (λ n. list_all is_name_character (chars (take n text))) (run_no p text e) ∙ ap (list_all is_name_character) chars-nil
 
 -- all characters of a run are those of names
 abbrev RunsNames : List ℕ → Type 0
-RunsNames text = list_all is_name_character (chars (take (run_behind 0 continues_identifier_of text) text)) ≡ true
+RunsNames text = list_all is_name_character (chars (take (run_after 0 continues_identifier_of text) text)) ≡ true
 
 run_passes : (text : List ℕ) (c : ℕ) (b : Bool) → character_at text ≡ Some c → continues_identifier_of c ≡ b → ((rest : List ℕ) → length rest < length text → RunsNames rest) → RunsNames text
 run_passes text c false e h more = run_none continues_identifier_of text (ap (λ o. option_map_or continues_identifier_of o false) e ∙ h)
@@ -148,7 +148,7 @@ run_passes text c true e h more =
     let some = (len_utf8_bounds c).0 in
     let size = length-drop (len_utf8 c) text in
     ap (list_all is_name_character) (run_chars continues_identifier_of text c e h)
-    ∙ and_from (is_name_character c) (list_all is_name_character (chars (take (run_behind 0 continues_identifier_of rest) rest))) (continues_name c h) (more rest (omega (arith, long, some, size)))
+    ∙ and_from (is_name_character c) (list_all is_name_character (chars (take (run_after 0 continues_identifier_of rest) rest))) (continues_name c h) (more rest (omega (arith, long, some, size)))
 
 run_step : (text : List ℕ) (o : Option ℕ) → character_at text ≡ o → ((rest : List ℕ) → length rest < length text → RunsNames rest) → RunsNames text
 run_step text None e more = run_none continues_identifier_of text (ap (λ o. option_map_or continues_identifier_of o false) e)
@@ -158,13 +158,13 @@ run_names : (fuel : ℕ) (text : List ℕ) → length text ≤ fuel → RunsName
 run_names zero text l = run_step text (character_at text) refl (λ rest lt. absurd (omega (arith, lt, l)))
 run_names (suc fuel) text l = run_step text (character_at text) refl (λ rest lt. run_names fuel rest (omega (arith, lt, l)))
 
-name_from : (text : List ℕ) (o : Option ℕ) → character_at text ≡ o → option_map_or starts_identifier_of o false ≡ true → IsName (chars (take (run_behind 0 continues_identifier_of text) text))
+name_from : (text : List ℕ) (o : Option ℕ) → character_at text ≡ o → option_map_or starts_identifier_of o false ≡ true → IsName (chars (take (run_after 0 continues_identifier_of text) text))
 name_from text None e h = absurd (true≢false (sym h))
 name_from text (Some c) e h =
     let goes = starts_continues c h in
     let rest : List ℕ = drop (len_utf8 c) text in
     subst IsName (sym (run_chars continues_identifier_of text c e goes))
-    (and_from (is_name_character c) (list_all is_name_character (chars (take (run_behind 0 continues_identifier_of rest) rest))) (continues_name c goes) (run_names (length rest) rest (omega arith)))
+    (and_from (is_name_character c) (list_all is_name_character (chars (take (run_after 0 continues_identifier_of rest) rest))) (continues_name c goes) (run_names (length rest) rest (omega arith)))
 
 -- ---- parts
 
@@ -176,8 +176,8 @@ abbrev pub AreParts : List Part → Type 0
 AreParts [] = Unit {0}
 AreParts (p ∷ ps) = PartNamed p × AreParts ps
 
-run_is_name : (text : List ℕ) (b : Bool) → begins_with starts_identifier_of text ≡ b → ((if b then run_behind 0 continues_identifier_of text else 0) == 0) ≡ false
-    → IsName (chars (take (if b then run_behind 0 continues_identifier_of text else 0) text))
+run_is_name : (text : List ℕ) (b : Bool) → begins_with starts_identifier_of text ≡ b → ((if b then run_after 0 continues_identifier_of text else 0) == 0) ≡ false
+    → IsName (chars (take (if b then run_after 0 continues_identifier_of text else 0) text))
 run_is_name text true e h = name_from text (character_at text) refl e
 run_is_name text false e h = absurd (true≢false h)
 
@@ -220,10 +220,10 @@ either_parts : (b : Bool) (xs ys : List Part) → AreParts xs → AreParts ys �
 either_parts true xs ys h k = h
 either_parts false xs ys h k = k
 
-pub parts_named : (n : ℕ) (text : List ℕ) → AreParts (parts_behind n text)
-unfolding parts_behind
+pub parts_named : (n : ℕ) (text : List ℕ) → AreParts (parts_after n text)
+unfolding parts_after
 parts_named n [] = tt
 parts_named (suc n) (b ∷ bs) = parts_named n bs
 parts_named zero (b ∷ bs) =
-    either_parts (is_white_space_of b) (parts_behind zero bs) ((part_at (b ∷ bs)).0 ∷ parts_behind ((part_at (b ∷ bs)).1 - 1) bs) (parts_named zero bs)
+    either_parts (is_white_space_of b) (parts_after zero bs) ((part_at (b ∷ bs)).0 ∷ parts_after ((part_at (b ∷ bs)).1 - 1) bs) (parts_named zero bs)
     (part_named (b ∷ bs), parts_named ((part_at (b ∷ bs)).1 - 1) bs)

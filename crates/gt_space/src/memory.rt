@@ -50,7 +50,7 @@ impl<A: Allocator> Model for Deed<A> {
     ghost also_owns = { λ d. owned_token (A.dealloc_token d.alloc) d.at d.len };
 }
 
-/// A block of `len` bytes, or want of memory.
+/// A block of `len` bytes, or out of memory.
 pub(crate) fn allocate<A: Allocator>(
     alloc: &A,
     len: usize,

@@ -48,7 +48,7 @@ spread low high (b ∷ blocks) rise apart room within =
   where
     after : (b c : Block) → b.address < c.address → IsApart b.address b.size c.address c.size → b.address + b.size ≤ c.address
     after b c above (inl before) = omega (arith, before)
-    after b c above (inr behind) = absurd (let no : 1 ≤ 0 = omega (arith, above, behind) in omega (arith, no))
+    after b c above (inr following) = absurd (let no : 1 ≤ 0 = omega (arith, above, following) in omega (arith, no))
 
 -- the bytes of all blocks are those of the pages at most
 few_bytes : (program : Program) (layouts : Layouts) (objects : List Object) (places : Places) → ArePlacesOf program layouts objects places → places.pages ≤ 16384

@@ -50,8 +50,8 @@ module _ (path : Base → List (List ℕ) → Option RowLeaf) (root : ℕ → Op
       let same = ap (λ l. front ++ l) (append-assoc leaves after back) in
       subst (λ l. Translates path root l e (made beyond (length front))) (sym same) (is beyond front (after ++ back) (subst (λ l. length l ≤ beyond) same most))
 
-  behind : (e : Expr) (leaves first : List RowLeaf) (made : ℕ → ℕ → Expr) → IsAmong leaves made e → IsAmong (first ++ leaves) (λ beyond before. made beyond (before + length first)) e
-  behind e leaves first made is beyond front back most =
+  following : (e : Expr) (leaves first : List RowLeaf) (made : ℕ → ℕ → Expr) → IsAmong leaves made e → IsAmong (first ++ leaves) (λ beyond before. made beyond (before + length first)) e
+  following e leaves first made is beyond front back most =
       let same = ap (λ l. front ++ l) (append-assoc first leaves back) ∙ sym (append-assoc front first (leaves ++ back)) in
       subst (λ n. Translates path root (front ++ ((first ++ leaves) ++ back)) e (made beyond n)) (length-append front first)
       (subst (λ l. Translates path root l e (made beyond (length (front ++ first)))) (sym same) (is beyond (front ++ first) back (subst (λ l. length l ≤ beyond) same most)))
@@ -60,7 +60,7 @@ module _ (path : Base → List (List ℕ) → Option RowLeaf) (root : ℕ → Op
   has-two op a b x y = record {
     leaves = x.leaves ++ y.leaves;
     made = λ beyond before. expr.Two op (x.made beyond before) (y.made beyond (before + length x.leaves));
-    is = λ beyond front back most. two (ahead a x.leaves y.leaves x.made x.is beyond front back most) (behind b y.leaves x.leaves y.made y.is beyond front back most);
+    is = λ beyond front back most. two (ahead a x.leaves y.leaves x.made x.is beyond front back most) (following b y.leaves x.leaves y.made y.is beyond front back most);
   }
 
   has-cond : (t a b : Expr) → HasLeaves t → HasLeaves a → HasLeaves b → HasLeaves (expr.Cond t a b)
@@ -69,8 +69,8 @@ module _ (path : Base → List (List ℕ) → Option RowLeaf) (root : ℕ → Op
     made = λ beyond before. expr.Cond (x.made beyond before) (y.made beyond (before + length x.leaves)) (z.made beyond (before + length x.leaves + length y.leaves));
     is = λ beyond front back most.
         cond (ahead t x.leaves (y.leaves ++ z.leaves) x.made x.is beyond front back most)
-        (behind a (y.leaves ++ z.leaves) x.leaves y.made (ahead a y.leaves z.leaves y.made y.is) beyond front back most)
-        (behind b (y.leaves ++ z.leaves) x.leaves (λ over before. z.made over (before + length y.leaves)) (behind b z.leaves y.leaves z.made z.is) beyond front back most);
+        (following a (y.leaves ++ z.leaves) x.leaves y.made (ahead a y.leaves z.leaves y.made y.is) beyond front back most)
+        (following b (y.leaves ++ z.leaves) x.leaves (λ over before. z.made over (before + length y.leaves)) (following b z.leaves y.leaves z.made z.is) beyond front back most);
   }
 
   layer : (y : Expr-F ((e : Expr) × HasLeaves e)) → HasLeaves (roll-Expr (map-Expr ((e : Expr) × HasLeaves e) Expr (λ e. e.0) y))

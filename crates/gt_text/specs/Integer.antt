@@ -7,7 +7,7 @@ use Rattle.std.specs.Char.{digit_value, is_digit}
 abbrev pub digits_of : ℕ → List ℕ → List ℕ
 digits_of base text = take_while (λ c. is_digit c base) text
 
--- what stands behind those digits
+-- what stands after those digits
 abbrev pub suffix_of : ℕ → List ℕ → List ℕ
 suffix_of base text = drop (length (digits_of base text)) text
 
@@ -25,7 +25,7 @@ numeral_of base text =
     let digits = digits_of base text in
     if not (length digits == 0) && is_suffix_of (suffix_of base text) && nat_lt (value_of base digits) (2 ^ 63) then Some (value_of base digits) else None
 
--- behind 0x or 0X hexadecimal digits, from a 0 on octal digits, else decimal digits
+-- after 0x or 0X hexadecimal digits, from a 0 on octal digits, else decimal digits
 unfoldable pub integer_of : List ℕ → Option ℕ
 integer_of text =
     if starts_with nat_eq text (codes "0x") || starts_with nat_eq text (codes "0X") then numeral_of 16 (drop 2 text)

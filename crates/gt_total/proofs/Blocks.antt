@@ -73,7 +73,7 @@ module _ (program : Program) (layouts : Layouts) (heap : Heap) (are : ArePlacesO
     new_place : (r : Placed) → Contains heap.places.placed r → r.block.address ≡ address → ⊥
     new_place r there here = elim (apart r there) as (λ _. ⊥) [
       | inl before ↦ absurd (let no : 1 ≤ 0 = omega (arith, before, here, large) in omega (arith, no))
-      | inr behind ↦ absurd (let some = listed r there in let no : 1 ≤ 0 = omega (arith, behind, here, some) in omega (arith, no))
+      | inr following ↦ absurd (let some = listed r there in let no : 1 ≤ 0 = omega (arith, following, here, some) in omega (arith, no))
     ]
 
     new_name : (q : Object) → Contains heap.graph.objects q → q.id ≡ address → ⊥

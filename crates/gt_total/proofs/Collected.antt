@@ -38,7 +38,7 @@ spread low high (b ∷ blocks) rise apart room within =
   where
     past : (b c : Block) → b.address < c.address → IsApart b.address b.size c.address c.size → b.address + b.size ≤ c.address
     past b c above (inl before) = omega (arith, before)
-    past b c above (inr behind) = absurd (let no : 1 ≤ 0 = omega (arith, above, behind) in omega (arith, no))
+    past b c above (inr following) = absurd (let no : 1 ≤ 0 = omega (arith, above, following) in omega (arith, no))
 
 -- the blocks of a good heap have at most the bytes of the largest space
 module _ (program : Program) (layouts : Layouts) (s : State) (good : IsGood program layouts s.heap) where

@@ -27,13 +27,13 @@ in_page address low = (omega (arith, low), omega (arith, low))
 -- a block is not off the page in which it starts
 not_off : (address size page : ℕ) → 0x10000000 ≤ address → 8 ≤ size → page_of address ≡ page → ¬ IsOffPage address size page
 not_off address size page low large is (inl before) = let at = in_page address low in let same = ap (λ p. page_address p) is in omega (arith, at.0, same, before, large)
-not_off address size page low large is (inr behind) = let at = in_page address low in let same = ap (λ p. page_address p) is in omega (arith, at.1, same, behind)
+not_off address size page low large is (inr following) = let at = in_page address low in let same = ap (λ p. page_address p) is in omega (arith, at.1, same, following)
 
 -- ---- one block more
 
 apart_turned : (b c : Block) → IsApart b.address b.size c.address c.size → IsApart c.address c.size b.address b.size
 apart_turned b c (inl before) = inr before
-apart_turned b c (inr behind) = inl behind
+apart_turned b c (inr following) = inl following
 
 apart_between : (b : Block) (front back : List Block) → AreApart (front ++ back) → ((c : Block) → Contains (front ++ back) c → IsApart b.address b.size c.address c.size) → AreApart (front ++ b ∷ back)
 apart_between b [] back apart each = (all_by (λ c. IsApart b.address b.size c.address c.size) back each, apart)
@@ -207,17 +207,17 @@ module _ (ledger : Ledger) (sound : Sound ledger) (large : (c : Block) → Conta
     own_offset : offset_of own.address ≡ 0
     own_offset = omega arith
 
-    -- a block that is off each of some pages lies before or behind them
+    -- a block that is off each of some pages lies before or after them
     off_all : (c : Block) → 8 ≤ c.size → (count : ℕ) → ((q : ℕ) → page ≤ q → q < page + suc count → IsOffPage c.address c.size q)
         → (c.address + c.size ≤ page_address page) ⊎ (page_address (page + suc count) ≤ c.address)
     off_all c big zero off = elim (off page (omega arith) (omega arith)) as (λ _. (c.address + c.size ≤ page_address page) ⊎ (page_address (page + 1) ≤ c.address)) [
       | inl before ↦ inl before
-      | inr behind ↦ inr (omega (arith, behind))
+      | inr following ↦ inr (omega (arith, following))
     ]
     off_all c big (suc count) off = elim (off_all c big count (λ q from to. off q from (omega (arith, to)))) as (λ _. (c.address + c.size ≤ page_address page) ⊎ (page_address (page + suc (suc count)) ≤ c.address)) [
       | inl before ↦ inl before
-      | inr behind ↦ elim (off (page + suc count) (omega arith) (omega arith)) as (λ _. (c.address + c.size ≤ page_address page) ⊎ (page_address (page + suc (suc count)) ≤ c.address)) [
-        | inl over ↦ absurd (omega (arith, behind, over, big))
+      | inr following ↦ elim (off (page + suc count) (omega arith) (omega arith)) as (λ _. (c.address + c.size ≤ page_address page) ⊎ (page_address (page + suc (suc count)) ≤ c.address)) [
+        | inl over ↦ absurd (omega (arith, following, over, big))
         | inr past ↦ inr (omega (arith, past))
       ]
     ]
@@ -228,7 +228,7 @@ module _ (ledger : Ledger) (sound : Sound ledger) (large : (c : Block) → Conta
     own_apart : (c : Block) → Contains ledger.blocks c → IsApart own.address size c.address c.size
     own_apart c there = elim (off_all c (large c there) (pages_of size - 1) (λ q from to. off_page c there q from (omega (arith, to, some_pages)))) as (λ _. IsApart own.address size c.address c.size) [
       | inl before ↦ inr before
-      | inr behind ↦ inl (omega (arith, behind, enough, some_pages))
+      | inr following ↦ inl (omega (arith, following, enough, some_pages))
     ]
 
     off_other : (q : ℕ) → ((page ≤ q) → (q < page + pages_of size) → ⊥) → IsOffPage own.address size q

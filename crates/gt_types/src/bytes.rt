@@ -32,7 +32,7 @@ impl Bytes {
         }
     }
 
-    /// A copy of the bytes. It answers want of memory alone.
+    /// A copy of the bytes. Its only error is out of memory.
     pub fn of(alloc: Global, bytes: &[u8]) -> Result<Bytes, AllocError>
         ensures bytes { IfOk result (λ b. b ≡ bytes.now) }
     {
@@ -83,7 +83,7 @@ impl Bytes {
         self.items.get(at).copied()
     }
 
-    /// Adds a byte at the end. For want of memory the bytes are as before.
+    /// Adds a byte at the end. Out of memory, the bytes are as before.
     pub fn push(&mut self, byte: u8) -> Result<(), AllocError>
         ensures added { OnOk result (self.new ≡ self.old ++ byte ∷ []) }
         ensures unchanged { OnErr result (self.new ≡ self.old) }
@@ -92,7 +92,7 @@ impl Bytes {
         Ok(())
     }
 
-    /// Adds bytes at the end. For want of memory the bytes are as before.
+    /// Adds bytes at the end. Out of memory, the bytes are as before.
     pub fn append(&mut self, bytes: &[u8]) -> Result<(), AllocError>
         ensures added { OnOk result (self.new ≡ self.old ++ bytes.now) }
         ensures unchanged { OnErr result (self.new ≡ self.old) }

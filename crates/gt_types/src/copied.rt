@@ -4,7 +4,7 @@ use std::alloc::{AllocError, Global};
 
 /// A value that can be copied, where the contract says that the copy is the same value.
 pub trait Copied {
-    /// The same value again. It answers want of memory alone.
+    /// The same value again. Its only error is out of memory.
     fn copy(&self, alloc: Global) -> Result<Self, AllocError>
         ensures same { IfOk result (λ made. made ≡ self.now) };
 }

@@ -8,7 +8,7 @@ pub struct Fault {
     pub at: u32,
 }
 
-/// Why a call that reads headers stopped: want of memory, or the first fault.
+/// Why a call that reads headers stopped: out of memory, or the first fault.
 #[derive(Clone, Copy, Debug, PartialEq, Eq)]
 pub enum Stop {
     Memory,

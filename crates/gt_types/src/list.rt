@@ -74,7 +74,7 @@ impl<X> List<X> {
         self.items.get(at)
     }
 
-    /// Adds an item at the end. For want of memory the items are as before, and the item comes back.
+    /// Adds an item at the end. Out of memory, the items are as before, and the item comes back.
     pub fn push(&mut self, item: X) -> Result<(), AllocFailed<X>>
         ensures added { OnOk result (self.new ≡ self.old ++ item ∷ []) }
         ensures unchanged { OnErr result (self.new ≡ self.old) }

@@ -82,7 +82,7 @@ pub enum Ty {
     },
 }
 
-/// The same expression again, where there is one. It answers want of memory alone.
+/// The same expression again, where there is one. Its only error is out of memory.
 pub(crate) fn copy_of(alloc: Global, expression: &Option<Expr>) -> Result<Option<Expr>, AllocError>
     ensures same { IfOk result (λ made. made ≡ expression.now) }
 {

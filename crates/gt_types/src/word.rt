@@ -25,7 +25,7 @@ impl Model for Word {
 }
 
 impl Word {
-    /// The word of a text. It answers want of memory alone.
+    /// The word of a text. Its only error is out of memory.
     pub fn of(alloc: Global, text: &str) -> Result<Word, AllocError>
         ensures text { IfOk result (λ w. w ≡ chars text.now) }
     {

@@ -11,7 +11,7 @@ pub fold-grows : (a : ℕ) (cs : List ℕ) → a ≤ fold step a cs
 fold-grows a [] = omega arith
 fold-grows a (c ∷ cs) = let more : step a c ≤ fold step (step a c) cs = fold-grows (step a c) cs in omega (arith, more)
 
--- the digit at a place, and those behind it
+-- the digit at a place, and those after it
 pub fold-drop : (a : ℕ) (cs : List ℕ) (i : ℕ) → i < length cs → fold step a (drop i cs) ≡ fold step (step a (get_or cs i 0)) (drop (i + 1) cs)
 fold-drop a cs i h = rw (drop-cons cs i 0, add-one) refl
 

@@ -14,7 +14,7 @@ use Rattle.gt_words.specs.Commands.{our_app}
 use Rattle.gt_words.specs.Calls.{◌>>=◌, number_or_of, settings_of, name_of, names_of, headers_of, generated_of, generated_call, file_call, script_call, found_call, unless_refused, call_of}
 use Rattle.gt_words.specs.Ranges.{AreInRange, IsInRange}
 
--- a step and then the next, which has what is claimed behind each value of the first
+-- a step and then the next, which has what is claimed after each value of the first
 both_steps : {A B : Type 0} (o : Option A) (f : A → Option B) (P : A → Type 0) (Q : B → Type 0) → IfSome o P → ((x : A) → P x → IfSome (f x) Q) → IfSome (o >>= f) Q
 both_steps None f P Q h next = tt
 both_steps (Some x) f P Q h next = next x h

@@ -37,7 +37,7 @@ some_kind : (kinds : Kinds) (k : ErrorKind) (call : Option Call) → IsAmong k k
 some_kind [] k call among = absurd among
 some_kind (kind ∷ kinds) k call among = refl
 
--- the words are refused, and not for want of memory
+-- the words are refused, and not when out of memory
 pub refuses : (a : App) (ts : List Text) (words : List (List ℕ)) (e : Error) → a ≡ our_app → ts ≡ map encode_utf8_all words
     → (kind_of e ≡ OutOfMemory → ⊥) → HasKind (fault_of a ts) e → call_of words ≡ None
 unfolding call_of

@@ -12,7 +12,7 @@ option_rule name = record (new_rule name) { long = Some name }
 abbrev pub script_rule : Rule
 script_rule = record (new_rule (codes "script")) { required = true }
 
--- the words behind it are headers, any number of them
+-- the words after it are headers, any number of them
 abbrev pub header_rule : Rule
 header_rule = record (new_rule (codes "header")) { action = Some Append }
 

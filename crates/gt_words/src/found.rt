@@ -2,7 +2,7 @@
 ghost use Rattle.std.specs.Prelude.{◌≡◌, [], IfOk, unwrap_or};
 ghost use Rattle.std.specs.Option.{option_map};
 ghost use Rattle.clap.specs.Matches.{found_of};
-ghost use Rattle.clap.specs.Walk.{rows_of, first_of, all_of, texts as texts_behind};
+ghost use Rattle.clap.specs.Walk.{rows_of, first_of, all_of, texts as texts_after};
 ghost use Rattle.gt_words.specs.Calls.{number_or_of, settings_of, name_of, names_of, headers_of, generated_of, generated_call as generated_call_of, file_call as file_call_of, script_call as script_call_of, found_call as found_call_of};
 
 use crate::number::{digits_in, number_in};
@@ -41,7 +41,7 @@ fn value<'a>(matches: &ArgMatches<'a>, id: &str) -> Option<&'a str>
 
 // All values of an argument, where it is given.
 fn values<'b, 'a>(matches: &'b ArgMatches<'a>, id: &str) -> Option<&'b [&'a str]>
-    ensures { option_map (λ s. texts_behind s.now) result ≡ all_of id.now (rows_of (found_of matches.now)) }
+    ensures { option_map (λ s. texts_after s.now) result ≡ all_of id.now (rows_of (found_of matches.now)) }
 {
     matches.get_strs(id)
 }
@@ -88,7 +88,7 @@ fn script_call(
     script: &str,
     headers: &[&str],
 ) -> Result<Option<Call>, AllocError>
-    ensures { IfOk result (λ found. found ≡ script_call_of settings script.now (texts_behind headers.now)) }
+    ensures { IfOk result (λ found. found ≡ script_call_of settings script.now (texts_after headers.now)) }
 {
     match script.as_bytes() {
         [] => Ok(None),
@@ -105,7 +105,7 @@ fn generated_call(
     digits: &[u8],
     headers: &[&str],
 ) -> Result<Option<Call>, AllocError>
-    ensures { IfOk result (λ found. found ≡ generated_call_of settings word.now digits.now (texts_behind headers.now)) }
+    ensures { IfOk result (λ found. found ≡ generated_call_of settings word.now digits.now (texts_after headers.now)) }
 {
     if !headers.is_empty() {
         return Ok(None);
@@ -138,7 +138,7 @@ fn file_call(
     script: &str,
     headers: &[&str],
 ) -> Result<Option<Call>, AllocError>
-    ensures { IfOk result (λ found. found ≡ file_call_of settings script.now (texts_behind headers.now)) }
+    ensures { IfOk result (λ found. found ≡ file_call_of settings script.now (texts_after headers.now)) }
 {
     let Some(name) = name(alloc, script)? else {
         return Ok(None);
@@ -155,7 +155,7 @@ fn file_call(
 
 #[tactic(auto, unfolding(crate::specs::Calls::headers_of))]
 fn header_names(alloc: Global, texts: &[&str]) -> Result<Option<List<Word>>, AllocError>
-    ensures { IfOk result (λ found. found ≡ headers_of (texts_behind texts.now)) }
+    ensures { IfOk result (λ found. found ≡ headers_of (texts_after texts.now)) }
 {
     if texts.is_empty() || texts.len() > MAX_HEADERS {
         return Ok(None);
@@ -165,7 +165,7 @@ fn header_names(alloc: Global, texts: &[&str]) -> Result<Option<List<Word>>, All
 
 // The words, where each of them names a file.
 fn names(alloc: Global, texts: &[&str]) -> Result<Option<List<Word>>, AllocError>
-    ensures { IfOk result (λ found. found ≡ names_of (texts_behind texts.now)) }
+    ensures { IfOk result (λ found. found ≡ names_of (texts_after texts.now)) }
 {
     let mut names = Vec::new(alloc);
     for text in texts {

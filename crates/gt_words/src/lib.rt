@@ -1,5 +1,5 @@
 //! The words of the command line of gtyheap: the settings, the script and the headers that they ask for. They are read
-//! with `clap` as a simple command: what they mean is that crate's own definition, and behind it stand the ranges and the
+//! with `clap` as a simple command: what they mean is that crate's own definition, and after it stand the ranges and the
 //! forms of names and numbers. The layer above uses `read_words` and the types that it gives.
 #![tactic(auto)]
 

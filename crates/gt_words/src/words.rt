@@ -1,6 +1,6 @@
 // The words of the command line.
 ghost use Rattle.std.specs.Prelude.{◌≡◌, IfOk, IfSome, MatchResult, Ok, Err, None, map, encode_utf8_all};
-ghost use Rattle.clap.specs.Walk.{texts as texts_behind};
+ghost use Rattle.clap.specs.Walk.{texts as texts_after};
 ghost use Rattle.clap.specs.Values.{kind_of};
 ghost use Rattle.clap.specs.declared.error.kind.ErrorKind.TheVariants.{OutOfMemory};
 ghost use Rattle.gt_words.specs.Calls.{call_of};
@@ -14,12 +14,12 @@ use clap::error::ErrorKind;
 use gt_types::Word;
 use std::alloc::{AllocError, Global};
 
-/// What the words ask for. They are those behind the program's name:
+/// What the words ask for. They are those after the program's name:
 /// `[--space PAGES] [--min-expand N] [--min-heapsize KIB] SCRIPT {HEADER}`, read with `clap` as a simple command. A number
 /// is decimal digits without a sign or a leading zero, in its range (`Settings`). SCRIPT is a file's name, and from 1 to 64
-/// HEADER words behind it are files' names; or it is `:N` with N of one to six digits, at most 100000, and no HEADER stands
-/// behind it. No file's name is empty, and the script's does not begin with `:`. None means that `clap` or
-/// one of these rules refuses the words; a request for help is refused too. It answers want of memory alone.
+/// HEADER words after it are files' names; or it is `:N` with N of one to six digits, at most 100000, and no HEADER stands
+/// after it. No file's name is empty, and the script's does not begin with `:`. None means that `clap` or
+/// one of these rules refuses the words; a request for help is refused too. Its only error is out of memory.
 pub fn read_words(alloc: Global, words: &[Word]) -> Result<Option<Call>, AllocError>
     ensures call { IfOk result (λ found. found ≡ call_of words.now) }
     ensures ranges { IfOk result (λ found. IfSome found IsInRange) }
@@ -34,7 +34,7 @@ pub fn read_words(alloc: Global, words: &[Word]) -> Result<Option<Call>, AllocEr
 
 // The words as texts.
 fn texts_of<'a>(alloc: Global, words: &'a [Word]) -> Result<Vec<&'a str>, AllocError>
-    ensures { IfOk result (λ texts. texts_behind texts.items ≡ map encode_utf8_all words.entry.now) }
+    ensures { IfOk result (λ texts. texts_after texts.items ≡ map encode_utf8_all words.entry.now) }
 {
     let mut texts = Vec::new(alloc);
     for word in words {
@@ -43,7 +43,7 @@ fn texts_of<'a>(alloc: Global, words: &'a [Word]) -> Result<Vec<&'a str>, AllocE
     Ok(texts)
 }
 
-// The answer where `clap` gives no matches: want of memory, or a refusal.
+// The answer where `clap` gives no matches: out of memory, or a refusal.
 fn refused(error: &Error) -> Result<Option<Call>, AllocError>
     ensures { MatchResult result (λ found. (found ≡ None) × (kind_of error.now ≡ OutOfMemory → ⊥)) (λ _. kind_of error.now ≡ OutOfMemory) }
 {

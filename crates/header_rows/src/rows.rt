@@ -4,7 +4,7 @@ use std::alloc::{AllocError, Global};
 use std::fmt::Write;
 
 /// A row: the header as it stands in the table, the texts that it parts into, and their answer. That of a fault has the place
-/// that is marked behind its number, as `12 at 1:24`: the file, from 1, and the byte.
+/// that is marked after its number, as `12 at 1:24`: the file, from 1, and the byte.
 #[derive(Debug, Drop)]
 pub struct Row {
     pub header: String,
@@ -40,9 +40,9 @@ fn row_of(alloc: Global, header: String, answer: &str) -> Result<Row, AllocError
         file = file.saturating_add(1);
         match text.split_once('^') {
             None => texts.push(String::from_str(alloc, text)?)?,
-            Some((before, behind)) => {
+            Some((before, following)) => {
                 write!(answer, " at {file}:{}", before.len())?;
-                texts.push(format!(in alloc; "{before}{behind}")?)?;
+                texts.push(format!(in alloc; "{before}{following}")?)?;
             }
         }
     }

@@ -74,7 +74,7 @@ fn resolved(alloc: Global, files: &[Items]) -> Result<String, AllocError> {
     }
 }
 
-// A fault as it stands behind a row whose header has its place marked.
+// A fault as it stands after a row whose header has its place marked.
 fn stopped(alloc: Global, stop: Stop) -> Result<String, AllocError> {
     match stop {
         Stop::Memory => Err(AllocError),

@@ -95,7 +95,7 @@ fn add_cache(
     add_resolved(out, structures, &cache.value)
 }
 
-// A name behind its file, where that is not the first, and before the names of its options.
+// A name after its file, where that is not the first, and before the names of its options.
 fn add_name(
     out: &mut String,
     file: u32,

@@ -26,7 +26,7 @@ module _ {program : Program} {blocks : Blocks} {scope : Scope} where
   each-pushed type [] v each fits = one_more fits no_more
   each-pushed type (x ∷ values) v (one_more one each) fits = one_more one (each-pushed type values v each fits)
 
--- the zero behind characters is the last of them
+-- the zero after characters is the last of them
 pub ends-pushed : (values : List Value) → EndsInZero (trees (map tree_of (values ++ NumOf (pos 0) ∷ [])))
 ends-pushed [] = num-tree (pos 0)
 ends-pushed (x ∷ []) = num-tree (pos 0)

@@ -107,7 +107,7 @@ fn read_writes(alloc: Global, text: &str) -> Result<Vec<Write>, Refusal> {
     Ok(writes)
 }
 
-// The text of a block of these elements; characters have a zero behind them.
+// The text of a block of these elements; characters have a zero after them.
 fn text_of(on: &Sample, kind: BlockKind, elements: Vec<Value>) -> Result<Bytes, AllocError>
     requires ready { IsReady on.now.program on.now.layouts }
     requires each { EachFits on.now.program blocks 0 (outside End) (element_type on.now.program (kind_of kind)) (trees (map tree_of elements.items)) }

@@ -1,5 +1,5 @@
 use Rattle.std.proofs.Common.{◌≡◌, length, sym, arith}
-use Rattle.gt_parse.proofs.Depths.{depth_after-le, enumerators_here, enumerators_behind, enumerators_end}
+use Rattle.gt_parse.proofs.Depths.{depth_after-le, enumerators_here, enumerators_after, enumerators_end}
 use Rattle.gt_parse.proofs.enums.enumerators.Goals as goal
 use Rattle.gt_parse.proofs.enums.enumerators.Goals.{else-depth-eq0-via-then-depth-eq0+else-is_comma, else-depth-eq0-via-else-depth-eq0}
 
@@ -21,7 +21,7 @@ loop-at-preserved c =
       few = omega (arith, depth_after-le c.loop-at.depth c.index-body-at.result, c.loop-at.invariant.few);
       begun = omega (arith, c.loop-at.invariant.begun);
       so_far =
-          enumerators_behind c.args.body.now c.loop-at.depth c.loop-at.at c.index-body-at.result (omega arith) c.index-body-at.is c.loop-at.start c.loop-at.found _ c.loop-at.invariant.begun c.loop-at.invariant.so_far
+          enumerators_after c.args.body.now c.loop-at.depth c.loop-at.at c.index-body-at.result (omega arith) c.index-body-at.is c.loop-at.start c.loop-at.found _ c.loop-at.invariant.begun c.loop-at.invariant.so_far
           (elim c.else-depth-eq0.branch [
             | else-depth-eq0-via-then-depth-eq0+else-is_comma w ↦ λ z. sym w.if-is_comma.ensures
             | else-depth-eq0-via-else-depth-eq0 w ↦ λ z. absurd (w.if-depth-eq0.false z)

@@ -11,7 +11,7 @@ returns-in_err-one c =
 pub returns-in-Some : goal.returns-in-Some
 returns-in-Some c =
     rw c.in_ok-push.ensures.added
-    (fields_stop _ c.loop.counter c.loop.fields c.loop.rest.now _ (omega arith) c.loop.invariant c.in_ok-one.one c.in_ok-one.after.now c.in_ok-one.ensures c.in-Some.behind.now (sym c.in-Some.ensures))
+    (fields_stop _ c.loop.counter c.loop.fields c.loop.rest.now _ (omega arith) c.loop.invariant c.in_ok-one.one c.in_ok-one.after.now c.in_ok-one.ensures c.in-Some.following.now (sym c.in-Some.ensures))
 
 pub loop-preserved : goal.loop-preserved
 loop-preserved c =

@@ -1,5 +1,5 @@
 use Rattle.std.proofs.Common.{sym, arith}
-use Rattle.gt_parse.proofs.Depths.{depth_after-le, is_marked_here, is_marked_behind, is_marked_end}
+use Rattle.gt_parse.proofs.Depths.{depth_after-le, is_marked_here, is_marked_after, is_marked_end}
 use Rattle.gt_parse.proofs.reading.is_marked.Goals as goal
 use Rattle.gt_parse.proofs.reading.is_marked.Goals.{else-depth-eq0-via-then-depth-eq0+else-is_marker, else-depth-eq0-via-else-depth-eq0}
 
@@ -13,7 +13,7 @@ loop-token-preserved c =
     record {
       few = omega (arith, depth_after-le c.loop-token.depth c.token-item.result, c.loop-token.invariant.few);
       so_far =
-          is_marked_behind c.args.tokens.now c.loop-token.depth c.loop-token.token-index c.token-item.result (omega arith) c.token-item.is _ c.loop-token.invariant.so_far
+          is_marked_after c.args.tokens.now c.loop-token.depth c.loop-token.token-index c.token-item.result (omega arith) c.token-item.is _ c.loop-token.invariant.so_far
           (elim c.else-depth-eq0.branch [
             | else-depth-eq0-via-then-depth-eq0+else-is_marker w ↦ λ z. sym w.if-is_marker.ensures
             | else-depth-eq0-via-else-depth-eq0 w ↦ λ z. absurd (w.if-depth-eq0.false z)

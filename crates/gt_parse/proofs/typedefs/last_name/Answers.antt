@@ -1,5 +1,5 @@
 use Rattle.std.proofs.Common.{arith}
-use Rattle.gt_parse.proofs.Depths.{depth_after-le, last_name_here, last_name_behind, last_name_end}
+use Rattle.gt_parse.proofs.Depths.{depth_after-le, last_name_here, last_name_after, last_name_end}
 use Rattle.gt_parse.proofs.typedefs.last_name.Goals as goal
 use Rattle.gt_parse.proofs.typedefs.last_name.Goals.{then-depth-eq0+in_default, else-depth-eq0}
 
@@ -15,7 +15,7 @@ loop-token-preserved c =
     record {
       few = omega (arith, depth_after-le c.loop-token.depth c.token-item.result, c.loop-token.invariant.few);
       so_far =
-          last_name_behind c.args.tokens.now c.loop-token.depth c.loop-token.token-index c.token-item.result (omega arith) c.token-item.is _ _ c.loop-token.invariant.so_far
+          last_name_after c.args.tokens.now c.loop-token.depth c.loop-token.token-index c.token-item.result (omega arith) c.token-item.is _ _ c.loop-token.invariant.so_far
           (elim c.if-depth-eq0.branch [
             | then-depth-eq0+in_default w ↦ λ z s e. w.in_default.not-Name s e
             | else-depth-eq0 w ↦ λ z s e. absurd (w.if-depth-eq0.false z)

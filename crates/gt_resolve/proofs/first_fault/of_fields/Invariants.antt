@@ -1,7 +1,7 @@
 use Rattle.std.proofs.Common.{◌≡◌, ℕ, List, [], take}
 use Rattle.gt_resolve.specs.Faults.{fields_faults}
 use Rattle.gt_resolve.specs.FirstFaults.{first_from}
-use Rattle.gt_resolve.proofs.Firsts.{fields_behind, names_of}
+use Rattle.gt_resolve.proofs.Firsts.{fields_after, names_of}
 use Rattle.gt_resolve.proofs.NameTests.{is_among}
 use Rattle.gt_resolve.proofs.first_fault.of_fields.Given as goal
 
@@ -9,6 +9,6 @@ use Rattle.gt_resolve.proofs.first_fault.of_fields.Given as goal
 abbrev pub invariant-loop-place : goal.invariant-loop-place
 invariant-loop-place l =
     record {
-      earliest : first_from l.earliest (fields_behind l.tails l.file l.in_union l.place l.fields) ≡ first_from l.initial.earliest (fields_faults l.tails l.file l.in_union [] l.fields);
+      earliest : first_from l.earliest (fields_after l.tails l.file l.in_union l.place l.fields) ≡ first_from l.initial.earliest (fields_faults l.tails l.file l.in_union [] l.fields);
       names : (word : List ℕ) → is_among word (names_of (take l.place l.fields)) ≡ is_among word l.names;
     }

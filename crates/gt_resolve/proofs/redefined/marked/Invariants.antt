@@ -3,7 +3,7 @@ use Rattle.gt_resolve.specs.FirstFaults.{first_from}
 use Rattle.gt_resolve.specs.Redefinitions.{marked_faults}
 use Rattle.gt_resolve.proofs.redefined.marked.Given as goal
 
--- the earliest of the faults of so many declarations and of those behind them is the earliest of all
+-- the earliest of the faults of so many declarations and of those after them is the earliest of all
 abbrev pub invariant-loop-place : goal.invariant-loop-place
 invariant-loop-place l =
     first_from l.earliest (marked_faults l.scope.declarations.items l.scope.types.items l.tags l.others l.place l.clashed.items (drop l.place l.scope.declarations.items))

@@ -1,8 +1,8 @@
 use Rattle.std.proofs.Common.{◌++◌, ℕ, List, ap, ◌∙◌, arith}
 use Rattle.std.specs.Prelude.{encode_utf8_all}
 use Rattle.gt_parse.proofs.KeptLemmas.{text_joined, text_apart, text_end}
-use Rattle.gt_parse.proofs.groups.text_behind.Goals as goal
-use Rattle.gt_parse.proofs.groups.text_behind.Goals.{then-spot-end+in_ok-push, else-spot-end}
+use Rattle.gt_parse.proofs.groups.text_after.Goals as goal
+use Rattle.gt_parse.proofs.groups.text_after.Goals.{then-spot-end+in_ok-push, else-spot-end}
 
 pub loop-token-preserved : goal.loop-token-preserved
 loop-token-preserved c =
