@@ -25,6 +25,3 @@ pub const SCRIPT_SYNTAX: u8 = 25;
 
 /// The number of the fault of a script with too many commands.
 pub const SCRIPT_TOO_LONG: u8 = 26;
-
-#[cfg(test)]
-mod tests;

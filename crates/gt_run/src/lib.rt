@@ -15,6 +15,3 @@ pub use gt_next::{Answer, Why};
 pub use laws::{numbers, one_refusal};
 pub use outcome::Outcome;
 pub use running::top;
-
-#[cfg(test)]
-mod tests;

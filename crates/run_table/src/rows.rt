@@ -4,6 +4,8 @@
 //     words WORD WORD ..   the arguments of the command line, separated by single spaces
 //     file NAME            a file, whose lines follow
 //     filled NAME N        a file of N spaces
+//     reads N N ..         the reads of files that fail, counted from 1
+//     writes N N ..        the writes of the output that fail, counted from 1
 //     bytes ADDRESS N      after the run, a line with the N bytes of the space at a decimal address is written after the output
 //     status N             the status that is expected
 //     output               what is expected to be written, whose lines follow
@@ -22,9 +24,17 @@ pub struct Row {
     pub shows: String,
     pub words: Vec<Word>,
     pub files: Vec<File>,
+    pub failing: Failing,
     pub look: Option<Look>,
     pub status: u8,
     pub output: String,
+}
+
+/// The calls of the outside that fail, counted from 1.
+#[derive(Drop)]
+pub struct Failing {
+    pub reads: Vec<u64>,
+    pub writes: Vec<u64>,
 }
 
 /// The bytes of the space that a row looks at after its run.
@@ -52,6 +62,7 @@ struct Lines {
     shows: Option<String>,
     words: Option<Vec<Word>>,
     files: Vec<File>,
+    failing: Failing,
     look: Option<Look>,
     status: Option<u8>,
     output: Option<String>,
@@ -63,6 +74,10 @@ pub fn read_part(alloc: Global, text: &str) -> Result<Part, AllocError> {
         shows: None,
         words: None,
         files: Vec::new(alloc),
+        failing: Failing {
+            reads: Vec::new(alloc),
+            writes: Vec::new(alloc),
+        },
         look: None,
         status: None,
         output: None,
@@ -90,6 +105,10 @@ impl Lines {
             self.add_file(alloc, rest, 0)
         } else if keyword == "filled" {
             self.add_filled(alloc, rest)
+        } else if keyword == "reads" {
+            add_numbers(&mut self.failing.reads, rest)
+        } else if keyword == "writes" {
+            add_numbers(&mut self.failing.writes, rest)
         } else {
             self.add_rest(alloc, keyword, rest)
         }
@@ -179,6 +198,7 @@ impl Lines {
             shows,
             words,
             files,
+            failing,
             look,
             status,
             output,
@@ -188,6 +208,7 @@ impl Lines {
                 shows,
                 words,
                 files,
+                failing,
                 look,
                 status,
                 output,
@@ -197,6 +218,17 @@ impl Lines {
             _ => Part::Misspelled,
         }
     }
+}
+
+// Adds the numbers of a line, and says whether it has nothing else.
+fn add_numbers(numbers: &mut Vec<u64>, line: &str) -> Result<bool, AllocError> {
+    for word in line.split(' ') {
+        match word.parse::<u64>() {
+            Ok(number) => numbers.push(number)?,
+            Err(_) => return Ok(false),
+        }
+    }
+    Ok(true)
 }
 
 // An address and how many bytes to look at there.

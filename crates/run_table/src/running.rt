@@ -20,12 +20,12 @@ pub struct Came {
     pub output: String,
 }
 
-/// Runs the program on a row's words, with its own files and those that all rows share.
+/// Runs the program on a row's words, with its own files and those that all rows share, and with the calls that fail in the row.
 pub fn run_row(alloc: Global, shared: &[File], row: &Row) -> Result<Came, AllocError> {
-    let mut files = MemFiles::new(alloc, Vec::new(alloc));
+    let mut files = MemFiles::new(alloc, row.failing.reads.as_slice().to_vec(alloc)?);
     add_all(&mut files, shared)?;
     add_all(&mut files, row.files.as_slice())?;
-    let mut out = MemSink::new(alloc, Vec::new(alloc));
+    let mut out = MemSink::new(alloc, row.failing.writes.as_slice().to_vec(alloc)?);
     let mut space = Space::empty(alloc);
     let outcome = top(
         alloc,
