@@ -1,6 +1,6 @@
 -- What becomes of a block for which the stack has no room.
-use Rattle.std.proofs.Common.{◌≡◌, ℕ, ◌⊎◌, ◌==◌, Bool, true, cond, List, Option, Some, None, is_some, refl, sym, ap, subst, ◌∙◌, inl, inr, arith}
-use Rattle.std.specs.Prelude.{max, option_map}
+use Rattle.std.proofs.Common.{◌≡◌, ℕ, ◌⊎◌, ◌==◌, Bool, true, false, cond, Option, Some, None, is_some, refl, sym, ap, subst, ◌∙◌, inl, inr, arith}
+use Rattle.std.specs.Prelude.{IsTrue, max, option_map}
 use Rattle.std.proofs.Math.Nat.{le-max_left, le-max_right, min-le_left, min-le_right}
 use Rattle.std.proofs.lemmas.Bool.{cases_lt, false≢true, le-ltb, lt-ltb}
 use Rattle.gt_entries.specs.declared.marks.Mark.{Mark}
@@ -23,10 +23,14 @@ mark_as e pending = record { walk = e.walk; count = e.count; pending = pending }
 abbrev pub marked_as : Contents → Edge → Bool → Contents
 marked_as pages e pending = with_slots pages (with_mark_at pages.slots e.target (Some (mark_as e pending)))
 
-pub starts_marked : (slots : List Slot) (x a : ℕ) (k : Option Mark) → StartsSome slots a → StartsSome (with_mark_at slots x k) a
-starts_marked slots x a k start =
+-- a block starts where it did before it was marked, or was marked already
+pub starts_after : (pages new : Contents) (x : ℕ) (k : Option Mark) (fresh : Bool) → (IsTrue fresh → new ≡ with_slots pages (with_mark_at pages.slots x k)) → (fresh ≡ false → new ≡ pages)
+    → StartsSome pages.slots x → StartsSome new.slots x
+starts_after pages new x k true marked unchanged start =
     let s : Slot = start.0 in
-    (cond (s.address == x) (with_mark k s) s, contains_map (λ s. cond (s.address == x) (with_mark k s) s) slots s start.1, addr_with (s.address == x) k s ∙ start.2)
+    subst (λ c. StartsSome c.slots x) (sym (marked refl))
+    (cond (s.address == x) (with_mark k s) s, contains_map (λ s. cond (s.address == x) (with_mark k s) s) pages.slots s start.1, addr_with (s.address == x) k s ∙ start.2)
+starts_after pages new x k false marked unchanged start = subst (λ c. StartsSome c.slots x) (sym (unchanged refl)) start
 
 -- a block that is marked and then left to a pass
 pub postponed_marked : (pages : Contents) (e : Edge) → StartsSome pages.slots e.target → postponed_pages (marked_pages pages e) e.target ≡ marked_as pages e true
