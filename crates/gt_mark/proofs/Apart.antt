@@ -10,6 +10,7 @@ use Rattle.std.proofs.lemmas.Map.Keys.{IsDistinct-push}
 use Rattle.gt_space.specs.Range.{Range}
 use Rattle.gt_entries.specs.declared.marks.Mark.{Mark}
 use Rattle.gt_pages.specs.Slots.{StartsSome, mark_at}
+use Rattle.gt_pages.specs.Contents.{Contents}
 use Rattle.gt_walk.specs.declared.tables.Tables.{Tables}
 use Rattle.gt_walk.specs.Rows.{Edge, edges_of, rows_of, word_at}
 use Rattle.gt_mark.specs.declared.spans.Pass.{Pass}
@@ -19,7 +20,7 @@ use Rattle.gt_mark.specs.declared.stack.TheConstants.{MOST_BLOCKS}
 use Rattle.gt_mark.specs.Reached.{block_edges}
 use Rattle.gt_mark.specs.Rounds.{chain_in_note}
 use Rattle.gt_mark.specs.Chains.{chain_place}
-use Rattle.gt_mark.specs.Steps.{State, Task, Fits, Good, TakesEdge, known, next, pushed, lost, block_in, marked_pages}
+use Rattle.gt_mark.specs.Steps.{State, Task, Fits, Good, TakesEdge, known, next, pushed, lost, block_in, marked_pages, postponed_pages}
 use Rattle.gt_mark.specs.Wide.{IsAside, IsBeside, IsGained, KeepsAside}
 use Rattle.gt_mark.proofs.Remarked.{contains_cases, contains_head, contains_map_from, contains_tail}
 use Rattle.gt_mark.proofs.Going.{closed_before, is_at, marked_before, none_before, same_edges}
@@ -93,9 +94,9 @@ none_of (Some m) h = absurd (h refl)
 
 module _ {tables : Tables} {space : Range} (t : Task tables space) where
   -- a block that is not marked was not
-  pub before_none : (begun : List ℕ) (opened held : Option ℕ) (st : State) → Good t begun opened held st → (a : ℕ) → StartsSome t.before.slots a → mark_at st.pages.slots a ≡ None → mark_at t.before.slots a ≡ None
-  before_none begun opened held st g a start none =
-      none_before t a (g.marks a) (g.status a) (sym (is_at t begun opened held st g a start) ∙ none)
+  pub before_none : (begun : List ℕ) (hand : Option ℕ) (st : State) → Good t begun hand st → (a : ℕ) → StartsSome t.before.slots a → mark_at st.pages.slots a ≡ None → mark_at t.before.slots a ≡ None
+  before_none begun hand st g a start none =
+      none_before t a (g.marks a) (g.status a) (sym (is_at t begun hand st g a start) ∙ none)
 
   -- what is known of an edge, by the place of the chain pointer
   pub record Sides (chain : Option ℕ) (e : Edge) : Type 0 where
@@ -135,7 +136,7 @@ module _ {tables : Tables} {space : Range} (t : Task tables space) where
   chain_same old new e (known some same) = ap (λ s. s.chain) same
   chain_same old new e (next none is) = ap (λ s. s.chain) is.result
   chain_same old new e (pushed none is) = ap (λ s. s.chain) is.result
-  chain_same old new e (lost none is) = ap (λ s. s.chain) (is.result ∙ (loses (record old { pages = marked_pages old.pages e }) e.target).rest)
+  chain_same old new e (lost none is) = ap (λ s. s.chain) (is.result ∙ (loses (record old { pages = postponed_pages (marked_pages old.pages e) e.target }) e.target).rest)
 
   abbrev IsNamed : State → Block → Type 0
   IsNamed st b = (place : ℕ) × (st.chain ≡ Some place) × (word_at space place ≡ Some b.addr)
@@ -173,8 +174,8 @@ module _ {tables : Tables} {space : Range} (t : Task tables space) where
         chained = s.chained;
       }
 
-      pub stacked_lost : (span : Option Span) (pass : Option Pass) → length old.stack ≡ MOST_BLOCKS → IsAside t e.target → KeepsAside t (record old { pages = marked_pages old.pages e; lost = span; pass = pass })
-      stacked_lost span pass full aside =
+      pub stacked_lost : (pages : Contents) (span : Option Span) (pass : Option Pass) → length old.stack ≡ MOST_BLOCKS → IsAside t e.target → KeepsAside t (record old { pages = pages; lost = span; pass = pass })
+      stacked_lost pages span pass full aside =
           let long = length-map old.stack (λ b. b.addr) in
           record {
             distinct = s.distinct;

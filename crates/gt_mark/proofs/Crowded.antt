@@ -1,8 +1,8 @@
 -- More blocks than the stack takes, and no more than it takes, from the beginning to the end.
-use Rattle.std.proofs.Common.{◌≡◌, ℕ, ◌≤◌, ◌⊎◌, Bool, true, false, List, [], ◌∷◌, length, get_or, Option, Some, None, is_some, refl, sym, ap, subst, ◌∙◌, inl, inr, arith}
+use Rattle.std.proofs.Common.{◌≡◌, ℕ, ◌≤◌, ◌⊎◌, Bool, true, false, List, [], ◌∷◌, length, Option, Some, None, is_some, refl, sym, ap, subst, ◌∙◌, inl, inr, arith}
 use Rattle.std.specs.Prelude.{All, Contains}
 use Rattle.std.proofs.lemmas.Bool.{cases_Bool, eq-eqb, eqb-true, false≢true, true≢false}
-use Rattle.std.proofs.lemmas.List.Elements.{All-cons, All-nil, All-contains, Contains-get_or}
+use Rattle.std.proofs.lemmas.List.Elements.{All-cons, All-nil, All-contains}
 use Rattle.std.proofs.lemmas.Cmp.{nat_eq_equiv}
 use Rattle.std.proofs.lemmas.Map.Made.{is_member-Decides, length-le_from_is_member}
 use Rattle.gt_space.specs.Range.{Range}
@@ -20,7 +20,7 @@ use Rattle.gt_mark.proofs.Remarked.{contains_cases, contains_map_from, contains_
 use Rattle.gt_mark.proofs.Going.{is_at, marked_before, none_from}
 use Rattle.gt_mark.proofs.Apart.{distinct_none, sides_start}
 use Rattle.gt_mark.proofs.Widening.{widen_all}
-use Rattle.gt_mark.proofs.Final.{HasMoreRounds, HasOneRound, own_now, reached_now, start_holds}
+use Rattle.gt_mark.proofs.Final.{HasMoreRounds, HasOneRound, none_waits, reached_now, start_holds}
 
 not_some : (b : Bool) → (b ≡ true → ⊥) → b ≡ false
 not_some true h = absurd (h refl)
@@ -33,25 +33,27 @@ no_span (Some s) h = absurd (true≢false h)
 module _ {tables : Tables} {space : Range} (t : Task tables space) where
   pub start_wide : Wide t (start_state t.before) None
   start_wide = record {
+    walked = λ _. false;
     opened = record {
       no_pass = refl;
       keeps = record { distinct = distinct_none; aside = λ b there. contains_none b there; over = λ h. absurd (false≢true h); chained = tt };
       short = omega arith;
       stacked = λ b there. contains_none b there;
       followed = tt;
+      marked = λ a done. absurd (false≢true done);
       origin = λ a some. inl some;
-      wide = λ from blocks off crowd own.
-          let many = crowd.many in
-          let a : ℕ = get_or blocks 0 0 in
-          let only = crowd.only a (Contains-get_or blocks 0 0 (omega (arith, many))) in
-          let to = t.can.closed from a (marked_slot t.before.slots from (ap is_some own)) only.leads in
-          absurd (false≢true (sym (ap is_some only.unmarked) ∙ marked_before t a to));
+      seen = λ a free some. absurd (false≢true (sym (ap is_some free) ∙ some));
+      wide = λ from blocks off crowd done. absurd (false≢true done);
     };
     handed = tt;
   }
 
   pub root_wide : (begun : List ℕ) (es : List Edge) (m n : Marker) → Holds t begun None (state_of m) → All (Suits t) es → ((e : Edge) → Contains es e → Contains t.starts e.target) → Wide t (state_of m) None → Took Leaves m es n → Wide t (state_of n) None
-  root_wide begun es m n h fits starts w took = record { opened = (widen_all t None None es begun m n fits h.good w.opened (λ e there. inl (starts e there)) (λ e there. sides_start t (state_of m).chain e h.unchained (starts e there)) took).now; handed = tt }
+  root_wide begun es m n h fits starts w took = record {
+    walked = w.walked;
+    opened = (widen_all t w.walked None None None es begun m n fits h.good w.opened (λ e there. inl (starts e there)) (λ e there. sides_start t (state_of m).chain e h.unchained (starts e there)) took).now;
+    handed = tt;
+  }
 
   pub first_wide : (m n : Marker) (e : Edge) → state_of m ≡ start_state t.before → Suits t e → Contains t.starts e.target → Leaves m e n → Wide t (state_of n) None
   first_wide m n e is fits start leaves =
@@ -67,8 +69,19 @@ module _ {tables : Tables} {space : Range} (t : Task tables space) where
         let at : IsMarkedAt st.pages.slots from = subst (λ l. IsMarkedAt l from) (sym same) newly.now in
         let s0 = contains_map_from _ t.before.slots at.0 (subst (λ p. Contains p.slots at.0) h.good.pages at.1) in
         let start : (s : Slot) × Contains t.before.slots s × (s.address ≡ from) = (s0.0, s0.1, ap (λ s. s.address) s0.2 ∙ at.2) in
-        let some : is_some (h.good.marks from) ≡ true = ap (λ a. is_some (h.good.marks a)) (sym start.2) ∙ ap (λ s. is_some s.mark) s0.2 ∙ at.3 in
-        let own = is_at t begun None None st h.good from start ∙ own_now t begun st h empty room idle all from start (none_from (mark_at t.before.slots from) (not_some (is_some (mark_at t.before.slots from)) (λ was. newly.not_before (marked_slot t.before.slots from was)))) some in
+        let some : is_some (mark_at st.pages.slots from) ≡ true =
+        ap is_some (is_at t begun None st h.good from start) ∙ ap (λ a. is_some (h.good.marks a)) (sym start.2) ∙ ap (λ s. is_some s.mark) s0.2 ∙ at.3 in
+        let free = none_from (mark_at t.before.slots from) (not_some (is_some (mark_at t.before.slots from)) (λ was. newly.not_before (marked_slot t.before.slots from was))) in
+        let done : wide.walked from ≡ true = elim (wide.opened.seen from free some) [
+          | inl done ↦ done
+          | inr rest ↦ elim rest [
+            | inl no-one ↦ absurd (false≢true (ap is_some no-one))
+            | inr later ↦ elim later [
+              | inl waits ↦ absurd (none_waits t begun st h empty room idle all from waits)
+              | inr over ↦ absurd (false≢true (sym (ap is_some room) ∙ over))
+            ]
+          ]
+        ] in
         absurd (false≢true (sym (ap is_some room) ∙ wide.opened.wide from blocks (λ no-one. false≢true (ap is_some no-one)) (record {
           distinct = distinct;
           many = many;
@@ -78,7 +91,7 @@ module _ {tables : Tables} {space : Range} (t : Task tables space) where
             no_start = o.no_start;
             no_other = λ other apart marked. o.no_other other apart (subst (λ l. IsMarkedAt l other) same (marked_slot st.pages.slots other marked));
           };
-        }) own))
+        }) done))
   ]
 
   -- ---- one round alone
@@ -86,7 +99,7 @@ module _ {tables : Tables} {space : Range} (t : Task tables space) where
   module _ (begun : List ℕ) (st : State) (h : Holds t begun None st) (empty : st.stack ≡ []) (room : st.lost ≡ None) (idle : place_of st ≡ None) (all : (a : ℕ) → Contains t.starts a → Contains begun a) (slots : List Slot) (same : st.pages.slots ≡ slots) where
     newly_now : (a : ℕ) → IsGained t a → IsNewlyMarked t.before.slots slots a
     newly_now a gained = record {
-      now = subst (λ l. IsMarkedAt l a) same (marked_slot st.pages.slots a (ap is_some (is_at t begun None None st h.good a gained.starts) ∙ reached_now t begun st h empty room idle all a gained.reached));
+      now = subst (λ l. IsMarkedAt l a) same (marked_slot st.pages.slots a (ap is_some (is_at t begun None st h.good a gained.starts) ∙ reached_now t begun st h empty room idle all a gained.reached));
       not_before = λ at. false≢true (sym (ap is_some gained.unmarked) ∙ marked_before t a at);
     }
 

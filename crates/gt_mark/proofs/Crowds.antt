@@ -1,23 +1,20 @@
 -- Many blocks that one block leads to do not fit on the stack.
-use Rattle.std.proofs.Common.{◌≡◌, ◌≢◌, ℕ, suc, ◌+◌, ◌≤◌, ◌⊎◌, ◌==◌, Bool, true, false, cond, List, [], ◌∷◌, get_or, count_by, Option, Some, None, is_some, refl, sym, ap, ◌∙◌, inl, inr, arith}
+use Rattle.std.proofs.Common.{◌≡◌, ◌≢◌, ℕ, suc, ◌+◌, ◌≤◌, ◌⊎◌, ◌==◌, Bool, true, false, cond, List, [], ◌∷◌, get_or, count_by, Option, Some, is_some, refl, sym, ap, ◌∙◌, inl, inr, arith}
 use Rattle.std.specs.Prelude.{Contains, find, nat_eq, option_and_then}
 use Rattle.std.specs.List.{IsDistinct}
 use Rattle.std.proofs.lemmas.Bool.{cases_Bool, cases_eq, eq-eqb, ne_eqb, eqb-true, false≢true, true≢false}
 use Rattle.std.proofs.lemmas.Map.Keys.{apart_from_distinct}
 use Rattle.gt_space.specs.Range.{Range}
 use Rattle.gt_entries.specs.declared.marks.Mark.{Mark}
-use Rattle.gt_entries.specs.Cells.{has_pending}
-use Rattle.gt_pages.specs.Slots.{Slot, StartsSome, mark_at, new_mark, with_mark, with_mark_at}
+use Rattle.gt_pages.specs.Slots.{Slot, StartsSome, mark_at, with_mark, with_mark_at}
 use Rattle.gt_walk.specs.declared.tables.Tables.{Tables}
-use Rattle.gt_walk.specs.Rows.{Edge}
-use Rattle.gt_mark.specs.Marks.{own_mark}
 use Rattle.gt_mark.specs.Steps.{State, Task}
 use Rattle.gt_mark.specs.Wide.{IsCrowd}
 use Rattle.gt_mark.proofs.Remarked.{contains_cases, contains_head, contains_none, contains_tail, count_cons, starts_cases}
 
 -- ---- one more mark
 
-addr_with : (b : Bool) (k : Option Mark) (s : Slot) → (cond b (with_mark k s) s).address ≡ s.address
+pub addr_with : (b : Bool) (k : Option Mark) (s : Slot) → (cond b (with_mark k s) s).address ≡ s.address
 addr_with true k s = refl
 addr_with false k s = refl
 
@@ -63,45 +60,27 @@ mark_at_same (s ∷ slots) x k start =
 
 -- ---- how marks grow by one edge
 
+pub record Grows (old new : List Slot) (x : ℕ) : Type 0 where
+  pub there : is_some (mark_at new x) ≡ true
+  pub grow : (a : ℕ) → is_some (mark_at old a) ≡ true → is_some (mark_at new a) ≡ true
+  pub more : (a : ℕ) → is_some (mark_at new a) ≡ true → (a ≡ x) ⊎ (is_some (mark_at old a) ≡ true)
+
+pub grows_marked : (slots : List Slot) (x : ℕ) (m : Mark) → StartsSome slots x → Grows slots (with_mark_at slots x (Some m)) x
+grows_marked slots x m start =
+    let same = mark_at_same slots x (Some m) start in
+    record {
+      there = ap is_some same;
+      grow = λ a h. elim (cases_eq a x) [
+        | inl is ↦ ap (λ b. is_some (mark_at (with_mark_at slots x (Some m)) b)) is ∙ ap is_some same
+        | inr apart ↦ ap is_some (mark_at_other slots x a (Some m) apart) ∙ h
+      ];
+      more = λ a h. elim (cases_eq a x) [
+        | inl is ↦ inl is
+        | inr apart ↦ inr (sym (ap is_some (mark_at_other slots x a (Some m) apart)) ∙ h)
+      ];
+    }
+
 module _ {tables : Tables} {space : Range} (t : Task tables space) where
-  pub record Grows (old new : List Slot) (x : ℕ) : Type 0 where
-    pub there : is_some (mark_at new x) ≡ true
-    pub grow : (a : ℕ) → is_some (mark_at old a) ≡ true → is_some (mark_at new a) ≡ true
-    pub more : (a : ℕ) → is_some (mark_at new a) ≡ true → (a ≡ x) ⊎ (is_some (mark_at old a) ≡ true)
-    pub walked_on : (a : ℕ) → mark_at old a ≡ Some (own_mark t.walks a) → mark_at new a ≡ Some (own_mark t.walks a)
-    pub walked_before : (a : ℕ) → mark_at new a ≡ Some (own_mark t.walks a) → mark_at old a ≡ Some (own_mark t.walks a)
-
-  some_of : (o : Option Mark) → o ≢ None → is_some o ≡ true
-  some_of None h = absurd (h refl)
-  some_of (Some m) h = refl
-
-  pub grows_marked : (slots : List Slot) (e : Edge) → StartsSome slots e.target → mark_at slots e.target ≡ None → Grows slots (with_mark_at slots e.target (Some (new_mark e.walk e.count))) e.target
-  grows_marked slots e start none =
-      let k : Option Mark = Some (new_mark e.walk e.count) in
-      let same = mark_at_same slots e.target k start in
-      record {
-        there = ap is_some same;
-        grow = λ a h. elim (cases_eq a e.target) [
-          | inl is ↦ ap (λ b. is_some (mark_at (with_mark_at slots e.target k) b)) is ∙ ap is_some same
-          | inr apart ↦ ap is_some (mark_at_other slots e.target a k apart) ∙ h
-        ];
-        more = λ a h. elim (cases_eq a e.target) [
-          | inl is ↦ inl is
-          | inr apart ↦ inr (sym (ap is_some (mark_at_other slots e.target a k apart)) ∙ h)
-        ];
-        walked_on = λ a h. elim (cases_eq a e.target) [
-          | inl is ↦ absurd (false≢true (sym (ap is_some (ap (mark_at slots) is ∙ none)) ∙ ap is_some h))
-          | inr apart ↦ mark_at_other slots e.target a k apart ∙ h
-        ];
-        walked_before = λ a h. elim (cases_eq a e.target) [
-          | inl is ↦ absurd (true≢false (ap has_pending (sym (ap (mark_at (with_mark_at slots e.target k)) is ∙ same) ∙ h)))
-          | inr apart ↦ sym (mark_at_other slots e.target a k apart) ∙ h
-        ];
-      }
-
-  pub grows_known : (slots : List Slot) (x : ℕ) → mark_at slots x ≢ None → Grows slots slots x
-  grows_known slots x some = record { there = some_of (mark_at slots x) some; grow = λ a h. h; more = λ a h. inr h; walked_on = λ a h. h; walked_before = λ a h. h }
-
   pub fewer_only : (old new : State) (from : ℕ) (blocks : List ℕ) → ((a : ℕ) → is_some (mark_at old.pages.slots a) ≡ true → is_some (mark_at new.pages.slots a) ≡ true) → IsCrowd t new from blocks → IsCrowd t old from blocks
   fewer_only old new from blocks grow c = record {
     distinct = c.distinct;

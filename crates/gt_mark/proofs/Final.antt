@@ -20,7 +20,7 @@ use Rattle.gt_mark.specs.declared.stack.Block.{Block}
 use Rattle.gt_mark.specs.Reached.{Walks, CanMark, IsReached, Reaches, itself, onward, block_edges}
 use Rattle.gt_mark.specs.Marks.{Marks, mark_after, own_mark}
 use Rattle.gt_mark.specs.Rounds.{AreRounds, IsNamedAside, IsNewlyMarked, IsOnlyFrom}
-use Rattle.gt_mark.specs.Steps.{State, Task, Ends, Fits, Goes, Holds, IsLeft, Leaves, Lessens, Suits, TakesEdge, known, next, pushed, lost, marked_pages, one_if, place_of, remarked, start_state, state_of, with_targets}
+use Rattle.gt_mark.specs.Steps.{State, Task, Ends, Fits, Goes, Holds, IsLeft, Leaves, Lessens, Suits, TakesEdge, Waits, known, next, pushed, lost, marked_pages, one_if, place_of, postponed_pages, remarked, start_state, state_of, with_targets}
 use Rattle.gt_mark.proofs.Remarked.{contains_head, contains_map, contains_none, contains_tail, count_cons, mark_of_slot, remarked_same}
 use Rattle.gt_mark.proofs.Losing.{loses}
 use Rattle.gt_mark.proofs.Going.{closed_before, marked_before, none_from, own_as, own_of, reaches_on, some_still, suits_named, suits_on, walked_done}
@@ -90,8 +90,8 @@ module _ {tables : Tables} {space : Range} (t : Task tables space) where
       marks = mark_at t.before.slots;
       pages = ap (with_slots t.before) (remarked_same (mark_at t.before.slots) t.before.slots (mark_of_slot t.before.slots t.rises));
       status = λ a. inl (inl refl);
-      closed = λ a e apart own there. marked_before t e.target (closed_before t a e (ap is_some own) there);
-      waits = λ a start free pending. absurd (false≢true (sym (ap has_pending free) ∙ pending));
+      closed = λ a e off rests own there. marked_before t e.target (closed_before t a e (ap is_some own) there);
+      put_off = λ a start free pending. absurd (false≢true (sym (ap has_pending free) ∙ pending));
       fit = All-nil (Fits t);
       next = tt;
       began = λ a there. contains_none a there;
@@ -108,7 +108,7 @@ module _ {tables : Tables} {space : Range} (t : Task tables space) where
   idle_step old new e (next none is) idle unchained = absurd (false≢true (ap is_some (sym unchained ∙ is.place)))
   idle_step old new e (pushed none is) idle unchained = (ap (λ s. s.next) is.result ∙ idle, ap (λ s. s.chain) is.result ∙ unchained)
   idle_step old new e (lost none is) idle unchained =
-      let l = loses (record old { pages = marked_pages old.pages e }) e.target in
+      let l = loses (record old { pages = postponed_pages (marked_pages old.pages e) e.target }) e.target in
       let same = is.result ∙ l.rest in
       (ap (λ s. s.next) same ∙ idle, ap (λ s. s.chain) same ∙ unchained)
 
@@ -121,7 +121,7 @@ module _ {tables : Tables} {space : Range} (t : Task tables space) where
   pub root_took : (begun : List ℕ) (es : List Edge) (m n : Marker) → Holds t begun None (state_of m) → All (Suits t) es → Took Leaves m es n
       → Goes t (with_targets es begun) None (state_of m) (state_of n)
   root_took begun es m n h fits took =
-      let all = took_all t None None es begun m n fits h.good took in
+      let all = took_all t None es begun m n fits h.good took in
       let idle = idle_all es m n took h.idle h.unchained in
       let none : one_if (is_some m.next) ≡ 0 = ap (λ x. one_if (is_some x)) h.idle in
       let load = all.eases.load in
@@ -133,7 +133,7 @@ module _ {tables : Tables} {space : Range} (t : Task tables space) where
       }
 
   pub root_same : (begun : List ℕ) (es : List Edge) (m n : Marker) → Holds t begun None (state_of m) → All (Suits t) es → Took Leaves m es n → n.pages.ghost_name ≡ m.pages.ghost_name
-  root_same begun es m n h fits took = (took_all t None None es begun m n fits h.good took).same
+  root_same begun es m n h fits took = (took_all t None es begun m n fits h.good took).same
 
   -- ---- the end
 
@@ -142,20 +142,17 @@ module _ {tables : Tables} {space : Range} (t : Task tables space) where
     no_left None a none left = left
     no_left (Some x) a none left = false≢true (sym (ap is_some none))
 
-    none_waits : (a : ℕ) → StartsSome t.before.slots a → mark_at t.before.slots a ≡ None → has_pending (h.good.marks a) ≡ false
-    none_waits a start free = elim (cases_Bool (has_pending (h.good.marks a))) [
-      | inl pending ↦ elim (h.good.waits a start free pending) [
-        | inl no-one ↦ absurd (false≢true (ap is_some no-one))
-        | inr w ↦ elim w [
-          | inl on ↦ contains_none on.0 (subst (λ l. Contains l on.0) empty on.1)
-          | inr rest ↦ elim rest [
-            | inl there ↦ absurd (false≢true (sym (ap (λ o. is_some (addr_of o)) h.idle) ∙ ap is_some there))
-            | inr late ↦ elim late [
-              | inl left ↦ absurd (no_left st.lost a room left)
-              | inr above ↦ absurd (no_place t begun st.pass a idle above)
-            ]
-          ]
-        ]
+    pub none_waits : (a : ℕ) → Waits st a → ⊥
+    none_waits a waits = elim waits [
+      | inl on ↦ contains_none on.0 (subst (λ l. Contains l on.0) empty on.1)
+      | inr there ↦ false≢true (sym (ap (λ o. is_some (addr_of o)) h.idle) ∙ ap is_some there)
+    ]
+
+    none_left : (a : ℕ) → StartsSome t.before.slots a → mark_at t.before.slots a ≡ None → has_pending (h.good.marks a) ≡ false
+    none_left a start free = elim (cases_Bool (has_pending (h.good.marks a))) [
+      | inl pending ↦ elim (h.good.put_off a start free pending) [
+        | inl left ↦ absurd (no_left st.lost a room left)
+        | inr above ↦ absurd (no_place t begun st.pass a idle above)
       ]
       | inr not ↦ not
     ]
@@ -164,13 +161,13 @@ module _ {tables : Tables} {space : Range} (t : Task tables space) where
     pub own_now : (a : ℕ) → StartsSome t.before.slots a → mark_at t.before.slots a ≡ None → is_some (h.good.marks a) ≡ true → h.good.marks a ≡ Some (own_mark t.walks a)
     own_now a start free some =
         let own = own_of t a start (h.good.marks a) (h.good.status a) some in
-        own.1 ∙ ap (λ p. Some (own_as t.walks a p)) (sym (ap has_pending own.1) ∙ none_waits a start free)
+        own.1 ∙ ap (λ p. Some (own_as t.walks a p)) (sym (ap has_pending own.1) ∙ none_left a start free)
 
     -- what a marked block that is reached leads to is marked
     next_now : (a : ℕ) (e : Edge) → StartsSome t.before.slots a → is_some (h.good.marks a) ≡ true → Contains (block_edges tables space t.walks a) e → is_some (h.good.marks e.target) ≡ true
     next_now a e start some there = elim (cases_Bool (is_some (mark_at t.before.slots a))) [
       | inl before ↦ some_still t e.target (h.good.marks e.target) (h.good.status e.target) (marked_before t e.target (closed_before t a e before there))
-      | inr free ↦ h.good.closed a e (λ no-one. false≢true (ap is_some no-one)) (own_now a start (none_from (mark_at t.before.slots a) free) some) there
+      | inr free ↦ h.good.closed a e (λ no-one. false≢true (ap is_some no-one)) (none_waits a) (own_now a start (none_from (mark_at t.before.slots a) free) some) there
     ]
 
     -- what is closed under edges, and holds of the starts, holds of all that is reached
@@ -223,7 +220,7 @@ module _ {tables : Tables} {space : Range} (t : Task tables space) where
     slot_now reached s there sound complete =
         ap (λ mark. with_mark mark s) (mark_now (reached s.address) s s.mark (mark_of_slot t.before.slots t.rises s there) there sound complete)
 
-    -- what is still to be walked was before
+    -- what is left to a pass was before
     left_now : (s : Slot) → Contains t.before.slots s → has_pending (h.good.marks s.address) ≡ true → is_pending s ≡ true
     left_now s there pending =
         let is = mark_of_slot t.before.slots t.rises s there in
@@ -235,7 +232,7 @@ module _ {tables : Tables} {space : Range} (t : Task tables space) where
             ]
             | inr new ↦ absurd (false≢true (sym (ap is_some (sym is ∙ new.unmarked)) ∙ some))
           ]
-          | inr free ↦ absurd (false≢true (sym (none_waits s.address (s, there, refl) (is ∙ none_from s.mark free)) ∙ pending))
+          | inr free ↦ absurd (false≢true (sym (none_left s.address (s, there, refl) (is ∙ none_from s.mark free)) ∙ pending))
         ]
 
     map_now : (f g : Slot → Slot) (xs : List Slot) → ((s : Slot) → Contains xs s → f s ≡ g s) → map f xs ≡ map g xs

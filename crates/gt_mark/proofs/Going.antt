@@ -7,15 +7,15 @@ use Rattle.std.proofs.lemmas.List.Elements.{All-nil, All-cons, All-push, All-con
 use Rattle.gt_space.specs.Range.{Range}
 use Rattle.gt_entries.specs.declared.marks.Mark.{Mark}
 use Rattle.gt_entries.specs.Cells.{has_pending}
-use Rattle.gt_pages.specs.Slots.{Slot, StartsSome, is_unmarked, mark_at, new_mark, walked}
+use Rattle.gt_pages.specs.Slots.{Slot, StartsSome, is_unmarked, mark_at, walked}
 use Rattle.gt_pages.specs.Contents.{with_slots}
 use Rattle.gt_walk.specs.declared.tables.Tables.{Tables}
 use Rattle.gt_walk.specs.Rows.{Edge, edges_of}
 use Rattle.gt_mark.specs.declared.stack.Block.{Block}
 use Rattle.gt_mark.specs.Reached.{Walks, IsMarkedAt, IsOwn, IsReached, LeadsTo, NamesBlock, Reaches, itself, onward, block_edges}
 use Rattle.gt_mark.specs.Marks.{own_mark}
-use Rattle.gt_mark.specs.Steps.{State, Task, Good, Fits, IsOld, IsNew, Suits, Waits, TakesEdge, known, next, pushed, lost, block_in, marked_pages, one_if, passes, place_of}
-use Rattle.gt_mark.proofs.Losing.{Loses, loses}
+use Rattle.gt_mark.specs.Steps.{State, Task, Good, Fits, IsOld, IsNew, Suits, Waits, IsPutOff, TakesEdge, known, next, pushed, lost, block_in, marked_pages, one_if, passes, place_of, postponed_pages}
+use Rattle.gt_mark.proofs.Losing.{Loses, loses, mark_as, marked_as, postponed_marked}
 use Rattle.gt_mark.proofs.Remarked.{contains_cases, contains_head, contains_tail, count_lt, count_remarked, is_free, mark_at_remarked, mark_of_slot, marked_slot, put, put_other, put_same, slot_marked, starts_remarked, with_mark_remarked}
 
 pub all_from : {X : Type 0} (P : X → Type 0) (xs : List X) → ((x : X) → Contains xs x → P x) → All P xs
@@ -51,7 +51,7 @@ pub none_from : (o : Option Mark) → is_some o ≡ false → o ≡ None
 none_from None h = refl
 none_from (Some m) h = absurd (true≢false h)
 
--- a block's own mark, which says whether it is still to be walked
+-- a block's own mark, which says whether it is left to a pass
 abbrev pub own_as : Walks → ℕ → Bool → Mark
 own_as walks a pending = record { walk = (walks a).walk; count = (walks a).count; pending = pending }
 
@@ -184,7 +184,7 @@ module _ {tables : Tables} {space : Range} (t : Task tables space) where
 
   -- ---- one more block is marked
 
-  module _ (begun : List ℕ) (opened held : Option ℕ) (old : State) (g : Good t begun opened held old) where
+  module _ (begun : List ℕ) (hand : Option ℕ) (old : State) (g : Good t begun hand old) where
     pub is_at : (a : ℕ) → StartsSome t.before.slots a → mark_at old.pages.slots a ≡ g.marks a
     is_at a start = ap (λ p. mark_at p.slots a) g.pages ∙ mark_at_remarked g.marks t.before.slots a start
 
@@ -204,60 +204,61 @@ module _ {tables : Tables} {space : Range} (t : Task tables space) where
       f : Fits t (block_in e)
       f = s.fits unmarked
 
-      mark_is : Some (new_mark e.walk e.count) ≡ Some (record { walk = (t.walks e.target).walk; count = (t.walks e.target).count; pending = true })
-      mark_is = ap (λ w. Some (new_mark w e.count)) f.walk ∙ ap (λ n. Some (new_mark (t.walks e.target).walk n)) f.count
+      mark_is : (p : Bool) → Some (mark_as e p) ≡ Some (own_as t.walks e.target p)
+      mark_is p = ap (λ w. Some (record { walk = w; count = e.count; pending = p })) f.walk ∙ ap (λ n. Some (record { walk = (t.walks e.target).walk; count = n; pending = p })) f.count
 
-      good_marked : (new : State) → new.pages ≡ marked_pages old.pages e → ((a : ℕ) → Waits old a → Waits new a) → Waits new e.target
-          → All (Fits t) new.stack → IfSome new.next (Fits t) → Good t (e.target ∷ begun) opened held new
-      good_marked new pages more waits fit following = record {
-        marks = put g.marks e.target (Some (new_mark e.walk e.count));
-        pages = pages ∙ ap (λ p. marked_pages p e) g.pages ∙ ap (with_slots t.before) (with_mark_remarked g.marks t.before.slots e.target (Some (new_mark e.walk e.count)));
-        status = put_cases (λ a mark. IsOld t a mark ⊎ IsNew t a mark) g.marks e.target (Some (new_mark e.walk e.count))
+      -- the target waits, or it is left to a pass
+      good_marked : (p : Bool) (new : State) → new.pages ≡ marked_as old.pages e p → ((a : ℕ) → Waits old a → Waits new a) → ((a : ℕ) → IsPutOff old a → IsPutOff new a)
+          → (p ≡ false → Waits new e.target) → (p ≡ true → IsPutOff new e.target) → All (Fits t) new.stack → IfSome new.next (Fits t) → Good t (e.target ∷ begun) hand new
+      good_marked p new pages more further waits later fit following = record {
+        marks = put g.marks e.target (Some (mark_as e p));
+        pages = pages ∙ ap (λ c. marked_as c e p) g.pages ∙ ap (with_slots t.before) (with_mark_remarked g.marks t.before.slots e.target (Some (mark_as e p)));
+        status = put_cases (λ a mark. IsOld t a mark ⊎ IsNew t a mark) g.marks e.target (Some (mark_as e p))
             (inr (record {
               unmarked = unmarked;
               reached = elim f.met [ inl some ↦ absurd (false≢true (sym (ap is_some unmarked) ∙ some)) | inr reached ↦ reached ];
-              pending = true;
-              is = mark_is;
+              pending = p;
+              is = mark_is p;
             }))
             (λ a _. g.status a);
-        closed = λ a x apart own there. put_some g.marks e.target (new_mark e.walk e.count) x.target
-            (put_cases (λ b mark. opened ≢ Some b → mark ≡ Some (own_mark t.walks b) → Contains (block_edges tables space t.walks b) x → is_some (g.marks x.target) ≡ true) g.marks e.target (Some (new_mark e.walk e.count))
-            (λ _ same _. absurd (true≢false (ap has_pending same)))
-            (λ b _ off same in-b. g.closed b x off same in-b) a apart own there);
-        waits = λ a start free pending. put_cases (λ b mark. StartsSome t.before.slots b → mark_at t.before.slots b ≡ None → has_pending mark ≡ true → (held ≡ Some b) ⊎ Waits new b) g.marks e.target (Some (new_mark e.walk e.count))
-            (λ _ _ _. inr waits)
-            (λ b _ from none p. elim (g.waits b from none p) [ inl h ↦ inl h | inr w ↦ inr (more b w) ]) a start free pending;
+        closed = λ a x off rests own there. put_some g.marks e.target (mark_as e p) x.target
+            (put_cases (λ b mark. hand ≢ Some b → (Waits new b → ⊥) → mark ≡ Some (own_mark t.walks b) → Contains (block_edges tables space t.walks b) x → is_some (g.marks x.target) ≡ true) g.marks e.target (Some (mark_as e p))
+            (λ _ rests same _. absurd (rests (waits (ap has_pending same))))
+            (λ b _ off rests same in-b. g.closed b x off (λ w. rests (more b w)) same in-b) a off rests own there);
+        put_off = λ a start free pending. put_cases (λ b mark. StartsSome t.before.slots b → mark_at t.before.slots b ≡ None → has_pending mark ≡ true → IsPutOff new b) g.marks e.target (Some (mark_as e p))
+            (λ _ _ is. later is)
+            (λ b _ from none h. further b (g.put_off b from none h)) a start free pending;
         fit = fit;
         next = following;
         began = λ a there. elim (contains_cases e.target a begun there) [
-          | inl is ↦ subst (λ b. is_some (put g.marks e.target (Some (new_mark e.walk e.count)) b) ≡ true) is (ap is_some (put_same g.marks e.target (Some (new_mark e.walk e.count))))
-          | inr later ↦ put_some g.marks e.target (new_mark e.walk e.count) a (g.began a later)
+          | inl is ↦ subst (λ b. is_some (put g.marks e.target (Some (mark_as e p)) b) ≡ true) is (ap is_some (put_same g.marks e.target (Some (mark_as e p))))
+          | inr after ↦ put_some g.marks e.target (mark_as e p) a (g.began a after)
         ];
       }
 
-      fewer : count_by is_unmarked (marked_pages old.pages e).slots + 1 ≤ count_by is_unmarked old.pages.slots
-      fewer =
+      fewer : (p : Bool) → count_by is_unmarked (marked_as old.pages e p).slots + 1 ≤ count_by is_unmarked old.pages.slots
+      fewer p =
           let x : Slot = s.starts.0 in
           let at : x.address ≡ e.target = s.starts.2 in
-          let after : count_by is_unmarked (marked_pages old.pages e).slots ≡ count_by (is_free (put g.marks e.target (Some (new_mark e.walk e.count)))) t.before.slots =
-          ap (λ p. count_by is_unmarked (marked_pages p e).slots) g.pages
-          ∙ ap (count_by is_unmarked) (with_mark_remarked g.marks t.before.slots e.target (Some (new_mark e.walk e.count)))
-          ∙ count_remarked (put g.marks e.target (Some (new_mark e.walk e.count))) t.before.slots in
-          let less = count_lt (is_free g.marks) (is_free (put g.marks e.target (Some (new_mark e.walk e.count)))) t.before.slots x
-          (λ y h. cond_none (y.address == e.target) (new_mark e.walk e.count) (g.marks y.address) h)
+          let after : count_by is_unmarked (marked_as old.pages e p).slots ≡ count_by (is_free (put g.marks e.target (Some (mark_as e p)))) t.before.slots =
+          ap (λ c. count_by is_unmarked (marked_as c e p).slots) g.pages
+          ∙ ap (count_by is_unmarked) (with_mark_remarked g.marks t.before.slots e.target (Some (mark_as e p)))
+          ∙ count_remarked (put g.marks e.target (Some (mark_as e p))) t.before.slots in
+          let less = count_lt (is_free g.marks) (is_free (put g.marks e.target (Some (mark_as e p)))) t.before.slots x
+          (λ y h. cond_none (y.address == e.target) (mark_as e p) (g.marks y.address) h)
           s.starts.1
-          (ap (λ b. is_none (put g.marks e.target (Some (new_mark e.walk e.count)) b)) at ∙ ap is_none (put_same g.marks e.target (Some (new_mark e.walk e.count))))
+          (ap (λ b. is_none (put g.marks e.target (Some (mark_as e p)) b)) at ∙ ap is_none (put_same g.marks e.target (Some (mark_as e p))))
           (ap (λ b. is_none (g.marks b)) at ∙ ap is_none was_none) in
           let before = unmarked_is in
           omega (arith, after, less, before)
 
-    good_known : (e : Edge) → Suits t e → mark_at old.pages.slots e.target ≢ None → Good t (e.target ∷ begun) opened held old
+    good_known : (e : Edge) → Suits t e → mark_at old.pages.slots e.target ≢ None → Good t (e.target ∷ begun) hand old
     good_known e f some = record {
       marks = g.marks;
       pages = g.pages;
       status = g.status;
       closed = g.closed;
-      waits = g.waits;
+      put_off = g.put_off;
       fit = g.fit;
       next = g.next;
       began = λ a there. elim (contains_cases e.target a begun there) [
@@ -267,54 +268,46 @@ module _ {tables : Tables} {space : Range} (t : Task tables space) where
     }
 
     pub record Stepped (e : Edge) (new : State) : Type 0 where
-      pub good : Good t (e.target ∷ begun) opened held new
+      pub good : Good t (e.target ∷ begun) hand new
       pub eases : Eases old new
 
     pub stepped : (e : Edge) (new : State) → Suits t e → TakesEdge old e new → Stepped e new
     stepped e new s (known some same) = subst (Stepped e) (sym same) (record { good = good_known e s some; eases = eases_same old })
     stepped e new s (next none is) =
-        let less = fewer e s none in
+        let less = fewer e s none false in
         let idle : one_if (is_some old.next) ≡ 0 = ap (λ n. one_if (is_some n)) is.free in
         subst (Stepped e) (sym is.result) (record {
-          good = good_marked e s none (record old { pages = marked_pages old.pages e; next = Some (block_in e) }) refl
+          good = good_marked e s none false (record old { pages = marked_pages old.pages e; next = Some (block_in e) }) refl
               (λ a w. elim w [
                 | inl on ↦ inl on
-                | inr rest ↦ elim rest [
-                  | inl there ↦ absurd (false≢true (ap (λ n. is_some (option_map (λ b. b.addr) n)) (sym is.free) ∙ ap is_some there))
-                  | inr other ↦ inr (inr other)
-                ]
+                | inr there ↦ absurd (false≢true (ap (λ n. is_some (option_map (λ b. b.addr) n)) (sym is.free) ∙ ap is_some there))
               ])
-              (inr (inl refl)) g.fit (f e s none);
+              (λ a later. later) (λ _. inr refl) (λ not. absurd (false≢true not)) g.fit (f e s none);
           eases = record { load = omega (arith, less, idle); lost = omega (arith, less); stands = refl };
         })
     stepped e new s (pushed none is) =
-        let less = fewer e s none in
+        let less = fewer e s none false in
         let long = length_push old.stack (block_in e) in
         subst (Stepped e) (sym is.result) (record {
-          good = good_marked e s none (record old { pages = marked_pages old.pages e; stack = old.stack ++ block_in e ∷ [] }) refl
+          good = good_marked e s none false (record old { pages = marked_pages old.pages e; stack = old.stack ++ block_in e ∷ [] }) refl
               (λ a w. elim w [
                 | inl on ↦ inl (on.0, Contains-append_left old.stack (block_in e ∷ []) on.0 on.1, on.2)
-                | inr rest ↦ inr rest
+                | inr there ↦ inr there
               ])
-              (inl (block_in e, Contains-push old.stack (block_in e), refl)) (All-push (Fits t) old.stack (block_in e) g.fit (f e s none)) g.next;
+              (λ a later. later) (λ _. inl (block_in e, Contains-push old.stack (block_in e), refl)) (λ not. absurd (false≢true not))
+              (All-push (Fits t) old.stack (block_in e) g.fit (f e s none)) g.next;
           eases = record { load = omega (arith, less, long); lost = omega (arith, less); stands = refl };
         })
     stepped e new s (lost none is) =
-        let less = fewer e s none in
+        let pages = postponed_marked old.pages e (starts_now e.target s.starts) in
+        let same : count_by is_unmarked (postponed_pages (marked_pages old.pages e) e.target).slots ≡ count_by is_unmarked (marked_as old.pages e true).slots = ap (λ c. count_by is_unmarked c.slots) pages in
+        let less = fewer e s none true in
         let one = one_if_le (is_some new.lost) in
-        let l : Loses (record old { pages = marked_pages old.pages e }) e.target new = subst (Loses (record old { pages = marked_pages old.pages e }) e.target) (sym is.result) (loses (record old { pages = marked_pages old.pages e }) e.target) in
+        let mid : State = record old { pages = postponed_pages (marked_pages old.pages e) e.target } in
+        let l : Loses mid e.target new = subst (Loses mid e.target) (sym is.result) (loses mid e.target) in
         subst (Stepped e) (sym l.rest) (record {
-          good = good_marked e s none (record old { pages = marked_pages old.pages e; lost = new.lost; pass = new.pass }) refl
-              (λ a w. elim w [
-                | inl on ↦ inl on
-                | inr rest ↦ elim rest [
-                  | inl there ↦ inr (inl there)
-                  | inr late ↦ elim late [
-                    | inl left ↦ inr (inr (inl (l.keeps_left a left)))
-                    | inr above ↦ inr (inr (inr (l.keeps_ahead a above)))
-                  ]
-                ]
-              ])
-              (inr (inr l.there)) g.fit g.next;
-          eases = record { load = omega (arith, less); lost = omega (arith, less, one); stands = l.stands };
+          good = good_marked e s none true (record mid { lost = new.lost; pass = new.pass }) pages (λ a w. w)
+              (λ a later. elim later [ inl left ↦ inl (l.keeps_left a left) | inr above ↦ inr (l.keeps_ahead a above) ])
+              (λ not. absurd (true≢false not)) (λ _. l.there) g.fit g.next;
+          eases = record { load = omega (arith, same, less); lost = omega (arith, same, less, one); stands = l.stands };
         })

@@ -106,6 +106,19 @@ with_mark_remarked marks (x ∷ xs) a mark =
     ap (λ s. s ∷ with_mark_at (map (remarked marks) xs) a mark) (put_one (x.address == a) marks mark x)
     ∙ ap (λ ss. remarked (put marks a mark) x ∷ ss) (with_mark_remarked marks xs a mark)
 
+-- ---- one address is marked again
+
+twice_one : (b : Bool) (x : ℕ) (k l : Option Mark) (s : Slot) → s.address == x ≡ b
+    → cond ((cond b (with_mark k s) s).address == x) (with_mark l (cond b (with_mark k s) s)) (cond b (with_mark k s) s) ≡ cond b (with_mark l s) s
+twice_one true x k l s is = ap (λ c. cond c (with_mark l (with_mark k s)) (with_mark k s)) is
+twice_one false x k l s is = ap (λ c. cond c (with_mark l s) s) is
+
+pub marked_twice : (xs : List Slot) (x : ℕ) (k l : Option Mark) → with_mark_at (with_mark_at xs x k) x l ≡ with_mark_at xs x l
+marked_twice [] x k l = refl
+marked_twice (s ∷ xs) x k l =
+    ap (λ y. y ∷ with_mark_at (with_mark_at xs x k) x l) (twice_one (s.address == x) x k l s refl)
+    ∙ ap (λ ys. cond (s.address == x) (with_mark l s) s ∷ ys) (marked_twice xs x k l)
+
 -- ---- rising slots
 
 pub rises_tail : (x : Slot) (xs : List Slot) → Rises (x ∷ xs) → Rises xs
@@ -209,7 +222,7 @@ count_remarked marks (x ∷ xs) =
     ∙ ap (λ n. cond (is_none (marks x.address)) 1 0 + n) (count_remarked marks xs)
     ∙ sym (count_cons (is_free marks) x xs)
 
--- ---- the next block to be walked
+-- ---- the next block that is left to a pass
 
 -- what is found above an address
 pub record IsFound (marks : ℕ → Option Mark) (xs : List Slot) (after address walk count : ℕ) : Type 0 where
@@ -218,7 +231,7 @@ pub record IsFound (marks : ℕ → Option Mark) (xs : List Slot) (after address
   pub mark : marks address ≡ Some (record { walk = walk; count = count; pending = true })
   pub first : (a : ℕ) → StartsSome xs a → after < a → has_pending (marks a) ≡ true → (address ≡ a) ⊎ (address < a)
 
--- no block above the address is to be walked
+-- no block above the address is left to a pass
 abbrev pub IsDone : (ℕ → Option Mark) → List Slot → ℕ → Type 0
 IsDone marks xs after = (a : ℕ) → StartsSome xs a → after < a → has_pending (marks a) ≡ true → ⊥
 

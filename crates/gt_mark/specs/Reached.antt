@@ -62,7 +62,7 @@ pub record NamesBlock (slots : List Slot) (walks : Walks) (e : Edge) : Type 0 wh
   pub count : e.count ≡ (walks e.target).count
 
 -- Blocks can be marked from those at these addresses: a block that is marked before has its own walk and count in its mark, whether or
--- not it is still to be walked, and its edges lead to marked blocks alone, so that it need not be walked again; and each edge of another
+-- not it is left to a pass, and its edges lead to marked blocks alone, so that it need not be walked again; and each edge of another
 -- block that is reached names a block. Nothing more is asked of the tables: edges are what `visit` gives on them.
 pub record CanMark (tables : Tables) (space : Range) (walks : Walks) (slots : List Slot) (starts : List ℕ) : Type 0 where
   pub marks : (s : Slot) → Contains slots s → IfSome s.mark (IsOwn walks s.address)

@@ -3,7 +3,7 @@ use Rattle.std.specs.Prelude.{◌≡◌, ◌≢◌, ◌⊎◌, ◌≤◌, ◌<�
 use Rattle.gt_space.specs.Range.{Range}
 use Rattle.gt_entries.specs.declared.marks.Mark.{Mark}
 use Rattle.gt_entries.specs.Cells.{has_pending}
-use Rattle.gt_pages.specs.Slots.{Slot, StartsSome, is_unmarked, mark_at, new_mark, walked, with_mark, with_mark_at}
+use Rattle.gt_pages.specs.Slots.{Slot, StartsSome, is_unmarked, mark_at, new_mark, postponed, walked, with_mark, with_mark_at}
 use Rattle.gt_pages.specs.Contents.{Contents, Rises, with_slots}
 use Rattle.gt_walk.specs.declared.tables.Tables.{Tables}
 use Rattle.gt_walk.specs.Rows.{Edge}
@@ -81,9 +81,13 @@ ahead st = ahead_in (place_of st) st.pages.slots
 abbrev pub block_in : Edge → Block
 block_in e = record { addr = e.target; walk = e.walk; count = e.count }
 
--- the pages with the target marked, which is still to be walked
+-- the pages with the target marked
 abbrev pub marked_pages : Contents → Edge → Contents
 marked_pages pages e = with_slots pages (with_mark_at pages.slots e.target (Some (new_mark e.walk e.count)))
+
+-- the pages with the block at this address left to a pass
+abbrev pub postponed_pages : Contents → ℕ → Contents
+postponed_pages pages address = with_slots pages (with_mark_at pages.slots address (postponed (mark_at pages.slots address)))
 
 -- the block is the next of the chain
 pub record IsNext (old : State) (e : Edge) (new : State) : Type 0 where
@@ -97,11 +101,11 @@ pub record IsPushed (old : State) (e : Edge) (new : State) : Type 0 where
   pub room : length old.stack < MOST_BLOCKS
   pub result : new ≡ record old { pages = marked_pages old.pages e; stack = old.stack ++ block_in e ∷ [] }
 
--- the stack, onto which it would have to come for the same reason, has no room for it
+-- the stack, onto which it would have to come for the same reason, has no room for it, and it is left to a pass
 pub record IsLost (old : State) (e : Edge) (new : State) : Type 0 where
   pub aside : old.next ≡ None → old.chain ≢ Some e.place
   pub full : length old.stack ≡ MOST_BLOCKS
-  pub result : new ≡ lost_in old.pass (record old { pages = marked_pages old.pages e }) e.target
+  pub result : new ≡ lost_in old.pass (record old { pages = postponed_pages (marked_pages old.pages e) e.target }) e.target
 
 -- a target that is marked changes nothing; another is marked and kept
 pub data TakesEdge (old : State) (e : Edge) (new : State) : Type 0 where
@@ -155,30 +159,34 @@ module _ {tables : Tables} {space : Range} (t : Task tables space) where
     pub starts : StartsSome t.before.slots e.target
     pub fits : mark_at t.before.slots e.target ≡ None → Fits (block_in e)
 
--- where a block is that is still to be walked
+-- a block waits that is on the stack, or is the next of a chain
 abbrev pub Waits : State → ℕ → Type 0
-Waits st address = ((b : Block) × Contains st.stack b × (b.addr ≡ address)) ⊎ (option_map (λ b. b.addr) st.next ≡ Some address) ⊎ IsLeft st.lost address ⊎ IsAhead st.pass address
+Waits st address = ((b : Block) × Contains st.stack b × (b.addr ≡ address)) ⊎ (option_map (λ b. b.addr) st.next ≡ Some address)
 
--- What holds while the marker works: targets that were taken are marked; of one block the edges are being taken; and a newly marked
--- block that is to be walked is held, or waits.
-pub record Good {tables : Tables} {space : Range} (t : Task tables space) (begun : List ℕ) (opened held : Option ℕ) (st : State) : Type 0 where
+-- a block is left to the pass that runs, or to the next one
+abbrev pub IsPutOff : State → ℕ → Type 0
+IsPutOff st address = IsLeft st.lost address ⊎ IsAhead st.pass address
+
+-- What holds while the marker works: targets that were taken are marked; a newly marked block whose mark says so is left to a pass; and
+-- what another leads to is marked, unless it is in hand, or waits.
+pub record Good {tables : Tables} {space : Range} (t : Task tables space) (begun : List ℕ) (hand : Option ℕ) (st : State) : Type 0 where
   pub marks : ℕ → Option Mark
   pub pages : st.pages ≡ with_slots t.before (map (remarked marks) t.before.slots)
   pub status : (a : ℕ) → IsOld t a (marks a) ⊎ IsNew t a (marks a)
-  pub closed : (a : ℕ) (e : Edge) → opened ≢ Some a → marks a ≡ Some (own_mark t.walks a) → Contains (block_edges tables space t.walks a) e → IsTrue (is_some (marks e.target))
-  pub waits : (a : ℕ) → StartsSome t.before.slots a → mark_at t.before.slots a ≡ None → has_pending (marks a) ≡ true → (held ≡ Some a) ⊎ Waits st a
+  pub closed : (a : ℕ) (e : Edge) → hand ≢ Some a → ¬ Waits st a → marks a ≡ Some (own_mark t.walks a) → Contains (block_edges tables space t.walks a) e → IsTrue (is_some (marks e.target))
+  pub put_off : (a : ℕ) → StartsSome t.before.slots a → mark_at t.before.slots a ≡ None → has_pending (marks a) ≡ true → IsPutOff st a
   pub fit : All (Fits t) st.stack
   pub next : IfSome st.next (Fits t)
   pub began : (a : ℕ) → Contains begun a → IsTrue (is_some (marks a))
 
 -- the marker has this block in hand, and no next one
 pub record Holds {tables : Tables} {space : Range} (t : Task tables space) (begun : List ℕ) (hand : Option Block) (st : State) : Type 0 where
-  pub good : Good t begun None (option_map (λ b. b.addr) hand) st
+  pub good : Good t begun (option_map (λ b. b.addr) hand) st
   pub idle : st.next ≡ None
   pub unchained : st.chain ≡ None
   pub fits : IfSome hand (Fits t)
 
--- how much is left to do: two for each unmarked block, and one for each that waits
+-- how much is left to do: two for each unmarked block, and one for each on the stack
 abbrev pub left : State → ℕ
 left st = 2 * count_by is_unmarked st.pages.slots + length st.stack
 

@@ -1,6 +1,6 @@
 -- No promise: why many blocks that one block leads to do not fit on the stack, and few that are named aside do. Only the functions inside
 -- the crate cite this.
-use Rattle.std.specs.Prelude.{◌≡◌, ◌≢◌, ◌⊎◌, ◌≤◌, ℕ, true, List, length, map, Option, Some, None, is_some, nat_eq, IfSome, Contains}
+use Rattle.std.specs.Prelude.{◌≡◌, ◌≢◌, ◌⊎◌, ◌≤◌, ℕ, Bool, true, List, length, map, Option, Some, None, is_some, option_map, nat_eq, IfSome, Contains}
 use Rattle.std.specs.List.{IsDistinct}
 use Rattle.gt_space.specs.Range.{Range}
 use Rattle.gt_pages.specs.Slots.{StartsSome, mark_at}
@@ -8,9 +8,8 @@ use Rattle.gt_walk.specs.declared.tables.Tables.{Tables}
 use Rattle.gt_walk.specs.Rows.{Edge, word_at}
 use Rattle.gt_mark.specs.declared.stack.Block.{Block}
 use Rattle.gt_mark.specs.Reached.{LeadsTo, IsReached, block_edges}
-use Rattle.gt_mark.specs.Marks.{own_mark}
 use Rattle.gt_mark.specs.Rounds.{IsChainEdge}
-use Rattle.gt_mark.specs.Steps.{State, Task}
+use Rattle.gt_mark.specs.Steps.{State, Task, Waits}
 
 module _ {tables : Tables} {space : Range} (t : Task tables space) where
   -- a block that was not marked and is to be
@@ -35,15 +34,11 @@ module _ {tables : Tables} {space : Range} (t : Task tables space) where
     pub many : 65 ≤ length blocks
     pub each : (a : ℕ) → Contains blocks a → IsAside a
 
+  -- why a block is marked: marking starts there, or a block whose edges were taken leads there
+  abbrev pub Origin : (ℕ → Bool) → ℕ → Type 0
+  Origin walked a = Contains t.starts a ⊎ ((src : ℕ) × (walked src ≡ true) × LeadsTo tables space t.walks src a)
+
 module _ {tables : Tables} {space : Range} (t : Task tables space) (st : State) where
-  -- the block was walked
-  abbrev pub IsWalked : ℕ → Type 0
-  IsWalked a = mark_at st.pages.slots a ≡ Some (own_mark t.walks a)
-
-  -- the block has a mark
-  abbrev pub HasMark : ℕ → Type 0
-  HasMark a = is_some (mark_at st.pages.slots a) ≡ true
-
   -- of the marked blocks this one alone leads to the other
   pub record IsOnly (from a : ℕ) : Type 0 where
     pub leads : LeadsTo tables space t.walks from a
@@ -57,10 +52,6 @@ module _ {tables : Tables} {space : Range} (t : Task tables space) (st : State) 
     pub many : 66 ≤ length blocks
     pub only : (a : ℕ) → Contains blocks a → IsOnly from a
 
-  -- why a block is marked
-  abbrev pub Origin : ℕ → Type 0
-  Origin a = Contains t.starts a ⊎ ((src : ℕ) × (mark_at st.pages.slots src ≡ Some (own_mark t.walks src)) × LeadsTo tables space t.walks src a)
-
   -- Each block on the stack is there once and is named aside; the stack had no room only where such blocks are too many; and the next
   -- block is the one that the chain pointer names.
   pub record KeepsAside : Type 0 where
@@ -69,17 +60,20 @@ module _ {tables : Tables} {space : Range} (t : Task tables space) (st : State) 
     pub over : is_some st.lost ≡ true → HasTooMany t
     pub chained : IfSome st.next (λ b. (place : ℕ) × (st.chain ≡ Some place) × (word_at space place ≡ Some b.addr))
 
-  -- while the edges of a block are taken, before any pass
-  pub record Opened (opened : Option ℕ) : Type 0 where
+  -- before any pass, by the blocks whose edges were taken, the one whose edges are being taken, and the one that is held for this
+  pub record Opened (walked : ℕ → Bool) (opened held : Option ℕ) : Type 0 where
     pub no_pass : st.pass ≡ None
     pub keeps : KeepsAside
     pub short : length st.stack ≤ 64
     pub stacked : (b : Block) → Contains st.stack b → is_some (mark_at st.pages.slots b.addr) ≡ true
     pub followed : IfSome st.next (λ b. is_some (mark_at st.pages.slots b.addr) ≡ true)
-    pub origin : (a : ℕ) → is_some (mark_at st.pages.slots a) ≡ true → (is_some (mark_at t.before.slots a) ≡ true) ⊎ Origin a
-    pub wide : (from : ℕ) (blocks : List ℕ) → opened ≢ Some from → IsCrowd from blocks → mark_at st.pages.slots from ≡ Some (own_mark t.walks from) → is_some st.lost ≡ true
+    pub marked : (a : ℕ) → walked a ≡ true → is_some (mark_at st.pages.slots a) ≡ true
+    pub origin : (a : ℕ) → is_some (mark_at st.pages.slots a) ≡ true → (is_some (mark_at t.before.slots a) ≡ true) ⊎ Origin t walked a
+    pub seen : (a : ℕ) → mark_at t.before.slots a ≡ None → is_some (mark_at st.pages.slots a) ≡ true → (walked a ≡ true) ⊎ (held ≡ Some a) ⊎ Waits st a ⊎ (is_some st.lost ≡ true)
+    pub wide : (from : ℕ) (blocks : List ℕ) → opened ≢ Some from → IsCrowd from blocks → walked from ≡ true → is_some st.lost ≡ true
 
   -- with a block in hand
   pub record Wide (hand : Option Block) : Type 0 where
-    pub opened : Opened None
+    pub walked : ℕ → Bool
+    pub opened : Opened walked None (option_map (λ b. b.addr) hand)
     pub handed : IfSome hand (λ b. is_some (mark_at st.pages.slots b.addr) ≡ true)

@@ -3,7 +3,7 @@ ghost use Rattle.std.specs.Prelude.{◌≡◌, ◌⊎◌, ◌≤◌, ◌<◌, �
 ghost use Rattle.gt_space.specs.Range.{Range};
 ghost use Rattle.gt_pages.specs.Slots.{StartsSome};
 ghost use Rattle.gt_walk.specs.declared.tables.Tables.{Tables};
-ghost use Rattle.gt_mark.specs.Steps.{Task, Ends, Goes, Holds, Leaves, PassesOver, ahead, begun_state, lost_in, place_of, start_state, state_of};
+ghost use Rattle.gt_mark.specs.Steps.{Task, Ends, Goes, Holds, Leaves, Lessens, PassesOver, ahead, begun_state, lost_in, place_of, postponed_pages, start_state, state_of};
 ghost use Rattle.gt_mark.specs.Wide.{Wide};
 
 use crate::chains::chain_place;
@@ -14,8 +14,8 @@ use gt_pages::Pages;
 use gt_space::Space;
 use gt_walk::{EdgeSink, Tables, visit};
 
-/// Marks the blocks that edges name. What is marked is still to be walked: it is on the stack, or it is the next of a chain; or the
-/// stack had no room for it, and it lies ahead of the pass that runs, or in the span that the next pass goes over.
+/// Marks the blocks that edges name. A block that is newly marked comes onto the stack, or it is the next of a chain. Where the stack has
+/// no room for it, its mark says that it is left to a pass: it lies ahead of the pass that runs, or in the span that the next one goes over.
 #[derive(Drop)]
 pub struct Marker<'a> {
     pages: &'a mut Pages,
@@ -72,9 +72,11 @@ impl<'a> Marker<'a> {
 
     // A block for which the stack has no room is left to the pass that runs, where that has not come to it, else to the next one.
     fn lose(&mut self, addr: u64)
+        requires start { StartsSome self.old.pages.now.slots addr }
         ensures same_reference { self.new.pages.ghost_name ≡ self.old.pages.ghost_name }
-        ensures lost { state_of self.new ≡ lost_in self.old.pass (state_of self.old) addr }
+        ensures lost { state_of self.new ≡ lost_in self.old.pass (record (state_of self.old) { pages = postponed_pages self.old.pages.now addr }) addr }
     {
+        self.pages.postpone(addr);
         match self.pass {
             Some(pass) if pass.at < addr => {
                 self.pass = Some(Pass {
@@ -86,7 +88,7 @@ impl<'a> Marker<'a> {
         }
     }
 
-    /// Takes the edges of a block, which is then walked, and says which block its chain pointer names, where it was not marked.
+    /// Takes the edges of a block, and says which block its chain pointer names, where it was not marked.
     fn walk_block(&mut self, tables: &Tables, space: &Space, block: Block) -> Option<Block>
         requires ready { (t : Task tables.now space.now) × (begun : List ℕ) × Holds t begun (Some block) (state_of self.old) }
         ensures same_reference { self.new.pages.ghost_name ≡ self.old.pages.ghost_name }
@@ -94,7 +96,6 @@ impl<'a> Marker<'a> {
         ensures wide { (t : Task tables.now space.now) (begun : List ℕ) → Holds t begun (Some block) (state_of self.old) → Wide t (state_of self.old) (Some block) → Wide t (state_of self.new) result }
     {
         self.chain = chain_place(tables, block);
-        self.pages.set_walked(block.addr);
         visit(tables, block.walk, block.count, space, block.addr, self);
         self.chain = None;
         self.next.take()
@@ -148,13 +149,14 @@ impl<'a> Marker<'a> {
         }
     }
 
-    // Moves the pass on to the next block that is to be walked. Where there is none the pass is over.
+    // Moves the pass on to the next block that is left to it, and takes this block. Where there is none the pass is over.
     fn next_in_pass(&mut self) -> Option<Block>
         requires ready { (tables : Tables) × (space : Range) × (t : Task tables space) × (begun : List ℕ) × Holds t begun None (state_of self.old) }
         ensures same_reference { self.new.pages.ghost_name ≡ self.old.pages.ghost_name }
-        ensures same { state_of self.new ≡ record (state_of self.old) { pass = self.new.pass } }
+        ensures same { state_of self.new ≡ record (state_of self.old) { pages = self.new.pages.now; pass = self.new.pass } }
         ensures goes { (tables : Tables) (space : Range) (t : Task tables space) (begun : List ℕ) → Holds t begun None (state_of self.old) → Holds t begun result (state_of self.new) }
         ensures over { result ≡ None → self.new.pass ≡ None }
+        ensures lessens { Lessens (state_of self.old) (state_of self.new) 0 }
         ensures less { IsTrue (is_some result) → ahead (state_of self.new) < ahead (state_of self.old) }
     {
         let pass = self.pass.take()?;
@@ -162,6 +164,7 @@ impl<'a> Marker<'a> {
             return None;
         }
         let (addr, walk, count) = self.pages.next_pending(pass.at)?;
+        self.pages.set_walked(addr);
         self.pass = Some(Pass {
             at: addr,
             last: pass.last,

@@ -1,4 +1,4 @@
-//! The blocks that are marked and still to be walked, as far as they have room.
+//! The blocks that are marked and wait for their walk, as far as they have room.
 
 use arrayvec::ArrayVec;
 

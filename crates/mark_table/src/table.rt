@@ -180,10 +180,10 @@ fn change(
         return Ok(put(heap, &at, offset, line.number()? as u64));
     }
     if line.takes("mark") {
-        return set_marks(heap, blocks, line, true);
+        return set_marks(heap, blocks, line, false);
     }
     if line.takes("wait") {
-        return set_marks(heap, blocks, line, false);
+        return set_marks(heap, blocks, line, true);
     }
     call(alloc, heap, blocks, line)
 }
@@ -237,10 +237,10 @@ fn set_marks(
     heap: &mut SampleHeap,
     blocks: &Blocks,
     line: &mut Line,
-    walked: bool,
+    waits: bool,
 ) -> Result<bool, Refusal> {
     for addr in &blocks.named(line.next()?.as_str())? {
-        heap.mark(*addr, walked);
+        heap.mark(*addr, waits);
     }
     Ok(true)
 }

@@ -166,14 +166,14 @@ impl SampleHeap {
         }
     }
 
-    /// Marks a block as one that is still to be walked, or was walked.
-    pub fn mark(&mut self, addr: u64, walked: bool) {
+    /// Marks a block, and leaves it to a pass where it waits for one.
+    pub fn mark(&mut self, addr: u64, waits: bool) {
         let Some(mark) = mark_of(&self.known, addr) else {
             return;
         };
         mark_one(&mut self.pages, addr, mark.walk, mark.count);
-        if walked && starts(&self.pages, addr) {
-            self.pages.set_walked(addr);
+        if waits && starts(&self.pages, addr) {
+            self.pages.postpone(addr);
         }
     }
 

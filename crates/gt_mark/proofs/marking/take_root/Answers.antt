@@ -10,7 +10,7 @@ use Rattle.gt_mark.proofs.marking.take_root.Goals as goal
 pub visit-requires : goal.visit-requires
 visit-requires c =
     let r = c.requires.ready in
-    record { can = can_all r.0 None None (edges_of c.args.tables.now c.args.walk 1 c.args.space.now 0) r.1 c.args.marker.now r.3 r.2.good }
+    record { can = can_all r.0 None (edges_of c.args.tables.now c.args.walk 1 c.args.space.now 0) r.1 c.args.marker.now r.3 r.2.good }
 
 pub walk_stack-requires : goal.walk_stack-requires
 walk_stack-requires c =

@@ -1,6 +1,6 @@
 use Rattle.std.proofs.Common.{◌∙◌, ◌<◌, refl, subst, sym}
 use Rattle.gt_mark.specs.Steps.{ahead, state_of}
-use Rattle.gt_mark.proofs.Steps.{ahead_same, lessens_on, lessens_pass}
+use Rattle.gt_mark.proofs.Steps.{ahead_same, lessens_on}
 use Rattle.gt_mark.proofs.marker.Marker.run_pass.Goals as goal
 
 pub next_in_pass-requires : goal.next_in_pass-requires
@@ -23,7 +23,7 @@ returns-in-None-clause-goes c = λ t begun h.
     let w = c.blocks-2.invariant.goes t begun h in
     record {
       holds = c.in-None.ensures.goes c.args.tables.now c.args.space.now t begun w.holds;
-      lessens = lessens_pass (state_of c.args.self.now) (state_of c.blocks-2.self) (state_of c.next_in_pass.new.self) 0 c.next_in_pass.new.self.pass c.in-None.ensures.same w.lessens;
+      lessens = lessens_on (state_of c.args.self.now) (state_of c.blocks-2.self) (state_of c.next_in_pass.new.self) 0 w.lessens c.in-None.ensures.lessens;
     }
 
 pub blocks-2-smaller : goal.blocks-2-smaller
@@ -51,6 +51,6 @@ blocks-2-preserved c =
             holds = second.holds;
             lessens = lessens_on (state_of c.args.self.now) (state_of c.walk_chain.new.self) (state_of c.walk_stack.new.self) 0
                 (lessens_on (state_of c.args.self.now) (state_of c.next_in_pass.new.self) (state_of c.walk_chain.new.self) 0
-                (lessens_pass (state_of c.args.self.now) (state_of c.blocks-2.self) (state_of c.next_in_pass.new.self) 0 c.next_in_pass.new.self.pass c.in-Some.ensures.same w.lessens) first.lessens) second.lessens;
+                (lessens_on (state_of c.args.self.now) (state_of c.blocks-2.self) (state_of c.next_in_pass.new.self) 0 w.lessens c.in-Some.ensures.lessens) first.lessens) second.lessens;
           };
     }
