@@ -1,5 +1,5 @@
 //! The typed-object machine over values of every type: what a command answers and leaves. These are definitions, with the types
-//! of answers that they speak of. The only call is `numbers`, which pins the numbers in them.
+//! of the answers, which can be copied and tell whether they are refusals. `numbers` is a law: it says what the numbers in them are.
 #![tactic(auto)]
 
 mod answer;
