@@ -9,14 +9,14 @@ use Rattle.gt_collect.specs.declared.collecting.Collected.{Collected}
 use Rattle.gt_collect.specs.declared.modes.Mode.{Mode}
 use Rattle.gt_collect.specs.Answering.{Answers}
 use Rattle.gt_collect.specs.Collecting.{IsCollected}
-use Rattle.gt_collect.specs.Modes.{least_of}
+use Rattle.gt_collect.specs.Modes.{threshold_in}
 
 module _ (program : Program) (old : Heap) (mode : Mode) where
   -- too little is allocated where it is skipped
-  pub skipped_low : (new : Heap) → Answers program old mode new Skipped → allocated_of (ledger_of old.places) < least_of mode
+  pub skipped_low : (new : Heap) → Answers program old mode new Skipped → allocated_of (ledger_of old.places) < threshold_in mode
   skipped_low new (Answers.skips low) = low
 
   -- enough is allocated where it is collected
   pub collected_enough : (new : Heap) (done : Collected) → Answers program old mode new (Done done)
-      → (least_of mode ≤ allocated_of (ledger_of old.places)) × IsCollected program old new done.kept done.freed done.dropped done.rounds
+      → (threshold_in mode ≤ allocated_of (ledger_of old.places)) × IsCollected program old new done.kept done.freed done.dropped done.rounds
   collected_enough new done (Answers.collects enough is) = (enough, is)

@@ -11,15 +11,15 @@ use Rattle.gt_collect.specs.declared.collecting.Collected.{Collected}
 use Rattle.gt_collect.specs.declared.modes.Mode.{Mode}
 use Rattle.gt_collect.specs.Clearing.{IsZeroedAt}
 use Rattle.gt_collect.specs.Collecting.{IsCollected}
-use Rattle.gt_collect.specs.Modes.{least_of}
+use Rattle.gt_collect.specs.Modes.{threshold_in}
 
--- where fewer bytes are allocated than the mode asks for, the heap is as before; else it is collected, and the numbers are answered
+-- below the threshold of the mode it is skipped and the heap is as before; from there on the heap is collected, and the numbers are answered
 pub data Answers (program : Program) (old : Heap) (mode : Mode) : Heap → CollectAnswer → Type 0 where
-  skips : allocated_of (ledger_of old.places) < least_of mode → Answers program old mode old Skipped
-  collects : {new : Heap} {done : Collected} → least_of mode ≤ allocated_of (ledger_of old.places) → IsCollected program old new done.kept done.freed done.dropped done.rounds
+  skips : allocated_of (ledger_of old.places) < threshold_in mode → Answers program old mode old Skipped
+  collects : {new : Heap} {done : Collected} → threshold_in mode ≤ allocated_of (ledger_of old.places) → IsCollected program old new done.kept done.freed done.dropped done.rounds
       → Answers program old mode new (Done done)
 
--- the bytes of a space: all are as before, or the words of deletable roots are zero and all others as before
+-- the bytes of the space: where it is skipped all are as before; else those of the words of deletable roots are zero, and all others as before
 abbrev pub LeavesBytes : (deletable : List ℕ) → CollectAnswer → (old new : Range) → Type 0
 LeavesBytes deletable Skipped old new = new ≡ old
 LeavesBytes deletable (Done done) old new = IsZeroedAt deletable old new

@@ -10,7 +10,7 @@ abbrev pub IsMode : Mode → Type 0
 IsMode Force = Unit {0}
 IsMode (Heuristic last min_expand min_heapsize) = (last ≤ MAX_ALLOCATED) × (min_expand ≤ MAX_MIN_EXPAND) × (min_heapsize ≤ MAX_MIN_HEAPSIZE)
 
--- the bytes from which a collection of a mode runs: with Force it always does
-abbrev pub least_of : Mode → ℕ
-least_of Force = 0
-least_of (Heuristic last min_expand min_heapsize) = threshold_of last min_expand min_heapsize
+-- the bytes from which `collect` collects in a mode: 0 with Force, which always collects
+abbrev pub threshold_in : Mode → ℕ
+threshold_in Force = 0
+threshold_in (Heuristic last min_expand min_heapsize) = threshold_of last min_expand min_heapsize

@@ -2,7 +2,7 @@
 ghost use Rattle.std.specs.Prelude.{◌≡◌, ◌≤◌};
 ghost use Rattle.gt_next.specs.declared.TheConstants.{MAX_MIN_HEAPSIZE};
 ghost use Rattle.gt_next.specs.Collecting.{floor_of as floor_by};
-ghost use Rattle.gt_collect.specs.Modes.{IsMode, least_of};
+ghost use Rattle.gt_collect.specs.Modes.{IsMode, threshold_in};
 
 /// When `collect` collects.
 #[derive(Clone, Copy, Debug, PartialEq, Eq)]
@@ -24,7 +24,7 @@ impl Mode {
     /// The bytes of all blocks from which `collect` collects. They are 0 for `Force`, which always collects.
     pub fn threshold(self) -> u64
         requires mode { IsMode self }
-        ensures { result ≡ least_of self }
+        ensures { result ≡ threshold_in self }
     {
         match self {
             Mode::Force => 0,

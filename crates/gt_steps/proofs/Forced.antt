@@ -29,7 +29,7 @@ use Rattle.gt_session.specs.Sessions.{StandsFor}
 use Rattle.gt_caches.specs.Pairs.{Entries, pairs_of}
 use Rattle.gt_collect.specs.declared.modes.Mode.{Mode}
 use Rattle.gt_collect.specs.Collecting.{IsCollected}
-use Rattle.gt_collect.specs.Modes.{least_of}
+use Rattle.gt_collect.specs.Modes.{threshold_in}
 use Rattle.gt_steps.specs.Collecting.{NextIn}
 
 -- the bytes of blocks
@@ -141,7 +141,7 @@ module _ (old : Session) (objects : Objects) (caches : Entries) (vars : Variable
     }
 
     -- a collection that runs goes there
-    pub goes_in : (mode : Mode) → least_of mode ≤ allocated s → (t : State) × NextIn old.schema.program mode s (Collected kept freed dropped) t × StandsFor collected told t
+    pub goes_in : (mode : Mode) → threshold_in mode ≤ allocated s → (t : State) × NextIn old.schema.program mode s (Collected kept freed dropped) t × StandsFor collected told t
     goes_in mode enough =
         let next : NextIn old.schema.program mode s (Collected kept freed dropped) left = record {
           skips = λ low. absurd (let no : 1 ≤ 0 = omega (arith, low, enough) in omega (arith, no));

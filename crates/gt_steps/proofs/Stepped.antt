@@ -12,7 +12,7 @@ use Rattle.gt_next.specs.declared.answer.Answer.TheVariants.{Skipped, Stats}
 use Rattle.gt_next.specs.States.{State}
 use Rattle.gt_next.specs.Collecting.{NextCollect, NextStats, allocated, threshold}
 use Rattle.gt_collect.specs.declared.modes.Mode.{Mode}
-use Rattle.gt_collect.specs.Modes.{least_of}
+use Rattle.gt_collect.specs.Modes.{threshold_in}
 use Rattle.gt_session.specs.declared.session.Session.{Session}
 use Rattle.gt_session.specs.Sessions.{Goes, IsAsBefore, IsSession, StandsFor}
 use Rattle.gt_steps.specs.Collecting.{NextIn}
@@ -37,7 +37,7 @@ stays_there N session (Err e) next = tt
 
 -- a collection that is skipped leaves the state as it is
 pub skips_in : (program : Program) (mode : Mode) (old : Session) (objects : Objects) (caches : Entries) → objects ≡ old.objects → caches ≡ old.caches → (told : Option Held) (s : State) → StandsFor old told s
-    → allocated s < least_of mode → (t : State) × NextIn program mode s Skipped t × StandsFor (record old { objects = objects; caches = caches }) told t
+    → allocated s < threshold_in mode → (t : State) × NextIn program mode s Skipped t × StandsFor (record old { objects = objects; caches = caches }) told t
 skips_in program mode old objects caches same_objects same_caches told s stands low =
     let next : NextIn program mode s Skipped s = record {
       skips = λ _. (refl, refl);
@@ -50,16 +50,16 @@ skips_in program mode old objects caches same_objects same_caches told s stands 
     )
 
 -- where the threshold of the mode is that of the state, it is the command `collect`
-pub by_threshold : (program : Program) (mode : Mode) (s t : State) (answer : Answer) → least_of mode ≡ threshold s → NextIn program mode s answer t → NextCollect program s answer t
+pub by_threshold : (program : Program) (mode : Mode) (s t : State) (answer : Answer) → threshold_in mode ≡ threshold s → NextIn program mode s answer t → NextCollect program s answer t
 by_threshold program mode s t answer least next = either (cases_lt (allocated s) (threshold s))
   where
     either : (allocated s < threshold s) ⊎ (threshold s ≤ allocated s) → NextCollect program s answer t
     either (inl few) =
-        let low : allocated s < least_of mode = omega (arith, least, few) in
+        let low : allocated s < threshold_in mode = omega (arith, least, few) in
         let same = next.skips low in
         subst (λ a. NextCollect program s a t) (sym same.0) (subst (λ n. NextCollect program s Skipped n) (sym same.1) (NextCollect.skips few))
     either (inr enough) =
-        let high : least_of mode ≤ allocated s = omega (arith, least, enough) in
+        let high : threshold_in mode ≤ allocated s = omega (arith, least, enough) in
         NextCollect.collects enough (next.collects high)
 
 -- the numbers of the collector

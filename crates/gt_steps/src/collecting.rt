@@ -4,7 +4,7 @@ ghost use Rattle.gt_io.specs.Held.{Held};
 ghost use Rattle.gt_next.specs.States.{State};
 ghost use Rattle.gt_next.specs.Collecting.{NextCollect, NextForce, threshold};
 ghost use Rattle.gt_session.specs.Sessions.{Goes, IsSession, KeepsBytes, StandsFor};
-ghost use Rattle.gt_collect.specs.Modes.{IsMode, least_of};
+ghost use Rattle.gt_collect.specs.Modes.{IsMode, threshold_in};
 ghost use Rattle.gt_steps.specs.Collecting.{NextIn};
 
 use gt_collect::{CollectAnswer, Mode, collect as collect_heap};
@@ -37,7 +37,7 @@ pub fn collect(s: &mut Session) -> Answer
 pub(crate) fn heuristic(s: &Session) -> Mode
     requires session { IsSession s.now }
     ensures mode { IsMode result }
-    ensures threshold { (told : Option Held) (state : State) → StandsFor s.now told state → least_of result ≡ threshold state }
+    ensures threshold { (told : Option Held) (state : State) → StandsFor s.now told state → threshold_in result ≡ threshold state }
 {
     Mode::Heuristic {
         last: s.last,
