@@ -1,4 +1,4 @@
--- The entries of a cache, as its map holds them.
+-- No promise: the entries of a cache, as its map holds them. Only a type inside the crate cites this.
 use Rattle.std.specs.Prelude.{ℕ}
 use Rattle.gt_caches.specs.declared.keyed.Held.{Held}
 use Rattle.gt_caches.specs.Pairs.{Entry}

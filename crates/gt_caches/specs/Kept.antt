@@ -1,4 +1,4 @@
--- The entries of a cache that stay.
+-- No promise: the entries of a cache that stay. Only the functions inside the crate cite this.
 use Rattle.std.specs.Prelude.{List, filter}
 use Rattle.gt_caches.specs.Pairs.{Entry}
 

@@ -1,4 +1,4 @@
--- What the names of a command mean: its cache, its key and its value.
+-- No promise: what the names of a command mean, its cache, its key and its value. Only the functions inside the crate cite this.
 use Rattle.std.specs.Prelude.{◌≡◌, ◌<◌, ◌⊎◌, ℕ, List, Some, None}
 use Rattle.gt_types.specs.declared.program.Cache.{Cache}
 use Rattle.gt_types.specs.declared.program.Program.{Program}

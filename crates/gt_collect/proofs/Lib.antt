@@ -6,3 +6,4 @@ pub mod Words
 pub mod Rooted
 pub mod Staying
 pub mod Closed
+pub mod Answered

@@ -12,8 +12,7 @@ use Rattle.gt_tree.specs.LeafLaws.{LieInOrder, AreBytesOf}
 use Rattle.gt_tree.specs.FixedLaws.{bit_in}
 use Rattle.gt_tree.proofs.FixedBits.{leaves-read, same_bits}
 use Rattle.gt_objects.proofs.Items.{all_by, first_there, later_there, none_there, there_cases}
-use Rattle.gt_collect.specs.Clearing.{zeroed}
-use Rattle.gt_collect.proofs.Zeros.{AreInside, IsNoneOf, none_or_one, with_form, zeroed_apart, zeroed_keeps, zeroed_there}
+use Rattle.gt_collect.proofs.Zeros.{AreInside, IsNoneOf, none_or_one, with_form, zeroed, zeroed_apart, zeroed_keeps, zeroed_there}
 
 -- Some leaves are null pointers now, in order one at each word, where the bits of leaves are counted from an address. The others are as
 -- before.

@@ -38,10 +38,9 @@ use Rattle.gt_elements.proofs.Found.{block_room, in_space, roots}
 use Rattle.gt_collect.specs.Collecting.{cleared_heap}
 use Rattle.gt_collect.proofs.Bare.{bare_roots, block_alike, outside_alike}
 use Rattle.gt_collect.proofs.Cleared.{cleared_fit}
-use Rattle.gt_collect.specs.Clearing.{zeroed}
 use Rattle.gt_collect.proofs.Nulls.{words_inside, zeroed_stored}
 use Rattle.gt_collect.proofs.Words.{RootsNulled, roots_nulled}
-use Rattle.gt_collect.proofs.Zeros.{AreInside}
+use Rattle.gt_collect.proofs.Zeros.{AreInside, zeroed}
 
 module _ (program : Program) (layouts : Layouts) (settled : Settled program) (laid : IsLaidOut program layouts) (within : IsWithin program layouts) (objects : Objects) (heap : Heap)
     (is : IsHeapOf program layouts objects heap) (space : IsSpace objects.space) where

@@ -6,8 +6,13 @@ use Rattle.std.proofs.lemmas.List.Elements.{All-cons, All-head, All-nil, All-tai
 use Rattle.std.proofs.lemmas.Bool.{cases_lt}
 use Rattle.gt_space.specs.Range.{Range, IsInside, KeepsAddresses, with_bytes}
 use Rattle.gt_space.proofs.RangeLemmas.{length-with_bytes}
-use Rattle.gt_collect.specs.Clearing.{zeroed}
+use Rattle.gt_collect.specs.Clearing.{IsInWord, IsZeroedAt}
 use Rattle.gt_objects.proofs.Items.{first_there, later_there, none_there, there_cases}
+
+-- the range in which the eight bytes at each of these addresses are zero, one word after another
+abbrev pub zeroed : Range → List ℕ → Range
+zeroed r [] = r
+zeroed r (w ∷ ws) = zeroed (with_bytes r w (replicate 8 0)) ws
 
 -- a byte is none of a word
 abbrev pub IsNoneOf : ℕ → ℕ → Type 0
@@ -120,6 +125,18 @@ none_or_one (w ∷ ws) address = elim (none_or_in address w) [
     | inr one ↦ inr (one.0, later_there w ws one.0 one.1, one.2, one.3)
   ]
 ]
+
+-- the words are zero, and all other bytes are as before
+pub zeroed_at : (ws : List ℕ) (r : Range) → AreInside r ws → IsZeroedAt ws r (zeroed r ws)
+zeroed_at ws r inside = record {
+  addresses = zeroed_keeps ws r inside;
+  zero = λ k one. zeroed_there ws r one.0 k inside one.1 one.2 one.3;
+  others = λ k none. zeroed_apart ws r k inside (away k none (none_or_one ws (r.start + k)));
+}
+  where
+    away : (k : ℕ) → ¬ IsInWord ws r k → All (IsNoneOf (r.start + k)) ws ⊎ ((w : ℕ) × Contains ws w × (w ≤ r.start + k) × (r.start + k < w + 8)) → All (IsNoneOf (r.start + k)) ws
+    away k none (inl all) = all
+    away k none (inr one) = absurd (none one)
 
 -- ---- a form at the start
 

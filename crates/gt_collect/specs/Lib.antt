@@ -1,3 +1,5 @@
+pub mod Modes
 pub mod Clearing
 pub mod Collecting
 pub mod Finishing
+pub mod Answering

@@ -3,7 +3,7 @@ ghost use Rattle.std.specs.Prelude.{◌≡◌};
 ghost use Rattle.gt_graph.specs.Good.{Heap};
 ghost use Rattle.gt_objects.specs.Holding.{IsHeapOf};
 ghost use Rattle.gt_schema.specs.Schemas.{IsSchema};
-ghost use Rattle.gt_collect.specs.Clearing.{zeroed};
+ghost use Rattle.gt_collect.specs.Clearing.{IsZeroedAt};
 ghost use Rattle.gt_collect.specs.Collecting.{cleared_heap};
 
 use gt_objects::Objects;
@@ -14,7 +14,7 @@ pub fn clear_roots(schema: &Schema, objects: &mut Objects)
     requires schema { IsSchema schema.now }
     requires ready { (heap : Heap) × IsHeapOf schema.now.program schema.now.layouts objects.old heap }
     ensures cleared { (heap : Heap) → IsHeapOf schema.now.program schema.now.layouts objects.old heap → IsHeapOf schema.now.program schema.now.layouts objects.new (cleared_heap schema.now.program heap) }
-    ensures bytes { objects.new.space ≡ zeroed objects.old.space schema.now.tables.deletable }
+    ensures bytes { IsZeroedAt schema.now.tables.deletable objects.old.space objects.new.space }
     ensures pages { objects.new.pages ≡ objects.old.pages }
 {
     objects.sound();

@@ -6,10 +6,13 @@ ghost use Rattle.gt_objects.specs.Marks.{marked_in};
 ghost use Rattle.gt_schema.specs.Schemas.{IsSchema};
 ghost use Rattle.gt_caches.specs.Pairs.{pairs_of};
 ghost use Rattle.gt_reach.specs.Marking.{IsKept};
-ghost use Rattle.gt_collect.specs.Clearing.{zeroed};
+ghost use Rattle.gt_collect.specs.Answering.{Answers, LeavesBytes};
+ghost use Rattle.gt_collect.specs.Clearing.{IsZeroedAt};
 ghost use Rattle.gt_collect.specs.Collecting.{IsCollected};
+ghost use Rattle.gt_collect.specs.Modes.{IsMode};
 
 use crate::finishing::finish;
+use crate::modes::Mode;
 use gt_caches::Caches;
 use gt_objects::Objects;
 use gt_reach::mark_kept;
@@ -25,15 +28,46 @@ pub struct Collected {
     pub rounds: u32,
 }
 
-/// Frees the objects that are not kept (`After`): those that are reached neither from a root that is not deletable nor from the value of a
-/// pair that stays. Drops the pairs that do not stay, and makes the pointers of deletable roots null. It takes no memory. Its time is that of
-/// `mark_kept` of gt_reach and of `finish`.
-pub fn collect(schema: &Schema, objects: &mut Objects, caches: &mut Caches) -> Collected
+/// What `collect` did.
+#[derive(Clone, Copy, Debug, PartialEq, Eq)]
+pub enum CollectAnswer {
+    /// Fewer bytes are allocated than the threshold of the mode, and nothing changed.
+    Skipped,
+    /// A collection ran.
+    Collected(Collected),
+}
+
+/// Skips where fewer bytes are allocated than the threshold of the mode, and changes nothing then, no mark either. Else it frees the objects
+/// that are not kept (`After`): those that are reached neither from a root that is not deletable nor from the value of a pair that stays.
+/// It drops the pairs that do not stay, and makes the pointers of deletable roots null. It takes no memory. Its time is that of `mark_kept`
+/// of gt_reach and of `finish`; where it skips, constant.
+pub fn collect(
+    schema: &Schema,
+    objects: &mut Objects,
+    caches: &mut Caches,
+    mode: Mode,
+) -> CollectAnswer
+    requires schema { IsSchema schema.now }
+    requires ready { (heap : Heap) × IsHeapOf schema.now.program schema.now.layouts objects.old heap × (heap.graph.pairs ≡ pairs_of caches.old) }
+    requires mode { IsMode mode }
+    ensures collected { (heap : Heap) → IsHeapOf schema.now.program schema.now.layouts objects.old heap → heap.graph.pairs ≡ pairs_of caches.old
+        → (new : Heap) × IsHeapOf schema.now.program schema.now.layouts objects.new new × (new.graph.pairs ≡ pairs_of caches.new) × Answers schema.now.program heap mode new result }
+    ensures skipped { result ≡ CollectAnswer.Skipped → (objects.new ≡ objects.old) × (caches.new ≡ caches.old) }
+    ensures bytes { LeavesBytes schema.now.tables.deletable result objects.old.space objects.new.space }
+{
+    if objects.allocated() < mode.threshold() {
+        return CollectAnswer::Skipped;
+    }
+    CollectAnswer::Collected(collect_now(schema, objects, caches))
+}
+
+// Collects, however many bytes are allocated.
+fn collect_now(schema: &Schema, objects: &mut Objects, caches: &mut Caches) -> Collected
     requires schema { IsSchema schema.now }
     requires ready { (heap : Heap) × IsHeapOf schema.now.program schema.now.layouts objects.old heap × (heap.graph.pairs ≡ pairs_of caches.old) }
     ensures collected { (heap : Heap) → IsHeapOf schema.now.program schema.now.layouts objects.old heap → heap.graph.pairs ≡ pairs_of caches.old
         → (new : Heap) × IsHeapOf schema.now.program schema.now.layouts objects.new new × (new.graph.pairs ≡ pairs_of caches.new) × IsCollected schema.now.program heap new result.kept result.freed result.dropped result.rounds }
-    ensures bytes { objects.new.space ≡ zeroed objects.old.space schema.now.tables.deletable }
+    ensures bytes { IsZeroedAt schema.now.tables.deletable objects.old.space objects.new.space }
 {
     let rounds = mark_kept(schema, objects, caches);
     let end = finish(schema, objects, caches);

@@ -4,7 +4,7 @@ ghost use Rattle.gt_graph.specs.Good.{Heap};
 ghost use Rattle.gt_objects.specs.Holding.{IsHeapOf};
 ghost use Rattle.gt_schema.specs.Schemas.{IsSchema};
 ghost use Rattle.gt_caches.specs.Pairs.{pairs_of, staying};
-ghost use Rattle.gt_collect.specs.Clearing.{zeroed};
+ghost use Rattle.gt_collect.specs.Clearing.{IsZeroedAt};
 ghost use Rattle.gt_collect.specs.Collecting.{AreCounted};
 ghost use Rattle.gt_collect.specs.Finishing.{CanFinish, finished_heap};
 
@@ -30,7 +30,7 @@ pub fn finish(schema: &Schema, objects: &mut Objects, caches: &mut Caches) -> Fi
     ensures heap { (heap : Heap) → IsHeapOf schema.now.program schema.now.layouts objects.old heap → heap.graph.pairs ≡ pairs_of caches.old → CanFinish schema.now.program objects.old caches.old heap
         → IsHeapOf schema.now.program schema.now.layouts objects.new (finished_heap schema.now.program objects.old caches.old heap) }
     ensures pairs { pairs_of caches.new ≡ staying caches.old }
-    ensures bytes { objects.new.space ≡ zeroed objects.old.space schema.now.tables.deletable }
+    ensures bytes { IsZeroedAt schema.now.tables.deletable objects.old.space objects.new.space }
     ensures counts { (heap : Heap) → IsHeapOf schema.now.program schema.now.layouts objects.old heap → heap.graph.pairs ≡ pairs_of caches.old → CanFinish schema.now.program objects.old caches.old heap
         → AreCounted heap (finished_heap schema.now.program objects.old caches.old heap) result.kept result.freed result.dropped }
 {

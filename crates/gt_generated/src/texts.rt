@@ -27,8 +27,8 @@ static GTY((cache)) hash_map<struct node *, struct node *> *map;
     )
 }
 
-/// The generated script for a list of `n` nodes, which has at most 128 bytes for each of them. It fails only if memory runs
-/// out.
+/// The generated script: the lines of each of `n` nodes, a collection, and what the heap then holds. It has at most 128 bytes for each
+/// node and 64 more. It fails only if memory runs out.
 #[tactic(auto, unfolding(crate::specs::Generated::script_text))]
 pub fn script(alloc: Global, n: u32) -> Result<Bytes, AllocError>
     ensures text { IfOk result (λ text. text ≡ script_text n) }

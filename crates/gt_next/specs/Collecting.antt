@@ -16,13 +16,17 @@ use Rattle.gt_next.specs.Texts.{allocated_of}
 abbrev pub allocated : State → ℕ
 allocated s = allocated_of (ledger_of s.heap.places)
 
--- the bytes from which a heap counts: those after the last collection or load, and at least so many KiB as the setting says
-abbrev pub floor_of : State → ℕ
-floor_of s = max s.last (s.min_heapsize * 1024)
+-- the bytes from which a heap counts: those after the last collection or load, and at least so many units of 1,024 bytes as the setting says
+abbrev pub floor_of : (last min_heapsize : ℕ) → ℕ
+floor_of last min_heapsize = max last (min_heapsize * 1024)
 
 -- the bytes from which `collect` collects: the heap has grown by so many percent
+abbrev pub threshold_of : (last min_expand min_heapsize : ℕ) → ℕ
+threshold_of last min_expand min_heapsize = floor_of last min_heapsize + floor_of last min_heapsize * min_expand / 100
+
+-- the threshold by the numbers of a state
 abbrev pub threshold : State → ℕ
-threshold s = floor_of s + floor_of s * s.min_expand / 100
+threshold s = threshold_of s.last s.min_expand s.min_heapsize
 
 -- ---- collections
 

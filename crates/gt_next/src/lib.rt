@@ -1,5 +1,5 @@
-//! The typed-object machine over values of every type: what a command answers and leaves. These are definitions, with the types
-//! of answers that they speak of. The only call is `numbers`, which pins the numbers in them.
+//! The typed-object machine over values of every type: what a command answers and leaves. These are definitions, and the types of the
+//! answers of which they speak. `numbers` does nothing: its clauses are laws that say what each limit is.
 #![tactic(auto)]
 
 mod answer;

@@ -21,13 +21,16 @@ use Rattle.gt_objects.proofs.Filtered.{pairs_mapped, rising_pairs}
 use Rattle.gt_objects.proofs.Finding.{known_is}
 use Rattle.gt_objects.proofs.Items.{first_there, later_there, pairs_head, pairs_tail}
 use Rattle.gt_next.specs.States.{IsGoodState, State, Variables, count_of_variables, meaning}
-use Rattle.gt_next.specs.Collecting.{Collects, KeepsBound, NextForce}
+use Rattle.gt_next.specs.Collecting.{Collects, KeepsBound, NextForce, allocated}
 use Rattle.gt_next.specs.declared.answer.Answer.TheVariants.{Collected}
 use Rattle.gt_vars.specs.Held.{KeepsThose}
 use Rattle.gt_session.specs.declared.session.Session.{Session}
 use Rattle.gt_session.specs.Sessions.{StandsFor}
 use Rattle.gt_caches.specs.Pairs.{Entries, pairs_of}
+use Rattle.gt_collect.specs.declared.modes.Mode.{Mode}
 use Rattle.gt_collect.specs.Collecting.{IsCollected}
+use Rattle.gt_collect.specs.Modes.{threshold_in}
+use Rattle.gt_steps.specs.Collecting.{NextIn}
 
 -- the bytes of blocks
 abbrev bytes_of : List Block → ℕ
@@ -137,5 +140,11 @@ module _ (old : Session) (objects : Objects) (caches : Entries) (vars : Variable
       good = good;
     }
 
-    pub goes : (t : State) × NextForce old.schema.program s (Collected kept freed dropped) t × StandsFor collected told t
-    goes = (left, NextForce.collects collects, stands_now)
+    -- a collection that runs goes there
+    pub goes_in : (mode : Mode) → threshold_in mode ≤ allocated s → (t : State) × NextIn old.schema.program mode s (Collected kept freed dropped) t × StandsFor collected told t
+    goes_in mode enough =
+        let next : NextIn old.schema.program mode s (Collected kept freed dropped) left = record {
+          skips = λ low. absurd (let no : 1 ≤ 0 = omega (arith, low, enough) in omega (arith, no));
+          collects = λ _. NextForce.collects collects;
+        } in
+        (left, next, stands_now)

@@ -5,7 +5,6 @@ mod built;
 mod collecting;
 mod reporting;
 mod stepping;
-mod thresholds;
 
 pub use built::is_built;
 pub use collecting::{collect, collect_force};

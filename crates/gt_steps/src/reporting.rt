@@ -9,7 +9,7 @@ ghost use Rattle.gt_next.specs.Collecting.{NextStats};
 ghost use Rattle.gt_next.specs.Texts.{heap_text, size_line, size_lines};
 ghost use Rattle.gt_session.specs.Sessions.{IsSession, StandsFor};
 
-use crate::collecting::threshold_of;
+use crate::collecting::heuristic;
 use gt_digits::push_decimal;
 use gt_listing::list_program;
 use gt_next::Answer;
@@ -74,7 +74,7 @@ pub fn stats(s: &Session) -> Answer
     Answer::Stats {
         allocated: s.objects.allocated(),
         last: s.last,
-        threshold: threshold_of(s),
+        threshold: heuristic(s).threshold(),
         image: s.objects.image_pages(),
         rounds: s.rounds,
     }

@@ -7,10 +7,10 @@ use Rattle.gt_value.specs.Bytes.{AreStaticsStored}
 use Rattle.gt_graph.specs.Kept.{without_deletable}
 use Rattle.gt_objects.specs.declared.objects.Objects.{Objects}
 use Rattle.gt_objects.specs.Holding.{IsHeapOf}
-use Rattle.gt_collect.specs.Clearing.{zeroed}
+use Rattle.gt_collect.specs.Clearing.{IsZeroedAt}
 use Rattle.gt_collect.specs.Collecting.{cleared_heap}
 use Rattle.gt_collect.proofs.Rooted.{inside_words, rooted, zeros_stored}
-use Rattle.gt_collect.proofs.Zeros.{AreInside, inside_after, zeroed_more}
+use Rattle.gt_collect.proofs.Zeros.{AreInside, inside_after, zeroed, zeroed_at, zeroed_more}
 use Rattle.gt_collect.proofs.clearing.clear_roots.Goals as goal
 
 pub clear_word-requires : goal.clear_word-requires
@@ -55,5 +55,13 @@ returns-clause-cleared c = λ heap is.
 
 pub returns-clause-bytes : goal.returns-clause-bytes
 returns-clause-bytes c =
+    let s = c.requires.schema in
+    let r = c.requires.ready in
+    let old = c.args.objects.now.space in
+    let words = c.args.schema.now.tables.deletable in
     let ends : length c.as_slice-word-items.result.now ≤ c.loop-word.word-index = omega (arith, c.loop-word-test.false) in
-    c.loop-word.invariant.zeros ∙ ap (zeroed c.args.objects.now.space) (take_all c.loop-word.word-index c.as_slice-word-items.result.now ends ∙ c.as_slice-word-items.ensures.items)
+    let space = c.loop-word.invariant.zeros ∙ ap (zeroed old) (take_all c.loop-word.word-index c.as_slice-word-items.result.now ends ∙ c.as_slice-word-items.ensures.items) in
+    let inside : AreInside old words =
+    subst (AreInside old) (sym s.tables.deletable)
+    (inside_words c.args.schema.now.program c.args.schema.now.layouts s.settled s.laid s.within c.args.objects.now r.0 r.1 c.sound.ensures.space) in
+    subst (IsZeroedAt words old) (sym space) (zeroed_at words old inside)

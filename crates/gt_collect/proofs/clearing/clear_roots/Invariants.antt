@@ -1,6 +1,6 @@
 use Rattle.std.proofs.Common.{◌≡◌, take}
 use Rattle.gt_space.specs.Range.{KeepsAddresses}
-use Rattle.gt_collect.specs.Clearing.{zeroed}
+use Rattle.gt_collect.proofs.Zeros.{zeroed}
 use Rattle.gt_collect.proofs.clearing.clear_roots.Given as goal
 
 abbrev pub invariant-loop-word : goal.invariant-loop-word

@@ -1,38 +1,23 @@
-use Rattle.std.proofs.Common.{◌∙◌, sym}
-use Rattle.gt_collect.specs.Finishing.{finished_heap}
-use Rattle.gt_collect.proofs.Closed.{can_finish, collected}
+use Rattle.std.proofs.Common.{◌≡◌, ◌<◌, ◌≤◌, arith}
+use Rattle.gt_graph.specs.Places.{ledger_of}
+use Rattle.gt_next.specs.Texts.{allocated_of}
+use Rattle.gt_collect.specs.Answering.{Answers}
+use Rattle.gt_collect.specs.Modes.{threshold_in}
 use Rattle.gt_collect.proofs.collecting.collect.Goals as goal
 
-pub finish-end-requires : goal.finish-end-requires
-finish-end-requires c =
-    let program = c.args.schema.now.program in
-    let layouts = c.args.schema.now.layouts in
-    let heap = c.requires.ready.0 in
-    let is = c.mark_kept-rounds.ensures.heap heap c.requires.ready.1 in
-    let is_kept = c.mark_kept-rounds.ensures.kept heap c.requires.ready.1 c.requires.ready.2 in
-    record {
-      schema = c.requires.schema;
-      ready = (
-        heap,
-        is,
-        c.requires.ready.2 ∙ sym c.mark_kept-rounds.ensures.pairs,
-        can_finish program layouts c.mark_kept-rounds.new.objects heap is c.mark_kept-rounds.new.caches c.mark_kept-rounds.result is_kept,
-      );
-    }
+pub returns-then-allocated-threshold-clause-collected : goal.returns-then-allocated-threshold-clause-collected
+returns-then-allocated-threshold-clause-collected c = λ heap is held.
+    let bytes : c.allocated.result ≡ allocated_of (ledger_of heap.places) = c.allocated.ensures.bytes c.args.schema.now.program c.args.schema.now.layouts heap is in
+    let least : c.threshold.result ≡ threshold_in c.args.mode = c.threshold.ensures in
+    let few = c.if-allocated-threshold.true in
+    let low : allocated_of (ledger_of heap.places) < threshold_in c.args.mode = omega (arith, bytes, least, few) in
+    (heap, is, held, Answers.skips low)
 
 pub returns-clause-collected : goal.returns-clause-collected
-returns-clause-collected c = λ heap was held.
-    let program = c.args.schema.now.program in
-    let layouts = c.args.schema.now.layouts in
-    let objects = c.mark_kept-rounds.new.objects in
-    let caches = c.mark_kept-rounds.new.caches in
-    let is = c.mark_kept-rounds.ensures.heap heap was in
-    let is_kept = c.mark_kept-rounds.ensures.kept heap was held in
-    let same = held ∙ sym c.mark_kept-rounds.ensures.pairs in
-    let can = can_finish program layouts objects heap is caches c.mark_kept-rounds.result is_kept in
-    let counts = c.finish-end.ensures.counts heap is same can in (
-      finished_heap program objects caches heap,
-      c.finish-end.ensures.heap heap is same can,
-      sym c.finish-end.ensures.pairs,
-      collected program layouts objects heap is caches c.mark_kept-rounds.result is_kept c.finish-end.result.kept c.finish-end.result.freed c.finish-end.result.dropped counts,
-    )
+returns-clause-collected c = λ heap is held.
+    let bytes : c.allocated.result ≡ allocated_of (ledger_of heap.places) = c.allocated.ensures.bytes c.args.schema.now.program c.args.schema.now.layouts heap is in
+    let least : c.threshold.result ≡ threshold_in c.args.mode = c.threshold.ensures in
+    let many = c.if-allocated-threshold.false in
+    let enough : threshold_in c.args.mode ≤ allocated_of (ledger_of heap.places) = omega (arith, bytes, least, many) in
+    let next = c.collect_now.ensures.collected heap is held in
+    (next.0, next.1, next.2, Answers.collects enough next.3)

@@ -4,6 +4,7 @@ use Rattle.gt_graph.specs.Good.{MAX_PAIRS}
 use Rattle.gt_objects.specs.Holding.{IsHeapOf}
 use Rattle.gt_objects.specs.Marks.{swept}
 use Rattle.gt_caches.specs.Pairs.{pairs_of, staying}
+use Rattle.gt_collect.specs.Clearing.{IsZeroedAt}
 use Rattle.gt_collect.specs.Collecting.{cleared_heap}
 use Rattle.gt_collect.proofs.Closed.{closed, counted, pairs_are, same_swept, settled_heap}
 use Rattle.gt_collect.proofs.finishing.finish.Goals as goal
@@ -77,3 +78,7 @@ returns-clause-counts c = λ heap is held can.
     let holds = c.sweep-freed.ensures.swept program layouts settled c.requires.schema.settled standing (closed program layouts before objects same heap is caches can) in
     counted program layouts before objects same heap is caches can c.len.result c.sweep-freed.result c.keep_staying-dropped.result (c.len.ensures.len program layouts (swept objects settled) holds)
     (c.sweep-freed.ensures.freed program layouts settled standing) (total ∙ ap pairs_in (sym held))
+
+pub returns-clause-bytes : goal.returns-clause-bytes
+returns-clause-bytes c =
+    subst (IsZeroedAt c.args.schema.now.tables.deletable c.args.objects.now.space) (sym c.sweep-freed.ensures.bytes) c.clear_roots.ensures.bytes
