@@ -6,7 +6,6 @@ use Rattle.gt_layout.specs.Planes.{IsLaidOut}
 use Rattle.gt_space.specs.Range.{Range, empty_range}
 use Rattle.gt_io.specs.declared.fail.ReadFail.{ReadFail}
 use Rattle.gt_io.specs.Held.{Held}
-use Rattle.gt_io.specs.Appends.{IsFrontOf}
 use Rattle.gt_script.specs.declared.command.Line.{Line}
 use Rattle.gt_words.specs.declared.call.Call.{Call}
 use Rattle.gt_front.specs.Asks.{Asks}
@@ -20,7 +19,7 @@ use Rattle.gt_graph.specs.Stands.{Stands}
 use Rattle.gt_next.specs.declared.answer.Answer.{Answer}
 use Rattle.gt_next.specs.States.{State, IsGoodState}
 use Rattle.gt_next.specs.Laws.{IsBuilt}
-use Rattle.gt_lines.specs.Runs.{AddsAllBut, RanFirst, RunsLines}
+use Rattle.gt_lines.specs.Runs.{RanFirst, RunsLines}
 use Rattle.gt_lines.specs.Scripts.{LeavesSpace, RunsScript}
 use Rattle.gt_lines.specs.declared.lines.LinesEnd.{LinesEnd}
 use Rattle.gt_lines.specs.declared.lines.LinesEnd.TheVariants as lines
