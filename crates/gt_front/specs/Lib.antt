@@ -1,5 +1,6 @@
 pub mod Texts
 pub mod Asks
+pub mod Order
 pub mod Comes
 pub mod Places
 pub mod Refused

@@ -6,6 +6,7 @@ ghost use Rattle.gt_layout.specs.Excess.{IsWithin};
 ghost use Rattle.gt_words.specs.Ranges.{IsInRange};
 ghost use Rattle.gt_front.specs.Asks.{Asks};
 ghost use Rattle.gt_front.specs.Halts.{Halts};
+ghost use Rattle.gt_front.specs.Order.{AskNoFile, FailsIn, IsReadFor};
 
 use crate::stages::{called, declared, lines_of, read_texts};
 use crate::{FileWhy, Refusal};
@@ -45,8 +46,13 @@ pub fn prepare<F: Files>(alloc: Global, words: &[Word], files: &mut F) -> Result
     ensures told { F.told files.new ≡ F.told files.old }
     ensures later { F.faults files.old ≤ F.faults files.new }
 
-    // A file is answered as failed only where the outside failed.
+    // Each file that the arguments name is read once and in order; with a generated script none is.
+    ensures read { IfOk result (λ ready. IsReadFor F.reads ready.call.script ready.call.headers files.old files.new) }
+    ensures no_file { AskNoFile words.now → files.new ≡ files.old }
+
+    // A file is answered as failed only where the outside failed, and it is the one whose reading failed.
     ensures cause { (word : ℕ) (line : List ℕ) → result ≡ Err (Halt.Refused (Refusal.File word FileWhy.Fault) line) → Rose (F.faults files.old) (F.faults files.new) }
+    ensures failed { (word : ℕ) (line : List ℕ) → result ≡ Err (Halt.Refused (Refusal.File word FileWhy.Fault) line) → FailsIn F.reads words.now files.old word files.new }
 {
     let call = match called(alloc, words) {
         Ok(call) => call,

@@ -12,6 +12,7 @@ ghost use Rattle.gt_words.specs.Ranges.{IsInRange};
 ghost use Rattle.gt_front.specs.Asks.{Calls, Reads, generated_texts};
 ghost use Rattle.gt_front.specs.Comes.{Comes};
 ghost use Rattle.gt_front.specs.Halts.{Halts};
+ghost use Rattle.gt_front.specs.Order.{AskNoFile, FailsIn, IsReadFor};
 ghost use Rattle.gt_front.specs.Reading.{HasWord, IsStopOf};
 ghost use Rattle.gt_front.specs.Refused.{IsRefusalLine};
 ghost use Rattle.gt_front.specs.Stages.{AreWithin, texts_of};
@@ -59,6 +60,10 @@ pub fn read_texts<F: Files>(alloc: Global, call: &Call, files: &mut F) -> Result
     ensures told { F.told files.new ≡ F.told files.old }
     ensures later { F.faults files.old ≤ F.faults files.new }
     ensures cause { (word : ℕ) (line : List ℕ) → IsErrOf result (Halt.Refused (Refusal.File word FileWhy.Fault) line) → Rose (F.faults files.old) (F.faults files.new) }
+    ensures files { IfOk result (λ _. IsReadFor F.reads call.now.script call.now.headers files.old files.new) }
+    ensures no_file { (words : List (List ℕ)) → call_of words ≡ Some call.now → AskNoFile words → files.new ≡ files.old }
+    ensures failed { (words : List (List ℕ)) (word : ℕ) (line : List ℕ) → call_of words ≡ Some call.now
+        → IsErrOf result (Halt.Refused (Refusal.File word FileWhy.Fault) line) → FailsIn F.reads words files.old word files.new }
 {
     match &call.script {
         Script::File(name) => read_files(alloc, call, name, files),
@@ -85,6 +90,9 @@ fn read_files<F: Files>(
     ensures told { F.told files.new ≡ F.told files.old }
     ensures later { F.faults files.old ≤ F.faults files.new }
     ensures cause { (word : ℕ) (line : List ℕ) → IsErrOf result (Halt.Refused (Refusal.File word FileWhy.Fault) line) → Rose (F.faults files.old) (F.faults files.new) }
+    ensures files { IfOk result (λ _. IsReadFor F.reads call.now.script call.now.headers files.old files.new) }
+    ensures failed { (words : List (List ℕ)) (word : ℕ) (line : List ℕ) → call_of words ≡ Some call.now
+        → IsErrOf result (Halt.Refused (Refusal.File word FileWhy.Fault) line) → FailsIn F.reads words files.old word files.new }
 {
     let headers = match read_headers(alloc, files, call.headers.as_slice()) {
         Ok(texts) => texts,

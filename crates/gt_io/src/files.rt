@@ -1,5 +1,6 @@
 // A store of files, as the program sees it.
-ghost use Rattle.std.specs.Prelude.{◌≡◌, ℕ, Option};
+ghost use Rattle.std.specs.Prelude.{◌≡◌, ℕ, List, Option, Result};
+ghost use Rattle.gt_io.specs.declared.fail.ReadFail.{ReadFail};
 ghost use Rattle.gt_io.specs.declared.fail.ReadFail.TheVariants.{Failed};
 ghost use Rattle.gt_io.specs.declared.fail.WriteFail.TheVariants.{Failed as WriteFailed};
 ghost use Rattle.gt_io.specs.Held.{Held};
@@ -19,11 +20,15 @@ pub trait Files {
     /// How often the outside has failed. It never falls, and stands still at its type's end.
     ghost faults: { Self → ℕ };
 
+    /// What one read is: the store before, the name, the limit, the answer, and the store after.
+    ghost reads: { Self → List ℕ → ℕ → Result (Option (List ℕ)) ReadFail → Self → Type 0 };
+
     /// The bytes of a file, at most `limit` of them, or None where there is no such file. It changes nothing that is held.
     fn read(&mut self, alloc: Global, name: &Word, limit: u64) -> Result<Option<Bytes>, ReadFail>
         ensures answer { Reads (told self.old) name.now limit result }
         ensures held { told self.new ≡ told self.old }
-        ensures cause { HasCause Failed (faults self.old) (faults self.new) result };
+        ensures cause { HasCause Failed (faults self.old) (faults self.new) result }
+        ensures step { reads self.old name.now limit result self.new };
 
     /// Makes these bytes the contents of a file, and leaves all others.
     fn write(&mut self, name: &Word, bytes: &[u8]) -> Result<(), WriteFail>

@@ -25,9 +25,14 @@ impl HostFiles {
 }
 
 impl Files for HostFiles {
+    ghost use Rattle.gt_io.specs.declared.fail.ReadFail.TheVariants.{Failed};
+    ghost use Rattle.gt_io.specs.Counts.{HasCause};
+
     ghost told = { λ _. None };
 
     ghost faults = { λ f. f.faults };
+
+    ghost reads = { λ before _ _ result after. HasCause Failed before.faults after.faults result };
 
     fn read(&mut self, alloc: Global, name: &Word, limit: u64) -> Result<Option<Bytes>, ReadFail> {
         let mut file = match fs::open(&self.rt, name.as_str()) {

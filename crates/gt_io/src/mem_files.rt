@@ -41,11 +41,15 @@ impl MemFiles {
 }
 
 impl Files for MemFiles {
+    ghost use Rattle.gt_io.specs.declared.fail.ReadFail.TheVariants.{Failed};
+    ghost use Rattle.gt_io.specs.Counts.{HasCause};
     ghost use Rattle.gt_io.specs.MemFiles.{files_of, faults_of};
 
     ghost told = { λ f. Some (files_of f) };
 
     ghost faults = { faults_of };
+
+    ghost reads = { λ before _ _ result after. HasCause Failed (faults_of before) (faults_of after) result };
 
     fn read(&mut self, alloc: Global, name: &Word, limit: u64) -> Result<Option<Bytes>, ReadFail> {
         if self.schedule.next_fails() {

@@ -35,11 +35,15 @@ impl SureFiles {
 }
 
 impl Files for SureFiles {
+    ghost use Rattle.std.specs.Prelude.{◌≢◌, Err};
+    ghost use Rattle.gt_io.specs.declared.fail.ReadFail.TheVariants.{Failed};
     ghost use Rattle.gt_io.specs.SureFiles.{sure_files_of};
 
     ghost told = { λ f. Some (sure_files_of f) };
 
     ghost faults = { λ _. 0 };
+
+    ghost reads = { λ _ _ _ result _. result ≢ Err Failed };
 
     fn read(&mut self, alloc: Global, name: &Word, limit: u64) -> Result<Option<Bytes>, ReadFail> {
         self.shelf.read(alloc, name, limit)

@@ -10,6 +10,7 @@ ghost use Rattle.gt_words.specs.declared.call.Call.{Call};
 ghost use Rattle.gt_words.specs.Calls.{call_of};
 ghost use Rattle.gt_words.specs.Ranges.{IsInRange};
 ghost use Rattle.gt_front.specs.Asks.{Asks};
+ghost use Rattle.gt_front.specs.Order.{AskNoFile, FailsIn};
 ghost use Rattle.gt_front.specs.Refused.{IsRefusalLine};
 ghost use Rattle.gt_front.specs.Texts.{Texts};
 ghost use Rattle.gt_next.specs.States.{State};
@@ -17,7 +18,7 @@ ghost use Rattle.gt_session.specs.Sessions.{IsSession, StandsFor};
 ghost use Rattle.gt_next.specs.Laws.{IsBuilt};
 ghost use Rattle.gt_run.specs.Comes.{IsRefusedFirst, IsTold};
 ghost use Rattle.gt_run.specs.Complete.{IsWell};
-ghost use Rattle.gt_run.specs.Ended.{Ends, refusal_status};
+ghost use Rattle.gt_run.specs.Ended.{Ends, HasFailed, IsToldBy, refusal_status};
 ghost use Rattle.gt_run.specs.Runs.{Opens};
 
 use crate::built::are_built;
@@ -47,7 +48,8 @@ pub fn top<F: Files, K: Sink>(
     space: &mut Space,
 ) -> Outcome
     requires empty { space.old ≡ empty_range }
-    ensures ended { Ends words.now (F.told files.old) (K.written out.old) (K.written out.new) result space.new }
+    ensures ended { (faulty : Option ℕ) × HasFailed F.reads words.now files.old faulty files.new
+        × Ends words.now (F.told files.old) faulty (K.written out.old) (K.written out.new) result space.new }
 
     // Where no line was answered, the space is empty, as it came, unless all is done.
     ensures unused { result.answers ≡ [] → (space.new ≡ empty_range) ⊎ (result.status ≡ 0) }
@@ -56,6 +58,12 @@ pub fn top<F: Files, K: Sink>(
     ensures files { F.told files.new ≡ F.told files.old }
     ensures files_later { F.faults files.old ≤ F.faults files.new }
     ensures sink_later { K.faults out.old ≤ K.faults out.new }
+
+    // With a generated script no file is read, nor where the arguments are refused.
+    ensures no_file { AskNoFile words.now → files.new ≡ files.old }
+
+    // A read fault names the file whose reading failed, after each file before it was read.
+    ensures failed { (word : ℕ) → result.refusal ≡ Some (Refusal.File word FileWhy.Fault) → FailsIn F.reads words.now files.old word files.new }
 
     // A failure is answered only where the outside failed.
     ensures file_cause { (word : ℕ) → result.refusal ≡ Some (Refusal.File word FileWhy.Fault) → Rose (F.faults files.old) (F.faults files.new) }
@@ -97,8 +105,8 @@ fn well_is_not_refused()
 // Where something is refused first, and no file's reading failed, it is what is told, or the sink failed, or memory runs out.
 // It does nothing: its clause is a law.
 fn refused_is_told()
-    ensures { (words : List (List ℕ)) (held : Held) (texts : Texts) (refusal : Refusal) (old new : Option (List ℕ)) (outcome : Outcome) (range : Range) → IsRefusedFirst words (Some held) texts refusal → IsTold refusal
-        → Ends words (Some held) old new outcome range → ((word : ℕ) → outcome.refusal ≡ Some (Refusal.File word FileWhy.Fault) → ⊥)
+    ensures { (words : List (List ℕ)) (held : Held) (texts : Texts) (refusal : Refusal) (faulty : Option ℕ) (old new : Option (List ℕ)) (outcome : Outcome) (range : Range) → IsRefusedFirst words (Some held) texts refusal → IsTold refusal
+        → Ends words (Some held) faulty old new outcome range → ((word : ℕ) → outcome.refusal ≡ Some (Refusal.File word FileWhy.Fault) → ⊥)
         → ((outcome.refusal ≡ Some refusal) × (outcome.status ≡ refusal_status refusal)) ⊎ (outcome.status ≡ 4) ⊎ (outcome.status ≡ 9) }
 {
     one_refusal();
@@ -117,7 +125,7 @@ fn run_ready<F: Files, K: Sink>(
     requires within { IsWithin ready.program ready.layouts }
     requires ranges { IsInRange ready.call }
     requires empty { space.old ≡ empty_range }
-    ensures ended { (words : List (List ℕ)) → Asks words (F.told files.old) ready.call ready.program ready.lines → Ends words (F.told files.old) (K.written out.old) (K.written out.new) result space.new }
+    ensures ended { (words : List (List ℕ)) → Asks words (F.told files.old) ready.call ready.program ready.lines → Ends words (F.told files.old) None (K.written out.old) (K.written out.new) result space.new }
     ensures refusal { IfSome result.refusal (λ refusal. refusal ≡ Refusal.NotBuilt) }
     ensures files { files.new ≡ files.old }
     ensures later { K.faults out.old ≤ K.faults out.new }
@@ -147,7 +155,7 @@ fn run_lines<F: Files, K: Sink>(
     requires empty { space.old ≡ empty_range }
     ensures ended { (words : List (List ℕ)) (call : Call) (opening : State) → Asks words (F.told files.old) call session.schema.program lines.now
         → Opens session.schema.program call.settings (F.told files.old) opening → StandsFor session (F.told files.old) opening
-        → Ends words (F.told files.old) (K.written out.old) (K.written out.new) result space.new }
+        → Ends words (F.told files.old) None (K.written out.old) (K.written out.new) result space.new }
     ensures refusal { result.refusal ≡ None }
     ensures files { files.new ≡ files.old }
     ensures later { K.faults out.old ≤ K.faults out.new }
@@ -160,7 +168,7 @@ fn run_lines<F: Files, K: Sink>(
 
 // Says that the script asks for what is not built so far.
 fn refuse_unbuilt<K: Sink>(alloc: Global, call: &Call, out: &mut K) -> Outcome
-    ensures ended { (words : List (List ℕ)) (told : Option Held) (texts : Texts) → call_of words ≡ Some call.now → IsRefusedFirst words told texts Refusal.NotBuilt → Ends words told (K.written out.old) (K.written out.new) result empty_range }
+    ensures ended { (words : List (List ℕ)) (told : Option Held) (texts : Texts) → call_of words ≡ Some call.now → IsRefusedFirst words told texts Refusal.NotBuilt → Ends words told None (K.written out.old) (K.written out.new) result empty_range }
     ensures refusal { IfSome result.refusal (λ refusal. refusal ≡ Refusal.NotBuilt) }
     ensures later { K.faults out.old ≤ K.faults out.new }
     ensures cause { result.status ≡ 4 → Rose (K.faults out.old) (K.faults out.new) }
@@ -173,7 +181,8 @@ fn refuse_unbuilt<K: Sink>(alloc: Global, call: &Call, out: &mut K) -> Outcome
 
 // Writes the line of a refusal, and ends with it.
 fn refused_outcome<K: Sink>(alloc: Global, refusal: Refusal, line: &[u8], out: &mut K) -> Outcome
-    ensures ended { (words : List (List ℕ)) (told : Option Held) (texts : Texts) → IsRefusedFirst words told texts refusal → IsRefusalLine words texts refusal line.now → Ends words told (K.written out.old) (K.written out.new) result empty_range }
+    ensures ended { (words : List (List ℕ)) (told : Option Held) (texts : Texts) (faulty : Option ℕ) → IsRefusedFirst words told texts refusal → IsToldBy faulty refusal
+        → IsRefusalLine words texts refusal line.now → Ends words told faulty (K.written out.old) (K.written out.new) result empty_range }
     ensures refusal { IfSome result.refusal (λ told. told ≡ refusal) }
     ensures later { K.faults out.old ≤ K.faults out.new }
     ensures cause { result.status ≡ 4 → Rose (K.faults out.old) (K.faults out.new) }

@@ -5,7 +5,7 @@ use Rattle.gt_run.proofs.EndLemmas.{Ended-refused, Ends-of}
 use Rattle.gt_run.proofs.running.refused_outcome.Goals as goal
 
 pub returns-clause-ended : goal.returns-clause-ended
-returns-clause-ended g c = λ words told texts first is.
-    Ends-of words told _ _ c.refuse.result _ empty_range c.of.result
+returns-clause-ended g c = λ words told texts faulty first by is.
+    Ends-of words told faulty _ _ c.refuse.result _ empty_range c.of.result
     (c.of.ensures.status ∙ ap (status_of c.refuse.result) c.new.ensures.empty) (c.of.ensures.answers ∙ c.new.ensures.empty) c.of.ensures.refusal
-    (Ended-refused words told texts c.args.refusal c.args.line.now first is _ _ c.refuse.result c.refuse.ensures.refused)
+    (Ended-refused words told texts faulty c.args.refusal c.args.line.now first by is _ _ c.refuse.result c.refuse.ensures.refused)

@@ -1,4 +1,4 @@
-use Rattle.std.proofs.Common.{◌≡◌, List, All, inr, refl, sym, subst, rules}
+use Rattle.std.proofs.Common.{◌≡◌, List, None, All, inr, refl, sym, subst, rules}
 use Rattle.gt_types.specs.declared.program.Program.{Program}
 use Rattle.gt_space.specs.Range.{Range}
 use Rattle.gt_script.specs.declared.command.Line.{Line}
@@ -15,7 +15,7 @@ returns-then-not-are_built-clause-ended g c = λ words asks.
     let unbuilt : HasUnbuilt c.as_slice.result.now = rw c.if-not-are_built.true at c.are_built.ensures in
     let U : List Line → Type 0 = λ lines. HasUnbuilt lines in
     let told = g.F.Files.told c.args.files.now in
-    let E : Range → Type 0 = λ range. Ends words told (g.K.Sink.written c.args.out.now) (g.K.Sink.written c.refuse_unbuilt.new.out) c.refuse_unbuilt.result range in
+    let E : Range → Type 0 = λ range. Ends words told None (g.K.Sink.written c.args.out.now) (g.K.Sink.written c.refuse_unbuilt.new.out) c.refuse_unbuilt.result range in
     subst E (sym c.requires.empty) (c.refuse_unbuilt.ensures.ended words told asks.texts asks.reads.called
     (inr (refl, c.args.ready.call, c.args.ready.program, c.args.ready.lines, asks, subst U same unbuilt)))
 

@@ -1,14 +1,17 @@
-use Rattle.std.proofs.Common.{◌≡◌, ℕ, List, Option, Some, inl, sym, subst, rules}
+use Rattle.std.proofs.Common.{◌≡◌, ℕ, List, Option, Some, None, Err, inl, ap, sym, subst, rules}
+use Rattle.std.specs.Prelude.{IfSome}
 use Rattle.gt_space.specs.Range.{Range}
 use Rattle.gt_io.specs.Counts.{Rose}
 use Rattle.gt_io.specs.Held.{Held}
 use Rattle.gt_front.specs.Halts.{Halts}
+use Rattle.gt_front.specs.Order.{FailsIn}
 use Rattle.gt_front.specs.Refused.{IsRefusalLine}
 use Rattle.gt_front.specs.declared.preparing.Halt.TheVariants as halt
 use Rattle.gt_front.specs.declared.refusal.FileWhy.TheVariants.{Fault}
+use Rattle.gt_front.specs.declared.refusal.Refusal.{Refusal}
 use Rattle.gt_front.specs.declared.refusal.Refusal.TheVariants.{File as InFile}
 use Rattle.gt_run.specs.Ended.{Ends}
-use Rattle.gt_run.proofs.EndLemmas.{Ends-unanswered}
+use Rattle.gt_run.proofs.EndLemmas.{Ends-unanswered, faulty_of, HasFailed-own, IsToldBy-own}
 use Rattle.gt_run.proofs.WellLemmas.{Ends-well}
 use Rattle.gt_run.proofs.running.top.Given.{Over}
 use Rattle.gt_run.proofs.running.top.Goals as goal
@@ -17,58 +20,81 @@ pub run_ready-requires-clause-settled : goal.run_ready-requires-clause-settled
 run_ready-requires-clause-settled g c =
     let asks = c.in-Ok.ensures.ready in c.declared_programs_are_settled.ensures.settled asks.texts.headers c.in-Ok.ready.program asks.declares
 
+pub returns-in-Ok-clause-ended : goal.returns-in-Ok-clause-ended
+returns-in-Ok-clause-ended g c =
+    let ended : Ends c.args.words.now (g.F.Files.told c.args.files.now) None (g.K.Sink.written c.args.out.now) (g.K.Sink.written c.run_ready.new.out) c.run_ready.result c.run_ready.new.space = search rules in
+    (None, tt, ended)
+
 pub returns-in-Ok-clause-unused : goal.returns-in-Ok-clause-unused
 returns-in-Ok-clause-unused g c =
     let words = c.args.words.now in
     let before = g.F.Files.told c.args.files.now in
-    let ended : Ends words before (g.K.Sink.written c.args.out.now) (g.K.Sink.written c.run_ready.new.out) c.run_ready.result c.run_ready.new.space = search rules in
-    Ends-unanswered words before _ _ c.run_ready.result c.run_ready.new.space ended
+    let ended : Ends words before None (g.K.Sink.written c.args.out.now) (g.K.Sink.written c.run_ready.new.out) c.run_ready.result c.run_ready.new.space = search rules in
+    Ends-unanswered words before None _ _ c.run_ready.result c.run_ready.new.space ended
 
 pub returns-in-Ok-clause-complete : goal.returns-in-Ok-clause-complete
 returns-in-Ok-clause-complete g c = λ well no_file no_sink.
     let words = c.args.words.now in
     let before = g.F.Files.told c.args.files.now in
-    let ended : Ends words before (g.K.Sink.written c.args.out.now) (g.K.Sink.written c.run_ready.new.out) c.run_ready.result c.run_ready.new.space = search rules in
+    let ended : Ends words before None (g.K.Sink.written c.args.out.now) (g.K.Sink.written c.run_ready.new.out) c.run_ready.result c.run_ready.new.space = search rules in
     let file_rose : (word : ℕ) → c.run_ready.result.refusal ≡ Some (InFile word Fault) → Rose (g.F.Files.faults c.args.files.now) (g.F.Files.faults c.run_ready.new.files) = search rules in
-    Ends-well words before _ _ c.run_ready.result c.run_ready.new.space _ _ (λ texts refusal first. c.well_is_not_refused.ensures words before texts refusal well first) no_file no_sink
+    Ends-well words before None _ _ c.run_ready.result c.run_ready.new.space _ _ (λ texts refusal first. c.well_is_not_refused.ensures words before texts refusal well first) no_file no_sink
     file_rose c.run_ready.ensures.cause ended
 
 pub returns-in-Ok-clause-refused : goal.returns-in-Ok-clause-refused
 returns-in-Ok-clause-refused g c = λ held texts refusal told first known no_file.
     let words = c.args.words.now in
     let before = g.F.Files.told c.args.files.now in
-    let ended : Ends words before (g.K.Sink.written c.args.out.now) (g.K.Sink.written c.run_ready.new.out) c.run_ready.result c.run_ready.new.space = search rules in
+    let ended : Ends words before None (g.K.Sink.written c.args.out.now) (g.K.Sink.written c.run_ready.new.out) c.run_ready.result c.run_ready.new.space = search rules in
     let file_rose : (word : ℕ) → c.run_ready.result.refusal ≡ Some (InFile word Fault) → Rose (g.F.Files.faults c.args.files.now) (g.F.Files.faults c.run_ready.new.files) = search rules in
-    let E : Option Held → Type 0 = λ told. Ends words told (g.K.Sink.written c.args.out.now) (g.K.Sink.written c.run_ready.new.out) c.run_ready.result c.run_ready.new.space in
-    c.refused_is_told.ensures words held texts refusal _ _ c.run_ready.result c.run_ready.new.space first known (subst E told ended)
+    let E : Option Held → Type 0 = λ told. Ends words told None (g.K.Sink.written c.args.out.now) (g.K.Sink.written c.run_ready.new.out) c.run_ready.result c.run_ready.new.space in
+    c.refused_is_told.ensures words held texts refusal None _ _ c.run_ready.result c.run_ready.new.space first known (subst E told ended)
     (λ word is. no_file (file_rose word is))
 
 module _ (g : Over) (c : goal.After-drop-line-inside g) where
   halts : Halts c.args.words.now (g.F.Files.told c.args.files.now) (halt.Refused c.in-Err-Refused.refusal c.in-Err-Refused.line)
   halts = rw c.in-Err-Refused.field-0-is at c.in-Err-Refused.ensures.halted
 
-  refused_ends : Ends c.args.words.now (g.F.Files.told c.args.files.now) (g.K.Sink.written c.args.out.now) (g.K.Sink.written c.refused_outcome.new.out) c.refused_outcome.result c.args.space.now
+  refused_ends : Ends c.args.words.now (g.F.Files.told c.args.files.now) (faulty_of c.in-Err-Refused.refusal) (g.K.Sink.written c.args.out.now) (g.K.Sink.written c.refused_outcome.new.out) c.refused_outcome.result c.args.space.now
   refused_ends =
       let same : c.as_slice.result.now ≡ c.in-Err-Refused.line = search rules in
-      let L : List ℕ → Type 0 = λ line. IsRefusalLine c.args.words.now halts.0 c.in-Err-Refused.refusal line in
-      let E : Range → Type 0 = λ range. Ends c.args.words.now (g.F.Files.told c.args.files.now) (g.K.Sink.written c.args.out.now) (g.K.Sink.written c.refused_outcome.new.out) c.refused_outcome.result range in
-      subst E (sym c.requires.empty) (c.refused_outcome.ensures.ended c.args.words.now (g.F.Files.told c.args.files.now) halts.0 (inl halts.1) (subst L (sym same) halts.2))
+      let refusal = c.in-Err-Refused.refusal in
+      let told = g.F.Files.told c.args.files.now in
+      let L : List ℕ → Type 0 = λ line. IsRefusalLine c.args.words.now halts.0 refusal line in
+      let E : Range → Type 0 = λ range. Ends c.args.words.now told (faulty_of refusal) (g.K.Sink.written c.args.out.now) (g.K.Sink.written c.refused_outcome.new.out) c.refused_outcome.result range in
+      subst E (sym c.requires.empty)
+      (c.refused_outcome.ensures.ended c.args.words.now told halts.0 (faulty_of refusal) (inl halts.1) (IsToldBy-own refusal) (subst L (sym same) halts.2))
+
+  fails : (word : ℕ) → c.in-Err-Refused.refusal ≡ InFile word Fault → FailsIn g.F.Files.reads c.args.words.now c.args.files.now word c.prepare.new.files
+  fails word is =
+      let halt_is : c.in-Err-Refused.field-0 ≡ halt.Refused c.in-Err-Refused.refusal c.in-Err-Refused.line = c.in-Err-Refused.field-0-is in
+      let refused : c.in-Err-Refused.field-0 ≡ halt.Refused (InFile word Fault) c.in-Err-Refused.line = cc in
+      c.in-Err-Refused.ensures.failed word c.in-Err-Refused.line (ap (λ h. Err h) refused)
 
 pub returns-in-Err-Refused-clause-ended : goal.returns-in-Err-Refused-clause-ended
-returns-in-Err-Refused-clause-ended g c = refused_ends g c
+returns-in-Err-Refused-clause-ended g c = (
+  faulty_of c.in-Err-Refused.refusal,
+  HasFailed-own g.F.Files.reads c.args.words.now c.args.files.now c.prepare.new.files c.in-Err-Refused.refusal (fails g c),
+  refused_ends g c,
+)
+
+pub returns-in-Err-Refused-clause-failed : goal.returns-in-Err-Refused-clause-failed
+returns-in-Err-Refused-clause-failed g c = λ word is.
+    let R : Option Refusal → Type 0 = λ refusal. IfSome refusal (λ told. told ≡ c.in-Err-Refused.refusal) in
+    fails g c word (sym (subst R is c.refused_outcome.ensures.refusal))
 
 pub returns-in-Err-Refused-clause-complete : goal.returns-in-Err-Refused-clause-complete
 returns-in-Err-Refused-clause-complete g c = λ well no_file no_sink.
     let words = c.args.words.now in
     let before = g.F.Files.told c.args.files.now in
     let file_rose : (word : ℕ) → c.refused_outcome.result.refusal ≡ Some (InFile word Fault) → Rose (g.F.Files.faults c.args.files.now) (g.F.Files.faults c.prepare.new.files) = search rules in
-    Ends-well words before _ _ c.refused_outcome.result c.args.space.now _ _ (λ texts refusal first. c.well_is_not_refused.ensures words before texts refusal well first) no_file no_sink
+    Ends-well words before (faulty_of c.in-Err-Refused.refusal) _ _ c.refused_outcome.result c.args.space.now _ _ (λ texts refusal first. c.well_is_not_refused.ensures words before texts refusal well first) no_file no_sink
     file_rose c.refused_outcome.ensures.cause (refused_ends g c)
 
 pub returns-in-Err-Refused-clause-refused : goal.returns-in-Err-Refused-clause-refused
 returns-in-Err-Refused-clause-refused g c = λ held texts refusal told first known no_file.
     let words = c.args.words.now in
     let file_rose : (word : ℕ) → c.refused_outcome.result.refusal ≡ Some (InFile word Fault) → Rose (g.F.Files.faults c.args.files.now) (g.F.Files.faults c.prepare.new.files) = search rules in
-    let E : Option Held → Type 0 = λ told. Ends words told (g.K.Sink.written c.args.out.now) (g.K.Sink.written c.refused_outcome.new.out) c.refused_outcome.result c.args.space.now in
-    c.refused_is_told.ensures words held texts refusal _ _ c.refused_outcome.result c.args.space.now first known (subst E told (refused_ends g c))
+    let E : Option Held → Type 0 = λ told. Ends words told (faulty_of c.in-Err-Refused.refusal) (g.K.Sink.written c.args.out.now) (g.K.Sink.written c.refused_outcome.new.out) c.refused_outcome.result c.args.space.now in
+    c.refused_is_told.ensures words held texts refusal (faulty_of c.in-Err-Refused.refusal) _ _ c.refused_outcome.result c.args.space.now first known (subst E told (refused_ends g c))
     (λ word is. no_file (file_rose word is))
