@@ -10,8 +10,8 @@ use Rattle.gt_front.specs.Texts.{File, files_in_order}
 use Rattle.gt_front.specs.Asks.{Calls}
 
 module _ {F : Type 0} (reads : F → List ℕ → ℕ → Result (Option (List ℕ)) ReadFail → F → Type 0) where
-  -- the files were read, each once and in this order, and each read gave a text: no file leaves the store as it is; one more is read
-  -- from the store before it
+  -- the files were read, each once and in this order, and each read gave a text: the first from this store, and each other from the
+  -- store that the read before it left
   abbrev pub AreRead : F → List File → F → Type 0
   AreRead store [] last = last ≡ store
   AreRead store (file ∷ files) last = (text : List ℕ) × (next : F) × reads store file.name file.limit (Ok (Some text)) next × AreRead next files last

@@ -27,7 +27,7 @@ Refuses refusal line taken takes SinkFailed = AddsFront taken line takes
 Refuses refusal line taken takes NoMemory = takes ≡ taken
 Refuses refusal line taken takes Finished = ⊥
 
--- by the reads of a store, the reading of the file of this word failed; nothing, where none is named
+-- by the reads of a store, the reading of the file at this place failed; where no place is named, nothing is said
 abbrev pub HasFailed : {F : Type 0} → (F → List ℕ → ℕ → Result (Option (List ℕ)) ReadFail → F → Type 0) → List (List ℕ) → F → Option ℕ → F → Type 0
 HasFailed reads words store (Some word) last = FailsIn reads words store word last
 HasFailed reads words store None last = Unit {0}
@@ -42,9 +42,11 @@ IsToldBy faulty (Header fault) = Unit {0}
 IsToldBy faulty NotBuilt = Unit {0}
 IsToldBy faulty (Script number line) = Unit {0}
 
--- how the program ends, where the reading of this file failed, if of any, with its answers, what the sink took, and the bytes of the space
+-- how the program ends, with its answers, what the sink took, and the bytes of the space; `faulty` is the place of the file whose
+-- reading failed, if one did
 -- finished: a run of all lines, and the text of its answers
--- refused: what comes first in the order of work, where a read fault is of the file whose reading failed, and its line; no command ran, and the space is empty, as it came
+-- refused: what comes first in the order of work, and its line, where a read fault is of the file whose reading failed; no command
+-- ran, and the space is empty, as it came
 -- the sink failed: a prefix of a refusal's line, where no command ran and the space is empty, as it came; or of the text of the
 -- answers with all but the last whole
 -- out of memory: no answer, where nothing was written and the space is empty, as it came; or some, and the text of the answers, or of
