@@ -1,9 +1,9 @@
 -- A place from its bits.
-use Rattle.std.proofs.Common.{◌≡◌, ◌+◌, Bool, true, false, cond, not, Some, None, refl}
+use Rattle.std.proofs.Common.{◌≡◌, ◌+◌, Bool, true, false, cond, not, Some, None, refl, sym}
 use Rattle.std.proofs.lemmas.Bool.{false≢true}
 use Rattle.gt_entries.specs.declared.marks.Mark.{Mark}
 use Rattle.gt_entries.specs.declared.places.Tag.{Tag}
-use Rattle.gt_entries.specs.Cells.{is_free, is_lost, is_marked, is_pending, mark_in, swept, unmarked, walked}
+use Rattle.gt_entries.specs.Cells.{is_free, is_lost, is_marked, is_pending, mark_in, postponed, swept, unmarked, walked}
 use Rattle.gt_entries.specs.Places.{cell_from}
 
 pub free_bit : (u m q : Bool) (t : Tag) → is_free (cell_from u m q t) ≡ not u
@@ -49,6 +49,17 @@ pub unmarked_bit : (u m q r : Bool) (t : Tag) → cell_from u false r t ≡ unma
 unmarked_bit false m q r t = refl
 unmarked_bit true false q r t = refl
 unmarked_bit true true q r t = refl
+
+pub postponed_bit : (u m q : Bool) (t : Tag) → cell_from u m true t ≡ postponed (cell_from u m q t)
+postponed_bit false m q t = refl
+postponed_bit true false q t = refl
+postponed_bit true true q t = refl
+
+-- a place without a marked block is as it was
+pub postponed_none : (u m q : Bool) (t : Tag) → m ≡ false → postponed (cell_from u m q t) ≡ cell_from u m q t
+postponed_none false m q t none = refl
+postponed_none true false q t none = refl
+postponed_none true true q t none = absurd (false≢true (sym none))
 
 pub walked_bit : (u m q : Bool) (t : Tag) → cell_from u m false t ≡ walked (cell_from u m q t)
 walked_bit false m q t = refl

@@ -1,14 +1,14 @@
 -- What each change of the bits does to the places.
 use Rattle.std.proofs.Common.{◌≡◌, ◌≢◌, ℕ, ◌/◌, ◌%◌, ◌<◌, ◌≤◌, ◌==◌, Bool, true, false, cond, not, List, length, get_or, set, map, replicate, Some, None, refl, sym, ap, ◌∙◌, inl, inr, arith}
 use Rattle.std.proofs.lemmas.Bool.{cases_eq, cases_lt, cases_Bool, not-false, true≢false}
-use Rattle.std.proofs.lemmas.List.{get_or_past, get_or-set_same, get_or-set_other, length-set, get_or-replicate, length-replicate}
+use Rattle.std.proofs.lemmas.List.{get_or_past, get_or-set_same, get_or-set_other, length-set, set-get_or, get_or-replicate, length-replicate}
 use Rattle.std.proofs.lemmas.Nat.Bits.{bit_at-zero}
 use Rattle.std.specs.Int.{bit_at}
 use Rattle.gt_bits.specs.Sets.{has}
 use Rattle.gt_entries.specs.declared.places.Tag.{Tag}
-use Rattle.gt_entries.specs.Cells.{Free, Used, cell_at, is_free, is_marked, mark_in, swept, unmarked, walked}
+use Rattle.gt_entries.specs.Cells.{Free, Used, cell_at, is_free, is_marked, mark_in, postponed, swept, unmarked, walked}
 use Rattle.gt_entries.specs.Places.{AreKept, cell_from, cell_of, cells_of, tag_at}
-use Rattle.gt_entries.proofs.Bits.{free_bit, mark_bit, mark_from, marked_bit, swept_bit, unmarked_bit, walked_bit}
+use Rattle.gt_entries.proofs.Bits.{free_bit, mark_bit, mark_from, marked_bit, postponed_bit, postponed_none, swept_bit, unmarked_bit, walked_bit}
 use Rattle.gt_entries.proofs.CellLemmas.{no_place, place_at, table_all, table_map, table_set}
 
 same_cell : (u v m w q r : Bool) (s t : Tag) → u ≡ v → m ≡ w → q ≡ r → s ≡ t → cell_from u m q s ≡ cell_from v w r t
@@ -43,6 +43,13 @@ module _ (n : ℕ) (u m q : List ℕ) (t : List Tag) where
     | inr not ↦ not
   ]
 
+  -- what is not marked is not left to a pass
+  not_pending : AreKept n u m q t → (k : ℕ) → has m k ≡ false → has q k ≡ false
+  not_pending kept k none = elim (cases_Bool (has q k)) [
+    | inl pending ↦ absurd (true≢false (sym (kept.pending_marked k pending) ∙ none))
+    | inr not ↦ not
+  ]
+
   -- a block at a free place
   module _ (v : List ℕ) (k : ℕ) (low : k < n) (free : has u k ≡ false) (len : length v ≡ length u) (held : has v k ≡ true)
       (others : (j : ℕ) → j ≢ k → has v j ≡ has u j) where
@@ -72,16 +79,15 @@ module _ (n : ℕ) (u m q : List ℕ) (t : List Tag) where
         (fresh_cell (has v k) (has m k) (has q k) (tag_at t k) held (not_marked kept k free))
 
   -- a mark of a block
-  module _ (w r : List ℕ) (tag : Tag) (k : ℕ) (low : k < n) (used : has u k ≡ true)
-      (len : length w ≡ length m) (held : has w k ≡ true) (others : (j : ℕ) → j ≢ k → has w j ≡ has m j)
-      (len-2 : length r ≡ length q) (held-2 : has r k ≡ true) (others-2 : (j : ℕ) → j ≢ k → has r j ≡ has q j) where
-    pub kept_mark : AreKept n u m q t → AreKept n u w r (set t k tag)
+  module _ (w : List ℕ) (tag : Tag) (k : ℕ) (low : k < n) (used : has u k ≡ true) (fresh : has m k ≡ false)
+      (len : length w ≡ length m) (held : has w k ≡ true) (others : (j : ℕ) → j ≢ k → has w j ≡ has m j) where
+    pub kept_mark : AreKept n u m q t → AreKept n u w q (set t k tag)
     kept_mark kept = record {
       tag_count = length-set t k tag ∙ kept.tag_count;
       room = kept.room;
       fits = kept.fits;
       marked_words = len ∙ kept.marked_words;
-      pending_words = len-2 ∙ kept.pending_words;
+      pending_words = kept.pending_words;
       within = kept.within;
       marks_used = λ i marked. elim (cases_eq i k) [
         | inl same ↦ ap (has u) same ∙ used
@@ -89,19 +95,53 @@ module _ (n : ℕ) (u m q : List ℕ) (t : List Tag) where
       ];
       pending_marked = λ i pending. elim (cases_eq i k) [
         | inl same ↦ ap (has w) same ∙ held
-        | inr apart ↦ others i apart ∙ kept.pending_marked i (sym (others-2 i apart) ∙ pending)
+        | inr apart ↦ others i apart ∙ kept.pending_marked i pending
       ];
     }
 
-    pub cells_mark : AreKept n u m q t → cells_of n u w r (set t k tag) ≡ set (cells_of n u m q t) k (cell_from true true true tag)
+    pub cells_mark : AreKept n u m q t → cells_of n u w q (set t k tag) ≡ set (cells_of n u m q t) k (cell_from true true false tag)
     cells_mark kept =
-        table_set (cell_of u m q t) (cell_of u w r (set t k tag)) n k low
+        table_set (cell_of u m q t) (cell_of u w q (set t k tag)) n k low
         (λ j apart.
-        same_cell (has u j) (has u j) (has w j) (has m j) (has r j) (has q j) (tag_at (set t k tag) j) (tag_at t j) refl (others j apart)
-        (others-2 j apart) (get_or-set_other t k j tag _ apart))
+        same_cell (has u j) (has u j) (has w j) (has m j) (has q j) (has q j) (tag_at (set t k tag) j) (tag_at t j) refl (others j apart)
+        refl (get_or-set_other t k j tag _ apart))
         ∙ ap (λ x. set (cells_of n u m q t) k x)
-        (same_cell (has u k) true (has w k) true (has r k) true (tag_at (set t k tag) k) tag used held held-2
+        (same_cell (has u k) true (has w k) true (has q k) false (tag_at (set t k tag) k) tag used held (not_pending kept k fresh)
         (get_or-set_same t k tag _ (omega (arith, low, kept.tag_count))))
+
+  -- a block that is left to a pass
+  module _ (r : List ℕ) (k : ℕ) (low : k < n) (marked : has m k ≡ true) (len : length r ≡ length q) (held : has r k ≡ true)
+      (others : (j : ℕ) → j ≢ k → has r j ≡ has q j) where
+    pub kept_postponed : AreKept n u m q t → AreKept n u m r t
+    kept_postponed kept = record {
+      tag_count = kept.tag_count;
+      room = kept.room;
+      fits = kept.fits;
+      marked_words = kept.marked_words;
+      pending_words = len ∙ kept.pending_words;
+      within = kept.within;
+      marks_used = kept.marks_used;
+      pending_marked = λ i pending. elim (cases_eq i k) [
+        | inl same ↦ ap (has m) same ∙ marked
+        | inr apart ↦ kept.pending_marked i (sym (others i apart) ∙ pending)
+      ];
+    }
+
+    pub cells_postponed : AreKept n u m q t → cells_of n u m r t ≡ set (cells_of n u m q t) k (postponed (cell_at (cells_of n u m q t) k))
+    cells_postponed kept =
+        table_set (cell_of u m q t) (cell_of u m r t) n k low
+        (λ j apart. ap (λ b. cell_from (has u j) (has m j) b (tag_at t j)) (others j apart))
+        ∙ ap (λ x. set (cells_of n u m q t) k x)
+        (ap (λ b. cell_from (has u k) (has m k) b (tag_at t k)) held
+        ∙ postponed_bit (has u k) (has m k) (has q k) (tag_at t k)
+        ∙ ap postponed (sym (place_at n u m q t kept k)))
+
+  -- a place without a marked block is as it was
+  pub cells_none : AreKept n u m q t → (k : ℕ) → has m k ≡ false → cells_of n u m q t ≡ set (cells_of n u m q t) k (postponed (cell_at (cells_of n u m q t) k))
+  cells_none kept k none =
+      sym (ap (λ x. set (cells_of n u m q t) k x)
+      (ap postponed (place_at n u m q t kept k) ∙ postponed_none (has u k) (has m k) (has q k) (tag_at t k) none ∙ sym (place_at n u m q t kept k))
+      ∙ set-get_or (cells_of n u m q t) k Free)
 
   -- a block that was walked
   module _ (r : List ℕ) (k : ℕ) (low : k < n) (len : length r ≡ length q) (gone : has r k ≡ false)

@@ -15,7 +15,7 @@ abbrev pub is_marked : Cell → Bool
 is_marked Free = false
 is_marked (Used mark) = is_some mark
 
--- marked, and still to be walked
+-- marked, and left to a pass
 abbrev pub has_pending : Option Mark → Bool
 has_pending None = false
 has_pending (Some m) = m.pending
@@ -46,7 +46,12 @@ abbrev pub unmarked : Cell → Cell
 unmarked Free = Free
 unmarked (Used mark) = Used None
 
--- the place, and its block no more to be walked
+-- the place, and its block left to a pass where it is marked
+abbrev pub postponed : Cell → Cell
+postponed Free = Free
+postponed (Used mark) = Used (option_map (λ m. record { walk = m.walk; count = m.count; pending = true }) mark)
+
+-- the place, and its block no more left to a pass
 abbrev pub walked : Cell → Cell
 walked Free = Free
 walked (Used mark) = Used (option_map (λ m. record { walk = m.walk; count = m.count; pending = false }) mark)

@@ -23,7 +23,7 @@ cell_of used marked pending tags k = cell_from (has used k) (has marked k) (has 
 abbrev pub cells_of : ℕ → (used marked pending : List ℕ) → List Tag → List Cell
 cells_of count used marked pending tags = map (cell_of used marked pending tags) (range_with_len 0 count)
 
--- the three sets have as many words, with a bit for each place; what is marked is used, and what is to be walked is marked
+-- the three sets have as many words, with a bit for each place; what is marked is used, and what is left to a pass is marked
 pub record AreKept (count : ℕ) (used marked pending : List ℕ) (tags : List Tag) : Type 0 where
   pub tag_count : length tags ≡ count
   pub room : count ≤ 64 * length used

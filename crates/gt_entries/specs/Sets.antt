@@ -1,7 +1,7 @@
 -- No promise: the three sets of an entry, in one list of words.
 use Rattle.std.specs.Prelude.{◌≡◌, ℕ, ◌*◌, ◌/◌, List, length, take, drop}
 
--- the places in use, those with a marked block, and those whose block is still to be walked
+-- the places in use, those with a marked block, and those whose block is left to a pass
 pub record ThreeSets : Type 0 where
   pub used : List ℕ
   pub marked : List ℕ

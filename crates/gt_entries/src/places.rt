@@ -1,7 +1,7 @@
-//! The places of one entry: bits for those in use, marked and still to be walked, and a tag for each.
+//! The places of one entry: bits for those in use, marked and left to a pass, and a tag for each.
 ghost use Rattle.std.specs.Prelude.{◌≡◌, ◌≢◌, ℕ, ◌*◌, ◌<◌, ◌≤◌, ◌↔◌, true, false, not, [], length, map, replicate, count_by, slice_set, IfOk, IfSome, IfNone, IsTrue, Some, None};
 ghost use Rattle.gt_bits.specs.Sets as bits;
-ghost use Rattle.gt_entries.specs.Cells.{Free, Used, IsFirstFrom, cell_at, is_free, is_lost, is_marked, is_pending, mark_in, swept, unmarked, walked};
+ghost use Rattle.gt_entries.specs.Cells.{Free, Used, IsFirstFrom, cell_at, is_free, is_lost, is_marked, is_pending, mark_in, postponed, swept, unmarked, walked};
 
 use crate::marks::Mark;
 use crate::memory::filled;
@@ -137,20 +137,18 @@ impl Places {
         })
     }
 
-    /// Marks the block at a place as one that is still to be walked, and says whether it was not marked before. Where it
-    /// was, nothing changes.
+    /// Marks the block at a place, and says whether it was not marked before. Where it was, nothing changes.
     pub fn mark(&mut self, k: u32, walk: u32, count: u32) -> bool
         requires { is_free (cell_at self.old k) ≡ false }
         ensures fresh { result ≡ not (is_marked (cell_at self.old k)) }
         ensures marked { IsTrue result → self.new
-            ≡ slice_set self.old k (Used (Some (record { walk = walk; count = count; pending = true }))) }
+            ≡ slice_set self.old k (Used (Some (record { walk = walk; count = count; pending = false }))) }
         ensures unchanged { result ≡ false → self.new ≡ self.old }
     {
         if has(self.sets.marked(), k) {
             return false;
         }
         self.sets.mark(k);
-        self.sets.set_pending(k);
         self.tags[k as usize] = Tag { walk, count };
         true
     }
@@ -162,7 +160,7 @@ impl Places {
         ensures used { IfSome result (λ _. is_free (cell_at self.old k) ≡ false) }
         ensures fresh { IfSome result (λ fresh. fresh ≡ not (is_marked (cell_at self.old k))) }
         ensures marked { result ≡ Some true → self.new
-            ≡ slice_set self.old k (Used (Some (record { walk = walk; count = count; pending = true }))) }
+            ≡ slice_set self.old k (Used (Some (record { walk = walk; count = count; pending = false }))) }
         ensures unchanged { result ≢ Some true → self.new ≡ self.old }
     {
         if !self.is_used(k) {
@@ -171,7 +169,17 @@ impl Places {
         Some(self.mark(k, walk, count))
     }
 
-    /// The block at a place is no more to be walked.
+    /// Leaves the block at a place to a pass, where it is marked.
+    pub fn postpone(&mut self, k: u32)
+        ensures postponed { self.new ≡ slice_set self.old k (postponed (cell_at self.old k)) }
+    {
+        if !has(self.sets.marked(), k) {
+            return;
+        }
+        self.sets.set_pending(k);
+    }
+
+    /// The block at a place is no more left to a pass.
     pub fn set_walked(&mut self, k: u32)
         requires { k < length self.old }
         ensures walked { self.new ≡ slice_set self.old k (walked (cell_at self.old k)) }
@@ -186,7 +194,7 @@ impl Places {
         next(self.sets.marked(), from)
     }
 
-    /// The first place from `from` on with a block that is marked and still to be walked, or `None` where there is none.
+    /// The first place from `from` on with a marked block that is left to a pass, or `None` where there is none.
     pub fn next_pending(&self, from: u32) -> Option<u32>
         ensures first { IsFirstFrom is_pending self.now from result }
     {

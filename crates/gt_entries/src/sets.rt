@@ -1,4 +1,4 @@
-//! The sets of an entry: its places in use, those with a marked block, and those whose block is still to be walked.
+//! The sets of an entry: its places in use, those with a marked block, and those whose block is left to a pass.
 ghost use Rattle.std.specs.Prelude.{◌≡◌, ◌≢◌, ℕ, ◌*◌, ◌^◌, ◌<◌, ◌≤◌, true, false, [], length, replicate, IfOk};
 ghost use Rattle.gt_bits.specs.Sets as bits;
 
@@ -61,7 +61,7 @@ impl Sets {
         &self.words[self.len..2 * self.len]
     }
 
-    /// The places with a block that is still to be walked.
+    /// The places with a block that is left to a pass.
     pub(crate) fn pending(&self) -> &[u64]
         ensures { result.now ≡ self.now.pending }
     {
@@ -104,7 +104,7 @@ impl Sets {
         insert(&mut self.words[len..2 * len], k);
     }
 
-    /// The block at a place is still to be walked.
+    /// The block at a place is left to a pass.
     pub(crate) fn set_pending(&mut self, k: u32)
         requires { k < 64 * length self.old.pending }
         ensures len { length self.new.pending ≡ length self.old.pending }
@@ -116,7 +116,7 @@ impl Sets {
         insert(&mut self.words[2 * len..3 * len], k);
     }
 
-    /// The block at a place is no more to be walked.
+    /// The block at a place is no more left to a pass.
     pub(crate) fn set_walked(&mut self, k: u32)
         requires { k < 64 * length self.old.pending }
         ensures len { length self.new.pending ≡ length self.old.pending }
@@ -138,7 +138,7 @@ impl Sets {
         clear(&mut self.words[len..2 * len]);
     }
 
-    /// No block is still to be walked.
+    /// No block is left to a pass.
     pub(crate) fn clear_pending(&mut self)
         ensures len { length self.new.pending ≡ length self.old.pending }
         ensures gone { (i : ℕ) → bits.has self.new.pending i ≡ false }

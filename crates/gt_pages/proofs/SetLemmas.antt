@@ -11,7 +11,7 @@ use Rattle.gt_entries.specs.Cells.{Cell, Free, Used, cell_at, is_free, mark_in}
 use Rattle.gt_pages.specs.declared.store.Entry.{Entry}
 use Rattle.gt_pages.specs.declared.parts.Spot.{Spot}
 use Rattle.gt_pages.specs.Ledger.{page_address}
-use Rattle.gt_pages.specs.Slots.{Slot, StartsSome, walked, with_mark, with_mark_at}
+use Rattle.gt_pages.specs.Slots.{Slot, StartsSome, postponed, walked, with_mark, with_mark_at}
 use Rattle.gt_pages.specs.Contents.{with_slots}
 use Rattle.gt_pages.specs.Spots.{IsSpot, with_mark_in, with_mark_spot}
 use Rattle.gt_pages.specs.Parts.{IsKept, Parts, contents_of, entry_at, page_slots, slots_in}
@@ -120,6 +120,10 @@ module _ (p : Parts) (addr : ℕ) (spot : Spot) (m : Option Mark) (kept : IsKept
         | inl same ↦ subst (λ i. page_slots (with_mark_spot p spot m) i ≡ map (marks addr m) (page_slots p i)) (sym same) (page_here start)
         | inr apart ↦ page_other k apart
       ]))
+
+pub postponed_cell : (c : Cell) → is_free c ≡ false → cells.postponed c ≡ Used (postponed (mark_in c))
+postponed_cell Free used = absurd (true≢false used)
+postponed_cell (Used m) used = refl
 
 pub walked_cell : (c : Cell) → is_free c ≡ false → cells.walked c ≡ Used (walked (mark_in c))
 walked_cell Free used = absurd (true≢false used)

@@ -37,7 +37,7 @@ owner_of slots address = option_map (λ s. (s.address, s.size)) (find (has_byte 
 abbrev pub is_marked : Slot → Bool
 is_marked s = is_some s.mark
 
--- marked, and still to be walked
+-- marked, and left to a pass
 abbrev pub is_pending : Slot → Bool
 is_pending s = has_pending s.mark
 
@@ -61,11 +61,15 @@ with_mark mark s = record { address = s.address; size = s.size; mark = mark }
 abbrev pub with_mark_at : List Slot → ℕ → Option Mark → List Slot
 with_mark_at slots address mark = map (λ s. if s.address == address then with_mark mark s else s) slots
 
--- the mark of a block that is to be walked
+-- the mark that a block gets, which is left to no pass
 abbrev pub new_mark : (walk count : ℕ) → Mark
-new_mark walk count = record { walk = walk; count = count; pending = true }
+new_mark walk count = record { walk = walk; count = count; pending = false }
 
--- the same mark of a block that was walked
+-- the same mark of a block that is left to a pass
+abbrev pub postponed : Option Mark → Option Mark
+postponed mark = option_map (λ m. record { walk = m.walk; count = m.count; pending = true }) mark
+
+-- the same mark of a block that is left to no pass
 abbrev pub walked : Option Mark → Option Mark
 walked mark = option_map (λ m. record { walk = m.walk; count = m.count; pending = false }) mark
 

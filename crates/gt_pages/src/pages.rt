@@ -3,7 +3,7 @@ ghost use Rattle.std.specs.Prelude.{◌≡◌, ◌≢◌, ℕ, ◌≤◌, ◌<�
 ghost use Rattle.gt_space.specs.declared.TheConstants.{MIN_PAGES, MAX_PAGES};
 ghost use Rattle.gt_links.specs.Lists.{Holds, nodes_of, with_nodes};
 ghost use Rattle.gt_pages.specs.Ledger.{AreFree, Base, IsTooLong, Place, Room, sizes};
-ghost use Rattle.gt_pages.specs.Slots.{StartsSome, block_of, is_marked, is_pending, is_unmarked, mark_at, new_mark, next_slot, owner_of, slot_at, told_of, unmarked, walked, with_mark_at, with_slot};
+ghost use Rattle.gt_pages.specs.Slots.{StartsSome, block_of, is_marked, is_pending, is_unmarked, mark_at, new_mark, next_slot, owner_of, postponed, slot_at, told_of, unmarked, walked, with_mark_at, with_slot};
 ghost use Rattle.gt_pages.specs.Contents.{AreLaidOut, CachesEmptied, HasLists, IsEntry, IsInFirst, KeepsPages, UsesCached, cached_list, empty_contents, ledger_of, with_slots};
 ghost use Rattle.gt_pages.specs.Counts.{AreTotals};
 ghost use Rattle.gt_pages.specs.Images.{AreRuns, IsImage, image_pages};
@@ -123,8 +123,8 @@ impl Pages {
         self.store.clear_marks();
     }
 
-    /// Marks the block that starts at an address as one that is still to be walked, by this walk and with this count, and
-    /// says whether it was not marked before. Where it was, nothing changes.
+    /// Marks the block that starts at an address, by this walk and with this count, and says whether it was not marked
+    /// before. Where it was, nothing changes.
     pub fn mark(&mut self, addr: u64, walk: u32, count: u32) -> bool
         requires start { StartsSome self.old.slots addr }
         ensures fresh { IsTrue result ↔ (mark_at self.old.slots addr ≡ None) }
@@ -164,7 +164,16 @@ impl Pages {
         self.store.marked_as(addr)
     }
 
-    /// The block that starts at an address is no more to be walked.
+    /// Leaves the block that starts at an address to a pass, where it is marked: `next_pending` finds it from now on.
+    pub fn postpone(&mut self, addr: u64)
+        requires start { StartsSome self.old.slots addr }
+        ensures postponed { self.new
+            ≡ with_slots self.old (with_mark_at self.old.slots addr (postponed (mark_at self.old.slots addr))) }
+    {
+        self.store.postpone(addr);
+    }
+
+    /// The block that starts at an address is no more left to a pass.
     pub fn set_walked(&mut self, addr: u64)
         requires start { StartsSome self.old.slots addr }
         ensures walked { self.new
@@ -180,7 +189,7 @@ impl Pages {
         self.store.next_marked(after)
     }
 
-    /// The least address above `after` of a marked block that is still to be walked, with its walk and count; `None` where
+    /// The least address above `after` of a marked block that is left to a pass, with its walk and count; `None` where
     /// there is none.
     pub fn next_pending(&self, after: u64) -> Option<(u64, u32, u32)>
         ensures next { result ≡ told_of (next_slot is_pending self.now.slots after) }

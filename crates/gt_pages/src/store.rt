@@ -7,7 +7,7 @@ ghost use Rattle.gt_pages.specs.Parts.{IsKept, IsOfImage, contents_of, empty_ent
 ghost use Rattle.gt_pages.specs.Spots.{HasNoneAbove, IsAbove, IsFirstIn, IsNextSpot, IsNowhere, IsSpot, block_at, told_at, with_mark_spot};
 ghost use Rattle.gt_pages.specs.Slots as slots;
 ghost use Rattle.gt_entries.specs.Cells as cells;
-ghost use Rattle.gt_pages.specs.Slots.{StartsSome, block_of, is_unmarked, mark_at, new_mark, next_slot, owner_of, slot_at, told_of, unmarked, walked, with_mark_at, with_slot};
+ghost use Rattle.gt_pages.specs.Slots.{StartsSome, block_of, is_unmarked, mark_at, new_mark, next_slot, owner_of, postponed, slot_at, told_of, unmarked, walked, with_mark_at, with_slot};
 ghost use Rattle.gt_pages.specs.Contents.{CachesEmptied, IsInFirst, KeepsPages, UsesCached, ledger_of, with_slots};
 ghost use Rattle.gt_pages.specs.Places.{IsWithin, Shares};
 ghost use Rattle.gt_entries.specs.Cells.{Free, Used, cell_at, is_free, is_lost, is_marked, mark_in};
@@ -306,6 +306,30 @@ impl Store {
         entry.places.mark_of(spot.place)
     }
 
+    pub(crate) fn postpone(&mut self, addr: u64)
+        requires kept { IsKept (parts_of self.old) }
+        requires start { StartsSome (contents_of (parts_of self.old)).slots addr }
+        ensures kept { IsKept (parts_of self.new) }
+        ensures postponed { contents_of (parts_of self.new) ≡ with_slots (contents_of (parts_of self.old))
+            (with_mark_at (contents_of (parts_of self.old)).slots addr (postponed (mark_at (contents_of (parts_of self.old)).slots addr))) }
+    {
+        match self.spot(addr) {
+            None => {}
+            Some(spot) => self.postpone_spot(spot),
+        }
+    }
+
+    // Leaves the block at a place to a pass, where it is marked.
+    fn postpone_spot(&mut self, spot: Spot)
+        requires page { spot.page < length (parts_of self.old).entries }
+        requires used { is_free (cell_at (entry_at (parts_of self.old).entries spot.page).places spot.place) ≡ false }
+        ensures { parts_of self.new ≡ with_mark_spot (parts_of self.old) spot
+            (postponed (mark_in (cell_at (entry_at (parts_of self.old).entries spot.page).places spot.place))) }
+    {
+        let entry = &mut self.entries[spot.page as usize];
+        entry.places.postpone(spot.place);
+    }
+
     pub(crate) fn set_walked(&mut self, addr: u64)
         requires kept { IsKept (parts_of self.old) }
         requires start { StartsSome (contents_of (parts_of self.old)).slots addr }
@@ -319,7 +343,7 @@ impl Store {
         }
     }
 
-    // The block at a place is no more to be walked.
+    // The block at a place is no more left to a pass.
     fn set_spot_walked(&mut self, spot: Spot)
         requires page { spot.page < length (parts_of self.old).entries }
         requires used { is_free (cell_at (entry_at (parts_of self.old).entries spot.page).places spot.place) ≡ false }
@@ -376,7 +400,7 @@ impl Store {
         }
     }
 
-    // The first place with a block still to be walked of an entry from a spot on.
+    // The first place of an entry from a spot on with a block that is left to a pass.
     fn next_pending_in(&self, from: Spot) -> Option<Spot>
         requires { from.page < length (parts_of self.now).entries }
         ensures { IsFirstIn cells.is_pending (parts_of self.now) from result }

@@ -8,7 +8,8 @@
 //!     owner ADDRESS = ADDRESS SIZE | none
 //!     mark ADDRESS WALK COUNT = new | old | no block
 //!     byte ADDRESS WALK COUNT = new | old | no block     marks the block that has the byte there
-//!     walked ADDRESS = ok | no block      the block there is no more to be walked
+//!     postpone ADDRESS = ok | no block    the block there is left to a pass, where it is marked
+//!     walked ADDRESS = ok | no block      the block there is no more left to a pass
 //!     marked, pending ADDRESS = ADDRESS WALK COUNT | none     the next one above
 //!     clear = ok, sweep = N
 //!     fit NEED PREFERRED = PAGE | longest N

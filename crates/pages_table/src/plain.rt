@@ -4,7 +4,7 @@ use gt_pages::{PageEntry, Run, SIZES};
 use gt_space::{HEAP_START, PAGE_BYTES};
 use std::alloc::{AllocError, Global};
 
-/// A block, with its walk and count where it is marked, and whether it is still to be walked.
+/// A block, with its walk and count where it is marked, and whether it is left to a pass.
 #[derive(Clone, Copy, Debug, PartialEq, Eq)]
 pub struct Block {
     pub addr: u64,
@@ -195,14 +195,22 @@ impl Plain {
         for b in &mut self.blocks {
             if b.addr == addr && b.mark.is_none() {
                 b.mark = Some((walk, count));
-                b.pending = true;
                 return true;
             }
         }
         false
     }
 
-    /// The block at an address is no more to be walked.
+    /// Leaves the block at an address to a pass, where it is marked.
+    pub fn postpone(&mut self, addr: u64) {
+        for b in &mut self.blocks {
+            if b.addr == addr && b.mark.is_some() {
+                b.pending = true;
+            }
+        }
+    }
+
+    /// The block at an address is no more left to a pass.
     pub fn set_walked(&mut self, addr: u64) {
         for b in &mut self.blocks {
             if b.addr == addr {
@@ -276,7 +284,7 @@ impl Plain {
         Some((found.addr, walk, count))
     }
 
-    /// The first block above an address that is still to be walked.
+    /// The first block above an address that is left to a pass.
     pub fn next_pending(&self, after: u64) -> Option<(u64, u32, u32)> {
         let found = self.blocks.iter().find(|b| b.addr > after && b.pending)?;
         let (walk, count) = found.mark?;

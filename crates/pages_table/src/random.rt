@@ -63,9 +63,10 @@ fn one_call(
         9 => image_one(alloc, generator, pages, plain),
         10..=13 => same_contents(alloc, pages, plain),
         14..=23 => Ok(fit_one(generator, pages, plain)),
-        24..=38 => Ok(walk_one(generator, pages, plain)),
-        39..=68 => Ok(mark_one(generator, pages, plain)),
-        69..=98 => Ok(mark_owner_one(generator, pages, plain)),
+        24..=31 => Ok(walk_one(generator, pages, plain)),
+        32..=46 => Ok(postpone_one(generator, pages, plain)),
+        47..=72 => Ok(mark_one(generator, pages, plain)),
+        73..=98 => Ok(mark_owner_one(generator, pages, plain)),
         _ => alloc_one(alloc, generator, pages, plain),
     }
 }
@@ -194,7 +195,21 @@ fn random_runs(alloc: Global, generator: &mut Generator) -> Result<Vec<Run>, All
     Ok(runs)
 }
 
-// A random block is no more to be walked.
+// A random block is left to a pass, where it is marked.
+fn postpone_one(generator: &mut Generator, pages: &mut Pages, plain: &mut Plain) -> bool {
+    let at = generator.below(plain.blocks.len() as u64) as usize;
+    let Some(block) = plain.blocks.get(at).copied() else {
+        return true;
+    };
+    let Some((start, _size)) = pages.owner(block.addr) else {
+        return false;
+    };
+    pages.postpone(start);
+    plain.postpone(start);
+    start == block.addr && pages.next_pending(0) == plain.next_pending(0)
+}
+
+// A random block is no more left to a pass.
 fn walk_one(generator: &mut Generator, pages: &mut Pages, plain: &mut Plain) -> bool {
     let at = generator.below(plain.blocks.len() as u64) as usize;
     let Some(block) = plain.blocks.get(at).copied() else {
@@ -267,7 +282,7 @@ fn same_marks(pages: &Pages, plain: &Plain) -> bool {
     true
 }
 
-// Whether both tell the same blocks that are still to be walked.
+// Whether both tell the same blocks that are left to a pass.
 fn same_pending(pages: &Pages, plain: &Plain) -> bool {
     let mut after = 0;
     for _ in 0..plain.blocks.len().saturating_add(1) {

@@ -32,6 +32,7 @@ pub fn answer(
         Some(("owner", at)) => owner(alloc, pages, at),
         Some(("mark", rest)) => mark(alloc, pages, rest),
         Some(("byte", rest)) => mark_owner(alloc, pages, rest),
+        Some(("postpone", at)) => postpone(alloc, pages, at),
         Some(("walked", at)) => walked(alloc, pages, at),
         Some(("marked", at)) => marked(alloc, pages, at),
         Some(("pending", at)) => pending(alloc, pages, at),
@@ -145,6 +146,17 @@ fn mark_owner(alloc: Global, pages: &mut Pages, rest: &str) -> Result<String, Al
         Some(false) => String::from_str(alloc, "old"),
         None => String::from_str(alloc, "no block"),
     }
+}
+
+fn postpone(alloc: Global, pages: &mut Pages, at: &str) -> Result<String, AllocError> {
+    let Some(addr) = address(at) else {
+        return no_address(alloc);
+    };
+    if !starts(pages, addr) {
+        return String::from_str(alloc, "no block");
+    }
+    pages.postpone(addr);
+    String::from_str(alloc, "ok")
 }
 
 fn walked(alloc: Global, pages: &mut Pages, at: &str) -> Result<String, AllocError> {

@@ -22,12 +22,11 @@ index_mut-requires c =
 
 pub invariant_of-self : goal.invariant_of-self
 invariant_of-self c =
-    rw (ap (λ s. s.used) c.set_pending.ensures.rest, ap (λ s. s.used) c.mark.ensures.rest, ap (λ s. s.marked) c.set_pending.ensures.rest)
-    (kept_mark c.self.inside.count c.self.inside.sets.used c.self.inside.sets.marked c.self.inside.sets.pending c.self.inside.tags.items c.mark.new.self.marked c.set_pending.new.self.pending (record { walk = c.args.walk; count = c.args.count }) c.args.k (c.self.invariant.within c.args.k (used_at c.self.inside.count c.self.inside.sets.used c.self.inside.sets.marked c.self.inside.sets.pending c.self.inside.tags.items c.self.invariant c.args.k (ap (λ cells. is_free (cell_at cells c.args.k)) c.self.view_is ∙ c.requires))) (used_at c.self.inside.count c.self.inside.sets.used c.self.inside.sets.marked c.self.inside.sets.pending c.self.inside.tags.items c.self.invariant c.args.k (ap (λ cells. is_free (cell_at cells c.args.k)) c.self.view_is ∙ c.requires))
-    c.mark.ensures.len c.mark.ensures.held
-    c.mark.ensures.others
-    (c.set_pending.ensures.len ∙ ap (λ s. length s.pending) c.mark.ensures.rest) c.set_pending.ensures.held
-    (λ j apart. c.set_pending.ensures.others j apart ∙ ap (λ s. has s.pending j) c.mark.ensures.rest) c.self.invariant)
+    let bit : has c.self.inside.sets.marked c.args.k ≡ false = ap (λ words. has words c.args.k) (sym c.marked.ensures) ∙ (sym c.has.ensures ∙ c.if-has.false) in
+    let used = (used_at c.self.inside.count c.self.inside.sets.used c.self.inside.sets.marked c.self.inside.sets.pending c.self.inside.tags.items c.self.invariant c.args.k (ap (λ cells. is_free (cell_at cells c.args.k)) c.self.view_is ∙ c.requires)) in
+    rw (ap (λ s. s.used) c.mark.ensures.rest, ap (λ s. s.pending) c.mark.ensures.rest)
+    (kept_mark c.self.inside.count c.self.inside.sets.used c.self.inside.sets.marked c.self.inside.sets.pending c.self.inside.tags.items c.mark.new.self.marked (record { walk = c.args.walk; count = c.args.count }) c.args.k (c.self.invariant.within c.args.k used) used bit
+    c.mark.ensures.len c.mark.ensures.held c.mark.ensures.others c.self.invariant)
 
 pub returns-clause-fresh : goal.returns-clause-fresh
 returns-clause-fresh c =
@@ -36,10 +35,9 @@ returns-clause-fresh c =
 
 pub returns-clause-marked : goal.returns-clause-marked
 returns-clause-marked c = λ _.
-    rw (ap (λ s. s.used) c.set_pending.ensures.rest, ap (λ s. s.used) c.mark.ensures.rest, ap (λ s. s.marked) c.set_pending.ensures.rest)
-    (cells_mark c.self.inside.count c.self.inside.sets.used c.self.inside.sets.marked c.self.inside.sets.pending c.self.inside.tags.items c.mark.new.self.marked c.set_pending.new.self.pending (record { walk = c.args.walk; count = c.args.count }) c.args.k (c.self.invariant.within c.args.k (used_at c.self.inside.count c.self.inside.sets.used c.self.inside.sets.marked c.self.inside.sets.pending c.self.inside.tags.items c.self.invariant c.args.k (ap (λ cells. is_free (cell_at cells c.args.k)) c.self.view_is ∙ c.requires))) (used_at c.self.inside.count c.self.inside.sets.used c.self.inside.sets.marked c.self.inside.sets.pending c.self.inside.tags.items c.self.invariant c.args.k (ap (λ cells. is_free (cell_at cells c.args.k)) c.self.view_is ∙ c.requires))
-    c.mark.ensures.len c.mark.ensures.held
-    c.mark.ensures.others
-    (c.set_pending.ensures.len ∙ ap (λ s. length s.pending) c.mark.ensures.rest) c.set_pending.ensures.held
-    (λ j apart. c.set_pending.ensures.others j apart ∙ ap (λ s. has s.pending j) c.mark.ensures.rest) c.self.invariant
-    ∙ ap (λ cells. set cells c.args.k (Used (Some (record { walk = c.args.walk; count = c.args.count; pending = true })))) c.self.view_is)
+    let bit : has c.self.inside.sets.marked c.args.k ≡ false = ap (λ words. has words c.args.k) (sym c.marked.ensures) ∙ (sym c.has.ensures ∙ c.if-has.false) in
+    let used = (used_at c.self.inside.count c.self.inside.sets.used c.self.inside.sets.marked c.self.inside.sets.pending c.self.inside.tags.items c.self.invariant c.args.k (ap (λ cells. is_free (cell_at cells c.args.k)) c.self.view_is ∙ c.requires)) in
+    rw (ap (λ s. s.used) c.mark.ensures.rest, ap (λ s. s.pending) c.mark.ensures.rest)
+    (cells_mark c.self.inside.count c.self.inside.sets.used c.self.inside.sets.marked c.self.inside.sets.pending c.self.inside.tags.items c.mark.new.self.marked (record { walk = c.args.walk; count = c.args.count }) c.args.k (c.self.invariant.within c.args.k used) used bit
+    c.mark.ensures.len c.mark.ensures.held c.mark.ensures.others c.self.invariant
+    ∙ ap (λ cells. set cells c.args.k (Used (Some (record { walk = c.args.walk; count = c.args.count; pending = false })))) c.self.view_is)
