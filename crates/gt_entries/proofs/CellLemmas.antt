@@ -1,16 +1,24 @@
 -- The places of an entry, one by one.
-use Rattle.std.proofs.Common.{◌≡◌, ◌≢◌, ℕ, zero, suc, ◌+◌, ◌-◌, ◌*◌, ◌<◌, ◌≤◌, Bool, true, false, cond, not, List, ◌∷◌, length, get_or, set, map, replicate, count_by, Option, Some, None, is_some, refl, sym, ap, ◌∙◌, inl, inr, arith, map-id}
-use Rattle.std.proofs.lemmas.Bool.{cases_eq, cases_lt, cases_Bool, false≢true, true≢false}
+use Rattle.std.proofs.Common.{◌≡◌, ◌≢◌, ℕ, zero, suc, ◌+◌, ◌-◌, ◌*◌, ◌<◌, ◌≤◌, Bool, true, false, cond, not, List, ◌∷◌, length, get_or, set, map, replicate, count_by, Option, Some, None, refl, sym, ap, ◌∙◌, inl, inr, arith, map-id}
+use Rattle.std.proofs.lemmas.Bool.{cases_eq, cases_lt, cases_Bool, true≢false}
 use Rattle.std.proofs.lemmas.List.{ext_get_or, get_or_past, get_or-set_same, get_or-set_other, length-set, get_or-replicate, length-replicate}
 use Rattle.std.proofs.lemmas.List.Sums.{length-filter}
 use Rattle.std.proofs.lemmas.List.FromFn.{length-map-range_with_len, get_or-map-range_with_len}
 use Rattle.std.specs.List.{range_with_len}
-use Rattle.gt_bits.specs.Sets.{has, members, IsNext, IsNextGap}
+use Rattle.gt_bits.specs.Sets.{has, members, IsNext}
 use Rattle.gt_entries.specs.declared.places.Tag.{Tag}
 use Rattle.gt_entries.specs.Cells.{Cell, Free, IsFirstFrom, cell_at, is_free, is_lost, is_marked}
 use Rattle.gt_entries.specs.Places.{AreKept, cell_from, cell_of, cells_of, tag_at}
 use Rattle.gt_entries.proofs.Totals.{total, total-map, total_add, total_past, total_ones, total_same, total_some, total_none}
 use Rattle.gt_entries.proofs.Bits.{free_bit, free_total, lost_total, marked_bit}
+
+-- how many places are free is told by those in use alone
+pub same_free : (n : ℕ) (u m q w r : List ℕ) (s t : List Tag) → count_by is_free (cells_of n u m q s) ≡ count_by is_free (cells_of n u w r t)
+same_free n u m q w r s t =
+    total-map (λ c. cond (is_free c) 1 0) (cell_of u m q s) n
+    ∙ total_same (λ i. cond (is_free (cell_of u m q s i)) 1 0) (λ i. cond (is_free (cell_of u w r t i)) 1 0) n
+    (λ i. ap (λ b. cond {A = ℕ} b 1 0) (free_bit (has u i) (has m i) (has q i) (tag_at s i) ∙ sym (free_bit (has u i) (has w i) (has r i) (tag_at t i))))
+    ∙ sym (total-map (λ c. cond (is_free c) 1 0) (cell_of u w r t) n)
 
 -- ---- tables of places
 
@@ -109,7 +117,7 @@ module _ (n : ℕ) (u m q : List ℕ) (t : List Tag) where
       (λ i. lost_total (has u i) (has m i) (has q i) (tag_at t i) (kept.marks_used i)) in
       omega (arith, used, marked, lost, all)
 
-  free_term : (k : ℕ) → has u k ≡ false → cond {A = ℕ} (is_free (cell_of u m q t k)) 1 0 ≡ 1
+  pub free_term : (k : ℕ) → has u k ≡ false → cond {A = ℕ} (is_free (cell_of u m q t k)) 1 0 ≡ 1
   free_term k free = ap (λ b. cond {A = ℕ} b 1 0) (free_bit (has u k) (has m k) (has q k) (tag_at t k) ∙ ap not free)
 
   used_term : (k : ℕ) → has u k ≡ true → cond {A = ℕ} (is_free (cell_of u m q t k)) 1 0 ≡ 0
@@ -145,12 +153,3 @@ module _ (n : ℕ) (u m q : List ℕ) (t : List Tag) where
     first = λ j high low. ap test (place_at kept j) ∙ same j ∙ next.least j high low;
     none = tt;
   }
-
-  -- some place is free just where there is a gap below their number
-  pub gap_free : (result : Option ℕ) → IsNextGap u 0 n result
-      → (is_some result ≡ true → 0 < count_by is_free (cells_of n u m q t)) × (0 < count_by is_free (cells_of n u m q t) → is_some result ≡ true)
-  gap_free None gap = (
-    λ some. absurd (false≢true some),
-    λ more. let none = none_free (λ k low. gap.none k (omega arith) low) in absurd (let no : 1 ≤ 0 = omega (arith, more, none) in omega (arith, no)),
-  )
-  gap_free (Some k) gap = (λ _. some_free k gap.below gap.missing, λ _. refl)

@@ -1,15 +1,17 @@
 -- What each change of the bits does to the places.
-use Rattle.std.proofs.Common.{◌≡◌, ◌≢◌, ℕ, ◌/◌, ◌%◌, ◌<◌, ◌≤◌, ◌==◌, Bool, true, false, cond, not, List, length, get_or, set, map, replicate, Some, None, refl, sym, ap, ◌∙◌, inl, inr, arith}
+use Rattle.std.proofs.Common.{◌≡◌, ◌≢◌, ℕ, suc, ◌+◌, ◌*◌, ◌^◌, ◌/◌, ◌%◌, ◌<◌, ◌≤◌, ◌==◌, Bool, true, false, cond, not, List, length, get_or, set, map, replicate, count_by, Some, None, refl, sym, ap, ◌∙◌, inl, inr, arith}
 use Rattle.std.proofs.lemmas.Bool.{cases_eq, cases_lt, cases_Bool, not-false, true≢false}
 use Rattle.std.proofs.lemmas.List.{get_or_past, get_or-set_same, get_or-set_other, length-set, set-get_or, get_or-replicate, length-replicate}
+use Rattle.std.proofs.lemmas.List.Folds.{sum_by-replicate}
+use Rattle.std.proofs.lemmas.List.Sums.{sum_by-set}
 use Rattle.std.proofs.lemmas.Nat.Bits.{bit_at-zero}
 use Rattle.std.specs.Int.{bit_at}
 use Rattle.gt_bits.specs.Sets.{has}
 use Rattle.gt_entries.specs.declared.places.Tag.{Tag}
-use Rattle.gt_entries.specs.Cells.{Free, Used, cell_at, is_free, is_marked, mark_in, postponed, swept, unmarked, walked}
+use Rattle.gt_entries.specs.Cells.{Free, Used, cell_at, is_free, is_lost, is_marked, mark_in, postponed, swept, unmarked, walked}
 use Rattle.gt_entries.specs.Places.{AreKept, cell_from, cell_of, cells_of, tag_at}
 use Rattle.gt_entries.proofs.Bits.{free_bit, mark_bit, mark_from, marked_bit, postponed_bit, postponed_none, swept_bit, unmarked_bit, walked_bit}
-use Rattle.gt_entries.proofs.CellLemmas.{no_place, place_at, table_all, table_map, table_set}
+use Rattle.gt_entries.proofs.CellLemmas.{count_lost, count_used, free_term, len_cells, no_place, place_at, table_all, table_map, table_set}
 
 same_cell : (u v m w q r : Bool) (s t : Tag) → u ≡ v → m ≡ w → q ≡ r → s ≡ t → cell_from u m q s ≡ cell_from v w r t
 same_cell u v m w q r s t used marked pending tag =
@@ -34,6 +36,24 @@ has_none w i =
 pub cells_new : (n w : ℕ) (m q : List ℕ) (t : List Tag) → cells_of n (replicate w 0) m q t ≡ replicate n Free
 cells_new n w m q t =
     table_all (cell_of (replicate w 0) m q t) n Free (λ k low. empty_cell (has (replicate w 0) k) (has m k) (has q k) (tag_at t k) (has_none w k))
+
+pub kept_new : (n w : ℕ) (t : List Tag) → length t ≡ n → n ≤ 64 * w → 64 * w < 2 ^ 32 → AreKept n (replicate w 0) (replicate w 0) (replicate w 0) t
+kept_new n w t len room fits = record {
+  tag_count = len;
+  room = omega (arith, room, length-replicate {A = ℕ} w 0);
+  fits = omega (arith, fits, length-replicate {A = ℕ} w 0);
+  marked_words = refl;
+  pending_words = refl;
+  within = λ i used. absurd (true≢false (sym used ∙ has_none w i));
+  marks_used = λ i marked. marked;
+  pending_marked = λ i pending. pending;
+}
+
+pub free_new : (n w : ℕ) (m q : List ℕ) (t : List Tag) → count_by is_free (cells_of n (replicate w 0) m q t) ≡ n
+free_new n w m q t =
+    let all = sum_by-replicate (λ c. cond (is_free c) 1 0) n Free in
+    let are : count_by is_free (cells_of n (replicate w 0) m q t) ≡ count_by is_free (replicate n Free) = ap (λ cells. count_by is_free cells) (cells_new n w m q t) in
+    omega (arith, all, are)
 
 module _ (n : ℕ) (u m q : List ℕ) (t : List Tag) where
   -- what is not used is not marked
@@ -77,6 +97,15 @@ module _ (n : ℕ) (u m q : List ℕ) (t : List Tag) where
         (λ j apart. ap (λ b. cell_from b (has m j) (has q j) (tag_at t j)) (others j apart))
         ∙ ap (λ x. set (cells_of n u m q t) k x)
         (fresh_cell (has v k) (has m k) (has q k) (tag_at t k) held (not_marked kept k free))
+
+    -- one place less is free
+    pub free_take : AreKept n u m q t → suc (count_by is_free (cells_of n v m q t)) ≡ count_by is_free (cells_of n u m q t)
+    free_take kept =
+        let sum = sum_by-set (λ c. cond (is_free c) 1 0) (cells_of n u m q t) k (Used None) Free (omega (arith, low, len_cells n u m q t)) in
+        let was : cond {A = ℕ} (is_free (get_or (cells_of n u m q t) k Free)) 1 0 ≡ 1 =
+        ap (λ c. cond {A = ℕ} (is_free c) 1 0) (place_at n u m q t kept k) ∙ free_term n u m q t k free in
+        let now : count_by is_free (cells_of n v m q t) ≡ count_by is_free (set (cells_of n u m q t) k (Used None)) = ap (λ cells. count_by is_free cells) (cells_take kept) in
+        omega (arith, sum, was, now)
 
   -- a mark of a block
   module _ (w : List ℕ) (tag : Tag) (k : ℕ) (low : k < n) (used : has u k ≡ true) (fresh : has m k ≡ false)
@@ -170,10 +199,26 @@ module _ (n : ℕ) (u m q : List ℕ) (t : List Tag) where
         ∙ walked_bit (has u k) (has m k) (has q k) (tag_at t k)
         ∙ ap walked (sym (place_at n u m q t kept k)))
 
+  pub kept_sweep : AreKept n u m q t → AreKept n m m q t
+  kept_sweep kept = record {
+    tag_count = kept.tag_count;
+    room = omega (arith, kept.room, kept.marked_words);
+    fits = omega (arith, kept.fits, kept.marked_words);
+    marked_words = refl;
+    pending_words = kept.pending_words ∙ sym kept.marked_words;
+    within = λ i marked. kept.within i (kept.marks_used i marked);
+    marks_used = λ i marked. marked;
+    pending_marked = kept.pending_marked;
+  }
+
   pub cells_sweep : AreKept n u m q t → cells_of n m m q t ≡ map swept (cells_of n u m q t)
   cells_sweep kept =
       table_map (cell_of u m q t) (cell_of m m q t) swept 0 n
       (λ j. swept_bit (has u j) (has m j) (has q j) (tag_at t j) (kept.marks_used j))
+
+  -- the places of lost blocks are free now
+  pub free_sweep : AreKept n u m q t → count_by is_free (cells_of n m m q t) ≡ count_by is_free (cells_of n u m q t) + count_by is_lost (cells_of n u m q t)
+  free_sweep kept = omega (arith, count_used n u m q t kept, count_lost n u m q t kept, count_used n m m q t (kept_sweep kept))
 
   pub cells_clear : (w r : List ℕ) → ((i : ℕ) → has w i ≡ false) → cells_of n u w r t ≡ map unmarked (cells_of n u m q t)
   cells_clear w r gone =

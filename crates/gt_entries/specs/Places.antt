@@ -1,9 +1,9 @@
 -- No promise: how the places of an entry stand in its bits.
-use Rattle.std.specs.Prelude.{◌≡◌, ℕ, ◌*◌, ◌^◌, ◌<◌, ◌≤◌, Bool, true, false, List, length, map, slice_index_or, Some, None}
+use Rattle.std.specs.Prelude.{◌≡◌, ℕ, ◌*◌, ◌^◌, ◌<◌, ◌≤◌, Bool, true, false, List, count_by, length, map, slice_index_or, Some, None}
 use Rattle.std.specs.List.{range_with_len}
 use Rattle.gt_bits.specs.Sets.{has}
 use Rattle.gt_entries.specs.declared.places.Tag.{Tag}
-use Rattle.gt_entries.specs.Cells.{Cell, Free, Used}
+use Rattle.gt_entries.specs.Cells.{Cell, Free, Used, is_free}
 
 -- a place, from its bits and its tag
 abbrev pub cell_from : (used marked pending : Bool) → Tag → Cell
@@ -33,3 +33,8 @@ pub record AreKept (count : ℕ) (used marked pending : List ℕ) (tags : List T
   pub within : (i : ℕ) → has used i ≡ true → i < count
   pub marks_used : (i : ℕ) → has marked i ≡ true → has used i ≡ true
   pub pending_marked : (i : ℕ) → has pending i ≡ true → has marked i ≡ true
+
+-- the places are kept in the bits, and so many of them are free
+pub record AreCounted (count free : ℕ) (used marked pending : List ℕ) (tags : List Tag) : Type 0 where
+  pub kept : AreKept count used marked pending tags
+  pub free_count : free ≡ count_by is_free (cells_of count used marked pending tags)

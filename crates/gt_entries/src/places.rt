@@ -24,6 +24,8 @@ struct Tag {
 #[derive(Drop)]
 pub struct Places {
     count: u32,
+    // How many of them are free.
+    free: u32,
     sets: Sets,
     tags: Vec<Tag>,
 }
@@ -34,11 +36,11 @@ impl Model for Places {
 
     ghost Value = { List Cell };
 
-    ghost use Rattle.gt_entries.specs.Places.{cells_of, AreKept};
+    ghost use Rattle.gt_entries.specs.Places.{cells_of, AreCounted};
 
     ghost view = { λ p. cells_of p.count p.sets.used p.sets.marked p.sets.pending p.tags.items };
 
-    ghost invariant = { λ p. AreKept p.count p.sets.used p.sets.marked p.sets.pending p.tags.items };
+    ghost invariant = { λ p. AreCounted p.count p.free p.sets.used p.sets.marked p.sets.pending p.tags.items };
 }
 
 impl Places {
@@ -48,13 +50,14 @@ impl Places {
     {
         Places {
             count: 0,
+            free: 0,
             sets: Sets::none(alloc),
             tags: Vec::new(alloc),
         }
     }
 
-    /// So many free places, in the memory of these, which is given back where it does not suffice and where it is more than twice what
-    /// is needed. It fails only if memory runs out.
+    /// So many free places, in the memory of these where it suffices and is less than twice what is needed. Otherwise it is given back,
+    /// and just as much is taken as is needed. It fails only if memory runs out.
     pub fn renew(self, count: u32) -> Result<Places, AllocError>
         requires { count ≤ MAX_PLACES }
         ensures free { IfOk result (λ places. places ≡ replicate count Free) }
@@ -63,7 +66,12 @@ impl Places {
         let tag = Tag { walk: 0, count: 0 };
         let sets = self.sets.renew(words)?;
         let tags = filled(self.tags, tag, count as usize)?;
-        Ok(Places { count, sets, tags })
+        Ok(Places {
+            count,
+            free: count,
+            sets,
+            tags,
+        })
     }
 
     /// How many places there are.
@@ -77,7 +85,7 @@ impl Places {
     pub fn free_count(&self) -> u32
         ensures count { result ≡ count_by is_free self.now }
     {
-        self.count - count(self.sets.used())
+        self.free
     }
 
     /// How many places have a marked block.
@@ -98,7 +106,7 @@ impl Places {
     pub fn has_free(&self) -> bool
         ensures free { IsTrue result ↔ (0 < count_by is_free self.now) }
     {
-        next_gap(self.sets.used(), 0, self.count).is_some()
+        self.free > 0
     }
 
     /// Puts an unmarked block at a free place, and gives this place; `None` where no place is free.
@@ -110,6 +118,7 @@ impl Places {
     {
         let k = next_gap(self.sets.used(), 0, self.count)?;
         self.sets.take(k);
+        self.free -= 1;
         Some(k)
     }
 
@@ -120,6 +129,7 @@ impl Places {
         self.sets.clear_marked();
         self.sets.clear_pending();
         self.sets.take_all(self.count);
+        self.free = 0;
     }
 
     /// The mark of the block at a place; `None` where there is no block or it is not marked.
@@ -208,6 +218,7 @@ impl Places {
     {
         let freed = count(self.sets.used()) - count(self.sets.marked());
         self.sets.sweep();
+        self.free += freed;
         freed
     }
 

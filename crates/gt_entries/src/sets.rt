@@ -37,8 +37,8 @@ impl Sets {
         }
     }
 
-    /// Empty sets of so many words each, in the memory of these, which is given back where it does not suffice and where it is more than
-    /// twice what is needed. It fails only if memory runs out.
+    /// Empty sets of so many words each, in the memory of these where it suffices and is less than twice what is needed. Otherwise it is
+    /// given back, and just as much is taken as is needed. It fails only if memory runs out.
     pub(crate) fn renew(self, len: usize) -> Result<Sets, AllocError>
         requires { len < 2 ^ 32 }
         ensures { IfOk result (λ s. s ≡ record { used = replicate len 0; marked = replicate len 0; pending = replicate len 0 }) }

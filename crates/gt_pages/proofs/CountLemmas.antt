@@ -15,7 +15,8 @@ use Rattle.gt_pages.specs.declared.store.Entry.{Entry}
 use Rattle.gt_pages.specs.declared.totals.MarkedTotals.{MarkedTotals}
 use Rattle.gt_pages.specs.Ledger.{Block, page_address, sizes}
 use Rattle.gt_pages.specs.Slots.{Slot, block_of, is_marked}
-use Rattle.gt_pages.specs.Counts.{AreTotals, IsRunOf, bytes_of, count_of}
+use Rattle.gt_pages.specs.Counts.{AreTotals, bytes_of, count_of}
+use Rattle.gt_pages.specs.Changes.{IsRunOf}
 use Rattle.gt_pages.specs.Parts.{IsKept, Parts, contents_of, entry_at, entry_pages, page_slots, slots_in}
 use Rattle.gt_pages.proofs.NextLemmas.{entry_ends}
 use Rattle.gt_pages.proofs.PlaceLemmas.{one_number}

@@ -14,11 +14,11 @@ pub page_at-table : (pages : ℕ) (leaves : List (List (Option ℕ))) (page : �
 page_at-table pages leaves page low = get_or-map-range_with_len (page_in leaves) 0 pages page page None low (omega arith)
 
 -- the leaf of a page is one of the leaves
-pub has_leaf : (pages : ℕ) (leaves : List (List (Option ℕ))) (page : ℕ) → HasLeaves pages leaves → page < pages → page / 512 < length leaves
-has_leaf pages leaves page has low = elim (cases_lt (page / 512) (length leaves)) [
+pub has_leaf : (pages : ℕ) (leaves : List (List (Option ℕ))) (page : ℕ) → HasLeaves pages leaves → page < pages → page / 128 < length leaves
+has_leaf pages leaves page has low = elim (cases_lt (page / 128) (length leaves)) [
   | inl in_leaf ↦ in_leaf
   | inr past ↦
-      let none = ap (λ leaf. length leaf) (get_or_past leaves (page / 512) [] past) in
+      let none = ap (λ leaf. length leaf) (get_or_past leaves (page / 128) [] past) in
       let some = has page low in
       absurd (let no : 1 ≤ 0 = omega (arith, none, some) in omega (arith, no))
 ]
@@ -33,28 +33,28 @@ table_same pages leaves firsts len each =
 -- one page leads elsewhere now
 module _ (pages : ℕ) (leaves : List (List (Option ℕ))) (page : ℕ) (entry : Option ℕ) (has : HasLeaves pages leaves) (low : page < pages) where
   abbrev written : List (List (Option ℕ))
-  written = set leaves (page / 512) (set (leaf_of leaves page) (page % 512) entry)
+  written = set leaves (page / 128) (set (leaf_of leaves page) (page % 128) entry)
 
-  leaf-same : (other : ℕ) → other / 512 ≡ page / 512 → leaf_of written other ≡ set (leaf_of leaves page) (page % 512) entry
+  leaf-same : (other : ℕ) → other / 128 ≡ page / 128 → leaf_of written other ≡ set (leaf_of leaves page) (page % 128) entry
   leaf-same other same =
       ap (λ i. get_or written i []) same
-      ∙ get_or-set_same leaves (page / 512) (set (leaf_of leaves page) (page % 512) entry) [] (has_leaf pages leaves page has low)
+      ∙ get_or-set_same leaves (page / 128) (set (leaf_of leaves page) (page % 128) entry) [] (has_leaf pages leaves page has low)
 
-  leaf-other : (other : ℕ) → other / 512 ≢ page / 512 → leaf_of written other ≡ leaf_of leaves other
-  leaf-other other apart = get_or-set_other leaves (page / 512) (other / 512) (set (leaf_of leaves page) (page % 512) entry) [] apart
+  leaf-other : (other : ℕ) → other / 128 ≢ page / 128 → leaf_of written other ≡ leaf_of leaves other
+  leaf-other other apart = get_or-set_other leaves (page / 128) (other / 128) (set (leaf_of leaves page) (page % 128) entry) [] apart
 
   page-same : page_in written page ≡ entry
   page-same =
-      ap (λ leaf. get_or leaf (page % 512) None) (leaf-same page refl)
-      ∙ get_or-set_same (leaf_of leaves page) (page % 512) entry None (has page low)
+      ap (λ leaf. get_or leaf (page % 128) None) (leaf-same page refl)
+      ∙ get_or-set_same (leaf_of leaves page) (page % 128) entry None (has page low)
 
   page-other : (other : ℕ) → other ≢ page → page_in written other ≡ page_in leaves other
-  page-other other apart = elim (cases_eq (other / 512) (page / 512)) [
+  page-other other apart = elim (cases_eq (other / 128) (page / 128)) [
     | inl same ↦
-        ap (λ leaf. get_or leaf (other % 512) None) (leaf-same other same)
-        ∙ get_or-set_other (leaf_of leaves page) (page % 512) (other % 512) entry None (λ places. apart (omega (arith, same, places)))
-        ∙ ap (λ i. get_or (get_or leaves i []) (other % 512) None) (sym same)
-    | inr differ ↦ ap (λ leaf. get_or leaf (other % 512) None) (leaf-other other differ)
+        ap (λ leaf. get_or leaf (other % 128) None) (leaf-same other same)
+        ∙ get_or-set_other (leaf_of leaves page) (page % 128) (other % 128) entry None (λ places. apart (omega (arith, same, places)))
+        ∙ ap (λ i. get_or (get_or leaves i []) (other % 128) None) (sym same)
+    | inr differ ↦ ap (λ leaf. get_or leaf (other % 128) None) (leaf-other other differ)
   ]
 
   pub write-table : table_of pages written ≡ set (table_of pages leaves) page entry
@@ -71,11 +71,11 @@ module _ (pages : ℕ) (leaves : List (List (Option ℕ))) (page : ℕ) (entry :
       ])
 
   pub write-leaves : HasLeaves pages written
-  write-leaves = λ other below. elim (cases_eq (other / 512) (page / 512)) [
+  write-leaves = λ other below. elim (cases_eq (other / 128) (page / 128)) [
     | inl same ↦
         let long = ap (λ leaf. length leaf) (leaf-same other same) in
         let was = ap (λ i. length (get_or leaves i [])) same in
-        omega (arith, has other below, long, was, length-set (leaf_of leaves page) (page % 512) entry)
+        omega (arith, has other below, long, was, length-set (leaf_of leaves page) (page % 128) entry)
     | inr differ ↦
         let long = ap (λ leaf. length leaf) (leaf-other other differ) in
         omega (arith, has other below, long)
@@ -84,7 +84,7 @@ module _ (pages : ℕ) (leaves : List (List (Option ℕ))) (page : ℕ) (entry :
 -- the first leaves of a table of which no page leads anywhere
 pub record AreFresh (pages count : ℕ) (leaves : List (List (Option ℕ))) : Type 0 where
   pub len : length leaves ≡ count
-  pub lens : (i : ℕ) → i < count → length (get_or leaves i []) ≡ min (pages - 512 * i) 512
+  pub lens : (i : ℕ) → i < count → length (get_or leaves i []) ≡ min (pages - 128 * i) 128
   pub none : (i k : ℕ) → get_or (get_or leaves i []) k None ≡ None
 
 none-leaf : (n k : ℕ) → get_or (replicate {A = Option ℕ} n None) k None ≡ None
@@ -96,7 +96,7 @@ none-leaf n k = elim (cases_lt k n) [
 -- one more leaf
 module _ (pages count : ℕ) (leaves : List (List (Option ℕ))) (fresh : AreFresh pages count leaves) where
   abbrev leaf : List (Option ℕ)
-  leaf = replicate (min (pages - 512 * count) 512) None
+  leaf = replicate (min (pages - 128 * count) 128) None
 
   leaf-last : get_or (leaves ++ leaf ∷ []) count [] ≡ leaf
   leaf-last = ap (λ i. get_or (leaves ++ leaf ∷ []) i []) (sym fresh.len) ∙ get_or-append_seam leaves leaf [] []
@@ -113,16 +113,16 @@ module _ (pages count : ℕ) (leaves : List (List (Option ℕ))) (fresh : AreFre
     | inr high ↦ elim (cases_eq i count) [
       | inl same ↦
           ap (λ j. get_or (get_or (leaves ++ leaf ∷ []) j []) k None) same ∙ ap (λ x. get_or x k None) leaf-last
-          ∙ none-leaf (min (pages - 512 * count) 512) k
+          ∙ none-leaf (min (pages - 128 * count) 128) k
       | inr apart ↦ ap (λ x. get_or x k None) (get_or_past (leaves ++ leaf ∷ []) i [] (omega (arith, high, apart, len-more)))
     ]
   ]
 
-  lens-more : (i : ℕ) → i < count + 1 → length (get_or (leaves ++ leaf ∷ []) i []) ≡ min (pages - 512 * i) 512
+  lens-more : (i : ℕ) → i < count + 1 → length (get_or (leaves ++ leaf ∷ []) i []) ≡ min (pages - 128 * i) 128
   lens-more i low = elim (cases_eq i count) [
     | inl same ↦
         ap (λ j. length (get_or (leaves ++ leaf ∷ []) j [])) same ∙ ap (λ x. length x) leaf-last
-        ∙ length-replicate (min (pages - 512 * count) 512) None ∙ ap (λ j. min (pages - 512 * j) 512) (sym same)
+        ∙ length-replicate (min (pages - 128 * count) 128) None ∙ ap (λ j. min (pages - 128 * j) 128) (sym same)
     | inr apart ↦
         let before : i < count = omega (arith, low, apart) in
         ap (λ x. length x) (leaf-before i before) ∙ fresh.lens i before
@@ -131,12 +131,12 @@ module _ (pages count : ℕ) (leaves : List (List (Option ℕ))) (fresh : AreFre
   pub fresh_more : AreFresh pages (count + 1) (leaves ++ leaf ∷ [])
   fresh_more = record { len = len-more; lens = lens-more; none = none-more }
 
-pub fresh-leaves : (pages count : ℕ) (leaves : List (List (Option ℕ))) → AreFresh pages count leaves → pages ≤ 512 * count → HasLeaves pages leaves
+pub fresh-leaves : (pages count : ℕ) (leaves : List (List (Option ℕ))) → AreFresh pages count leaves → pages ≤ 128 * count → HasLeaves pages leaves
 fresh-leaves pages count leaves fresh all = λ page low.
-    let long = fresh.lens (page / 512) (omega (arith, low, all)) in
+    let long = fresh.lens (page / 128) (omega (arith, low, all)) in
     omega (arith, long, low)
 
 pub fresh-table : (pages count : ℕ) (leaves : List (List (Option ℕ))) → AreFresh pages count leaves → table_of pages leaves ≡ replicate pages None
 fresh-table pages count leaves fresh =
     table_same pages leaves (replicate pages None) (length-replicate pages None)
-    (λ page low. fresh.none (page / 512) (page % 512) ∙ sym (get_or-replicate pages page None None low))
+    (λ page low. fresh.none (page / 128) (page % 128) ∙ sym (get_or-replicate pages page None None low))

@@ -1,8 +1,10 @@
 -- No promise: what calls do to the parts.
-use Rattle.std.specs.Prelude.{◌≡◌, ℕ, ◌+◌, ◌-◌, ◌/◌, ◌<◌, ◌≤◌, ◌⊎◌, ◌↔◌, true, false, ◌≢◌, List, [], ◌∷◌, length, filter, map, replicate, slice_set, IsTrue, Some, None}
+use Rattle.std.specs.Prelude.{◌≡◌, ℕ, ◌+◌, ◌-◌, ◌*◌, ◌/◌, ◌<◌, ◌≤◌, ◌==◌, ◌⊎◌, ◌↔◌, true, false, ◌≢◌, if◌then◌else◌, List, [], ◌∷◌, length, filter, map, replicate, slice_set, IsTrue, Some, None}
 use Rattle.gt_bits.specs.Sets.{has}
 use Rattle.gt_links.specs.Lists.{Lists, Holds, empty_lists, nodes_of, with_nodes, without}
 use Rattle.gt_entries.specs.Cells.{Used, swept, unmarked}
+use Rattle.gt_pages.specs.Ledger.{Block}
+use Rattle.gt_pages.specs.Counts.{bytes_of, count_of}
 use Rattle.gt_pages.specs.Slots.{is_marked}
 use Rattle.gt_pages.specs.Tables.{Leads}
 use Rattle.gt_pages.specs.declared.pages.TheConstants.{LISTS, CACHED}
@@ -121,3 +123,9 @@ pub record Sweeps (old : Parts) (page : ℕ) (new : Parts) : Type 0 where
   pub others : (j : ℕ) → j ≢ page → page_slots new j ≡ page_slots old j
   pub cached : (j : ℕ) → Holds new.lists CACHED j ↔ (Holds old.lists CACHED j ⊎ IsClosed old page new j)
   pub starts : (j : ℕ) → j ≢ page → has new.starts j ≡ has old.starts j
+
+-- these are so many blocks, all of this size
+pub record IsRunOf (size count : ℕ) (run : List Block) : Type 0 where
+  pub many : length run ≡ count
+  pub sized : (other : ℕ) → count_of other run ≡ (if size == other then count else 0)
+  pub bytes : bytes_of run ≡ size * count

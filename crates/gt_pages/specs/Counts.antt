@@ -1,5 +1,5 @@
 -- How many blocks there are of each size.
-use Rattle.std.specs.Prelude.{◌≡◌, ℕ, ◌*◌, ◌==◌, if◌then◌else◌, List, Some, filter, length, map, sum, slice_get}
+use Rattle.std.specs.Prelude.{◌≡◌, ℕ, ◌==◌, List, Some, filter, length, map, sum, slice_get}
 use Rattle.gt_pages.specs.Ledger.{Block, sizes}
 use Rattle.gt_pages.specs.declared.totals.MarkedTotals.{MarkedTotals}
 
@@ -16,9 +16,3 @@ pub record AreTotals (totals : MarkedTotals) (blocks : List Block) : Type 0 wher
   pub counts : (i size : ℕ) → slice_get sizes i ≡ Some size → slice_get totals.counts i ≡ Some (count_of size blocks)
   pub many : totals.blocks ≡ length blocks
   pub bytes : totals.bytes ≡ bytes_of blocks
-
--- No promise: these are so many blocks, all of this size.
-pub record IsRunOf (size count : ℕ) (run : List Block) : Type 0 where
-  pub many : length run ≡ count
-  pub sized : (other : ℕ) → count_of other run ≡ (if size == other then count else 0)
-  pub bytes : bytes_of run ≡ size * count

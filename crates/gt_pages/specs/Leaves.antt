@@ -3,7 +3,7 @@ use Rattle.std.specs.Prelude.{ℕ, ◌/◌, ◌%◌, ◌<◌, List, [], length, 
 use Rattle.std.specs.List.{range_with_len}
 use Rattle.gt_pages.specs.declared.tables.TheConstants.{LEAF_PAGES}
 
--- the leaf that has a page, of which the place in it is page % 512
+-- the leaf that has a page, of which the place in it is page % 128
 abbrev pub leaf_of : List (List (Option ℕ)) → ℕ → List (Option ℕ)
 leaf_of leaves page = slice_index_or leaves (page / LEAF_PAGES) []
 

@@ -56,7 +56,7 @@ pub(crate) fn place_address(page: u32, size: u32, place: u32) -> u64
 pub(crate) fn empty_entries(alloc: Global, count: u32) -> Result<Vec<Entry>, AllocError>
     ensures { IfOk result (λ entries. entries.items ≡ replicate count empty_entry) }
 {
-    let mut entries = Vec::new(alloc);
+    let mut entries = Vec::with_capacity(alloc, count as usize)?;
     for _i in 0..count {
         entries.push(Entry::empty(alloc))?;
     }

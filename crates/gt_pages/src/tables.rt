@@ -7,7 +7,7 @@ use std::alloc::{AllocError, Global};
 use std::marker::Model;
 
 /// How many pages one leaf of the table has. The last leaf has those that are left.
-const LEAF_PAGES: usize = 512;
+const LEAF_PAGES: usize = 128;
 
 /// Where consecutive pages lead.
 #[derive(Drop)]

@@ -1,7 +1,8 @@
 //! How many marked blocks there are of each size.
 ghost use Rattle.std.specs.Prelude.{◌≡◌, ◌+◌, ◌*◌, ◌^◌, ◌≤◌, ◌++◌, [], List, Contains, length};
 ghost use Rattle.gt_pages.specs.Ledger.{Block, sizes};
-ghost use Rattle.gt_pages.specs.Counts.{AreTotals, IsRunOf, bytes_of};
+ghost use Rattle.gt_pages.specs.Changes.{IsRunOf};
+ghost use Rattle.gt_pages.specs.Counts.{AreTotals, bytes_of};
 
 use crate::sizes::list_of;
 

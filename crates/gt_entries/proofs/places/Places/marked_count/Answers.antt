@@ -8,6 +8,6 @@ pub returns : goal.returns
 returns c = record {
   count =
       c.count.ensures ∙ ap (λ words. length (members words)) c.marked.ensures
-      ∙ count_marked c.self.inside.count c.self.inside.sets.used c.self.inside.sets.marked c.self.inside.sets.pending c.self.inside.tags.items c.self.invariant
+      ∙ count_marked c.self.inside.count c.self.inside.sets.used c.self.inside.sets.marked c.self.inside.sets.pending c.self.inside.tags.items c.self.invariant.kept
       ∙ ap (λ cells. count_by is_marked cells) c.self.view_is;
 }

@@ -10,8 +10,8 @@ pub returns : goal.returns
 returns c = record {
   first =
       subst (λ cells. IsFirstFrom is_marked cells c.args.from c.next.result) c.self.view_is
-      (first_from c.self.inside.count c.self.inside.sets.used c.self.inside.sets.marked c.self.inside.sets.pending c.self.inside.tags.items c.self.invariant c.self.inside.sets.marked is_marked c.args.from c.next.result
-      (λ k. marked_bit (has c.self.inside.sets.used k) (has c.self.inside.sets.marked k) (has c.self.inside.sets.pending k) (tag_at c.self.inside.tags.items k) (c.self.invariant.marks_used k))
-      (λ k marked. c.self.invariant.within k (c.self.invariant.marks_used k marked))
+      (first_from c.self.inside.count c.self.inside.sets.used c.self.inside.sets.marked c.self.inside.sets.pending c.self.inside.tags.items c.self.invariant.kept c.self.inside.sets.marked is_marked c.args.from c.next.result
+      (λ k. marked_bit (has c.self.inside.sets.used k) (has c.self.inside.sets.marked k) (has c.self.inside.sets.pending k) (tag_at c.self.inside.tags.items k) (c.self.invariant.kept.marks_used k))
+      (λ k marked. c.self.invariant.kept.within k (c.self.invariant.kept.marks_used k marked))
       (subst (λ words. IsNext words c.args.from c.next.result) c.marked.ensures c.next.ensures));
 }

@@ -18,7 +18,7 @@ get-requires c =
     let len = ap (λ xs. length xs) c.self.view_is in
     omega (arith, c.requires, len, length-table c.self.inside.pages c.self.inside.leaves.items) in
     let leaf : c.index.result.now ≡ leaf_of c.self.inside.leaves.items c.args.page =
-    c.index.ensures ∙ get_or_default c.self.inside.leaves.items (c.args.page / 512) c.index.result.now [] (has_leaf c.self.inside.pages c.self.inside.leaves.items c.args.page c.self.invariant low) in
+    c.index.ensures ∙ get_or_default c.self.inside.leaves.items (c.args.page / 128) c.index.result.now [] (has_leaf c.self.inside.pages c.self.inside.leaves.items c.args.page c.self.invariant low) in
     let long = ap (λ xs. length xs) leaf in
     omega (arith, long, c.self.invariant c.args.page low)
 
@@ -28,6 +28,6 @@ returns c =
     let len = ap (λ xs. length xs) c.self.view_is in
     omega (arith, c.requires, len, length-table c.self.inside.pages c.self.inside.leaves.items) in
     let leaf : c.index.result.now ≡ leaf_of c.self.inside.leaves.items c.args.page =
-    c.index.ensures ∙ get_or_default c.self.inside.leaves.items (c.args.page / 512) c.index.result.now [] (has_leaf c.self.inside.pages c.self.inside.leaves.items c.args.page c.self.invariant low) in
-    c.get.ensures ∙ ap (λ xs. page_at xs (c.args.page % 512)) leaf
+    c.index.ensures ∙ get_or_default c.self.inside.leaves.items (c.args.page / 128) c.index.result.now [] (has_leaf c.self.inside.pages c.self.inside.leaves.items c.args.page c.self.invariant low) in
+    c.get.ensures ∙ ap (λ xs. page_at xs (c.args.page % 128)) leaf
     ∙ sym (page_at-table c.self.inside.pages c.self.inside.leaves.items c.args.page low) ∙ ap (λ xs. page_at xs c.args.page) c.self.view_is

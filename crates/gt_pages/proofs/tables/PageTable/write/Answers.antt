@@ -17,7 +17,7 @@ set-requires c =
     let len = ap (λ xs. length xs) c.self.view_is in
     omega (arith, c.requires, len, length-table c.self.inside.pages c.self.inside.leaves.items) in
     let leaf : c.index_mut.result.now ≡ leaf_of c.self.inside.leaves.items c.args.page =
-    c.index_mut.ensures.value ∙ get_or_default c.self.inside.leaves.items (c.args.page / 512) c.index_mut.result.now [] (has_leaf c.self.inside.pages c.self.inside.leaves.items c.args.page c.self.invariant low) in
+    c.index_mut.ensures.value ∙ get_or_default c.self.inside.leaves.items (c.args.page / 128) c.index_mut.result.now [] (has_leaf c.self.inside.pages c.self.inside.leaves.items c.args.page c.self.invariant low) in
     let long = ap (λ xs. length xs) leaf in
     omega (arith, long, c.self.invariant c.args.page low)
 
@@ -27,7 +27,7 @@ returns c =
     let len = ap (λ xs. length xs) c.self.view_is in
     omega (arith, c.requires, len, length-table c.self.inside.pages c.self.inside.leaves.items) in
     let leaf : c.index_mut.result.now ≡ leaf_of c.self.inside.leaves.items c.args.page =
-    c.index_mut.ensures.value ∙ get_or_default c.self.inside.leaves.items (c.args.page / 512) c.index_mut.result.now [] (has_leaf c.self.inside.pages c.self.inside.leaves.items c.args.page c.self.invariant low) in
+    c.index_mut.ensures.value ∙ get_or_default c.self.inside.leaves.items (c.args.page / 128) c.index_mut.result.now [] (has_leaf c.self.inside.pages c.self.inside.leaves.items c.args.page c.self.invariant low) in
     rw (c.set.ensures, leaf)
     (write-table c.self.inside.pages c.self.inside.leaves.items c.args.page c.args.entry c.self.invariant low
     ∙ ap (λ xs. set xs c.args.page c.args.entry) c.self.view_is)
