@@ -1,14 +1,15 @@
 #!/usr/bin/env bash
 # Makes blocks in pages and collects them, beside a small allocator in C with the same sizes, which keeps a bit for each place: a list of
 # so many nodes of 24 bytes, and for each third node one more that names it and that nothing names. A collection is the mean of a hundred, after a first
-# one. The program does not know that a block starts at an address that it reads, so it marks the block that has the byte there. Then it says how many
-# bytes the pages take, beyond those of the space, with a block of a page in each, and with blocks of 8 bytes.
+# one, and the first one, which frees a quarter of the nodes, is timed by itself. The program does not know that a block starts at an address that it
+# reads, so it marks the block that has the byte there. Then it says how many bytes the pages take, beyond those of the space, with a block of a page
+# in each, with blocks of 8 bytes, and with blocks of 16 bytes after blocks of 8 bytes, which are freed.
 # Run by hand, from any folder; the program around gt_pages is written and built in a copy of the crates that it needs.
 . "$(dirname "$0")/shared.sh"
 start_pages time_pages
 cat >"$program/src/main.rt" <<'RT'
-//! Makes nodes in pages and collects them. The words are `make`, `collect`, `pages`, `bytes` or `none`, and how many there are; what is
-//! printed is how many blocks a collection keeps, or how many were made.
+//! Makes nodes in pages and collects them. The words are `make`, `collect`, `pages`, `bytes`, `again` or `none`, and how many there are;
+//! what is printed is how many blocks a collection keeps, or how many were made.
 #![tactic(auto)]
 
 use gt_pages::{Pages, SlotFail, rounded_size};
@@ -136,6 +137,30 @@ fn fill(pages: &mut Pages, size: u32, most: u64) -> u64 {
     made
 }
 
+// Fills so many pages with blocks of 8 bytes, frees these, and fills as many pages with blocks of 16 bytes, which are marked.
+fn refill(pages: &mut Pages, count: u64) -> u64 {
+    let _ = fill(pages, 8, count.wrapping_mul(512));
+    pages.sweep();
+    let mut made = 0u64;
+    for _ in 0..count.wrapping_mul(256) {
+        let Ok(addr) = make_block(pages, 16) else {
+            break;
+        };
+        pages.mark_owner(addr, 0, 1);
+        made = made.wrapping_add(1);
+    }
+    made
+}
+
+// The same for so many pages, of which 64 at a time have the smaller blocks.
+fn refill_all(pages: &mut Pages, count: u64) -> u64 {
+    let mut made = 0u64;
+    for _ in 0..count / 64 {
+        made = made.wrapping_add(refill(pages, 64));
+    }
+    made
+}
+
 fn main(rt: HostRuntime) -> io::Result<()> {
     let alloc = rt.alloc();
     let mut words = env::args(&rt)?;
@@ -159,6 +184,7 @@ fn main(rt: HostRuntime) -> io::Result<()> {
     match what.as_str() {
         "pages" => return println!(rt; "{}", fill(&mut pages, 4096, n)),
         "bytes" => return println!(rt; "{}", fill(&mut pages, 8, n)),
+        "again" => return println!(rt; "{}", refill_all(&mut pages, n)),
         _ => {}
     }
     space.resize_fresh(PAGES, 1)?;
@@ -173,14 +199,16 @@ build_small
 build_pages make 1
 ours=$program/out/time_pages
 
-# The seconds of making so many nodes, and of one collection of them.
+# The seconds of making so many nodes, of the first collection of them, and of one more, which frees nothing.
 makes() { minus "$(seconds 40 "$1" make "$2")" "$(seconds 40 "$1" make 0)"; }
+frees() { minus "$(seconds 40 "$1" collect "$2" 1)" "$(seconds 40 "$1" make "$2")"; }
 collects() { awk -v a="$(seconds 40 "$1" collect "$2" 101)" -v b="$(seconds 40 "$1" collect "$2" 1)" 'BEGIN { printf "%.9f\n", (a - b) / 100 }'; }
 for n in 100000 1000000; do
   for what in make collect; do
     [ "$("$ours" $what $n)" = "$("$work/small" $what $n)" ] || { echo "$what $n: other answers" >&2; exit 2; }
   done
   row 'nodes made' $n "$(makes "$ours" $n)" 'in C' "$(makes "$work/small" $n)" 3
+  row 'nodes kept, and a third as many freed' $n "$(frees "$ours" $n)" 'in C' "$(frees "$work/small" $n)" 3
   row 'nodes in pages that are collected' $n "$(collects "$ours" $n)" 'in C' "$(collects "$work/small" $n)" 3
 done
 # The bytes that each of 16,384 pages takes, beyond what a run has that does nothing: at most 256 a page, and 16 for each of its places.
@@ -188,3 +216,5 @@ none=$(most_memory "$ours" none 0)
 a_page() { awk -v a="$(most_memory "$ours" "$@")" -v b="$none" 'BEGIN { print (a - b) / 16 }'; }
 amount 'a page with one block' 16384 "$(a_page pages 16384)" bytes 'at most' 272 1
 amount 'a page with 512 blocks' 16384 "$(a_page bytes 8388608)" bytes 'at most' 8448 1
+[ "$("$ours" again 16384)" = 4194304 ] || { echo 'again 16384: other answers' >&2; exit 2; }
+amount 'a page with 256 blocks that had 512' 16384 "$(a_page again 16384)" bytes 'at most' 4352 1
