@@ -99,6 +99,17 @@ plain-are-equal (r ∷ rs) [] all p = absurd p
 plain-are-equal (r ∷ rs) (s ∷ ss) all p =
     ap (λ x. x ∷ rs) (plain-equal r s (All-head IsPlain s ss all) p.0) ∙ ap (λ l. s ∷ l) (plain-are-equal rs ss (All-tail IsPlain s ss all) p.1)
 
+equal-back : (r s : WalkRow) → IsEqual r s → IsEqual s r
+equal-back r s equal = elim equal [
+  | inl same ↦ inl (sym same)
+  | inr both ↦ inr (record { desc = both.desc; arms = both.others; others = both.arms; one = both.other; other = both.one; same = sym both.same })
+]
+
+pub are-equal-back : (rs ss : List WalkRow) → AreEqual rs ss → AreEqual ss rs
+are-equal-back [] ss p = subst (λ l. AreEqual l []) (sym p) refl
+are-equal-back (r ∷ rs) [] p = absurd p
+are-equal-back (r ∷ rs) (s ∷ ss) p = (equal-back r s p.0, are-equal-back rs ss p.1)
+
 none-equal : (rs : List WalkRow) → AreEqual rs [] → rs ≡ []
 none-equal [] p = refl
 none-equal (r ∷ rs) p = absurd p

@@ -14,8 +14,8 @@ use Rattle.gt_walk.specs.declared.rows.WalkRow.TheVariants as row
 use Rattle.gt_walk.specs.declared.tables.Tables.{Tables}
 use Rattle.gt_walk.specs.Rows.{rows_of}
 use Rattle.gt_walk.specs.Nested.{has_note, HaveOneNote, parts_in, names_in, IsWalk, NestsWithin}
-use Rattle.gt_tables.specs.Building.{HaveWalks, PartsWithin, IsWalkOf, IsRow, AreRows, IsPointerRow}
-use Rattle.gt_tables.proofs.RowForms.{note-first, note-parts, note-names, sub-note, sub-parts, sub-names, rep-note, rep-parts, rep-names, tail-note, tail-parts, tail-names, note_of, parts_of, names_of, switch-note, switch-parts, switch-names}
+use Rattle.gt_tables.specs.Building.{HaveWalks, PartsWithin, parts_of, IsWalkOf, IsRow, AreRows, IsPointerRow}
+use Rattle.gt_tables.proofs.RowForms.{note-first, note-parts, note-names, sub-note, sub-parts, sub-names, rep-note, rep-parts, rep-names, tail-note, tail-parts, tail-names, note_of, names_of, switch-note, switch-parts, switch-names}
 
 -- ---- tables
 

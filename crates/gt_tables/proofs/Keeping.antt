@@ -25,9 +25,9 @@ use Rattle.gt_tables.specs.declared.sources.Site.{Site}
 use Rattle.gt_tables.specs.declared.sources.Part.{Part}
 use Rattle.gt_tables.specs.declared.parts.Parts.{Parts}
 use Rattle.gt_edges.specs.Numbers.{first_part}
-use Rattle.gt_tables.specs.Building.{site_cmp, part_cmp, HaveWalks, PartsWithin, IsWalkOf, IsRow, AreRows, IsPointerRow, Shallow, AreParts, Grows, Keeps}
+use Rattle.gt_tables.specs.Building.{site_cmp, part_cmp, HaveWalks, PartsWithin, parts_of, IsWalkOf, IsRow, AreRows, IsPointerRow, Shallow, AreParts, Grows, Keeps}
 use Rattle.gt_alike.specs.Alike.{IsEqual, AreEqual}
-use Rattle.gt_tables.proofs.RowForms.{parts_of, switch-parts}
+use Rattle.gt_tables.proofs.RowForms.{switch-parts}
 use Rattle.gt_tables.proofs.Growing.{length-tables, nests-of, append-assoc, rows-grow, rows-deeper, row-grows, row-deeper, row-sub, row-rep, row-tail, row-pointer, row-switch, walk-grows, IsArm}
 
 -- ---- results
@@ -129,7 +129,7 @@ equal-part r s equal = elim equal [
       ∙ ap parts_in (sym both.other)
 ]
 
-equal-parts : (rs ss : List WalkRow) → AreEqual rs ss → flat_map parts_in rs ≡ flat_map parts_in ss
+pub equal-parts : (rs ss : List WalkRow) → AreEqual rs ss → flat_map parts_in rs ≡ flat_map parts_in ss
 equal-parts [] ss p = ap (λ l. flat_map parts_in l) (sym p)
 equal-parts (r ∷ rs) [] p = absurd p
 equal-parts (r ∷ rs) (s ∷ ss) p = ap (λ l. l ++ flat_map parts_in rs) (equal-part r s p.0) ∙ ap (λ l. parts_in s ++ l) (equal-parts rs ss p.1)
@@ -246,7 +246,7 @@ pub known-walk : (program : Program) (parts : Parts) → AreParts program parts 
 known-walk program parts are part id node known h = some-known program parts id h.0 known are (at-some part h.0 id h.1 node) h.2
 
 module _ (program : Program) (settled : Settled program) (part : Option Part) (id : ℕ) (rows : List WalkRow) (old new : Parts) where
-  kept-some : (n : ℕ) → AreRows (first_part program) old.walks.items (IsWithinDepth program id) rows → Keeps (first_part program) part id rows old new (Some n) → IsWalkOf program (first_part program) new.walks.items id n
+  kept-some : (n : ℕ) → AreRows (first_part program) old.walks.items (IsWithinDepth program id) rows → Keeps (first_part program) part rows old new (Some n) → IsWalkOf program (first_part program) new.walks.items id n
   kept-some n are keeps =
       let first = first_part program in
       let Are = λ (ws : List (List WalkRow)). AreRows first ws (IsWithinDepth program id) rows in
@@ -254,32 +254,32 @@ module _ (program : Program) (settled : Settled program) (part : Option Part) (i
       let has = keeps.has.1 in
       subst (IsWalkOf program first new.walks.items id) (sym has.number) (walk-at program first new.walks.items id keeps.has.0 has.place has.here rows keeps.has.2 grown)
 
-  pub kept-walk : (walk : Option ℕ) → AreRows (first_part program) old.walks.items (IsWithinDepth program id) rows → Keeps (first_part program) part id rows old new walk
+  pub kept-walk : (walk : Option ℕ) → AreRows (first_part program) old.walks.items (IsWithinDepth program id) rows → Keeps (first_part program) part rows old new walk
       → IfSome walk (IsWalkOf program (first_part program) new.walks.items id)
   kept-walk None are keeps = tt
   kept-walk (Some n) are keeps = kept-some n are keeps
 
-  more-rows : (walk : Option ℕ) → AreRows (first_part program) old.walks.items (IsWithinDepth program id) rows → (keeps : Keeps (first_part program) part id rows old new walk)
+  more-rows : (walk : Option ℕ) → AreRows (first_part program) old.walks.items (IsWithinDepth program id) rows → (keeps : Keeps (first_part program) part rows old new walk)
       → All (AreRows (first_part program) old.walks.items Shallow) keeps.files.more
   more-rows walk are keeps =
       let P = AreRows (first_part program) old.walks.items Shallow in
       elim keeps.shared [
-        | inl h ↦ subst (All P) (sym h) (All-nil P)
+        | inl h ↦ subst (All P) (sym h.0) (All-nil P)
         | inr h ↦ subst (All P) (sym h.0)
             (All-cons P rows [] (rows-deeper (first_part program) old.walks.items (IsWithinDepth program id) Shallow rows (λ depth deep. shallow-enough program id settled depth deep) are) (All-nil P))
       ]
 
-  kept-known : (walk : Option ℕ) → AreParts program old → AreRows (first_part program) old.walks.items (IsWithinDepth program id) rows → Keeps (first_part program) part id rows old new walk
+  kept-known : (walk : Option ℕ) → AreParts program old → AreRows (first_part program) old.walks.items (IsWithinDepth program id) rows → Keeps (first_part program) part rows old new walk
       → IfSome part (λ p. p.node ≡ id) → (q : Part) (n : ℕ) → get part_cmp new.known q ≡ Some (Some n) → IsWalkOf program (first_part program) new.walks.items q.node n
   kept-known walk parts are keeps node q n there = elim (keeps.known q n there) [
     | inl h ↦ subst (λ ws. IsWalkOf program (first_part program) ws q.node n) (sym keeps.files.grown) (walk-grows (first_part program) old.walks.items keeps.files.more program q.node n (parts.known q n h))
     | inr h ↦
         let same : q.node ≡ id = h.2 ∙ at-some part h.0 id h.1 node in
         subst (λ i. IsWalkOf program (first_part program) new.walks.items i n) (sym same)
-        (kept-some n are (subst (Keeps (first_part program) part id rows old new) h.3 keeps))
+        (kept-some n are (subst (Keeps (first_part program) part rows old new) h.3 keeps))
   ]
 
-  pub kept-grows : (walk : Option ℕ) → AreParts program old → AreRows (first_part program) old.walks.items (IsWithinDepth program id) rows → Keeps (first_part program) part id rows old new walk
+  pub kept-grows : (walk : Option ℕ) → AreParts program old → AreRows (first_part program) old.walks.items (IsWithinDepth program id) rows → Keeps (first_part program) part rows old new walk
       → IfSome part (λ p. p.node ≡ id) → Grows program old new
   kept-grows walk parts are keeps node =
       let first = first_part program in

@@ -23,6 +23,7 @@ pub mod Serving
 pub mod ServingRoots
 pub mod ServingBlocks
 pub mod TablesOf
-pub mod Owners
+pub mod NamedParts
+pub mod Apart
 pub mod PartCounts
 pub mod Bounds

@@ -1,6 +1,6 @@
 -- How many walks of parts there are: what is known of them, and what is counted.
 use Rattle.std.proofs.Common.{◌≡◌, ◌≢◌, ◌∙◌, ℕ, zero, suc, ◌+◌, ◌-◌, ◌*◌, ◌≤◌, ◌<◌, Bool, true, false, cond, ◌||◌, List, [], ◌∷◌, ◌++◌, length, refl, ap, sym, subst, Option, Some, None, Ok, Err, Result, ◌⊎◌, inl, inr, arith}
-use Rattle.std.specs.Prelude.{IfSome, IfOk, OnOk, MatchOption, slice_get}
+use Rattle.std.specs.Prelude.{IfSome, IfOk, OnOk, MatchOption, flat_map, option_to_list, slice_get}
 use Rattle.std.specs.Option.{option_map, option_cmp}
 use Rattle.std.specs.Ordering.{nat_cmp, ordering_then, is_eq}
 use Rattle.std.specs.declared.cmp.Ordering.{Ordering}
@@ -22,34 +22,29 @@ use Rattle.gt_tree.proofs.Types.{innermost-node}
 use Rattle.gt_walk.specs.declared.rows.WalkRow.{WalkRow}
 use Rattle.gt_walk.specs.declared.rows.WalkRow.TheVariants.{Note}
 use Rattle.gt_walk.specs.declared.tables.Tables.{Tables}
+use Rattle.gt_walk.specs.Nested.{parts_in}
 use Rattle.gt_edges.specs.Walks.{first_of as first_node, inside}
 use Rattle.gt_tables.specs.declared.sources.Site.{Site}
 use Rattle.gt_tables.specs.declared.sources.Lies.{Lies}
 use Rattle.gt_tables.specs.declared.sources.Part.{Part}
 use Rattle.gt_tables.specs.declared.sources.Source.{Source}
+use Rattle.gt_tables.specs.declared.parts.Case.{Case}
 use Rattle.gt_tables.specs.declared.parts.Parts.{Parts}
-use Rattle.gt_tables.specs.Building.{IsSource, site_cmp, part_cmp, first_of, HaveWalks, Files, Keeps, IsPlaced, IsSiteOf, ServesPart, flag_at, around_of, outermost_if, part_at, part_on_site, part_of, depends}
+use Rattle.gt_tables.specs.Building.{IsSource, site_cmp, part_cmp, case_cmp, first_of, HaveWalks, Files, Keeps, IsPlaced, IsSiteOf, ServesPart, flag_at, around_of, outermost_if, part_at, part_on_site, part_of, depends}
 use Rattle.gt_tables.specs.Sharing.{PartWalk, ReadsOutermost, Encloses, IsPart, IsOutermostRead, LiesIn, IsPartWalk, ArePartsShared, LiesAt, DependsOnSite}
-use Rattle.gt_tables.specs.Counting.{IsKnown, Stays, told_site, told, held_site, held, ServesPlace, Owned, Counted, IsDeeper, with_site, Counts}
-use Rattle.gt_tables.proofs.Growing.{fewer}
+use Rattle.gt_tables.specs.Counting.{IsKnown, Stays, told_site, told, held_site, held, named_by, IsKeptWalk, ServesPlace, AreApart, Counted, StaysCounted, IsDeeper, with_site, Counts}
+use Rattle.gt_tables.proofs.Growing.{fewer, append-assoc}
 use Rattle.gt_tables.proofs.Enclosing.{encloses-site, encloses-part}
 use Rattle.gt_tables.proofs.Serving.{structure-there}
 use Rattle.gt_tables.proofs.Filing.{both-tied, nat-tied, files-add, more-added}
-use Rattle.gt_tables.proofs.Owners.{owned-same, owned-part, owned-root, owned-none, tables-owned}
+use Rattle.gt_tables.proofs.NamedParts.{bare-parts}
+use Rattle.gt_tables.proofs.Apart.{kept-equal, apart-one, apart-known, apart-shared, apart-part, apart-root, apart-none, tables-apart}
 
 -- ---- results
 
-pub on-on : {X E : Type 0} (P Q : Type 0) (r : Result X E) → (P → Q) → OnOk {E = E} r P → OnOk {E = E} r Q
-on-on P Q (Ok x) f h = f h
-on-on P Q (Err e) f h = tt
-
-pub on-any : {X E : Type 0} (Q : Type 0) (r : Result X E) → Q → OnOk {E = E} r Q
-on-any Q (Ok x) q = q
-on-any Q (Err e) q = tt
-
-pub on-kept : {X E : Type 0} (P : X → Type 0) (S Q : Type 0) (r : Result X E) → ((x : X) → P x → S → Q) → IfOk {E = E} r P → OnOk {E = E} r S → OnOk {E = E} r Q
-on-kept P S Q (Ok x) f h s = f x h s
-on-kept P S Q (Err e) f h s = tt
+pub if-kept : {X E : Type 0} (P Q R : X → Type 0) (S : Type 0) (r : Result X E) → ((x : X) → P x → Q x → S → R x) → IfOk {E = E} r P → IfOk {E = E} r Q → OnOk {E = E} r S → IfOk {E = E} r R
+if-kept P Q R S (Ok x) f p q s = f x p q s
+if-kept P Q R S (Err e) f p q s = tt
 
 -- ---- a part is in its own place of the map
 
@@ -217,15 +212,31 @@ module _ (source : Source) (is : IsSource source) (lies : Lies) (node : TypeId) 
 
 -- ---- what is counted
 
-pub counted-more : (source : Source) (parts : Parts) (n m : ℕ) (own : List ℕ) → n ≤ m → Counted source parts n own → Counted source parts m own
-counted-more source parts n m own le c = record {
+-- of which roots' own walks and which walks in hand rows name each
+abbrev pub ApartIn : Source → Parts → List ℕ → List ℕ → Type 0
+ApartIn source parts own hand = AreApart source parts.walks.items parts.cases parts.known own hand
+
+-- other walks are in hand
+counted-hand : (source : Source) (parts : Parts) (n : ℕ) (own hand after : List ℕ) → (ApartIn source parts own hand → ApartIn source parts own after) → Counted source parts n own hand → Counted source parts n own after
+counted-hand source parts n own hand after apart c = record {
+  list = c.list;
+  each = c.each;
+  serve = c.serve;
+  distinct = c.distinct;
+  known = c.known;
+  few = c.few;
+  apart = apart c.apart;
+}
+
+pub counted-more : (source : Source) (parts : Parts) (n m : ℕ) (own hand : List ℕ) → n ≤ m → Counted source parts n own hand → Counted source parts m own hand
+counted-more source parts n m own hand le c = record {
   list = c.list;
   each = c.each;
   serve = c.serve;
   distinct = c.distinct;
   known = c.known;
   few = omega (arith, c.few, le);
-  owned = c.owned;
+  apart = c.apart;
 }
 
 serves-on : (source : Source) (old new : Parts) → Files old.walks.items old.cases new.walks.items new.cases → (p : PartWalk) → ServesPlace source old.walks.items p.part p.walk → ServesPlace source new.walks.items p.part p.walk
@@ -237,9 +248,9 @@ serves-on source old new files p s = (
 )
 
 -- walks that are no part's
-pub counted-stay : (source : Source) (part : Option Part) (old new : Parts) (n more : ℕ) (own now : List ℕ) → Files old.walks.items old.cases new.walks.items new.cases → Stays part old new
-    → length new.walks.items ≤ length old.walks.items + more → (Owned source old.walks.items old.cases own → Owned source new.walks.items new.cases now) → Counted source old n own → Counted source new (n + more) now
-counted-stay source part old new n more own now files stays walks owned c = record {
+pub counted-stay : (source : Source) (part : Option Part) (old new : Parts) (n more : ℕ) (own now hand after : List ℕ) → Files old.walks.items old.cases new.walks.items new.cases → Stays part old new
+    → length new.walks.items ≤ length old.walks.items + more → (ApartIn source old own hand → ApartIn source new now after) → Counted source old n own hand → Counted source new (n + more) now after
+counted-stay source part old new n more own now hand after files stays walks apart c = record {
   list = c.list;
   each = c.each;
   serve =
@@ -248,7 +259,7 @@ counted-stay source part old new n more own now files stays walks owned c = reco
   distinct = c.distinct;
   known = All-weaker (λ (q : PartWalk). IsKnown old (held q.part)) (λ (q : PartWalk). IsKnown new (held q.part)) (λ q there. stays.kept (held q.part) there) c.list c.known;
   few = omega (arith, c.few, walks);
-  owned = owned c.owned;
+  apart = apart c.apart;
 }
 
 -- a walk of a part that was not looked at
@@ -257,9 +268,9 @@ module _ (source : Source) (part : Option Part) (p : Part) (old new : Parts) (wa
   abbrev entry : PartWalk
   entry = record { part = told p; walk = walk }
 
-  counted-add : (n : ℕ) (own : List ℕ) → length new.walks.items ≤ length old.walks.items + 1 → (Owned source old.walks.items old.cases own → Owned source new.walks.items new.cases own) → Counted source old n own
-      → Counted source new n own
-  counted-add n own walks owned c =
+  counted-add : (n : ℕ) (own hand after : List ℕ) → length new.walks.items ≤ length old.walks.items + 1 → (ApartIn source old own hand → ApartIn source new own after) → Counted source old n own hand
+      → Counted source new n own after
+  counted-add n own hand after walks apart c =
       let Old = λ (q : PartWalk). IsKnown old (held q.part) in
       let New = λ (q : PartWalk). IsKnown new (held q.part) in
       let Was = λ (q : PartWalk). ServesPlace source old.walks.items q.part q.walk in
@@ -276,7 +287,7 @@ module _ (source : Source) (part : Option Part) (p : Part) (old new : Parts) (wa
             All-append New c.list (entry ∷ []) (All-weaker Old New (λ q there. stays.kept (held q.part) there) c.list c.known)
             (All-cons New entry [] (subst (IsKnown new) (sym (held-told p)) (stays.now p e)) (All-nil New));
         few = let long = length-append c.list (entry ∷ []) in omega (arith, walks, c.few, long);
-        owned = owned c.owned;
+        apart = apart c.apart;
       }
 
 pub with-more : (site : Option Site) (n : ℕ) → n ≤ with_site site n
@@ -288,64 +299,152 @@ at-node part p id e h = subst (λ o. IfSome o (λ p. p.node ≡ id)) e h
 
 -- what is kept of a structure that lies there, whose rows begin with its note
 module _ (source : Source) (lies : Lies) (part : Option Part) (node : TypeId) (desc : Option Expr) (old new : Parts) (plane : Plane) (rest rows : List WalkRow)
-    (plane-is : slice_get source.layouts.now.structures node.0 ≡ Some plane) (rows-are : rows ≡ Note plane.size None ∷ rest) (stays : Stays part old new) (unknown : (p : Part) → part ≡ Some p → IsKnown old p → ⊥)
+    (rows-are : rows ≡ Note plane.size None ∷ rest) (stays : Stays part old new) (unknown : (p : Part) → part ≡ Some p → IsKnown old p → ⊥)
     (are : (p : Part) → part ≡ Some p → IsPart source.program.now (told p)) (none : part ≡ None → lies.site ≡ None) where
   kept-more : (o : Option Part) → part ≡ o → (walk : ℕ) → Files old.walks.items old.cases new.walks.items new.cases → ((p : Part) → part ≡ Some p → ServesPlace source new.walks.items (told p) walk)
-      → length new.walks.items ≤ length old.walks.items + 1 → (n : ℕ) (own : List ℕ) → (Owned source old.walks.items old.cases own → Owned source new.walks.items new.cases own) → Counted source old n own
-      → Counted source new (with_site lies.site n) own
-  kept-more (Some p) e walk files places walks n own owned c =
-      counted-more source new n (with_site lies.site n) own (with-more lies.site n) (counted-add source part p old new walk e (are p e) (unknown p e) files (places p e) stays n own walks owned c)
-  kept-more None e walk files places walks n own owned c = subst (λ s. Counted source new (with_site s n) own) (sym (none e)) (counted-stay source part old new n 1 own own files stays walks owned c)
+      → length new.walks.items ≤ length old.walks.items + 1 → (n : ℕ) (own hand after : List ℕ) → (ApartIn source old own hand → ApartIn source new own after) → Counted source old n own hand
+      → Counted source new (with_site lies.site n) own after
+  kept-more (Some p) e walk files places walks n own hand after apart c =
+      counted-more source new n (with_site lies.site n) own after (with-more lies.site n)
+      (counted-add source part p old new walk e (are p e) (unknown p e) files (places p e) stays n own hand after walks apart c)
+  kept-more None e walk files places walks n own hand after apart c =
+      subst (λ s. Counted source new (with_site s n) own after) (sym (none e)) (counted-stay source part old new n 1 own own hand after files stays walks apart c)
 
   -- no walk is added
-  kept-same : (files : Files old.walks.items old.cases new.walks.items new.cases) → files.more ≡ [] → (n : ℕ) (own : List ℕ) → Counted source old n own → Counted source new (with_site lies.site n) own
-  kept-same files nothing n own c =
+  kept-same : (files : Files old.walks.items old.cases new.walks.items new.cases) → files.more ≡ [] → (n : ℕ) (own hand after : List ℕ) → (ApartIn source old own hand → ApartIn source new own after)
+      → Counted source old n own hand → Counted source new (with_site lies.site n) own after
+  kept-same files nothing n own hand after apart c =
       let long = ap length files.grown ∙ length-append old.walks.items files.more in
       let zero-long = ap length nothing in
       let walks : length new.walks.items ≤ length old.walks.items + 0 = omega (arith, long, zero-long) in
-      let owned = owned-same source old.walks.items new.walks.items old.cases new.cases files own nothing in
-      counted-more source new (n + 0) (with_site lies.site n) own (let more = with-more lies.site n in omega (arith, more)) (counted-stay source part old new n 0 own own files stays walks owned c)
+      counted-more source new (n + 0) (with_site lies.site n) own after (let more = with-more lies.site n in omega (arith, more))
+      (counted-stay source part old new n 0 own own hand after files stays walks apart c)
+
+  -- what is known now was known, or is the walk of this part
+  learned : (walk : Option ℕ) → Keeps (first_of source) part rows old new walk → ((w : ℕ) → walk ≡ Some w → IsKeptWalk source new.cases w) → (q : Part) (w : ℕ) → get part_cmp new.known q ≡ Some (Some w)
+      → (get part_cmp old.known q ≡ Some (Some w)) ⊎ IsKeptWalk source new.cases w
+  learned walk keeps kept q w got = elim (keeps.known q w got) [
+    | inl before ↦ inl before
+    | inr h ↦ inr (kept w h.3)
+  ]
+
+  same-walks : (files : Files old.walks.items old.cases new.walks.items new.cases) → files.more ≡ [] → new.walks.items ≡ old.walks.items
+  same-walks files nothing = files.grown ∙ ap (λ m. old.walks.items ++ m) nothing ∙ append-nil old.walks.items
+
+  -- a note alone names no walk
+  no-rest : (rs : List WalkRow) → length rs ≤ 0 → rs ≡ []
+  no-rest [] few = refl
+  no-rest (r ∷ rs) few = absurd (omega (arith, few))
+
+  names-none : length rows ≤ 1 → flat_map parts_in rows ≡ []
+  names-none few =
+      let one = ap length rows-are in
+      bare-parts plane.size None rest rows rows-are (no-rest rest (omega (arith, one, few)))
 
   -- a walk is added where the part was not looked at and has other rows, or lies in a root
-  counted-kept : (walk : Option ℕ) → Keeps (first_of source) part node.0 rows old new walk → ((p : Part) (w : ℕ) → part ≡ Some p → walk ≡ Some w → ServesPlace source new.walks.items (told p) w)
-      → ((w : ℕ) → walk ≡ Some w → ServesPart source new.walks.items lies.around node desc (Some w)) → (n : ℕ) (own : List ℕ) → Counted source old n own → Counted source new (with_site lies.site n) own
-  counted-kept None keeps places serves n own c = kept-same keeps.files (keeps.none refl) n own c
-  counted-kept (Some w) keeps places serves n own c = elim keeps.shared [
-    | inl nothing ↦ kept-same keeps.files nothing n own c
-    | inr h ↦
-        let long = ap length keeps.files.grown ∙ length-append old.walks.items keeps.files.more in
-        let one = ap length h.0 in
-        let walks : length new.walks.items ≤ length old.walks.items + 1 = omega (arith, long, one) in
-        let owned =
-        owned-part source old.walks.items new.walks.items old.cases new.cases keeps.files rows h.0 own node w lies.around desc plane rest h.2.0 h.2.1 h.1 (serves w refl) plane-is rows-are in
-        kept-more part refl w keeps.files (λ p e. places p w e refl) walks n own owned c
-  ]
+  counted-kept : (walk : Option ℕ) → Keeps (first_of source) part rows old new walk → (walk ≡ None → length rows ≤ 1) → ((p : Part) (w : ℕ) → part ≡ Some p → walk ≡ Some w → ServesPlace source new.walks.items (told p) w)
+      → ((w : ℕ) → walk ≡ Some w → ServesPart source new.walks.items lies.around node desc (Some w)) → (n : ℕ) (own hand : List ℕ) → Counted source old n own (hand ++ flat_map parts_in rows)
+      → Counted source new (with_site lies.site n) own (hand ++ option_to_list walk)
+  counted-kept None keeps few places serves n own hand c =
+      let nothing = keeps.none refl in
+      let bare = names-none (few refl) in
+      kept-same keeps.files nothing.0 n own (hand ++ flat_map parts_in rows) (hand ++ [])
+      (λ a. apart-known source old.walks.items new.walks.items old.cases new.cases old.known new.known own (hand ++ []) (same-walks keeps.files nothing.0) nothing.1 (learned None keeps (λ w e. absurd (cc (e))))
+      (subst (λ l. ApartIn source old own (hand ++ l)) bare a)) c
+  counted-kept (Some w) keeps few places serves n own hand c =
+      let kept = kept-equal source rows new.walks.items new.cases w keeps.has in
+      let after = learned (Some w) keeps (λ v e. subst (IsKeptWalk source new.cases) (same_Some w v e) kept) in
+      elim keeps.shared [
+        | inl nothing ↦
+            kept-same keeps.files nothing.0 n own (hand ++ flat_map parts_in rows) (hand ++ w ∷ [])
+            (λ a. apart-shared source new.walks.items new.cases new.known own hand rows w keeps.has
+            (apart-known source old.walks.items new.walks.items old.cases new.cases old.known new.known own (hand ++ flat_map parts_in rows) (same-walks keeps.files nothing.0) nothing.1 after a)) c
+        | inr h ↦
+            let long = ap length keeps.files.grown ∙ length-append old.walks.items keeps.files.more in
+            let one = ap length h.0 in
+            let walks : length new.walks.items ≤ length old.walks.items + 1 = omega (arith, long, one) in
+            kept-more part refl w keeps.files (λ p e. places p w e refl) walks n own (hand ++ flat_map parts_in rows) (hand ++ w ∷ [])
+            (λ a. apart-part source old.walks.items new.walks.items old.cases new.cases keeps.files rows h.0 old.known own hand a h.3 h.1 new.known w lies.around node desc h.2.0 h.2.1 (serves w refl) after) c
+      ]
 
 -- ---- one after another
 
-pub counts-not : (source : Source) (deep : ℕ → Type 0) (more : ℕ → ℕ) (parts : Parts) → ((n : ℕ) → n ≤ more n) → Counts source deep more parts parts
-counts-not source deep more parts le = record { counted = λ n own c. counted-more source parts n (more n) own (le n) c; fresh = λ q there. inl there }
+pub counts-not : (source : Source) (deep : ℕ → Type 0) (more : ℕ → ℕ) (named : List ℕ) (parts : Parts) → ((n : ℕ) → n ≤ more n) → Counts source deep more named named parts parts
+counts-not source deep more named parts le = record { counted = λ n own hand c. counted-more source parts n (more n) own (hand ++ named) (le n) c; fresh = λ q there. inl there }
 
-pub counts-site : (source : Source) (deep : ℕ → Type 0) (o : Option Site) (a b : Parts) (site : Site) → o ≡ Some site → Counts source deep (with_site o) a b → Counts source deep (λ n. n) a b
-counts-site source deep o a b site e counts = let c = subst (λ s. Counts source deep (with_site s) a b) e counts in record { counted = c.counted; fresh = c.fresh }
+-- nothing is named
+pub counts-bare : (source : Source) (deep : ℕ → Type 0) (more : ℕ → ℕ) (named : List ℕ) (parts : Parts) → ((n : ℕ) → n ≤ more n) → named ≡ [] → Counts source deep more [] named parts parts
+counts-bare source deep more named parts le none = subst (λ l. Counts source deep more [] l parts parts) (sym none) (counts-not source deep more [] parts le)
 
-pub counts-deeper : (source : Source) (deep deeper : ℕ → Type 0) (more : ℕ → ℕ) (a b : Parts) → ((depth : ℕ) → deeper depth → deep depth) → Counts source deep more a b → Counts source deeper more a b
-counts-deeper source deep deeper more a b to counts = record {
-  counted = counts.counted;
-  fresh = λ q there. elim (counts.fresh q there) [
-    | inl old ↦ inl old
-    | inr less ↦ inr (λ depth within. less depth (to depth within))
-  ];
+-- the walk of a part that was looked at is named
+pub counts-known : (source : Source) (deep : ℕ → Type 0) (more : ℕ → ℕ) (parts : Parts) (part : Option Part) (walk : Option ℕ) → ((n : ℕ) → n ≤ more n)
+    → ((p : Part) × (part ≡ Some p) × (get part_cmp parts.known p ≡ Some walk)) → Counts source deep more [] (option_to_list walk) parts parts
+counts-known source deep more parts part None le known = counts-not source deep more [] parts le
+counts-known source deep more parts part (Some w) le known = record {
+  counted = λ n own hand c.
+      counted-more source parts n (more n) own (hand ++ w ∷ []) (le n)
+      (counted-hand source parts n own (hand ++ []) (hand ++ w ∷ []) (λ a. apart-one source parts.walks.items parts.cases parts.known own hand w (a.known known.0 w known.2) a) c);
+  fresh = λ q there. inl there;
 }
 
-pub counts-on : (source : Source) (deep : ℕ → Type 0) (a b c : Parts) → Counts source deep (λ n. n) a b → Counts source deep (λ n. n) b c → Counts source deep (λ n. n) a c
-counts-on source deep a b c first second = record {
-  counted = λ n own h. second.counted n own (first.counted n own h);
-  fresh = λ q there. elim (second.fresh q there) [
-    | inl old ↦ first.fresh q old
-    | inr less ↦ inr less
-  ];
-}
+module _ (source : Source) (deep : ℕ → Type 0) (more : ℕ → ℕ) (a b : Parts) where
+  pub counts-after : (before after now : List ℕ) → now ≡ after → Counts source deep more before after a b → Counts source deep more before now a b
+  counts-after before after now same counts = subst (λ l. Counts source deep more before l a b) (sym same) counts
+
+  pub counts-before : (before was after : List ℕ) → was ≡ before → Counts source deep more before after a b → Counts source deep more was after a b
+  counts-before before was after same counts = subst (λ l. Counts source deep more l after a b) (sym same) counts
+
+  -- what was named before is named still
+  counts-beside : (named before after : List ℕ) → Counts source deep more before after a b → Counts source deep more (named ++ before) (named ++ after) a b
+  counts-beside named before after counts = record {
+    counted = λ n own hand c.
+        subst (Counted source b (more n) own) (append-assoc hand named after) (counts.counted n own (hand ++ named) (subst (Counted source a n own) (sym (append-assoc hand named before)) c));
+    fresh = counts.fresh;
+  }
+
+  pub counts-deeper : (deeper : ℕ → Type 0) (before after : List ℕ) → ((depth : ℕ) → deeper depth → deep depth) → Counts source deep more before after a b → Counts source deeper more before after a b
+  counts-deeper deeper before after to counts = record {
+    counted = counts.counted;
+    fresh = λ q there. elim (counts.fresh q there) [
+      | inl old ↦ inl old
+      | inr less ↦ inr (λ depth within. less depth (to depth within))
+    ];
+  }
+
+pub counts-site : (source : Source) (deep : ℕ → Type 0) (o : Option Site) (a b : Parts) (site : Site) (before after : List ℕ) → o ≡ Some site → Counts source deep (with_site o) before after a b
+    → Counts source deep (λ n. n) before after a b
+counts-site source deep o a b site before after e counts =
+    let c = subst (λ s. Counts source deep (with_site s) before after a b) e counts in
+    record { counted = c.counted; fresh = c.fresh }
+
+-- rows were named before, and one more row names its own
+pub counts-on : (source : Source) (deep : ℕ → Type 0) (a b c : Parts) (before named more : List ℕ) → Counts source deep (λ n. n) before named a b → Counts source deep (λ n. n) [] more b c
+    → Counts source deep (λ n. n) before (named ++ more) a c
+counts-on source deep a b c before named more first second =
+    let next = counts-before source deep (λ n. n) b c (named ++ []) named (named ++ more) (sym (append-nil named)) (counts-beside source deep (λ n. n) b c named [] more second) in
+    record {
+      counted = λ n own hand h. next.counted n own hand (first.counted n own hand h);
+      fresh = λ q there. elim (second.fresh q there) [
+        | inl old ↦ first.fresh q old
+        | inr less ↦ inr less
+      ];
+    }
+
+-- ---- blocks
+
+-- rows name no walk
+pub stays-bare : (source : Source) (named : List ℕ) (parts : Parts) → named ≡ [] → StaysCounted source named parts parts
+stays-bare source named parts none n own hand c = subst (Counted source parts n own) (sym (ap (λ l. hand ++ l) none ∙ append-nil hand)) c
+
+pub stays-of : (source : Source) (deep : ℕ → Type 0) (named : List ℕ) (a b : Parts) → Counts source deep (λ n. n) [] named a b → StaysCounted source named a b
+stays-of source deep named a b counts n own hand c = counts.counted n own hand (subst (Counted source a n own) (sym (append-nil hand)) c)
+
+pub stays-on : (source : Source) (named more all : List ℕ) (a b c : Parts) → all ≡ named ++ more → StaysCounted source named a b → StaysCounted source more b c → StaysCounted source all a c
+stays-on source named more all a b c is first second n own hand h =
+    subst (Counted source c n own) (append-assoc hand named more ∙ ap (λ l. hand ++ l) (sym is)) (second n own (hand ++ named) (first n own hand h))
+
+pub stays-same : (source : Source) (named all : List ℕ) (a b : Parts) → all ≡ named → StaysCounted source named a b → StaysCounted source all a b
+stays-same source named all a b is stays = subst (λ l. StaysCounted source l a b) (sym is) stays
 
 -- ---- a part is not looked at inside itself
 
@@ -353,7 +452,7 @@ descend : (P : ℕ → Type 0) → ((d : ℕ) → P d → (less : ℕ) × (less 
 descend P down zero d lt p = omega (arith, lt)
 descend P down (suc most) d lt p = let next = down d p in descend P down most next.0 (omega (arith, lt, next.1)) next.2
 
-module _ (source : Source) (id depth : ℕ) (part : Option Part) (old mid : Parts) (inside : Counts source (IsWithinDepth source.program.now id) (λ n. n) old mid) (shallow : IsWithinDepth source.program.now id depth)
+module _ (source : Source) (id depth : ℕ) (part : Option Part) (old mid : Parts) (named : List ℕ) (inside : Counts source (IsWithinDepth source.program.now id) (λ n. n) [] named old mid) (shallow : IsWithinDepth source.program.now id depth)
     (node : IfSome part (λ p. p.node ≡ id)) (unknown : (p : Part) → part ≡ Some p → get part_cmp old.known p ≡ None) where
   still-unknown : (p : Part) → part ≡ Some p → IsKnown mid p → ⊥
   still-unknown p e there = elim (inside.fresh p there) [
@@ -365,21 +464,23 @@ module _ (source : Source) (id depth : ℕ) (part : Option Part) (old mid : Part
 
 -- what looking at a part adds
 pub part-counts : (source : Source) → IsSource source → (lies : Lies) (node : TypeId) (desc : Option Expr) (depth first : ℕ) (part : Option Part) (rows : List WalkRow) (old mid new : Parts) (walk : Option ℕ)
-    → (plane : Plane) (rest : List WalkRow) → slice_get source.layouts.now.structures node.0 ≡ Some plane → rows ≡ Note plane.size None ∷ rest → first ≡ first_of source
+    → (plane : Plane) (rest : List WalkRow) → rows ≡ Note plane.size None ∷ rest → first ≡ first_of source
     → IsPlaced source.program.now lies (ty.Node node desc) → node.0 < length source.program.now.structures → IsWithinDepth source.program.now node.0 depth → part ≡ part_of source lies node
-    → IfSome part (λ p. p.node ≡ node.0) → ((p : Part) → part ≡ Some p → get part_cmp old.known p ≡ None) → Counts source (IsWithinDepth source.program.now node.0) (λ n. n) old mid
-    → Keeps first part node.0 rows mid new walk → ((w : ℕ) → walk ≡ Some w → ServesPart source new.walks.items lies.around node desc (Some w)) → Stays part mid new
-    → Counts source (HoldsWithinDepth source.program.now (ty.Node node desc)) (with_site lies.site) old new
-part-counts source is lies node desc depth first part rows old mid new walk plane rest plane-is rows-are first-is placed there shallow part-is node-is unknown inside keeps serves stays =
+    → IfSome part (λ p. p.node ≡ node.0) → ((p : Part) → part ≡ Some p → get part_cmp old.known p ≡ None) → Counts source (IsWithinDepth source.program.now node.0) (λ n. n) [] (flat_map parts_in rows) old mid
+    → Keeps first part rows mid new walk → (walk ≡ None → length rows ≤ 1) → ((w : ℕ) → walk ≡ Some w → ServesPart source new.walks.items lies.around node desc (Some w)) → Stays part mid new
+    → Counts source (HoldsWithinDepth source.program.now (ty.Node node desc)) (with_site lies.site) [] (option_to_list walk) old new
+part-counts source is lies node desc depth first part rows old mid new walk plane rest rows-are first-is placed there shallow part-is node-is unknown inside keeps few serves stays =
     let program = source.program.now in
-    let unknown-mid = still-unknown source node.0 depth part old mid inside shallow node-is unknown in
+    let unknown-mid = still-unknown source node.0 depth part old mid (flat_map parts_in rows) inside shallow node-is unknown in
     let are = λ (p : Part) (e : part ≡ Some p). is-part source is lies node desc placed there p (sym part-is ∙ e) in
     let place = λ (p : Part) (w : ℕ) (e : part ≡ Some p) (found : walk ≡ Some w).
     place-there source is lies node desc placed there p (sym part-is ∙ e) new.walks.items w (at-node part p node.0 e node-is) (serves w found) in
     let none = λ (e : part ≡ None). no-part source is lies node (sym part-is ∙ e) in
-    let kept = subst (λ f. Keeps f part node.0 rows mid new walk) first-is keeps in
+    let kept = subst (λ f. Keeps f part rows mid new walk) first-is keeps in
     record {
-      counted = λ n own c. counted-kept source lies part node desc mid new plane rest rows plane-is rows-are stays unknown-mid are none walk kept place serves n own (inside.counted n own c);
+      counted = λ n own hand c.
+          counted-kept source lies part node desc mid new plane rest rows rows-are stays unknown-mid are none walk kept few place serves n own hand
+          (inside.counted n own hand c);
       fresh = λ q at. elim (keeps.kept q at.0 at.1) [
         | inl h ↦ elim (inside.fresh q (at.0, h)) [
           | inl known ↦ inl known
@@ -394,36 +495,42 @@ part-counts source is lies node desc depth first part rows old mid new walk plan
 
 -- ---- roots
 
-stays-same : (old new : Parts) → new.known ≡ old.known → Stays None old new
-stays-same old new same = record {
+none-stays : (old new : Parts) → new.known ≡ old.known → Stays None old new
+none-stays old new same = record {
   kept = λ q there. (there.0, ap (λ m. get part_cmp m q) same ∙ there.1);
   now = λ q e. absurd (cc (e));
 }
 
 -- a root has a walk of its own, and perhaps one inside that is no part's
-pub root-counted : (source : Source) (old new : Parts) (rows : List WalkRow) (roots more : List ℕ) (walk n : ℕ) → new.known ≡ old.known → new.cases ≡ old.cases → new.walks.items ≡ old.walks.items ++ rows ∷ []
-    → walk ≡ first_of source + length old.walks.items → more ≡ roots ++ walk ∷ [] → Counted source old (n + 2 * length roots + 1) roots → Counted source new (n + 2 * length more) more
-root-counted source old new rows roots more walk n known cases walks number is c =
+pub root-counted : (source : Source) (old new : Parts) (rows : List WalkRow) (roots more hand : List ℕ) (walk n : ℕ) → new.known ≡ old.known → new.cases ≡ old.cases → new.walks.items ≡ old.walks.items ++ rows ∷ []
+    → walk ≡ first_of source + length old.walks.items → more ≡ roots ++ walk ∷ [] → Counted source old (n + 2 * length roots + 1) roots (hand ++ flat_map parts_in rows)
+    → Counted source new (n + 2 * length more) more hand
+root-counted source old new rows roots more hand walk n known cases walks number is c =
     let long = ap length walks ∙ length-append old.walks.items (rows ∷ []) in
     let fits : length new.walks.items ≤ length old.walks.items + 1 = omega (arith, long) in
     let count = ap length is ∙ length-append roots (walk ∷ []) in
     let files = files-add old new (rows ∷ []) walks cases in
-    let owned = owned-root source old.walks.items new.walks.items old.cases new.cases files rows (more-added old new (rows ∷ []) walks cases) roots more walk number is in
-    let stay = counted-stay source None old new (n + 2 * length roots + 1) 1 roots more files (stays-same old new known) fits owned c in
-    counted-more source new (n + 2 * length roots + 1 + 1) (n + 2 * length more) more (omega (arith, count)) stay
+    let one = more-added old new (rows ∷ []) walks cases in
+    let apart = λ (a : ApartIn source old roots (hand ++ flat_map parts_in rows)).
+    subst (λ m. AreApart source new.walks.items new.cases m more hand) (sym known)
+    (apart-root source old.walks.items new.walks.items old.cases new.cases files rows one old.known roots hand a more walk cases number is) in
+    let stay =
+    counted-stay source None old new (n + 2 * length roots + 1) 1 roots more (hand ++ flat_map parts_in rows) hand files (none-stays old new known) fits apart c in
+    counted-more source new (n + 2 * length roots + 1 + 1) (n + 2 * length more) more hand (omega (arith, count)) stay
 
 -- ---- the tables
 
 -- nothing was looked at
-pub counted-none : (source : Source) (parts : Parts) → parts.walks.items ≡ [] → Counted source parts 0 []
-counted-none source parts walks = record {
+pub counted-none : (source : Source) (parts : Parts) → parts.walks.items ≡ [] → ((case : Case) → get case_cmp parts.cases case ≡ None) → ((part : Part) → get part_cmp parts.known part ≡ None)
+    → Counted source parts 0 [] []
+counted-none source parts walks unfiled unknown = record {
   list = [];
   each = All-nil (λ (p : PartWalk). IsPart source.program.now p.part);
   serve = All-nil (λ (p : PartWalk). ServesPlace source parts.walks.items p.part p.walk);
   distinct = λ i j d less within. absurd (omega (arith, less, within));
   known = All-nil (λ (p : PartWalk). IsKnown parts (held p.part));
   few = let none = ap length walks in omega (arith, none);
-  owned = owned-none source parts.walks.items parts.cases walks;
+  apart = apart-none source parts.walks.items parts.cases parts.known walks unfiled unknown;
 }
 
 -- the walks of the tables are those of blocks, and those that are counted
@@ -431,7 +538,7 @@ module _ (source : Source) (tables : Tables) (walks : List (List WalkRow)) (part
   have : HaveWalks (first_of source) parts.walks.items tables
   have = record { front = walks; rest = []; is = is ∙ ap (λ l. walks ++ l) (sym (append-nil parts.walks.items)); long = long }
 
-  pub parts-shared : (own : List ℕ) → tables.roots ≡ own → Counted source parts (2 * length own) own → ArePartsShared source.program.now source.layouts.now tables
+  pub parts-shared : (own : List ℕ) → tables.roots ≡ own → Counted source parts (2 * length own) own (named_by walks) → ArePartsShared source.program.now source.layouts.now tables
   parts-shared own roots c =
       let all = ap length is ∙ length-append walks parts.walks.items in
       let many = ap length roots in
@@ -444,6 +551,5 @@ module _ (source : Source) (tables : Tables) (walks : List (List WalkRow)) (part
             c.serve;
         distinct = c.distinct;
         few = omega (arith, all, long, c.few, many);
-        owners = c.owned.owners;
-        owned = tables-owned source tables parts.walks.items parts.cases own have roots c.owned count;
+        shared = tables-apart source tables walks parts.walks.items parts.cases parts.known own is long have roots c.apart count;
       }

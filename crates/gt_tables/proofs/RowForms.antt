@@ -14,6 +14,7 @@ use Rattle.gt_walk.specs.declared.rows.WalkRow.TheOpen.{WalkRow-F, Arm-F}
 use Rattle.gt_walk.specs.declared.rows.WalkRow.TheVariants as row
 use Rattle.gt_walk.specs.declared.rows.WalkRow.TheVariants.{outs-Note, outs-Ptr, outs-Sub, outs-Rep, outs-Tail, outs-Switch}
 use Rattle.gt_walk.specs.Nested.{is_note, has_note, note_at, note_in_arm, parts_in, part_at, in_arm, names_in, name_at}
+use Rattle.gt_tables.specs.Building.{parts_of}
 
 module _ {A B : Type 0} (step : WalkRow-F A B → A) (arm_step : Arm-F A B → B) where
   layer : (r : WalkRow) (x : WalkRow-F WalkRow Arm) → out-WalkRow r ≡ x
@@ -70,10 +71,6 @@ tail-names offset len size elem = layer name_at in_arm (row.Tail offset len size
 abbrev pub note_of : Option WalkRow → Bool
 note_of (Some r) = has_note r
 note_of None = false
-
-abbrev pub parts_of : Option WalkRow → List ℕ
-parts_of (Some r) = parts_in r
-parts_of None = []
 
 abbrev pub names_of : Option WalkRow → List ℕ
 names_of (Some r) = names_in r

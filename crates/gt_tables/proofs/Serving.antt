@@ -270,7 +270,7 @@ same-node : (a b : TypeId) → a.0 ≡ b.0 → a ≡ b
 same-node a b e = ap (λ (n : ℕ). record { 0 = n }) e
 
 module _ (source : Source) (source-is : IsSource source) (first : ℕ) (first-is : first ≡ first_part source.program.now) (lies : Lies) (node : TypeId) (desc : Option Expr) (part : Option Part) (rows : List WalkRow) (old new : Parts)
-    (inner : CodeAround) (inner-is : around_of inner ≡ inside (around_of lies.around) node) (walk : Option ℕ) (keeps : Keeps first part node.0 rows old new walk) where
+    (inner : CodeAround) (inner-is : around_of inner ≡ inside (around_of lies.around) node) (walk : Option ℕ) (keeps : Keeps first part rows old new walk) where
   fewer-kept : (tables : Tables) → HaveWalks (first_part source.program.now) new.walks.items tables → HaveWalks (first_part source.program.now) old.walks.items tables
   fewer-kept tables h = fewer (first_part source.program.now) old.walks.items keeps.files.more tables (subst (λ ws. HaveWalks (first_part source.program.now) ws tables) keeps.files.grown h)
 
@@ -284,7 +284,7 @@ module _ (source : Source) (source-is : IsSource source) (first : ℕ) (first-is
   -- the walk that is kept has these rows
   pub kept-walked : (n : ℕ) → walk ≡ Some n → ServesStructure source old.walks.items inner node desc None rows → ServesPart source new.walks.items lies.around node desc (Some n)
   kept-walked n is serves tables h =
-      let found = subst (λ w. IfSome w (HasEqual first node.0 rows new.walks.items new.cases)) is keeps.has in
+      let found = subst (λ w. IfSome w (HasEqual first rows new.walks.items new.cases)) is keeps.has in
       let has = found.1 in
       let number : n ≡ first_part source.program.now + has.place = has.number ∙ ap (λ f. f + has.place) first-is in
       let there = rows-there source.program.now (first_part source.program.now) new.walks.items node.0 found.0 has.place has.here tables h in

@@ -94,6 +94,11 @@ abbrev pub PartsWithin : Tables → ℕ → List ℕ → Type 0
 PartsWithin tables zero parts = parts ≡ []
 PartsWithin tables (suc most) parts = All (NestsWithin tables most) parts
 
+-- the walks of parts that a row names, where there is one
+abbrev pub parts_of : Option WalkRow → List ℕ
+parts_of (Some r) = parts_in r
+parts_of None = []
+
 -- a walk of a structure is there, and as deep as structures stand in it
 pub record IsWalkAt (program : Program) (node : ℕ) (walk : ℕ) (tables : Tables) : Type 0 where
   pub there : IsWalk tables walk
@@ -123,74 +128,83 @@ pub record IsPointerRow (first : ℕ) (row : WalkRow) : Type 0 where
 -- ---- walks that are found by their rows
 
 abbrev pub case_cmp : Case → Case → Ordering
-case_cmp a b = ordering_then (nat_cmp a.node b.node) (ordering_then (nat_cmp a.print b.print) (nat_cmp a.turn b.turn))
+case_cmp a b = ordering_then (nat_cmp a.print b.print) (nat_cmp a.turn b.turn)
 
-abbrev pub case_of : ℕ → List WalkRow → ℕ → Case
-case_of node rows turn = record { node = node; print = rows_print rows; turn = turn }
+abbrev pub case_of : List WalkRow → ℕ → Case
+case_of rows turn = record { print = rows_print rows; turn = turn }
 
--- the walk at a place is found as one of a structure
-pub record IsFiled (walks : List (List WalkRow)) (cases : BTreeMap Case ℕ) (node place : ℕ) : Type 0 where
+-- the walk at a place is found by its rows
+pub record IsFiled (walks : List (List WalkRow)) (cases : BTreeMap Case ℕ) (place : ℕ) : Type 0 where
   pub rows : List WalkRow
   pub turn : ℕ
   pub there : slice_get walks place ≡ Some rows
-  pub is : get case_cmp cases (case_of node rows turn) ≡ Some place
+  pub is : get case_cmp cases (case_of rows turn) ≡ Some place
 
 -- no turn is left out
 abbrev pub HaveTurns : BTreeMap Case ℕ → Type 0
-HaveTurns cases = (c : Case) (place turn : ℕ) → get case_cmp cases c ≡ Some place → turn ≤ c.turn → (other : ℕ) × (get case_cmp cases (record { node = c.node; print = c.print; turn = turn }) ≡ Some other)
+HaveTurns cases = (c : Case) (place turn : ℕ) → get case_cmp cases c ≡ Some place → turn ≤ c.turn → (other : ℕ) × (get case_cmp cases (record { print = c.print; turn = turn }) ≡ Some other)
 
 -- the walk at a place has these rows
 abbrev pub StandsAt : List (List WalkRow) → ℕ → List WalkRow → Type 0
 StandsAt walks place rows = (had : List WalkRow) × (slice_get walks place ≡ Some had) × AreAlike had rows
 
--- no walk that is found as one of a structure has these rows
-abbrev pub AreNew : List (List WalkRow) → BTreeMap Case ℕ → ℕ → List WalkRow → Type 0
-AreNew walks cases node rows = (place : ℕ) → IsFiled walks cases node place → ¬ StandsAt walks place rows
+-- no walk that is found by its rows has these
+abbrev pub AreNew : List (List WalkRow) → BTreeMap Case ℕ → List WalkRow → Type 0
+AreNew walks cases rows = (place : ℕ) → IsFiled walks cases place → ¬ StandsAt walks place rows
 
--- the walks of a structure in the turns before this one have other rows
-abbrev pub WereTried : List (List WalkRow) → BTreeMap Case ℕ → ℕ → List WalkRow → ℕ → Type 0
-WereTried walks cases node rows turn = (n : ℕ) → n < turn → (place : ℕ) × (get case_cmp cases (case_of node rows n) ≡ Some place) × (¬ StandsAt walks place rows)
+-- the walks in the turns before this one have other rows
+abbrev pub WereTried : List (List WalkRow) → BTreeMap Case ℕ → List WalkRow → ℕ → Type 0
+WereTried walks cases rows turn = (n : ℕ) → n < turn → (place : ℕ) × (get case_cmp cases (case_of rows n) ≡ Some place) × (¬ StandsAt walks place rows)
 
--- no walk of a structure has these rows, and one with them is to have this case
-pub record IsFree (walks : List (List WalkRow)) (cases : BTreeMap Case ℕ) (node : ℕ) (rows : List WalkRow) (case : Case) : Type 0 where
+-- no walk of a part has these rows, and one with them is to have this case
+pub record IsFree (walks : List (List WalkRow)) (cases : BTreeMap Case ℕ) (rows : List WalkRow) (case : Case) : Type 0 where
   pub turn : ℕ
-  pub is : case ≡ case_of node rows turn
+  pub is : case ≡ case_of rows turn
   pub none : get case_cmp cases case ≡ None
-  pub tried : WereTried walks cases node rows turn
-  pub new : AreNew walks cases node rows
+  pub tried : WereTried walks cases rows turn
+  pub new : AreNew walks cases rows
 
--- where a walk of a structure with these rows is
-abbrev pub IsFound : List (List WalkRow) → BTreeMap Case ℕ → ℕ → List WalkRow → Found → Type 0
-IsFound walks cases node rows (There place) = StandsAt walks place rows × IsFiled walks cases node place
-IsFound walks cases node rows (Missing case) = IsFree walks cases node rows case
+-- where the walk of a part with these rows is
+abbrev pub IsFound : List (List WalkRow) → BTreeMap Case ℕ → List WalkRow → Found → Type 0
+IsFound walks cases rows (There place) = StandsAt walks place rows × IsFiled walks cases place
+IsFound walks cases rows (Missing case) = IsFree walks cases rows case
 
 -- there are more walks, and those that were found are found
 pub record Files (walks : List (List WalkRow)) (cases : BTreeMap Case ℕ) (now : List (List WalkRow)) (filed : BTreeMap Case ℕ) : Type 0 where
   pub more : List (List WalkRow)
   pub grown : now ≡ walks ++ more
-  pub stay : (node place : ℕ) → IsFiled walks cases node place → IsFiled now filed node place
+  pub stay : (place : ℕ) → IsFiled walks cases place → IsFiled now filed place
 
--- a walk has these rows, and is found as one of a structure
-pub record HasRows (first node : ℕ) (rows : List WalkRow) (walks : List (List WalkRow)) (cases : BTreeMap Case ℕ) (walk : ℕ) : Type 0 where
+-- a walk has these rows, and is found by them
+pub record HasRows (first : ℕ) (rows : List WalkRow) (walks : List (List WalkRow)) (cases : BTreeMap Case ℕ) (walk : ℕ) : Type 0 where
   pub place : ℕ
   pub number : walk ≡ first + place
   pub here : slice_get walks place ≡ Some rows
-  pub filed : IsFiled walks cases node place
+  pub filed : IsFiled walks cases place
 
--- a walk has rows that are equal to these, and is found as one of a structure
-abbrev pub HasEqual : ℕ → ℕ → List WalkRow → List (List WalkRow) → BTreeMap Case ℕ → ℕ → Type 0
-HasEqual first node rows walks cases walk = (had : List WalkRow) × HasRows first node had walks cases walk × AreEqual had rows
+-- a walk has rows that are equal to these, and is found by them
+abbrev pub HasEqual : ℕ → List WalkRow → List (List WalkRow) → BTreeMap Case ℕ → ℕ → Type 0
+HasEqual first rows walks cases walk = (had : List WalkRow) × HasRows first had walks cases walk × AreEqual had rows
 
--- a walk with these very rows is added, where no walk of its structure had them
-abbrev pub IsAdded : ℕ → ℕ → List WalkRow → List (List WalkRow) → BTreeMap Case ℕ → List (List WalkRow) → List (List WalkRow) → BTreeMap Case ℕ → Option ℕ → Type 0
-IsAdded first node rows walks cases more now filed walk = (more ≡ rows ∷ []) × AreNew walks cases node rows × IfSome walk (λ w. HasRows first node rows now filed w × (w ≡ first + length walks))
+-- no walk is added
+abbrev pub IsNotAdded : BTreeMap Case ℕ → List (List WalkRow) → BTreeMap Case ℕ → Type 0
+IsNotAdded cases more filed = (more ≡ []) × (filed ≡ cases)
 
--- the walk of a structure with these rows: the one that was there, or a new one
-pub record Shares (first node : ℕ) (rows : List WalkRow) (walks : List (List WalkRow)) (cases : BTreeMap Case ℕ) (now : List (List WalkRow)) (filed : BTreeMap Case ℕ) (walk : ℕ) : Type 0 where
+-- what walks are found as is the same but for the last one
+abbrev pub IsLast : List (List WalkRow) → BTreeMap Case ℕ → BTreeMap Case ℕ → Type 0
+IsLast walks cases filed = (case : Case) (place : ℕ) → get case_cmp filed case ≡ Some place → (get case_cmp cases case ≡ Some place) ⊎ (place ≡ length walks)
+
+-- a walk with these very rows is added, where no walk of a part had them
+abbrev pub IsAdded : ℕ → List WalkRow → List (List WalkRow) → BTreeMap Case ℕ → List (List WalkRow) → List (List WalkRow) → BTreeMap Case ℕ → Option ℕ → Type 0
+IsAdded first rows walks cases more now filed walk =
+    (more ≡ rows ∷ []) × AreNew walks cases rows × IfSome walk (λ w. HasRows first rows now filed w × (w ≡ first + length walks)) × IsLast walks cases filed
+
+-- the walk of a part with these rows: the one that was there, or a new one
+pub record Shares (first : ℕ) (rows : List WalkRow) (walks : List (List WalkRow)) (cases : BTreeMap Case ℕ) (now : List (List WalkRow)) (filed : BTreeMap Case ℕ) (walk : ℕ) : Type 0 where
   pub files : Files walks cases now filed
   pub turns : HaveTurns filed
-  pub has : HasEqual first node rows now filed walk
-  pub shared : (files.more ≡ []) ⊎ IsAdded first node rows walks cases files.more now filed (Some walk)
+  pub has : HasEqual first rows now filed walk
+  pub shared : IsNotAdded cases files.more filed ⊎ IsAdded first rows walks cases files.more now filed (Some walk)
 
 -- ---- walks of parts
 
@@ -211,13 +225,13 @@ pub record Grows (program : Program) (old new : Parts) : Type 0 where
   pub are : AreParts program new
 
 -- the walk of a part is kept, if it has one: then it has a row at least after its note
-pub record Keeps (first : ℕ) (part : Option Part) (node : ℕ) (rows : List WalkRow) (old new : Parts) (walk : Option ℕ) : Type 0 where
+pub record Keeps (first : ℕ) (part : Option Part) (rows : List WalkRow) (old new : Parts) (walk : Option ℕ) : Type 0 where
   pub files : Files old.walks.items old.cases new.walks.items new.cases
   pub turns : HaveTurns new.cases
-  pub has : IfSome walk (HasEqual first node rows new.walks.items new.cases)
+  pub has : IfSome walk (HasEqual first rows new.walks.items new.cases)
   pub many : IfSome walk (λ w. 1 < length rows)
-  pub shared : (files.more ≡ []) ⊎ IsAdded first node rows old.walks.items old.cases files.more new.walks.items new.cases walk
-  pub none : walk ≡ None → files.more ≡ []
+  pub shared : IsNotAdded old.cases files.more new.cases ⊎ IsAdded first rows old.walks.items old.cases files.more new.walks.items new.cases walk
+  pub none : walk ≡ None → IsNotAdded old.cases files.more new.cases
   pub known : (q : Part) (n : ℕ) → get part_cmp new.known q ≡ Some (Some n)
       → (get part_cmp old.known q ≡ Some (Some n)) ⊎ ((p : Part) × (part ≡ Some p) × (q.node ≡ p.node) × (walk ≡ Some n))
   pub kept : (q : Part) (w : Option ℕ) → get part_cmp new.known q ≡ Some w → (get part_cmp old.known q ≡ Some w) ⊎ ((part ≡ Some q) × (walk ≡ w))

@@ -1,4 +1,4 @@
--- How many walks of parts there are: each part has at most one, and parts of one structure with equal rows have the same one.
+-- How many walks of parts there are: each part has at most one, and parts with equal rows have the same one.
 use Rattle.std.specs.Prelude.{◌≡◌, ◌≢◌, ◌≤◌, ◌<◌, ◌⊎◌, ℕ, ◌+◌, ◌*◌, true, List, ◌++◌, length, Option, Some, None, IfSome, IsSome, MatchOption, All, AllPairs, Any, Contains, slice_get, filter_map}
 use Rattle.std.specs.List.{flat_map}
 use Rattle.gt_types.specs.declared.expressions.Base.TheVariants.{Outermost}
@@ -15,6 +15,7 @@ use Rattle.gt_types.specs.Paths.{paths_of, IsInner, own_expressions}
 use Rattle.gt_layout.specs.declared.planes.Layouts.{Layouts}
 use Rattle.gt_walk.specs.declared.tables.Tables.{Tables}
 use Rattle.gt_walk.specs.Rows.{rows_of}
+use Rattle.gt_walk.specs.Nested.{parts_in}
 use Rattle.gt_edges.specs.Numbers.{first_part}
 use Rattle.gt_edges.specs.Walks.{Around, inside, IsPartOf}
 use Rattle.gt_alike.specs.Alike.{AreEqual}
@@ -100,28 +101,24 @@ abbrev pub IsPartWalk : Program → Layouts → Tables → PartWalk → Type 0
 IsPartWalk program layouts tables p =
     (around : Around) × (desc : Option Expr) × LiesIn program p.part around desc × IsPartOf program layouts tables around p.part.node desc (Some p.walk)
 
--- a walk is that of a structure by value, inside some structures and with some `desc`
-abbrev pub IsWalkOfValue : Program → Layouts → Tables → TypeId → ℕ → Type 0
-IsWalkOfValue program layouts tables node walk = (around : Around) × (desc : Option Expr) × IsPartOf program layouts tables around node desc (Some walk)
+-- a row of a walk names this walk as that of a part
+abbrev pub IsNamed : Tables → ℕ → Type 0
+IsNamed tables walk = (from : ℕ) × Contains (flat_map parts_in (rows_of tables from)) walk
 
--- Each walk after those of blocks is a root's own, or that of a structure by value, which owns it; and no two walks of one structure have equal rows.
-pub record AreOwned (program : Program) (layouts : Layouts) (tables : Tables) (owners : List (Option TypeId)) : Type 0 where
-  pub all : first_part program + length owners ≡ length tables.walks
-  pub each : (i : ℕ) (owner : Option TypeId) → slice_get owners i ≡ Some owner
-      → MatchOption owner (Contains tables.roots (first_part program + i)) (λ node. IsWalkOfValue program layouts tables node (first_part program + i))
-  pub apart : (i j : ℕ) (node : TypeId) → i < j → slice_get owners i ≡ Some (Some node) → slice_get owners j ≡ Some (Some node)
-      → ¬ AreEqual (rows_of tables (first_part program + i)) (rows_of tables (first_part program + j))
+-- Each walk after those of blocks is a root's own, or a row names it as that of a part; and no two walks that rows name so have equal rows.
+pub record AreDistinct (program : Program) (tables : Tables) : Type 0 where
+  pub used : (walk : ℕ) → first_part program ≤ walk → walk < length tables.walks → Contains tables.roots walk ⊎ IsNamed tables walk
+  pub apart : (v w : ℕ) → v ≢ w → IsNamed tables v → IsNamed tables w → ¬ AreEqual (rows_of tables v) (rows_of tables w)
 
 -- Besides the walks of blocks, and at most two for each root that is not deletable (its own, and that of what it holds where this depends on the root), there is
--- at most one walk for each part, and no part is counted twice. Parts of one structure with equal rows share their walk.
+-- at most one walk for each part, and no part is counted twice. Parts with equal rows share their walk, whatever their structures.
 pub record ArePartsShared (program : Program) (layouts : Layouts) (tables : Tables) : Type 0 where
   pub parts : List PartWalk
   pub each : All (λ p. IsPart program p.part) parts
   pub walks : All (IsPartWalk program layouts tables) parts
   pub distinct : AllPairs (λ p q. p.part ≢ q.part) parts
   pub few : length tables.walks ≤ first_part program + 2 * length tables.roots + length parts
-  pub owners : List (Option TypeId)
-  pub owned : AreOwned program layouts tables owners
+  pub shared : AreDistinct program tables
 
 -- ---- how many there can be
 

@@ -1,10 +1,11 @@
 // The walks of blocks.
-ghost use Rattle.std.specs.Prelude.{◌≡◌, ◌<◌, ◌+◌, ◌⊎◌, [], ◌∷◌, ◌++◌, ℕ, List, None, false, length, IfOk, OnOk, All};
+ghost use Rattle.std.specs.Prelude.{◌≡◌, ◌<◌, ◌+◌, ◌⊎◌, [], ◌∷◌, ◌++◌, ℕ, List, None, false, length, flat_map, IfOk, OnOk, All};
 ghost use Rattle.gt_walk.specs.declared.rows.Count.TheVariants as count;
 ghost use Rattle.gt_walk.specs.declared.rows.WalkRow.{WalkRow};
 ghost use Rattle.gt_walk.specs.declared.rows.WalkRow.TheVariants as row;
+ghost use Rattle.gt_walk.specs.Nested.{parts_in};
 ghost use Rattle.gt_tables.specs.Building.{IsSource, first_of, AreRows, AreParts, Grows, Shallow, EndAsBlocks, AreServed, ServesWalk, ServesWalks, ServesPointers, IsPointerWalk};
-ghost use Rattle.gt_tables.specs.Counting.{StaysCounted};
+ghost use Rattle.gt_tables.specs.Counting.{named_by, StaysCounted};
 
 use crate::chains::chain_offset;
 use crate::forms::note;
@@ -26,7 +27,7 @@ fn standing_rows(
     requires served { AreServed source.now parts.old }
     requires there { id.0 < length source.now.program.now.structures }
     ensures grows { OnOk result (Grows source.now.program.now parts.old parts.new) }
-    ensures counted { OnOk result (StaysCounted source.now parts.old parts.new) }
+    ensures counted { IfOk result (λ rows. StaysCounted source.now (flat_map parts_in rows.items) parts.old parts.new) }
     ensures served { OnOk result (AreServed source.now parts.new) }
     ensures serves { IfOk result (λ rows. ServesWalk source.now parts.new.walks.items id rows.items) }
     ensures rows { IfOk result (λ rows. AreRows (first_of source.now) parts.new.walks.items Shallow rows.items) }
@@ -61,6 +62,7 @@ fn pointer_rows(source: &Source<'_>, id: TypeId) -> Result<Vec<WalkRow>, AllocEr
     requires there { id.0 < source.now.structures }
     ensures rows { IfOk result (λ rows. (walks : List (List WalkRow)) → AreRows (first_of source.now) walks Shallow rows.items) }
     ensures serves { IfOk result (λ rows. IsPointerWalk source.now.program.now id rows.items) }
+    ensures bare { IfOk result (λ rows. flat_map parts_in rows.items ≡ []) }
 {
     if source.may_stand(id) {
         pointing_rows(source, id.0, 1)
@@ -75,7 +77,7 @@ fn standing_walks(source: &Source<'_>, parts: &mut Parts) -> Result<Vec<List<Wal
     requires parts { AreParts source.now.program.now parts.old }
     requires served { AreServed source.now parts.old }
     ensures grows { OnOk result (Grows source.now.program.now parts.old parts.new) }
-    ensures counted { OnOk result (StaysCounted source.now parts.old parts.new) }
+    ensures counted { IfOk result (λ walks. StaysCounted source.now (named_by walks.items) parts.old parts.new) }
     ensures served { OnOk result (AreServed source.now parts.new) }
     ensures serves { IfOk result (λ walks. ServesWalks source.now parts.new.walks.items walks.items) }
     ensures walks { IfOk result (λ walks. All (AreRows (first_of source.now) parts.new.walks.items Shallow) walks.items) }
@@ -96,6 +98,7 @@ fn add_pointer_walks(source: &Source<'_>, walks: &mut Vec<List<WalkRow>>) -> Res
     ensures long { OnOk result (length walks.new.items ≡ length walks.old.items + source.now.structures) }
     ensures kept { OnOk result ((more : List (List WalkRow)) × (walks.new.items ≡ walks.old.items ++ more)) }
     ensures pointers { OnOk result (ServesPointers source.now.program.now (length walks.old.items) walks.new.items) }
+    ensures bare { OnOk result (named_by walks.new.items ≡ named_by walks.old.items) }
 {
     for i in 0..source.structures {
         let rows = pointer_rows(source, TypeId(i))?;
@@ -110,7 +113,7 @@ pub fn block_walks(source: &Source<'_>, parts: &mut Parts) -> Result<Vec<List<Wa
     requires parts { AreParts source.now.program.now parts.old }
     requires served { AreServed source.now parts.old }
     ensures grows { OnOk result (Grows source.now.program.now parts.old parts.new) }
-    ensures counted { OnOk result (StaysCounted source.now parts.old parts.new) }
+    ensures counted { IfOk result (λ walks. StaysCounted source.now (named_by walks.items) parts.old parts.new) }
     ensures served { OnOk result (AreServed source.now parts.new) }
     ensures serves { IfOk result (λ walks. ServesWalks source.now parts.new.walks.items walks.items) }
     ensures pointers { IfOk result (λ walks. ServesPointers source.now.program.now (length source.now.program.now.structures) walks.items) }

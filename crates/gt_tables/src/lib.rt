@@ -1,5 +1,5 @@
-//! The walker tables of a program: a walk for each kind of block, for each root that is not deletable, and for each structure that lies in another, with a row for
-//! each pointer and each part that has one. The layer above asks for all of them with [`build`], and visits them with `gt_walk`.
+//! The walker tables of a program: a walk for each kind of block, for each root that is not deletable, and for the structures that lie in others, where equal rows are one
+//! walk. It has a row for each pointer and each part that has one. The layer above asks for all of them with [`build`], and visits them with `gt_walk`.
 #![tactic(auto)]
 
 mod blocks;

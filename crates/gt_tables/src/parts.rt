@@ -13,11 +13,10 @@ use gt_walk::WalkRow;
 use std::alloc::{AllocError, Global};
 use std::collections::BTreeMap;
 
-// By what the walk of a structure is found: the structure, the number of the walk's rows, and how many walks of that structure with
-// that number stood before it.
+// By what the walk of a part is found, whatever its structure: the number of the walk's rows, and how many walks with that number stood
+// before it.
 #[derive(Clone, Copy, PartialEq, Eq, PartialOrd, Ord)]
 pub struct Case {
-    pub node: u32,
     pub print: u64,
     pub turn: u32,
 }
@@ -85,15 +84,15 @@ impl Parts {
         }
     }
 
-    // Where the walk of a structure with these rows stands. It takes about the logarithm of the number of walks, unless others have the
+    // Where the walk of a part with these rows stands. It takes about the logarithm of the number of walks, unless others have the
     // same number.
-    fn find(&self, node: u32, rows: &[WalkRow]) -> Result<Found, AllocError>
+    fn find(&self, rows: &[WalkRow]) -> Result<Found, AllocError>
         requires turns { HaveTurns self.now.cases }
-        ensures found { IfOk result (IsFound self.now.walks.items self.now.cases node rows.now) }
+        ensures found { IfOk result (IsFound self.now.walks.items self.now.cases rows.now) }
     {
         let print = print_of(rows);
         for turn in 0..u32::MAX {
-            let case = Case { node, print, turn };
+            let case = Case { print, turn };
             match self.cases.get(&case) {
                 None => return Ok(Found::Missing(case)),
                 Some(place) => {
@@ -106,13 +105,13 @@ impl Parts {
         Err(AllocError)
     }
 
-    // The walk of a structure with these rows: the one that stands already, or a new one.
-    fn share(&mut self, first: u32, node: u32, rows: Vec<WalkRow>) -> Result<u32, AllocError>
+    // The walk of a part with these rows: the one that stands already, or a new one.
+    fn share(&mut self, first: u32, rows: Vec<WalkRow>) -> Result<u32, AllocError>
         requires turns { HaveTurns self.old.cases }
         ensures known { self.new.known ≡ self.old.known }
-        ensures shares { IfOk result (Shares first node rows.items self.old.walks.items self.old.cases self.new.walks.items self.new.cases) }
+        ensures shares { IfOk result (Shares first rows.items self.old.walks.items self.old.cases self.new.walks.items self.new.cases) }
     {
-        let found = self.find(node, &rows)?;
+        let found = self.find(&rows)?;
         match found {
             Found::There(place) => match next_number(first, place as usize) {
                 Some(walk) => Ok(walk),
@@ -131,16 +130,15 @@ impl Parts {
         &mut self,
         first: u32,
         part: Option<Part>,
-        node: u32,
         rows: Vec<WalkRow>,
     ) -> Result<Option<u32>, AllocError>
         requires turns { HaveTurns self.old.cases }
-        ensures keeps { IfOk result (λ walk. Keeps first part node rows.items self.old self.new walk) }
+        ensures keeps { IfOk result (λ walk. Keeps first part rows.items self.old self.new walk) }
         ensures bare { IfOk result (λ walk. walk ≡ None → length rows.items ≤ 1) }
         ensures stays { OnOk result (Stays part self.old self.new) }
     {
         if rows.len() > 1 {
-            let walk = self.share(first, node, rows)?;
+            let walk = self.share(first, rows)?;
             self.know(part, Some(walk))?;
             return Ok(Some(walk));
         }

@@ -1,9 +1,10 @@
 // The walks of roots.
-ghost use Rattle.std.specs.Prelude.{◌≡◌, ◌≤◌, ◌+◌, ◌*◌, ◌++◌, [], ◌∷◌, ℕ, List, true, false, length, IfOk, OnOk, All, Contains};
+ghost use Rattle.std.specs.Prelude.{◌≡◌, ◌≤◌, ◌+◌, ◌*◌, ◌++◌, [], ◌∷◌, ℕ, List, true, false, length, flat_map, IfOk, OnOk, All, Contains};
 ghost use Rattle.std.specs.List.{filter};
 ghost use Rattle.gt_types.specs.Shapes.{dimensions};
 ghost use Rattle.gt_layout.specs.Progress.{HoldsWithinDepth};
 ghost use Rattle.gt_types.specs.Contains.{HasStructure};
+ghost use Rattle.gt_walk.specs.Nested.{parts_in};
 ghost use Rattle.gt_tables.specs.Building.{IsSource, first_of, AreRows, AreParts, Grows, Shallow, IsThere, number_of_walks, AreServed, ServesRoot, ServesRoots, IsWalkOfRoot};
 ghost use Rattle.gt_tables.specs.Counting.{Counted};
 ghost use Rattle.gt_edges.specs.Edges.{has_walk};
@@ -31,7 +32,7 @@ fn root_rows(
     requires served { AreServed source.now parts.old }
     requires root { Contains source.now.program.now.roots root.now }
     ensures grows { OnOk result (Grows source.now.program.now parts.old parts.new) }
-    ensures counted { OnOk result ((n : ℕ) (own : List ℕ) → Counted source.now parts.old n own → Counted source.now parts.new (n + 1) own) }
+    ensures counted { IfOk result (λ rows. (n : ℕ) (own hand : List ℕ) → Counted source.now parts.old n own hand → Counted source.now parts.new (n + 1) own (hand ++ flat_map parts_in rows.items)) }
     ensures served { OnOk result (AreServed source.now parts.new) }
     ensures serves { IfOk result (λ rows. ServesRoot source.now parts.new.walks.items root.now address rows.items) }
     ensures rows { IfOk result (λ rows. AreRows (first_of source.now) parts.new.walks.items Shallow rows.items) }
@@ -59,7 +60,7 @@ fn add_root(
     requires root { Contains source.now.program.now.roots root.now }
     requires roots { All (IsThere (first_of source.now) parts.old.walks.items) roots.old.items }
     ensures grows { OnOk result (Grows source.now.program.now parts.old parts.new) }
-    ensures counted { OnOk result ((n : ℕ) → Counted source.now parts.old (n + 2 * length roots.old.items) roots.old.items → Counted source.now parts.new (n + 2 * length roots.new.items) roots.new.items) }
+    ensures counted { OnOk result ((n : ℕ) (hand : List ℕ) → Counted source.now parts.old (n + 2 * length roots.old.items) roots.old.items hand → Counted source.now parts.new (n + 2 * length roots.new.items) roots.new.items hand) }
     ensures served { OnOk result (AreServed source.now parts.new) }
     ensures serves { OnOk result (root.now.deletable ≡ false → (walk : ℕ) × (roots.new.items ≡ roots.old.items ++ walk ∷ []) × IsWalkOfRoot source.now parts.new.walks.items root.now address walk) }
     ensures skips { OnOk result (root.now.deletable ≡ true → roots.new.items ≡ roots.old.items) }
@@ -81,7 +82,7 @@ pub fn root_walks(source: &Source<'_>, parts: &mut Parts) -> Result<Vec<u32>, Al
     requires parts { AreParts source.now.program.now parts.old }
     requires served { AreServed source.now parts.old }
     ensures grows { OnOk result (Grows source.now.program.now parts.old parts.new) }
-    ensures counted { IfOk result (λ roots. (n : ℕ) → Counted source.now parts.old n [] → Counted source.now parts.new (n + 2 * length roots.items) roots.items) }
+    ensures counted { IfOk result (λ roots. (n : ℕ) (hand : List ℕ) → Counted source.now parts.old n [] hand → Counted source.now parts.new (n + 2 * length roots.items) roots.items hand) }
     ensures serves { IfOk result (λ roots. ServesRoots source.now parts.new.walks.items (length source.now.program.now.roots) roots.items) }
     ensures roots { IfOk result (λ roots. All (IsThere (first_of source.now) parts.new.walks.items) roots.items) }
     ensures count { IfOk result (λ roots. length roots.items ≡ length (filter has_walk source.now.program.now.roots)) }

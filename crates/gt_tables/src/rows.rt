@@ -1,13 +1,14 @@
 // The rows of types, and the walks of the parts that they hold.
-ghost use Rattle.std.specs.Prelude.{◌≡◌, ◌≤◌, ◌<◌, ◌^◌, ℕ, length, Some, IfOk, IfSome, OnOk, All};
+ghost use Rattle.std.specs.Prelude.{◌≡◌, ◌≤◌, ◌<◌, ◌^◌, ℕ, [], length, flat_map, option_to_list, Some, IfOk, IfSome, OnOk, All};
 ghost use Rattle.gt_types.specs.declared.program.Structure.{Structure};
 ghost use Rattle.gt_types.specs.Shapes.{dimensions};
 ghost use Rattle.gt_types.specs.Contains.{HasStructure};
 ghost use Rattle.gt_layout.specs.Progress.{IsWithinDepth, HoldsWithinDepth};
 ghost use Rattle.gt_walk.specs.declared.rows.Arm.{out-Arm};
+ghost use Rattle.gt_walk.specs.Nested.{parts_in};
 ghost use Rattle.gt_types.specs.declared.types.Ty.TheVariants as ty;
 ghost use Rattle.gt_tree.specs.LeafLaws.{IsTypeIn};
-ghost use Rattle.gt_tables.specs.Building.{IsSource, first_of, IsWalkOf, IsRow, AreRows, AreParts, Grows, IsAround, IsPlaced, AreServed, ServesType, ServesPart, ServesStructure, ServesMembers, AddsFields};
+ghost use Rattle.gt_tables.specs.Building.{IsSource, first_of, parts_of, IsWalkOf, IsRow, AreRows, AreParts, Grows, IsAround, IsPlaced, AreServed, ServesType, ServesPart, ServesStructure, ServesMembers, AddsFields};
 ghost use Rattle.gt_tables.specs.Counting.{Counts, with_site};
 
 use crate::forms::{add_row, arm, counted, note, repeated, sub_row, switch_row};
@@ -39,7 +40,7 @@ pub fn type_row(
     requires flat { dimensions ty.now ≤ 4 }
     ensures grows { OnOk result (Grows source.now.program.now parts.old parts.new) }
     ensures served { OnOk result (AreServed source.now parts.new) }
-    ensures counts { OnOk result (Counts source.now (HoldsWithinDepth source.now.program.now ty.now) (with_site lies.site) parts.old parts.new) }
+    ensures counts { IfOk result (λ row. Counts source.now (HoldsWithinDepth source.now.program.now ty.now) (with_site lies.site) [] (parts_of row) parts.old parts.new) }
     ensures serves { IfOk result (ServesType source.now parts.new.walks.items lies.around ty.now offset) }
     ensures row { IfOk result (λ row. IfSome row (IsRow (first_of source.now) parts.new.walks.items (HoldsWithinDepth source.now.program.now ty.now))) }
 {
@@ -86,7 +87,7 @@ fn part_walk(
     requires shallow { IsWithinDepth source.now.program.now id.0 depth }
     ensures grows { OnOk result (Grows source.now.program.now parts.old parts.new) }
     ensures served { OnOk result (AreServed source.now parts.new) }
-    ensures counts { OnOk result (Counts source.now (HoldsWithinDepth source.now.program.now (ty.Node id desc.now)) (with_site lies.site) parts.old parts.new) }
+    ensures counts { IfOk result (λ walk. Counts source.now (HoldsWithinDepth source.now.program.now (ty.Node id desc.now)) (with_site lies.site) [] (option_to_list walk) parts.old parts.new) }
     ensures serves { IfOk result (ServesPart source.now parts.new.walks.items lies.around id desc.now) }
     ensures walk { IfOk result (λ walk. IfSome walk (IsWalkOf source.now.program.now (first_of source.now) parts.new.walks.items id.0)) }
 {
@@ -96,7 +97,7 @@ fn part_walk(
     }
     let inner = lies.around.enter(id);
     let rows = structure_rows(source, parts, inner, id, desc, None, depth)?;
-    parts.keep(source.first_part(), part, id.0, rows)
+    parts.keep(source.first_part(), part, rows)
 }
 
 // The rows of a structure, of which the first is its note. Structures stand inside it at most so deep.
@@ -119,7 +120,7 @@ pub fn structure_rows(
     requires shallow { IsWithinDepth source.now.program.now id.0 depth }
     ensures grows { OnOk result (Grows source.now.program.now parts.old parts.new) }
     ensures served { OnOk result (AreServed source.now parts.new) }
-    ensures counts { OnOk result (Counts source.now (IsWithinDepth source.now.program.now id.0) (λ n. n) parts.old parts.new) }
+    ensures counts { IfOk result (λ rows. Counts source.now (IsWithinDepth source.now.program.now id.0) (λ n. n) [] (flat_map parts_in rows.items) parts.old parts.new) }
     ensures serves { IfOk result (λ rows. ServesStructure source.now parts.new.walks.items inner id desc.now chain rows.items) }
     ensures rows { IfOk result (λ rows. AreRows (first_of source.now) parts.new.walks.items (IsWithinDepth source.now.program.now id.0) rows.items) }
 {
@@ -164,7 +165,7 @@ fn add_fields(
     requires rows { AreRows (first_of source.now) parts.old.walks.items (IsWithinDepth source.now.program.now id.0) rows.old.items }
     ensures grows { OnOk result (Grows source.now.program.now parts.old parts.new) }
     ensures served { OnOk result (AreServed source.now parts.new) }
-    ensures counts { OnOk result (Counts source.now (IsWithinDepth source.now.program.now id.0) (λ n. n) parts.old parts.new) }
+    ensures counts { OnOk result (Counts source.now (IsWithinDepth source.now.program.now id.0) (λ n. n) (flat_map parts_in rows.old.items) (flat_map parts_in rows.new.items) parts.old parts.new) }
     ensures adds { OnOk result (AddsFields source.now parts.new.walks.items inner fields.now spots.now rows.old.items rows.new.items) }
     ensures rows { OnOk result (AreRows (first_of source.now) parts.new.walks.items (IsWithinDepth source.now.program.now id.0) rows.new.items) }
 {
@@ -198,7 +199,7 @@ fn union_arms(
     requires deep { (most : ℕ) → IsWithinDepth source.now.program.now id.0 most → All (λ f. HoldsWithinDepth source.now.program.now f.ty most) fields.now }
     ensures grows { OnOk result (Grows source.now.program.now parts.old parts.new) }
     ensures served { OnOk result (AreServed source.now parts.new) }
-    ensures counts { OnOk result (Counts source.now (IsWithinDepth source.now.program.now id.0) (λ n. n) parts.old parts.new) }
+    ensures counts { IfOk result (λ arms. Counts source.now (IsWithinDepth source.now.program.now id.0) (λ n. n) [] (flat_map (λ a. parts_of (out-Arm a).row) arms.items) parts.old parts.new) }
     ensures serves { IfOk result (λ arms. ServesMembers source.now parts.new.walks.items inner fields.now arms.items) }
     ensures arms { IfOk result (λ arms. All (λ a. IfSome (out-Arm a).row (IsRow (first_of source.now) parts.new.walks.items (IsWithinDepth source.now.program.now id.0))) arms.items) }
 {

@@ -1,8 +1,11 @@
-use Rattle.std.proofs.Common.{◌∙◌, ◌++◌, [], ◌∷◌, length, ap, sym, subst, arith, List}
+use Rattle.std.proofs.Common.{◌∙◌, ◌++◌, [], ◌∷◌, length, refl, ap, sym, subst, arith, List}
+use Rattle.std.specs.Prelude.{flat_map}
 use Rattle.std.proofs.lemmas.List.{append-nil}
 use Rattle.gt_walk.specs.declared.rows.WalkRow.{WalkRow}
+use Rattle.gt_walk.specs.Nested.{parts_in}
 use Rattle.gt_tables.specs.Building.{first_of, AreRows, Shallow, IsPointerWalk}
 use Rattle.gt_tables.proofs.Growing.{append-assoc}
+use Rattle.gt_tables.proofs.NamedParts.{named-bare}
 use Rattle.gt_tables.proofs.Wholes.{list-add, one-longer}
 use Rattle.gt_tables.proofs.ServingBlocks.{points-none, points-step, points-all}
 use Rattle.gt_tables.proofs.blocks.add_pointer_walks.Goals as goal
@@ -22,6 +25,9 @@ loop-i-preserved c =
           points-step c.args.source.now.program.now (length c.args.walks.now.items) c.loop-i.walks.items c.push.new.self.items c.of.result (record { 0 = c.loop-i.i }) c.loop-i.invariant.long
           c.in_ok-push.ensures.items
           (subst (IsPointerWalk c.args.source.now.program.now (record { 0 = c.loop-i.i })) (sym c.of.ensures.items) c.in_ok-rows.ensures.serves) c.loop-i.invariant.pointers;
+      bare =
+          named-bare c.loop-i.walks.items c.push.new.self.items c.of.result c.in_ok-push.ensures.items (ap (λ l. flat_map parts_in l) c.of.ensures.items ∙ c.in_ok-rows.ensures.bare)
+          ∙ c.loop-i.invariant.bare;
       long = omega (arith, one-longer (List WalkRow) c.loop-i.walks.items c.push.new.self.items c.of.result c.in_ok-push.ensures.items, c.loop-i.invariant.long);
     }
 
@@ -36,5 +42,6 @@ loop-i-init c = record {
   walks = λ parts all. all;
   kept = ([], sym (append-nil c.args.walks.now.items));
   pointers = points-none c.args.source.now.program.now c.args.walks.now.items;
+  bare = refl;
   long = omega arith;
 }

@@ -1,11 +1,16 @@
 use Rattle.std.proofs.Common.{◌≡◌, ◌∙◌, ◌<◌, ap, sym, subst, arith, List, [], ◌∷◌, ◌++◌, length, None, false}
+use Rattle.std.specs.Prelude.{flat_map}
 use Rattle.gt_walk.specs.declared.rows.Count.TheVariants as count
 use Rattle.gt_walk.specs.declared.rows.WalkRow.{WalkRow}
 use Rattle.gt_walk.specs.declared.rows.WalkRow.TheVariants as row
+use Rattle.gt_walk.specs.Nested.{parts_in}
 use Rattle.gt_tree.specs.Blocks.{Chars}
 use Rattle.gt_edges.specs.Numbers.{walk_of}
 use Rattle.gt_tables.specs.Building.{first_of, AreRows, Shallow, ServesPointers}
+use Rattle.gt_tables.specs.Counting.{named_by}
 use Rattle.gt_tables.proofs.Growing.{append-assoc, rows-note}
+use Rattle.gt_tables.proofs.NamedParts.{note-none, pointing-none, named-bare}
+use Rattle.gt_tables.proofs.PartCounts.{stays-same}
 use Rattle.gt_tables.proofs.Wholes.{list-add, rows-pointing}
 use Rattle.gt_tables.proofs.ServingBlocks.{walks-front, points-front}
 use Rattle.gt_tables.proofs.blocks.block_walks.Goals as goal
@@ -61,3 +66,13 @@ returns-clause-pointers c =
     let long : length c.in_ok-walks.walks.items ≡ length program.structures = c.in_ok-walks.ensures.long ∙ c.requires.source.count in
     points-front program (length program.structures) pointers more c.push-2.new.self.items is (omega (arith, long, c.in_ok-add_pointer_walks.ensures.long, c.requires.source.count))
     (subst (λ n. ServesPointers program n pointers) long c.in_ok-add_pointer_walks.ensures.pointers)
+
+-- the walks of pointers and of strings name no walk of a part
+pub returns-clause-counted : goal.returns-clause-counted
+returns-clause-counted c =
+    let strings = ap (λ l. flat_map parts_in l) (c.of.ensures.items ∙ c.in_ok-strings.ensures) ∙ pointing-none 8 None 0 c.bare_walk.result (count.Fixed 0) false in
+    let bare = ap (λ l. flat_map parts_in l) (c.of-2.ensures.items ∙ c.in_ok-bare.ensures) ∙ note-none 1 None in
+    let is =
+    named-bare c.push.new.self.items c.push-2.new.self.items c.of-2.result c.in_ok-push-2.ensures.items bare
+    ∙ named-bare c.add_pointer_walks.new.walks.items c.push.new.self.items c.of.result c.in_ok-push.ensures.items strings ∙ c.in_ok-add_pointer_walks.ensures.bare in
+    stays-same c.args.source.now (named_by c.in_ok-walks.walks.items) (named_by c.push-2.new.self.items) c.args.parts.now c.standing_walks.new.parts is c.in_ok-walks.ensures.counted

@@ -1,11 +1,13 @@
 use Rattle.std.proofs.Common.{◌≡◌, ◌∙◌, ◌<◌, [], ◌∷◌, length, ap, Some, get_or, arith}
-use Rattle.std.specs.Prelude.{slice_get}
+use Rattle.std.specs.Prelude.{flat_map, slice_get}
 use Rattle.gt_layout.proofs.Laying.{read_at}
 use Rattle.gt_walk.specs.declared.rows.WalkRow.TheVariants as row
+use Rattle.gt_walk.specs.Nested.{parts_in}
 use Rattle.gt_tables.specs.Building.{Grows, around_of, ServesStructure, ServesWalk}
 use Rattle.gt_layout.specs.Progress.{IsWithinDepth}
 use Rattle.gt_tables.specs.Counting.{StaysCounted, Counts}
-use Rattle.gt_tables.proofs.PartCounts.{on-on, on-any}
+use Rattle.gt_tables.proofs.PartCounts.{stays-bare, stays-of}
+use Rattle.gt_tables.proofs.NamedParts.{note-none}
 use Rattle.gt_tables.proofs.Keeping.{on-ok, if-ok, grows-not}
 use Rattle.gt_tables.proofs.Serving.{entered-alone}
 use Rattle.gt_tables.proofs.ServingBlocks.{is-alone, walk-stands, walk-inner}
@@ -52,12 +54,17 @@ returns-clause-serves c =
 
 pub returns-then-not-may_stand-clause-counted : goal.returns-then-not-may_stand-clause-counted
 returns-then-not-may_stand-clause-counted c =
-    on-any (StaysCounted c.args.source.now c.args.parts.now c.args.parts.now) c.note.result (λ n own h. h)
+    let plane = c.index-as_slice-id-then-not-may_stand.result in
+    let held = get_or c.as_slice-then-not-may_stand.result.now c.args.id.0 plane in
+    let parts = c.args.parts.now in
+    if-ok (λ rows. rows.items ≡ row.Note held.size c.chain_offset-chain.result ∷ []) (λ rows. StaysCounted c.args.source.now (flat_map parts_in rows.items) parts parts) c.note.result
+    (λ rows is. stays-bare c.args.source.now (flat_map parts_in rows.items) parts (ap (λ l. flat_map parts_in l) is ∙ note-none held.size c.chain_offset-chain.result)) c.note.ensures
 
 pub returns-clause-counted : goal.returns-clause-counted
 returns-clause-counted c =
     let program = c.args.source.now.program.now in
     let old = c.args.parts.now in
     let new = c.structure_rows.new.parts in
-    on-on (Counts c.args.source.now (IsWithinDepth program c.args.id.0) (λ n. n) old new) (StaysCounted c.args.source.now old new) c.structure_rows.result (λ counts n own h. counts.counted n own h)
-    c.structure_rows.ensures.counts
+    let deep = IsWithinDepth program c.args.id.0 in
+    if-ok (λ rows. Counts c.args.source.now deep (λ n. n) [] (flat_map parts_in rows.items) old new) (λ rows. StaysCounted c.args.source.now (flat_map parts_in rows.items) old new) c.structure_rows.result
+    (λ rows counts. stays-of c.args.source.now deep (flat_map parts_in rows.items) old new counts) c.structure_rows.ensures.counts

@@ -1,9 +1,13 @@
-use Rattle.std.proofs.Common.{length, ap, sym, subst, arith, List}
-use Rattle.std.specs.Prelude.{All}
+use Rattle.std.proofs.Common.{◌∙◌, ◌++◌, length, ap, sym, subst, arith, List}
+use Rattle.std.specs.Prelude.{All, flat_map}
 use Rattle.std.proofs.lemmas.List.Elements.{All-nil}
 use Rattle.gt_walk.specs.declared.rows.WalkRow.{WalkRow}
+use Rattle.gt_walk.specs.Nested.{parts_in}
 use Rattle.gt_tables.specs.Building.{first_of, AreRows, Shallow, ServesWalk}
+use Rattle.gt_tables.specs.Counting.{named_by}
 use Rattle.gt_tables.proofs.Keeping.{grows-not, grows-on}
+use Rattle.gt_tables.proofs.NamedParts.{named-push}
+use Rattle.gt_tables.proofs.PartCounts.{stays-bare, stays-on}
 use Rattle.gt_tables.proofs.Wholes.{list-add, list-on, one-longer}
 use Rattle.gt_tables.proofs.ServingBlocks.{each-none, each-step, each-all}
 use Rattle.gt_tables.proofs.blocks.standing_walks.Goals as goal
@@ -16,7 +20,11 @@ loop-i-preserved c =
     record {
       grows = grows-on program c.args.parts.now c.loop-i.parts c.standing_rows.new.parts c.loop-i.invariant.grows c.in_ok-rows.ensures.grows;
       served = c.in_ok-rows.ensures.served;
-      counted = λ n own h. c.in_ok-rows.ensures.counted n own (c.loop-i.invariant.counted n own h);
+      counted =
+          let named = flat_map parts_in c.in_ok-rows.rows.items in
+          let is = ap named_by c.in_ok-push.ensures.items ∙ named-push c.loop-i.walks.items c.of.result ∙ ap (λ l. named_by c.loop-i.walks.items ++ flat_map parts_in l) c.of.ensures.items in
+          stays-on c.args.source.now (named_by c.loop-i.walks.items) named (named_by c.push.new.self.items) c.args.parts.now c.loop-i.parts c.standing_rows.new.parts is c.loop-i.invariant.counted
+          c.in_ok-rows.ensures.counted;
       serves =
           each-step c.args.source.now c.loop-i.parts c.standing_rows.new.parts c.in_ok-rows.ensures.grows c.loop-i.walks.items c.push.new.self.items c.of.result (record { 0 = c.loop-i.i })
           (sym c.loop-i.invariant.long) c.in_ok-push.ensures.items
@@ -37,7 +45,7 @@ loop-i-init c =
     record {
       grows = grows-not c.args.source.now.program.now c.args.parts.now c.requires.parts;
       served = c.requires.served;
-      counted = λ n own h. h;
+      counted = stays-bare c.args.source.now (named_by c.new-walks.result.items) c.args.parts.now (ap named_by c.new-walks.ensures.items);
       serves = each-none c.args.source.now c.args.parts.now.walks.items c.new-walks.result.items c.new-walks.ensures.items;
       walks = subst (All P) (sym c.new-walks.ensures.items) (All-nil P);
       long = ap length c.new-walks.ensures.items;

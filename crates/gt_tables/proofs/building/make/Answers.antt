@@ -7,6 +7,7 @@ use Rattle.gt_edges.proofs.RootEdges.{gives-roots}
 use Rattle.gt_edges.specs.Tables.{AreNumbered}
 use Rattle.gt_edges.specs.Deletable.{deletable_words}
 use Rattle.gt_tables.specs.Building.{IsThere}
+use Rattle.gt_tables.specs.Counting.{named_by}
 use Rattle.gt_tables.proofs.Wholes.{nested-of, numbered-of}
 use Rattle.gt_tables.proofs.PartCounts.{counted-none, counted-more, parts-shared}
 use Rattle.gt_tables.proofs.TablesOf.{is-source, no-parts, none-served, made-walks}
@@ -82,12 +83,14 @@ pub returns-clause-roots : goal.returns-clause-roots
 returns-clause-roots c =
     gives-roots c.args.program.now c.args.layouts.now (record { walks = c.of.result; roots = c.of-2.result; deletable = c.of-3.result; caches = c.of-4.result }) c.requires.settled c.requires.laid (returns-clause-walks c)
 
--- walks are counted, and have owners
+-- walks are counted, and rows name them
 pub returns-clause-shared : goal.returns-clause-shared
 returns-clause-shared c =
     let tables : Tables = record { walks = c.of.result; roots = c.of-2.result; deletable = c.of-3.result; caches = c.of-4.result } in
     let parts = c.root_walks.new.parts in
     let own = c.in_ok-roots.roots.items in
-    let counted = c.in_ok-roots.ensures.counted 0 (c.in_ok-walks.ensures.counted 0 [] (counted-none _ c.new-parts.result c.new-parts.ensures.walks)) in
+    let none = counted-none _ c.new-parts.result c.new-parts.ensures.walks c.new-parts.ensures.cases c.new-parts.ensures.known in
+    let hand = named_by c.in_ok-walks.walks.items in
+    let counted = c.in_ok-roots.ensures.counted 0 hand (c.in_ok-walks.ensures.counted 0 [] [] none) in
     parts-shared _ tables c.in_ok-walks.walks.items parts (c.of.ensures.items ∙ c.in_ok-append.ensures.items) c.in_ok-walks.ensures.long own c.of-2.ensures.items
-    (counted-more _ parts (0 + 2 * length own) (2 * length own) own (omega arith) counted)
+    (counted-more _ parts (0 + 2 * length own) (2 * length own) own hand (omega arith) counted)

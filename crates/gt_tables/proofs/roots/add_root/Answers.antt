@@ -38,7 +38,7 @@ pub returns-clause-served : goal.returns-clause-served
 returns-clause-served c = served-same c.args.source.now c.root_rows.new.parts c.add.new.self (c.in_ok-rows.rows.items ∷ []) c.in_ok-walk.ensures.walks c.add.ensures.known c.in_ok-rows.ensures.served
 
 pub returns-clause-counted : goal.returns-clause-counted
-returns-clause-counted c n h =
-    root-counted c.args.source.now c.root_rows.new.parts c.add.new.self c.in_ok-rows.rows.items c.args.roots.now.items c.push.new.self.items c.in_ok-walk.walk n c.add.ensures.known c.add.ensures.cases
+returns-clause-counted c n hand h =
+    root-counted c.args.source.now c.root_rows.new.parts c.add.new.self c.in_ok-rows.rows.items c.args.roots.now.items c.push.new.self.items hand c.in_ok-walk.walk n c.add.ensures.known c.add.ensures.cases
     c.in_ok-walk.ensures.walks (c.in_ok-walk.ensures.number ∙ ap (λ n. n + length c.root_rows.new.parts.walks.items) c.first_part.ensures) c.in_ok-push.ensures.items
-    (c.in_ok-rows.ensures.counted (n + 2 * length c.args.roots.now.items) c.args.roots.now.items h)
+    (c.in_ok-rows.ensures.counted (n + 2 * length c.args.roots.now.items) c.args.roots.now.items hand h)

@@ -1,12 +1,14 @@
-use Rattle.std.proofs.Common.{◌∙◌, ◌++◌, ap, sym, subst, None}
+use Rattle.std.proofs.Common.{◌∙◌, ◌+◌, ◌++◌, ap, sym, subst, None}
 use Rattle.std.specs.Prelude.{option_to_list}
+use Rattle.std.proofs.lemmas.List.{append-nil}
 use Rattle.gt_layout.specs.Progress.{HoldsWithinDepth}
 use Rattle.gt_tree.specs.LeafLaws.{of_root}
 use Rattle.gt_edges.specs.Walks.{IsRowOf}
-use Rattle.gt_tables.specs.Building.{first_of, AreRows, Shallow}
+use Rattle.gt_tables.specs.Building.{first_of, parts_of, AreRows, Shallow}
 use Rattle.gt_tables.specs.Counting.{Counted, with_site}
 use Rattle.gt_tables.proofs.Growing.{rows-note, rows-add}
 use Rattle.gt_tables.proofs.Keeping.{some-deeper}
+use Rattle.gt_tables.proofs.NamedParts.{noted-parts}
 use Rattle.gt_tables.proofs.Wholes.{holds-enough}
 use Rattle.gt_tables.proofs.Serving.{root-placed}
 use Rattle.gt_tables.proofs.roots.root_rows.Goals as goal
@@ -40,5 +42,10 @@ returns-clause-serves c =
     }
 
 pub returns-clause-counted : goal.returns-clause-counted
-returns-clause-counted c n own h =
-    subst (λ o. Counted c.args.source.now c.type_row.new.parts (with_site o n) own) c.in_root-lies.ensures.site (c.in_ok-row.ensures.counts.counted n own h)
+returns-clause-counted c n own hand h =
+    let source = c.args.source.now in
+    let new = c.type_row.new.parts in
+    let named = noted-parts source.layouts.now.statics.size None c.in_ok-row.row c.in_ok-rows.rows.items c.add_row.new.rows.items c.in_ok-rows.ensures c.in_ok-add_row.ensures in
+    let before = subst (Counted source c.args.parts.now n own) (sym (append-nil hand)) h in
+    subst (λ l. Counted source new (n + 1) own (hand ++ l)) (sym named)
+    (subst (λ o. Counted source new (with_site o n) own (hand ++ parts_of c.in_ok-row.row)) c.in_root-lies.ensures.site (c.in_ok-row.ensures.counts.counted n own hand before))

@@ -24,7 +24,7 @@ loop-i-preserved c =
     record {
       grows = grows-on c.args.source.now.program.now c.args.parts.now c.loop-i.parts c.add_root.new.parts c.loop-i.invariant.grows c.in_ok-add_root.ensures.grows;
       served = c.in_ok-add_root.ensures.served;
-      counted = λ n h. c.in_ok-add_root.ensures.counted n (c.loop-i.invariant.counted n h);
+      counted = λ n hand h. c.in_ok-add_root.ensures.counted n hand (c.loop-i.invariant.counted n hand h);
       serves =
           roots-step source c.requires.source c.loop-i.parts c.add_root.new.parts c.in_ok-add_root.ensures.grows c.loop-i.i c.loop-i.roots.items c.add_root.new.roots.items c.index-all-i.result c.root_address-address.result
           (ap (λ rs. slice_get rs c.loop-i.i) (sym all) ∙ here) count at c.in_ok-add_root.ensures.serves c.in_ok-add_root.ensures.skips c.loop-i.invariant.serves;
@@ -45,9 +45,9 @@ loop-i-init c =
     record {
       grows = grows-not c.args.source.now.program.now c.args.parts.now c.requires.parts;
       served = c.requires.served;
-      counted = λ n h.
-          counted-more c.args.source.now c.args.parts.now n (n + 2 * length c.new-roots.result.items) c.new-roots.result.items (omega arith)
-          (subst (Counted c.args.source.now c.args.parts.now n) (sym c.new-roots.ensures.items) h);
+      counted = λ n hand h.
+          counted-more c.args.source.now c.args.parts.now n (n + 2 * length c.new-roots.result.items) c.new-roots.result.items hand (omega arith)
+          (subst (λ own. Counted c.args.source.now c.args.parts.now n own hand) (sym c.new-roots.ensures.items) h);
       serves = roots-none c.args.source.now c.args.parts.now.walks.items c.new-roots.result.items;
       roots = subst (All There) (sym c.new-roots.ensures.items) (All-nil There);
       count = omega (arith, nothing);

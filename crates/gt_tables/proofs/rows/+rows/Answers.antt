@@ -1,5 +1,5 @@
-use Rattle.std.proofs.Common.{rules, ◌≡◌, ◌≢◌, ◌∙◌, ℕ, ◌^◌, ◌≤◌, ◌<◌, ap, sym, subst, inl, inr, arith, length, [], ◌∷◌, Some, None, get_or}
-use Rattle.std.specs.Prelude.{All, IfSome}
+use Rattle.std.proofs.Common.{rules, ◌≡◌, ◌≢◌, ◌∙◌, ℕ, ◌^◌, ◌≤◌, ◌<◌, ap, sym, subst, inl, inr, arith, length, [], ◌∷◌, ◌++◌, Some, None, get_or}
+use Rattle.std.specs.Prelude.{All, IfSome, flat_map, option_to_list}
 use Rattle.std.specs.Option.{option_map}
 use Rattle.std.proofs.lemmas.List.Elements.{All-append, All-nil, All-cons}
 use Rattle.gt_types.specs.declared.types.TypeId.{TypeId}
@@ -21,13 +21,15 @@ use Rattle.gt_value.proofs.Dimensions.{array-dimensions, tail-dimensions}
 use Rattle.gt_value.proofs.ZeroSteps.{fields-flat}
 use Rattle.gt_walk.specs.declared.rows.RowExpr.{RowExpr}
 use Rattle.gt_walk.specs.declared.rows.WalkRow.TheVariants.{Rep, Tail}
+use Rattle.gt_walk.specs.Nested.{parts_in}
 use Rattle.gt_edges.specs.Walks.{IsRowExpr, IsDescExpr, IsPointerRow, IsRowOf, number, bits, opaque, pointer}
-use Rattle.gt_tables.specs.Building.{first_of, around_of, AreRows, IsRow, IsWalkOf, Keeps, Grows, IsPlaced, AreServed, ServesType, ServesPart}
+use Rattle.gt_tables.specs.Building.{first_of, around_of, parts_of, IsPointerRow as NamesBlocks, AreRows, IsRow, IsWalkOf, Keeps, Grows, IsPlaced, AreServed, ServesType, ServesPart}
 use Rattle.gt_tables.specs.Counting.{Stays, Counts, with_site}
 use Rattle.gt_tables.proofs.Growing.{rows-note, rows-add, row-pointer, IsArm}
 use Rattle.gt_tables.proofs.Keeping.{on-ok, if-ok, if-both, on-both, grows-not, grows-on, rows-on, arms-on, rep-row, tail-row, sub-row, some-deeper, switch-some, known-walk, kept-walk, kept-grows}
 use Rattle.gt_tables.proofs.Serving.{entered, entered-here, field-placed, element-placed, contains-at, sub-serves, array-serves, tail-serves, fields-begin, fields-step, fields-end, arms-step, arms-end, struct-serves, union-serves, kept-walked, kept-serves, kept-served}
-use Rattle.gt_tables.proofs.PartCounts.{on-any, on-kept, counts-not, counts-site, counts-deeper, counts-on, part-counts}
+use Rattle.gt_tables.proofs.PartCounts.{if-kept, with-more, counts-not, counts-bare, counts-known, counts-after, counts-before, counts-site, counts-deeper, counts-on, part-counts}
+use Rattle.gt_tables.proofs.NamedParts.{arms_name, note-none, parts-add, noted-parts, pointer-none, sub-named, rep-named, tail-named, arms-add, switch-named}
 use Rattle.gt_tables.proofs.Fields.{spots-long}
 use Rattle.gt_tables.proofs.rows.+rows.Goals as goal
 
@@ -56,9 +58,14 @@ add_fields-loop-i-preserved t c =
       grows = grows-on program c.args.parts.now c.loop-i.parts c.type_row.new.parts c.loop-i.invariant.grows c.in_ok-row.ensures.grows;
       served = c.in_ok-row.ensures.served;
       counts =
-          counts-on c.args.source.now deep c.args.parts.now c.loop-i.parts c.type_row.new.parts c.loop-i.invariant.counts
-          (counts-deeper c.args.source.now (HoldsWithinDepth program f.ty) deep (λ n. n) c.loop-i.parts c.type_row.new.parts deeper
-          (counts-site c.args.source.now (HoldsWithinDepth program f.ty) c.in_field-lies.result.site c.loop-i.parts c.type_row.new.parts _ c.in_field-lies.ensures.site c.in_ok-row.ensures.counts));
+          let named = flat_map parts_in c.loop-i.rows.items in
+          let before = flat_map parts_in c.args.rows.now.items in
+          let more = parts_of c.in_ok-row.row in
+          counts-after c.args.source.now deep (λ n. n) c.args.parts.now c.type_row.new.parts before (named ++ more) (flat_map parts_in c.add_row.new.rows.items)
+          (ap (λ l. flat_map parts_in l) c.in_ok-add_row.ensures ∙ parts-add c.loop-i.rows.items c.in_ok-row.row)
+          (counts-on c.args.source.now deep c.args.parts.now c.loop-i.parts c.type_row.new.parts before named more c.loop-i.invariant.counts
+          (counts-deeper c.args.source.now (HoldsWithinDepth program f.ty) (λ n. n) c.loop-i.parts c.type_row.new.parts deep [] more deeper
+          (counts-site c.args.source.now (HoldsWithinDepth program f.ty) c.in_field-lies.result.site c.loop-i.parts c.type_row.new.parts _ [] more c.in_field-lies.ensures.site c.in_ok-row.ensures.counts)));
       adds =
           let first_spot : Spot = record { offset = 0; bit = 0 } in
           fields-step c.args.source.now c.loop-i.parts c.type_row.new.parts c.in_ok-row.ensures.grows c.args.inner c.args.fields.now c.args.spots.now c.loop-i.i c.args.rows.now.items c.loop-i.rows.items
@@ -79,9 +86,9 @@ part_walk-returns-in-Some-clause-walk t c =
 pub part_walk-returns-clause-grows : goal.part_walk-returns-clause-grows
 part_walk-returns-clause-grows t c =
     let program = c.args.source.now.program.now in
-    on-ok (Keeps c.first_part.result c.part_of-part.result c.args.id.0 c.in_ok-rows.rows.items c.structure_rows.new.parts c.keep.new.self) (Grows program c.args.parts.now c.keep.new.self) c.keep.result
+    on-ok (Keeps c.first_part.result c.part_of-part.result c.in_ok-rows.rows.items c.structure_rows.new.parts c.keep.new.self) (Grows program c.args.parts.now c.keep.new.self) c.keep.result
     (λ walk keeps.
-    let kept = subst (λ n. Keeps n c.part_of-part.result c.args.id.0 c.in_ok-rows.rows.items c.structure_rows.new.parts c.keep.new.self walk) c.first_part.ensures keeps in
+    let kept = subst (λ n. Keeps n c.part_of-part.result c.in_ok-rows.rows.items c.structure_rows.new.parts c.keep.new.self walk) c.first_part.ensures keeps in
     grows-on program c.args.parts.now c.structure_rows.new.parts c.keep.new.self c.in_ok-rows.ensures.grows
     (kept-grows program c.requires.source.settled c.part_of-part.result c.args.id.0 c.in_ok-rows.rows.items c.structure_rows.new.parts c.keep.new.self walk c.in_ok-rows.ensures.grows.are
     c.in_ok-rows.ensures.rows kept c.part_of-part.ensures.node)) c.keep.ensures.keeps
@@ -89,10 +96,10 @@ part_walk-returns-clause-grows t c =
 pub part_walk-returns-clause-walk : goal.part_walk-returns-clause-walk
 part_walk-returns-clause-walk t c =
     let program = c.args.source.now.program.now in
-    if-ok (Keeps c.first_part.result c.part_of-part.result c.args.id.0 c.in_ok-rows.rows.items c.structure_rows.new.parts c.keep.new.self)
+    if-ok (Keeps c.first_part.result c.part_of-part.result c.in_ok-rows.rows.items c.structure_rows.new.parts c.keep.new.self)
     (λ walk. IfSome walk (IsWalkOf program (first_of c.args.source.now) c.keep.new.self.walks.items c.args.id.0)) c.keep.result
     (λ walk keeps.
-    let kept = subst (λ n. Keeps n c.part_of-part.result c.args.id.0 c.in_ok-rows.rows.items c.structure_rows.new.parts c.keep.new.self walk) c.first_part.ensures keeps in
+    let kept = subst (λ n. Keeps n c.part_of-part.result c.in_ok-rows.rows.items c.structure_rows.new.parts c.keep.new.self walk) c.first_part.ensures keeps in
     kept-walk program c.requires.source.settled c.part_of-part.result c.args.id.0 c.in_ok-rows.rows.items c.structure_rows.new.parts c.keep.new.self walk
     c.in_ok-rows.ensures.rows kept) c.keep.ensures.keeps
 
@@ -199,9 +206,13 @@ union_arms-loop-i-preserved t c =
       grows = grows-on program c.args.parts.now c.loop-i.parts c.type_row.new.parts c.loop-i.invariant.grows c.in_ok-row.ensures.grows;
       served = c.in_ok-row.ensures.served;
       counts =
-          counts-on c.args.source.now deep c.args.parts.now c.loop-i.parts c.type_row.new.parts c.loop-i.invariant.counts
-          (counts-deeper c.args.source.now (HoldsWithinDepth program f.ty) deep (λ n. n) c.loop-i.parts c.type_row.new.parts deeper
-          (counts-site c.args.source.now (HoldsWithinDepth program f.ty) c.in_field-lies.result.site c.loop-i.parts c.type_row.new.parts _ c.in_field-lies.ensures.site c.in_ok-row.ensures.counts));
+          let named = arms_name c.loop-i.arms.items in
+          let more = parts_of c.in_ok-row.row in
+          counts-after c.args.source.now deep (λ n. n) c.args.parts.now c.type_row.new.parts [] (named ++ more) (arms_name c.push.new.self.items)
+          (ap arms_name c.in_ok-push.ensures.items ∙ arms-add c.loop-i.arms.items c.in_ok-made.made c.in_ok-row.row c.in_ok-made.ensures.row)
+          (counts-on c.args.source.now deep c.args.parts.now c.loop-i.parts c.type_row.new.parts [] named more c.loop-i.invariant.counts
+          (counts-deeper c.args.source.now (HoldsWithinDepth program f.ty) (λ n. n) c.loop-i.parts c.type_row.new.parts deep [] more deeper
+          (counts-site c.args.source.now (HoldsWithinDepth program f.ty) c.in_field-lies.result.site c.loop-i.parts c.type_row.new.parts _ [] more c.in_field-lies.ensures.site c.in_ok-row.ensures.counts)));
       serves =
           arms-step c.args.source.now c.loop-i.parts c.type_row.new.parts c.in_ok-row.ensures.grows c.args.inner c.args.fields.now c.loop-i.i c.loop-i.arms.items c.push.new.self.items f c.in_ok-made.made
           c.in_ok-row.row c.loop-i.invariant.serves c.loop-i-test.true c.index-fields-i.is c.in_ok-made.ensures.active c.in_ok-made.ensures.row
@@ -233,7 +244,7 @@ pub add_fields-loop-i-init : goal.add_fields-loop-i-init
 add_fields-loop-i-init t c = record {
   grows = grows-not c.args.source.now.program.now c.args.parts.now c.requires.parts;
   served = c.requires.served;
-  counts = counts-not c.args.source.now (IsWithinDepth c.args.source.now.program.now c.args.id.0) (λ n. n) c.args.parts.now (λ n. omega arith);
+  counts = counts-not c.args.source.now (IsWithinDepth c.args.source.now.program.now c.args.id.0) (λ n. n) (flat_map parts_in c.args.rows.now.items) c.args.parts.now (λ n. omega arith);
   adds = fields-begin c.args.source.now c.args.parts.now.walks.items c.args.inner c.args.fields.now c.args.spots.now c.args.rows.now.items;
   rows = c.requires.rows;
 }
@@ -289,7 +300,7 @@ pub part_walk-returns-clause-serves : goal.part_walk-returns-clause-serves
 part_walk-returns-clause-serves t c =
     let source = c.args.source.now in
     let rows = c.in_ok-rows.rows.items in
-    if-both (Keeps c.first_part.result c.part_of-part.result c.args.id.0 rows c.structure_rows.new.parts c.keep.new.self) (λ walk. walk ≡ None → length rows ≤ 1)
+    if-both (Keeps c.first_part.result c.part_of-part.result rows c.structure_rows.new.parts c.keep.new.self) (λ walk. walk ≡ None → length rows ≤ 1)
     (ServesPart source c.keep.new.self.walks.items c.args.lies.around c.args.id c.args.desc.now) c.keep.result
     (λ walk keeps few.
     kept-serves source c.requires.source c.first_part.result c.first_part.ensures c.args.lies c.args.id c.args.desc.now c.part_of-part.result rows c.structure_rows.new.parts c.keep.new.self c.enter-inner.result
@@ -299,7 +310,7 @@ pub part_walk-returns-clause-served : goal.part_walk-returns-clause-served
 part_walk-returns-clause-served t c =
     let source = c.args.source.now in
     let rows = c.in_ok-rows.rows.items in
-    on-both (Keeps c.first_part.result c.part_of-part.result c.args.id.0 rows c.structure_rows.new.parts c.keep.new.self) (λ walk. walk ≡ None → length rows ≤ 1) (AreServed source c.keep.new.self) c.keep.result
+    on-both (Keeps c.first_part.result c.part_of-part.result rows c.structure_rows.new.parts c.keep.new.self) (λ walk. walk ≡ None → length rows ≤ 1) (AreServed source c.keep.new.self) c.keep.result
     (λ walk keeps few.
     kept-served source c.requires.source c.first_part.result c.first_part.ensures c.args.lies c.args.id c.args.desc.now c.part_of-part.result rows c.structure_rows.new.parts c.keep.new.self c.enter-inner.result
     c.enter-inner.ensures walk keeps c.part_of-part.ensures.part c.requires.placed c.in_ok-rows.ensures.served
@@ -401,28 +412,95 @@ part_walk-returns-clause-counts t c =
     let part = c.part_of-part.result in
     let none : c.get.result ≡ None = search rules in
     let made = c.in_ok-rows.ensures.serves in
-    on-kept (Keeps c.first_part.result part c.args.id.0 rows mid new) (Stays part mid new)
-    (Counts c.args.source.now (HoldsWithinDepth program (node.Node c.args.id c.args.desc.now)) (with_site c.args.lies.site) c.args.parts.now new) c.keep.result
-    (λ walk keeps stays.
-    part-counts source c.requires.source c.args.lies c.args.id c.args.desc.now c.args.depth c.first_part.result part rows c.args.parts.now mid new walk made.plane made.rest made.plane_is made.is c.first_part.ensures c.requires.placed c.requires.there c.requires.shallow
-    c.part_of-part.ensures.part c.part_of-part.ensures.node (c.get.ensures.unknown none) c.in_ok-rows.ensures.counts keeps
+    if-kept (Keeps c.first_part.result part rows mid new) (λ walk. walk ≡ None → length rows ≤ 1)
+    (λ walk. Counts source (HoldsWithinDepth program (node.Node c.args.id c.args.desc.now)) (with_site c.args.lies.site) [] (option_to_list walk) c.args.parts.now new) (Stays part mid new) c.keep.result
+    (λ walk keeps few stays.
+    part-counts source c.requires.source c.args.lies c.args.id c.args.desc.now c.args.depth c.first_part.result part rows c.args.parts.now mid new walk made.plane made.rest made.is c.first_part.ensures c.requires.placed c.requires.there c.requires.shallow
+    c.part_of-part.ensures.part c.part_of-part.ensures.node (c.get.ensures.unknown none) c.in_ok-rows.ensures.counts keeps few
     (λ w is. kept-walked source c.requires.source c.first_part.result c.first_part.ensures c.args.lies c.args.id c.args.desc.now part rows mid new c.enter-inner.result c.enter-inner.ensures walk keeps w is c.in_ok-rows.ensures.serves)
-    stays) c.keep.ensures.keeps c.keep.ensures.stays
+    stays) c.keep.ensures.keeps c.keep.ensures.bare c.keep.ensures.stays
+
+pub part_walk-returns-in-Some-clause-counts : goal.part_walk-returns-in-Some-clause-counts
+part_walk-returns-in-Some-clause-counts t c =
+    counts-known c.args.source.now (HoldsWithinDepth c.args.source.now.program.now (node.Node c.args.id c.args.desc.now)) (with_site c.args.lies.site) c.args.parts.now c.part_of-part.result c.in-Some.known
+    (λ n. with-more c.args.lies.site n) c.in-Some.ensures.known
+
+pub type_row-returns-in-Num-clause-counts : goal.type_row-returns-in-Num-clause-counts
+type_row-returns-in-Num-clause-counts t c =
+    counts-not c.args.source.now (HoldsWithinDepth c.args.source.now.program.now c.args.ty.now) (with_site c.args.lies.site) [] c.args.parts.now (λ n. with-more c.args.lies.site n)
+
+pub type_row-returns-in-Str-clause-counts : goal.type_row-returns-in-Str-clause-counts
+type_row-returns-in-Str-clause-counts t c =
+    counts-bare c.args.source.now (HoldsWithinDepth c.args.source.now.program.now c.args.ty.now) (with_site c.args.lies.site) (parts_in c.string_row.result) c.args.parts.now (λ n. with-more c.args.lies.site n)
+    c.string_row.ensures.row.parts
+
+pub type_row-returns-in-Ptr-clause-counts : goal.type_row-returns-in-Ptr-clause-counts
+type_row-returns-in-Ptr-clause-counts t c =
+    let deep = HoldsWithinDepth c.args.source.now.program.now c.args.ty.now in
+    let first = first_of c.args.source.now in
+    if-ok (λ made. IfSome made (NamesBlocks first)) (λ made. Counts c.args.source.now deep (with_site c.args.lies.site) [] (parts_of made) c.args.parts.now c.args.parts.now) c.pointer_row.result
+    (λ made is. counts-bare c.args.source.now deep (with_site c.args.lies.site) (parts_of made) c.args.parts.now (λ n. with-more c.args.lies.site n) (pointer-none first made is)) c.pointer_row.ensures.row
+
+pub type_row-returns-in_ok-walk-in-Node-clause-counts : goal.type_row-returns-in_ok-walk-in-Node-clause-counts
+type_row-returns-in_ok-walk-in-Node-clause-counts t c =
+    let program = c.args.source.now.program.now in
+    let old = c.args.parts.now in
+    let new = c.part_walk.new.parts in
+    let walk = c.in_ok-walk-in-Node.walk in
+    let named = parts_of c.sub_row.result in
+    subst (λ type. Counts c.args.source.now (HoldsWithinDepth program type) (with_site c.args.lies.site) [] named old new) (sym c.in-Node.is)
+    (counts-after c.args.source.now (HoldsWithinDepth program (node.Node c.in-Node.id c.in-Node.desc)) (with_site c.args.lies.site) old new [] (option_to_list walk) named
+    (ap parts_of c.sub_row.ensures ∙ sub-named c.args.offset walk) c.in_ok-walk-in-Node.ensures.counts)
 
 pub type_row-returns-in_ok-row-in-Arr-clause-counts : goal.type_row-returns-in_ok-row-in-Arr-clause-counts
 type_row-returns-in_ok-row-in-Arr-clause-counts t c =
-    let program = c.args.source.now.program.now in
+    let source = c.args.source.now in
+    let program = source.program.now in
     let elem = c.get.result.now in
+    let row = c.in_ok-row-in-Arr.row in
+    let size = c.size_of-size.result in
+    let old = c.args.parts.now in
+    let new = c.type_row.new.parts in
     let is : out-Ty c.args.ty.now ≡ part.Arr c.in-Arr.n elem = ap out-Ty c.in-Arr.is ∙ outs-Arr c.in-Arr.n c.in-Arr.elem ∙ ap (part.Arr c.in-Arr.n) (sym c.get.ensures) in
-    on-any (Counts c.args.source.now (HoldsWithinDepth program c.args.ty.now) (with_site c.args.lies.site) c.args.parts.now c.type_row.new.parts) c.repeated.result
-    (counts-deeper c.args.source.now (HoldsWithinDepth program elem) (HoldsWithinDepth program c.args.ty.now) (with_site c.args.lies.site) c.args.parts.now c.type_row.new.parts
-    (λ depth deep node held. deep node (held-array c.args.ty.now elem c.in-Arr.n is ∙ held)) c.in_ok-row-in-Arr.ensures.counts)
+    let deep = HoldsWithinDepth program c.args.ty.now in
+    let inner = HoldsWithinDepth program elem in
+    if-ok (λ made. made ≡ option_map (Rep c.args.offset c.in-Arr.n size) row) (λ made. Counts source deep (with_site c.args.lies.site) [] (parts_of made) old new) c.repeated.result
+    (λ made made-is.
+    counts-deeper source inner (with_site c.args.lies.site) old new deep [] (parts_of made) (λ depth holds node held. holds node (held-array c.args.ty.now elem c.in-Arr.n is ∙ held))
+    (counts-after source inner (with_site c.args.lies.site) old new [] (parts_of row) (parts_of made) (ap parts_of made-is ∙ rep-named c.args.offset c.in-Arr.n size row) c.in_ok-row-in-Arr.ensures.counts)) c.repeated.ensures
 
 pub type_row-returns-in_ok-row-in-Tail-clause-counts : goal.type_row-returns-in_ok-row-in-Tail-clause-counts
 type_row-returns-in_ok-row-in-Tail-clause-counts t c =
-    let program = c.args.source.now.program.now in
+    let source = c.args.source.now in
+    let program = source.program.now in
     let elem = c.get-in-Tail.result.now in
+    let row = c.in_ok-row-in-Tail.row in
+    let size = c.size_of-size-in-Tail.result in
+    let old = c.args.parts.now in
+    let new = c.type_row-in-Tail.new.parts in
     let is : out-Ty c.args.ty.now ≡ part.Tail c.in-Tail.len elem = ap out-Ty c.in-Tail.is ∙ outs-Tail c.in-Tail.len c.in-Tail.elem ∙ ap (part.Tail c.in-Tail.len) (sym c.get-in-Tail.ensures) in
-    on-any (Counts c.args.source.now (HoldsWithinDepth program c.args.ty.now) (with_site c.args.lies.site) c.args.parts.now c.type_row-in-Tail.new.parts) c.counted.result
-    (counts-deeper c.args.source.now (HoldsWithinDepth program elem) (HoldsWithinDepth program c.args.ty.now) (with_site c.args.lies.site) c.args.parts.now c.type_row-in-Tail.new.parts
-    (λ depth deep node held. deep node (held-tail c.args.ty.now elem c.in-Tail.len is ∙ held)) c.in_ok-row-in-Tail.ensures.counts)
+    let deep = HoldsWithinDepth program c.args.ty.now in
+    let inner = HoldsWithinDepth program elem in
+    if-ok (λ made. (e : RowExpr) × (made ≡ option_map (Tail c.args.offset e size) row) × (row ≢ None → IsRowExpr program source.layouts.now (around_of c.args.lies.around) c.in-Tail.len e))
+    (λ made. Counts source deep (with_site c.args.lies.site) [] (parts_of made) old new) c.counted.result
+    (λ made h.
+    counts-deeper source inner (with_site c.args.lies.site) old new deep [] (parts_of made) (λ depth holds node held. holds node (held-tail c.args.ty.now elem c.in-Tail.len is ∙ held))
+    (counts-after source inner (with_site c.args.lies.site) old new [] (parts_of row) (parts_of made) (ap parts_of h.1 ∙ tail-named c.args.offset h.0 size row) c.in_ok-row-in-Tail.ensures.counts)) c.counted.ensures
+
+-- what the rows of a structure name, its arms or its fields do
+pub structure_rows-returns-then-structure-clause-counts : goal.structure_rows-returns-then-structure-clause-counts
+structure_rows-returns-then-structure-clause-counts t c =
+    let source = c.args.source.now in
+    let arms = c.in_ok-arms.arms in
+    let row = c.in_ok-row.row in
+    let named = noted-parts c.index-as_slice-id-2.result.size c.args.chain row c.in_ok-rows.rows.items c.add_row.new.rows.items c.in_ok-rows.ensures c.in_ok-add_row.ensures in
+    let union = switch-named (IsDescExpr source.program.now source.layouts.now (around_of c.args.inner) c.args.desc.now) row arms c.in_ok-row.ensures.row c.in_ok-row.ensures.none in
+    counts-after source (IsWithinDepth source.program.now c.args.id.0) (λ n. n) c.args.parts.now c.union_arms.new.parts [] (arms_name arms.items) (flat_map parts_in c.add_row.new.rows.items) (named ∙ union)
+    c.in_ok-arms.ensures.counts
+
+pub structure_rows-returns-clause-counts : goal.structure_rows-returns-clause-counts
+structure_rows-returns-clause-counts t c =
+    let source = c.args.source.now in
+    let none = note-none c.index-as_slice-id-2.result.size c.args.chain in
+    counts-before source (IsWithinDepth source.program.now c.args.id.0) (λ n. n) c.args.parts.now c.add_fields.new.parts (flat_map parts_in c.in_ok-rows.rows.items) [] (flat_map parts_in c.add_fields.new.rows.items)
+    (sym (ap (λ l. flat_map parts_in l) c.in_ok-rows.ensures ∙ none)) c.in_ok-add_fields.ensures.counts

@@ -1,10 +1,12 @@
-use Rattle.std.proofs.Common.{◌+◌, ◌*◌}
-use Rattle.std.specs.Prelude.{IfSome, All}
+use Rattle.std.proofs.Common.{◌+◌, ◌*◌, []}
+use Rattle.std.specs.Prelude.{IfSome, All, flat_map}
 use Rattle.gt_types.specs.Shapes.{dimensions}
 use Rattle.gt_layout.specs.Progress.{IsWithinDepth}
 use Rattle.gt_walk.specs.declared.rows.Arm.{Arm, out-Arm}
+use Rattle.gt_walk.specs.Nested.{parts_in}
 use Rattle.gt_tables.specs.Building.{first_of, AreRows, IsRow, Grows, AreServed}
 use Rattle.gt_tables.specs.Counting.{Counts}
+use Rattle.gt_tables.proofs.NamedParts.{arms_name}
 use Rattle.gt_tables.proofs.Serving.{FieldsSoFar, ArmsSoFar}
 use Rattle.gt_tables.proofs.rows.+rows.Given as goal
 
@@ -27,7 +29,7 @@ decreases-union_arms l = 16 * l.depth + 14
 abbrev pub invariant-add_fields-loop-i : goal.invariant-add_fields-loop-i
 invariant-add_fields-loop-i l = record {
   grows : Grows l.source.program.now l.fn.parts l.parts;
-  counts : Counts l.source (IsWithinDepth l.source.program.now l.id.0) (λ n. n) l.fn.parts l.parts;
+  counts : Counts l.source (IsWithinDepth l.source.program.now l.id.0) (λ n. n) (flat_map parts_in l.fn.rows.items) (flat_map parts_in l.rows.items) l.fn.parts l.parts;
   served : AreServed l.source l.parts;
   adds : FieldsSoFar l.source l.parts.walks.items l.inner l.fields l.spots l.i l.fn.rows.items l.rows.items;
   rows : AreRows (first_of l.source) l.parts.walks.items (IsWithinDepth l.source.program.now l.id.0) l.rows.items;
@@ -36,7 +38,7 @@ invariant-add_fields-loop-i l = record {
 abbrev pub invariant-union_arms-loop-i : goal.invariant-union_arms-loop-i
 invariant-union_arms-loop-i l = record {
   grows : Grows l.source.program.now l.fn.parts l.parts;
-  counts : Counts l.source (IsWithinDepth l.source.program.now l.id.0) (λ n. n) l.fn.parts l.parts;
+  counts : Counts l.source (IsWithinDepth l.source.program.now l.id.0) (λ n. n) [] (arms_name l.arms.items) l.fn.parts l.parts;
   served : AreServed l.source l.parts;
   serves : ArmsSoFar l.source l.parts.walks.items l.inner l.fields l.i l.arms.items;
   arms : All (λ (a : Arm). IfSome (out-Arm a).row (IsRow (first_of l.source) l.parts.walks.items (IsWithinDepth l.source.program.now l.id.0))) l.arms.items;

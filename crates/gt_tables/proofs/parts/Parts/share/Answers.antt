@@ -11,8 +11,8 @@ returns-in-Some-clause-shares c =
     let walks = c.args.self.now.walks.items in
     let cases = c.args.self.now.cases in
     let rows = c.args.rows.items in
-    let found = subst (IsFound walks cases c.args.node rows) c.in-There.is (subst (λ rs. IsFound walks cases c.args.node rs c.in_ok-found.found) c.deref.ensures.value c.in_ok-found.ensures.found) in
-    shares-old c.args.first c.args.node rows walks cases c.in-There.place c.in-Some.walk c.requires.turns found c.in-Some.ensures
+    let found = subst (IsFound walks cases rows) c.in-There.is (subst (λ rs. IsFound walks cases rs c.in_ok-found.found) c.deref.ensures.value c.in_ok-found.ensures.found) in
+    shares-old c.args.first rows walks cases c.in-There.place c.in-Some.walk c.requires.turns found c.in-Some.ensures
 
 -- a new one
 pub returns-clause-shares : goal.returns-clause-shares
@@ -21,8 +21,8 @@ returns-clause-shares c =
     let cases = c.args.self.now.cases in
     let rows = c.args.rows.items in
     let made = c.in_ok-walk-in-Missing.walk in
-    let free = subst (IsFound walks cases c.args.node rows) c.in-Missing.is (subst (λ rs. IsFound walks cases c.args.node rs c.in_ok-found.found) c.deref.ensures.value c.in_ok-found.ensures.found) in
+    let free = subst (IsFound walks cases rows) c.in-Missing.is (subst (λ rs. IsFound walks cases rs c.in_ok-found.found) c.deref.ensures.value c.in_ok-found.ensures.found) in
     let updates : (q : Case) → get case_cmp c.insert.new.self q ≡ cond (is_at (case_cmp c.in-Missing.case) q) (Some (made - c.args.first)) (get case_cmp cases q) =
     λ q. c.in_ok-insert-in-Missing.ensures.updates.0 q ∙ ap (λ m. cond (is_at (case_cmp c.in-Missing.case) q) (Some (made - c.args.first)) (get case_cmp m q)) c.add.ensures.cases in
-    shares-new c.args.first c.args.node rows walks c.add.new.self.walks.items cases c.insert.new.self c.in-Missing.case (made - c.args.first) made c.requires.turns free c.in_ok-walk-in-Missing.ensures.walks updates
+    shares-new c.args.first rows walks c.add.new.self.walks.items cases c.insert.new.self c.in-Missing.case (made - c.args.first) made c.requires.turns free c.in_ok-walk-in-Missing.ensures.walks updates
     c.in_ok-walk-in-Missing.ensures.number (omega (arith, c.in_ok-walk-in-Missing.ensures.number))
