@@ -1,5 +1,6 @@
 -- Rows of plain pointers.
-use Rattle.std.proofs.Common.{◌≡◌, ◌∙◌, ℕ, zero, suc, ◌+◌, true, refl, ap, Option, Some, None}
+use Rattle.std.proofs.Common.{◌≡◌, ◌∙◌, ℕ, zero, suc, ◌+◌, ◌++◌, true, cond, List, [], ◌∷◌, refl, sym, ap, Option, Some, None, inl, inr}
+use Rattle.std.proofs.lemmas.Bool.{cases_Bool}
 use Rattle.gt_space.specs.Range.{Range}
 use Rattle.gt_types.specs.declared.program.Active.{Active}
 use Rattle.gt_walk.specs.declared.rows.Count.TheVariants.{Fixed, Length}
@@ -10,7 +11,7 @@ use Rattle.gt_walk.specs.declared.rows.WalkRow.TheOpen as part
 use Rattle.gt_walk.specs.declared.rows.WalkRow.TheOpen.{WalkRow-F}
 use Rattle.gt_walk.specs.declared.tables.Tables.{Tables}
 use Rattle.gt_walk.specs.Rows.{Frame, Gives, frame_at, row_step, row_edges, walk_edges, pointer_edges, word_at}
-use Rattle.gt_walk.specs.Visiting.{element_row, is_plain, fixed_edges, plain_edges}
+use Rattle.gt_walk.specs.Visiting.{after_note, element_edges, element_row, is_note, is_plain, fixed_edges, plain_edges, run_edges}
 use Rattle.gt_walk.proofs.RowEdges.{arm_of, row-layer}
 use Rattle.gt_walk.proofs.Visits.{at-place}
 
@@ -35,3 +36,28 @@ row-plain range walks r f e = ap (λ g. g f) (row-layer range walks r (out-WalkR
 -- at an element of a block
 pub element-plain : (tables : Tables) (range : Range) (at : ℕ) (r : WalkRow) → is_plain (out-WalkRow r) ≡ true → element_row tables range at r ≡ plain_edges range at (out-WalkRow r)
 element-plain tables range at r e = row-plain range (walk_edges tables range 33) r (frame_at at) e ∙ ap (λ p. plain_edges range p (out-WalkRow r)) (at-place at)
+
+note-silent : {A B : Type 0} (range : Range) (at : ℕ) (x : WalkRow-F A B) → is_note x ≡ true → (is_plain x ≡ true) × (plain_edges range at x ≡ [])
+note-silent range at (part.Note size chain) e = (refl, refl)
+note-silent range at (part.Ptr offset walk count reorder) e = absurd (cc)
+note-silent range at (part.Sub offset walk) e = absurd (cc)
+note-silent range at (part.Rep offset n size elem) e = absurd (cc)
+note-silent range at (part.Tail offset len size elem) e = absurd (cc)
+note-silent range at (part.Switch desc arms) e = absurd (cc)
+
+-- a note gives no edge
+pub after-note : (tables : Tables) (range : Range) (rows : List WalkRow) (at : ℕ) → element_edges tables range rows at ≡ element_edges tables range (after_note rows) at
+after-note tables range [] at = refl
+after-note tables range (row ∷ rows) at = elim (cases_Bool (is_note (out-WalkRow row))) [
+  | inl note ↦
+      let silent = note-silent range at (out-WalkRow row) note in
+      ap (λ es. es ++ element_edges tables range rows at) (element-plain tables range at row silent.0 ∙ silent.1)
+      ∙ ap (λ b. element_edges tables range (cond b rows (row ∷ rows)) at) (sym note)
+  | inr other ↦ ap (λ b. element_edges tables range (cond b rows (row ∷ rows)) at) (sym other)
+]
+
+pub run-after-note : (tables : Tables) (range : Range) (rows : List WalkRow) (place size n : ℕ) → run_edges (element_edges tables range rows) place size n ≡ run_edges (element_edges tables range (after_note rows)) place size n
+run-after-note tables range rows place size zero = refl
+run-after-note tables range rows place size (suc n) =
+    ap (λ es. es ++ run_edges (element_edges tables range rows) (place + size) size n) (after-note tables range rows place)
+    ∙ ap (λ es. element_edges tables range (after_note rows) place ++ es) (run-after-note tables range rows (place + size) size n)

@@ -1,12 +1,12 @@
 -- No promise: what the proofs of visiting speak of.
-use Rattle.std.specs.Prelude.{ℕ, zero, suc, ◌+◌, Bool, true, false, List, [], ◌∷◌, ◌++◌, flat_map, Option, Some, None, find, ℤ}
+use Rattle.std.specs.Prelude.{ℕ, zero, suc, ◌+◌, Bool, true, false, if◌then◌else◌, List, [], ◌∷◌, ◌++◌, flat_map, Option, Some, None, find, ℤ}
 use Rattle.gt_space.specs.Range.{Range}
 use Rattle.gt_tree.specs.Fits.{is_tag, is_default}
 use Rattle.gt_walk.specs.Rows.{Edge, edge, Frame, frame_at, Gives, word_at, row_edges, walk_edges, first_some}
 use Rattle.gt_walk.specs.declared.rows.Arm.{Arm, out-Arm}
 use Rattle.gt_walk.specs.declared.rows.Count.{Count}
 use Rattle.gt_walk.specs.declared.rows.Count.TheVariants.{Fixed, Length}
-use Rattle.gt_walk.specs.declared.rows.WalkRow.{WalkRow}
+use Rattle.gt_walk.specs.declared.rows.WalkRow.{WalkRow, out-WalkRow}
 use Rattle.gt_walk.specs.declared.rows.WalkRow.TheOpen.{WalkRow-F, Note, Ptr}
 use Rattle.gt_walk.specs.declared.tables.Tables.{Tables}
 use Rattle.gt_walk.specs.declared.visiting.Elements.{Elements}
@@ -66,6 +66,16 @@ abbrev pub is_plain : {A B : Type 0} → WalkRow-F A B → Bool
 is_plain (Note size chain) = true
 is_plain (Ptr offset walk count reorder) = is_fixed count
 is_plain row = false
+
+-- whether a row is a note
+abbrev pub is_note : {A B : Type 0} → WalkRow-F A B → Bool
+is_note (Note size chain) = true
+is_note row = false
+
+-- the rows after the note with which they begin
+abbrev pub after_note : List WalkRow → List WalkRow
+after_note [] = []
+after_note (row ∷ rows) = if is_note (out-WalkRow row) then rows else row ∷ rows
 
 -- a pointer to a block of a fixed count is an edge where it is not null
 abbrev pub fixed_edges : (place walk count : ℕ) → Option ℕ → List Edge

@@ -7,7 +7,7 @@ ghost use Rattle.gt_tree.specs.Fits.{is_tag, is_default};
 ghost use Rattle.gt_walk.specs.Rows.{edges_of, walk_edges, size_in_note, pointer_edges, word_at};
 ghost use Rattle.gt_walk.specs.Sinks.{CanTake, Took};
 ghost use Rattle.gt_walk.specs.Frames.{frame_of};
-ghost use Rattle.gt_walk.specs.Visiting.{elements, row_at, rows_at, stood, run_edges, chosen_of, arm_at, element_edges, element_row};
+ghost use Rattle.gt_walk.specs.Visiting.{after_note, elements, row_at, rows_at, stood, run_edges, chosen_of, arm_at, element_edges, element_row};
 
 use crate::frames::Frame;
 use crate::lengths::{count_of, end_of, length_of, row_value, word_at};
@@ -274,6 +274,16 @@ fn size_in_note(rows: &[WalkRow]) -> u32
     }
 }
 
+// The rows after the note with which they begin, which gives no edge.
+fn after_note(rows: &[WalkRow]) -> &[WalkRow]
+    ensures { result.now ≡ after_note rows.now }
+{
+    match rows {
+        [WalkRow::Note { .. }, rest @ ..] => rest,
+        _ => rows,
+    }
+}
+
 // The edges of a row that is not plain, at an element of a block.
 #[inline(never)]
 fn visit_other_row<S: EdgeSink>(source: &Source<'_>, row: &WalkRow, at: u64, sink: &mut S)
@@ -358,10 +368,11 @@ pub fn visit<S: EdgeSink>(
     };
     let rows = rows.as_slice();
     let source = Source { tables, space };
+    let bare = after_note(rows);
     if count == 1 {
-        visit_single(&source, rows, addr, sink);
+        visit_single(&source, bare, addr, sink);
     } else {
         let elements = Elements::new(addr, size_in_note(rows), count);
-        visit_block(&source, rows, elements, sink);
+        visit_block(&source, bare, elements, sink);
     }
 }
