@@ -78,7 +78,7 @@ module _ (program : Program) (layouts : Layouts) (tables : Tables) (settled : Se
   root-walk : (walk : ℕ) → HasRowOfRoot program layouts tables r (statics_start layouts.statics.size + spot.offset) walk → Valued source blocks 0 outside_all r.ty (begin_at spot) tree leaves
       → walk_edges tables range (suc 33) walk (frame_at 0) ≡ edges_in source blocks leaves
   root-walk walk h v =
-      noted source tables blocks 0 33 walk h.size h.chain (option_to_list h.line) (frame_at 0) h.is
+      noted source tables blocks 0 33 walk layouts.statics.size None (option_to_list h.line) (frame_at 0) h.is
       ∙ rows-line tables range 33 h.line
       ∙ row-gives source tables blocks 0 space few h.of_root 33 outside_all (frame_at 0) (begin_at spot) tree leaves (record { here = tt; outer = tt; outermost = tt }) v
       (root-held program settled r (All-contains (IsRoot program) program.roots r settled.roots (Contains-get program.roots place r got))) (λ plain. let zero_bit = root-even plain in omega (arith, start, zero_bit))

@@ -214,12 +214,11 @@ pub record HasRowsOf (program : Program) (layouts : Layouts) (tables : Tables) (
   pub is : rows_of tables walk ≡ row.Note size chain ∷ rows
   pub are : AreRowsOf program layouts tables (inside outside node) node desc rows
 
--- a walk has the row of a root, which lies at an address
+-- a walk after those of blocks has the row of a root, which lies at an address; its note has the size of the static record, and no chain
 pub record HasRowOfRoot (program : Program) (layouts : Layouts) (tables : Tables) (r : Root) (address walk : ℕ) : Type 0 where
-  pub size : ℕ
-  pub chain : Option ℕ
+  pub late : first_part program ≤ walk
   pub line : Option WalkRow
-  pub is : rows_of tables walk ≡ row.Note size chain ∷ option_to_list line
+  pub is : rows_of tables walk ≡ row.Note layouts.statics.size None ∷ option_to_list line
   pub of_root : IsRowOf program layouts tables outside r.ty address line
 
 -- The walks of blocks and roots have the rows of what they serve. Of what may not stand alone nothing is said.

@@ -19,6 +19,7 @@ use Rattle.gt_tables.specs.declared.sources.Part.{Part}
 use Rattle.gt_tables.specs.declared.sources.Source.{Source}
 use Rattle.gt_tables.specs.declared.parts.Case.{Case}
 use Rattle.gt_tables.specs.Building.{part_cmp, case_cmp, case_of, first_of, HaveWalks, IsFiled, AreNew, Files, HasRows, HasEqual, IsLast, ServesPart}
+use Rattle.gt_tables.specs.Ordered.{IsOrdered, exprs_in}
 use Rattle.gt_tables.specs.Sharing.{IsNamed, AreDistinct}
 use Rattle.gt_tables.specs.Counting.{named_by, IsKept, IsKeptWalk, ServesValue, AreApart}
 use Rattle.gt_tables.proofs.EqualRows.{part-flat, are-equal-back}
@@ -298,8 +299,9 @@ module _ (source : Source) (tables : Tables) (walks parts : List (List WalkRow))
       let y = a.filed j second in
       a.apart i j x.rows y.rows less first second x.there y.there (subst (λ rows. AreAlike rows y.rows) (rows-here i first) (subst (AreAlike one) (rows-here j second) alike))
 
-  pub tables-apart : first_of source + length parts ≡ length tables.walks → AreDistinct source.program.now tables
-  tables-apart all = record {
+  pub tables-apart : first_of source + length parts ≡ length tables.walks → All (λ rows. All IsOrdered (flat_map exprs_in rows)) tables.walks → AreDistinct source.program.now tables
+  tables-apart all ordered = record {
+    ordered = ordered;
     used = λ walk late within.
         let place = walk - first_of source in
         let same : first_of source + (walk - first_of source) ≡ walk = omega (arith, late) in

@@ -1,15 +1,15 @@
 -- How many parts a program can have, and so how many walks there can be.
-use Rattle.std.proofs.Common.{◌≡◌, ◌≢◌, ◌∙◌, ℕ, zero, suc, ◌+◌, ◌*◌, ◌≤◌, ◌<◌, List, [], ◌∷◌, ◌++◌, length, get_or, Option, Some, None, refl, ap, sym, subst, arith}
-use Rattle.std.specs.Prelude.{MatchOption, All, AllPairs, Contains, is_some, slice_get, filter_map}
+use Rattle.std.proofs.Common.{◌≡◌, ◌≢◌, ◌∙◌, ℕ, zero, suc, ◌+◌, ◌*◌, ◌≤◌, ◌<◌, inl, inr, List, [], ◌∷◌, ◌++◌, length, map, get_or, Option, Some, None, refl, ap, sym, subst, arith}
+use Rattle.std.specs.Prelude.{MatchOption, IsSome, All, AllPairs, Contains, is_some, slice_get, filter_map}
 use Rattle.std.specs.List.{cons_option, flat_map}
 use Rattle.std.specs.Option.{option_map}
 use Rattle.std.proofs.lemmas.Bool.Decides.{Decides-eqb}
-use Rattle.std.proofs.lemmas.List.{length-append, get_or_default}
+use Rattle.std.proofs.lemmas.List.{length-append, length-map, get_or_default}
 use Rattle.std.proofs.lemmas.List.Elements.{All-weaker, All-nil, All-cons, All-head, All-tail, All-contains, Contains-append_left, Contains-append_right}
 use Rattle.std.proofs.lemmas.Map.Made.{IsDistinct-from_AllPairs}
 use Rattle.std.proofs.lemmas.Map.Steps.{length-le_from_distinct_below}
 use Rattle.std.proofs.lemmas.Map.Views.{Contains-from_any}
-use Rattle.std.proofs.lemmas.Option.{same_Some}
+use Rattle.std.proofs.lemmas.Option.{same_Some, slice_get_within}
 use Rattle.gt_types.specs.declared.types.TypeId.{TypeId}
 use Rattle.gt_types.specs.declared.program.Field.{Field}
 use Rattle.gt_types.specs.declared.program.Structure.{Structure}
@@ -18,8 +18,8 @@ use Rattle.gt_types.specs.Contains.{HasStructure, held_by}
 use Rattle.gt_layout.specs.declared.planes.Layouts.{Layouts}
 use Rattle.gt_walk.specs.declared.tables.Tables.{Tables}
 use Rattle.gt_edges.specs.Numbers.{first_part}
-use Rattle.gt_tables.specs.Sharing.{Site, Part, PartWalk, LiesAt, DependsOnSite, IsPart, places, AreTold, ArePartsShared}
-use Rattle.gt_tables.proofs.Elements.{first, later}
+use Rattle.gt_tables.specs.Sharing.{Site, Part, PartWalk, LiesAt, DependsOnSite, ReadsOutermost, IsOutermostRead, reader_of, IsPart, places, AreTold, ArePartsShared}
+use Rattle.gt_tables.proofs.Elements.{nothing, first, later, first-or-later}
 
 -- ---- what stands in a list, no two of them the same
 
@@ -179,3 +179,63 @@ bounded program layouts tables told shared are =
     let both = length-append (parts_of program) told in
     let long = length-parts_of program in
     omega (arith, shared.few, few, both, long)
+
+-- ---- each structure may be the outermost one
+
+abbrev with_outermost : ℕ → Part → Part
+with_outermost n p = record { node = p.node; site = p.site; outermost = Some n }
+
+-- each place with each of so many structures, from this one on
+abbrev told_from : List Part → ℕ → ℕ → List Part
+told_from parts first zero = []
+told_from parts first (suc n) = map (with_outermost first) parts ++ told_from parts (first + 1) n
+
+length-told : (parts : List Part) (first n : ℕ) → length (told_from parts first n) ≡ length parts * n
+length-told parts first zero = grind arith
+length-told parts first (suc n) =
+    let one = length-append (map (with_outermost first) parts) (told_from parts (first + 1) n) in
+    let here = length-map parts (with_outermost first) in
+    let more = length-told parts (first + 1) n in
+    let times : length parts * suc n ≡ length parts + length parts * n = grind arith in
+    omega (arith, one, here, more, times)
+
+contains-map : {X Y : Type 0} (f : X → Y) (xs : List X) (x : X) → Contains xs x → Contains (map f xs) (f x)
+contains-map f [] x c = absurd (nothing x c)
+contains-map f (y ∷ ys) x c = elim (first-or-later y x ys c) [
+  | inl is ↦ subst (λ z. Contains (map f (y ∷ ys)) (f z)) is (first (f y) (map f ys))
+  | inr after ↦ later (f y) (f x) (map f ys) (contains-map f ys x after)
+]
+
+contains-told : (parts : List Part) (first n k : ℕ) (p : Part) → k < n → Contains parts p → Contains (told_from parts first n) (with_outermost (first + k) p)
+contains-told parts first zero k p less c = absurd (omega (arith, less))
+contains-told parts first (suc n) zero p less c =
+    let same : first ≡ first + 0 = omega arith in
+    Contains-append_left (map (with_outermost first) parts) (told_from parts (first + 1) n) _
+    (subst (λ m. Contains (map (with_outermost first) parts) (with_outermost m p)) same (contains-map (with_outermost first) parts p c))
+contains-told parts first (suc n) (suc k) p less c =
+    let same : first + 1 + k ≡ first + suc k = omega arith in
+    Contains-append_right (map (with_outermost first) parts) (told_from parts (first + 1) n) _
+    (subst (λ m. Contains (told_from parts (first + 1) n) (with_outermost m p)) same (contains-told parts (first + 1) n k p (omega (arith, less)) c))
+
+all-told : (program : Program) (p : Part) (o : Option ℕ) → p.outermost ≡ o → IsPart program p → IsSome o → Contains (told_from (parts_of program) 0 (length program.structures)) p
+all-told program p None e is some = absurd (cc (some))
+all-told program p (Some n) e is some =
+    let read : IsOutermostRead program (reader_of p.node p.site) n =
+    subst (λ o. MatchOption o (¬ ReadsOutermost program (reader_of p.node p.site)) (IsOutermostRead program (reader_of p.node p.site))) e is.outermost in
+    let within = slice_get_within program.structures n read.1.0.0 read.1.0.1 in
+    let place : Part = record { node = p.node; site = p.site; outermost = None } in
+    let told : Contains (told_from (parts_of program) 0 (length program.structures)) (with_outermost (0 + n) place) =
+    contains-told (parts_of program) 0 (length program.structures) n place within (part-among program p.node p.site is.there is.site) in
+    let same : 0 + n ≡ n = omega arith in
+    subst (λ o. Contains (told_from (parts_of program) 0 (length program.structures)) (record { node = p.node; site = p.site; outermost = o })) (sym e)
+    (subst (λ m. Contains (told_from (parts_of program) 0 (length program.structures)) (with_outermost m place)) same told)
+
+pub bounded-all : (program : Program) (layouts : Layouts) (tables : Tables) → ArePartsShared program layouts tables
+    → length tables.walks ≤ first_part program + 2 * length tables.roots + places program * (1 + length program.structures)
+bounded-all program layouts tables shared =
+    let n = length program.structures in
+    let told = told_from (parts_of program) 0 n in
+    let most = bounded program layouts tables told shared (λ p is some. all-told program p p.outermost refl is some) in
+    let long : length told ≡ places program * n = length-told (parts_of program) 0 n ∙ ap (λ m. m * n) (length-parts_of program) in
+    let times : places program * (1 + n) ≡ places program + places program * n = grind arith in
+    omega (arith, most, long, times)

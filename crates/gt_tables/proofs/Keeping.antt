@@ -1,6 +1,6 @@
 -- What is known of parts, and the walks that are added for them.
 use Rattle.std.specs.Global.{Vec}
-use Rattle.std.proofs.Common.{◌≡◌, ◌∙◌, ℕ, ◌+◌, ◌-◌, ◌≤◌, Bool, true, false, cond, List, [], ◌∷◌, ◌++◌, refl, ap, sym, subst, Option, Some, None, Ok, Err, get_or, ◌⊎◌, inl, inr, arith}
+use Rattle.std.proofs.Common.{◌≡◌, ◌≢◌, ◌∙◌, ℕ, ◌+◌, ◌-◌, ◌≤◌, Bool, true, false, cond, List, [], ◌∷◌, ◌++◌, refl, ap, sym, subst, Option, Some, None, Ok, Err, get_or, ◌⊎◌, inl, inr, arith}
 use Rattle.std.specs.Prelude.{IfSome, IfOk, OnOk, All, flat_map, slice_get}
 use Rattle.std.specs.Option.{option_map, option_cmp}
 use Rattle.std.specs.Ordering.{nat_cmp, ordering_then, is_eq}
@@ -27,6 +27,7 @@ use Rattle.gt_tables.specs.declared.parts.Parts.{Parts}
 use Rattle.gt_edges.specs.Numbers.{first_part}
 use Rattle.gt_tables.specs.Building.{site_cmp, part_cmp, HaveWalks, PartsWithin, parts_of, IsWalkOf, IsRow, AreRows, IsPointerRow, Shallow, AreParts, Grows, Keeps}
 use Rattle.gt_alike.specs.Alike.{IsEqual, AreEqual}
+use Rattle.gt_tables.specs.Ordered.{IsOrdered}
 use Rattle.gt_tables.proofs.RowForms.{switch-parts}
 use Rattle.gt_tables.proofs.Growing.{length-tables, nests-of, append-assoc, rows-grow, rows-deeper, row-grows, row-deeper, row-sub, row-rep, row-tail, row-pointer, row-switch, walk-grows, IsArm}
 
@@ -87,15 +88,15 @@ module _ (first : ℕ) (walks : List (List WalkRow)) (deep deeper : ℕ → Type
   rep-row offset n size o r is =
       if-ok (λ made. made ≡ option_map (row.Rep offset n size) o) (λ made. IfSome made (IsRow first walks deeper)) r (λ made e. subst (λ m. IfSome m (IsRow first walks deeper)) (sym e) (rep-some offset n size o is))
 
-  tail-some : (offset size : ℕ) (len : RowExpr) (o : Option WalkRow) → IfSome o (IsRow first walks deep) → IfSome (option_map (row.Tail offset len size) o) (IsRow first walks deeper)
-  tail-some offset size len None is = tt
-  tail-some offset size len (Some r) is = row-tail first walks deeper offset len size r (row-deeper first walks deep deeper r more is)
+  tail-some : (offset size : ℕ) (len : RowExpr) (o : Option WalkRow) → (o ≢ None → IsOrdered len) → IfSome o (IsRow first walks deep) → IfSome (option_map (row.Tail offset len size) o) (IsRow first walks deeper)
+  tail-some offset size len None ordered is = tt
+  tail-some offset size len (Some r) ordered is = row-tail first walks deeper offset len size r (ordered (λ absent. cc)) (row-deeper first walks deep deeper r more is)
 
   pub tail-row : {E : Type 0} (also : RowExpr → Type 0) (offset size : ℕ) (o : Option WalkRow) (r : _) → IfSome o (IsRow first walks deep)
-      → IfOk {E = E} r (λ made. (len : RowExpr) × (made ≡ option_map (row.Tail offset len size) o) × also len) → IfOk {E = E} r (λ made. IfSome made (IsRow first walks deeper))
+      → IfOk {E = E} r (λ made. (len : RowExpr) × (made ≡ option_map (row.Tail offset len size) o) × also len × (o ≢ None → IsOrdered len)) → IfOk {E = E} r (λ made. IfSome made (IsRow first walks deeper))
   tail-row also offset size o r is =
-      if-ok (λ made. (len : RowExpr) × (made ≡ option_map (row.Tail offset len size) o) × also len) (λ made. IfSome made (IsRow first walks deeper)) r
-      (λ made e. subst (λ m. IfSome m (IsRow first walks deeper)) (sym e.1) (tail-some offset size e.0 o is))
+      if-ok (λ made. (len : RowExpr) × (made ≡ option_map (row.Tail offset len size) o) × also len × (o ≢ None → IsOrdered len)) (λ made. IfSome made (IsRow first walks deeper)) r
+      (λ made e. subst (λ m. IfSome m (IsRow first walks deeper)) (sym e.1) (tail-some offset size e.0 o e.3 is))
 
 module _ (first : ℕ) (walks : List (List WalkRow)) (deep : ℕ → Type 0) where
   pointer-some : (o : Option WalkRow) → IfSome o (IsPointerRow first) → IfSome o (IsRow first walks deep)
@@ -114,10 +115,10 @@ module _ (first : ℕ) (walks : List (List WalkRow)) (deep : ℕ → Type 0) whe
       → made ≡ option_map (row.Sub offset) walk → IfSome walk (IsWalkOf program first walks node) → IfSome made (IsRow first walks deep)
   sub-row program node offset deeper walk made e is = subst (λ m. IfSome m (IsRow first walks deep)) (sym e) (sub-some program node offset deeper walk is)
 
-  pub switch-some : (also : RowExpr → Type 0) (arms : Vec Arm) (o : Option WalkRow) → All (IsArm first walks deep) arms.items → IfSome o (λ made. (value : RowExpr) × (made ≡ row.Switch value arms) × also value)
+  pub switch-some : (also : RowExpr → Type 0) (arms : Vec Arm) (o : Option WalkRow) → All (IsArm first walks deep) arms.items → IfSome o (λ made. (value : RowExpr) × (made ≡ row.Switch value arms) × also value × IsOrdered value)
       → IfSome o (IsRow first walks deep)
   switch-some also arms None all is = tt
-  switch-some also arms (Some r) all is = subst (IsRow first walks deep) (sym is.1) (row-switch first walks deep is.0 arms all)
+  switch-some also arms (Some r) all is = subst (IsRow first walks deep) (sym is.1) (row-switch first walks deep is.0 arms is.3 all)
 
 -- ---- a walk that stands among others
 

@@ -13,6 +13,7 @@ use Rattle.gt_walk.specs.declared.rows.Arm.{Arm, out-Arm}
 use Rattle.gt_walk.specs.declared.rows.WalkRow.{WalkRow}
 use Rattle.gt_walk.specs.declared.rows.WalkRow.TheVariants as row
 use Rattle.gt_walk.specs.Nested.{parts_in}
+use Rattle.gt_tables.specs.Ordered.{IsOrdered}
 use Rattle.gt_tables.specs.Building.{parts_of, IsPointerRow}
 use Rattle.gt_tables.specs.Counting.{named_by}
 use Rattle.gt_tables.proofs.RowForms.{note-parts, ptr-parts, sub-parts, rep-parts, tail-parts, switch-parts}
@@ -118,7 +119,7 @@ arms-none (a ∷ arms) all =
     ap (λ r. parts_of r ++ arms_name arms) (All-head P a arms all) ∙ arms-none arms (All-tail P a arms all)
 
 -- the row of a union names what its arms do
-pub switch-named : (X : RowExpr → Type 0) (o : Option WalkRow) (arms : Vec Arm) → IfSome o (λ made. (value : RowExpr) × (made ≡ row.Switch value arms) × X value)
+pub switch-named : (X : RowExpr → Type 0) (o : Option WalkRow) (arms : Vec Arm) → IfSome o (λ made. (value : RowExpr) × (made ≡ row.Switch value arms) × X value × IsOrdered value)
     → (o ≡ None → All (λ (a : Arm). (out-Arm a).row ≡ None) arms.items) → parts_of o ≡ arms_name arms.items
 switch-named X None arms is none = sym (arms-none arms.items (none refl))
 switch-named X (Some r) arms is none = ap parts_in is.1 ∙ switch-parts is.0 arms

@@ -1,6 +1,6 @@
 -- How many walks of parts there are: what is known of them, and what is counted.
 use Rattle.std.proofs.Common.{◌≡◌, ◌≢◌, ◌∙◌, ℕ, zero, suc, ◌+◌, ◌-◌, ◌*◌, ◌≤◌, ◌<◌, Bool, true, false, cond, ◌||◌, List, [], ◌∷◌, ◌++◌, length, refl, ap, sym, subst, Option, Some, None, Ok, Err, Result, ◌⊎◌, inl, inr, arith}
-use Rattle.std.specs.Prelude.{IfSome, IfOk, OnOk, MatchOption, flat_map, option_to_list, slice_get}
+use Rattle.std.specs.Prelude.{All, IfSome, IfOk, OnOk, MatchOption, flat_map, option_to_list, slice_get}
 use Rattle.std.specs.Option.{option_map, option_cmp}
 use Rattle.std.specs.Ordering.{nat_cmp, ordering_then, is_eq}
 use Rattle.std.specs.declared.cmp.Ordering.{Ordering}
@@ -31,6 +31,7 @@ use Rattle.gt_tables.specs.declared.sources.Source.{Source}
 use Rattle.gt_tables.specs.declared.parts.Case.{Case}
 use Rattle.gt_tables.specs.declared.parts.Parts.{Parts}
 use Rattle.gt_tables.specs.Building.{IsSource, site_cmp, part_cmp, case_cmp, first_of, HaveWalks, Files, Keeps, IsPlaced, IsSiteOf, ServesPart, flag_at, around_of, outermost_if, part_at, part_on_site, part_of, depends}
+use Rattle.gt_tables.specs.Ordered.{IsOrdered, exprs_in}
 use Rattle.gt_tables.specs.Sharing.{PartWalk, ReadsOutermost, Encloses, IsPart, IsOutermostRead, LiesIn, IsPartWalk, ArePartsShared, LiesAt, DependsOnSite}
 use Rattle.gt_tables.specs.Counting.{IsKnown, Stays, told_site, told, held_site, held, named_by, IsKeptWalk, ServesPlace, AreApart, Counted, StaysCounted, IsDeeper, with_site, Counts}
 use Rattle.gt_tables.proofs.Growing.{fewer, append-assoc}
@@ -538,8 +539,9 @@ module _ (source : Source) (tables : Tables) (walks : List (List WalkRow)) (part
   have : HaveWalks (first_of source) parts.walks.items tables
   have = record { front = walks; rest = []; is = is ∙ ap (λ l. walks ++ l) (sym (append-nil parts.walks.items)); long = long }
 
-  pub parts-shared : (own : List ℕ) → tables.roots ≡ own → Counted source parts (2 * length own) own (named_by walks) → ArePartsShared source.program.now source.layouts.now tables
-  parts-shared own roots c =
+  pub parts-shared : (own : List ℕ) → tables.roots ≡ own → Counted source parts (2 * length own) own (named_by walks) → All (λ rows. All IsOrdered (flat_map exprs_in rows)) tables.walks
+      → ArePartsShared source.program.now source.layouts.now tables
+  parts-shared own roots c ordered =
       let all = ap length is ∙ length-append walks parts.walks.items in
       let many = ap length roots in
       let count : first_of source + length parts.walks.items ≡ length tables.walks = omega (arith, all, long) in
@@ -551,5 +553,5 @@ module _ (source : Source) (tables : Tables) (walks : List (List WalkRow)) (part
             c.serve;
         distinct = c.distinct;
         few = omega (arith, all, long, c.few, many);
-        shared = tables-apart source tables walks parts.walks.items parts.cases parts.known own is long have roots c.apart count;
+        shared = tables-apart source tables walks parts.walks.items parts.cases parts.known own is long have roots c.apart count ordered;
       }

@@ -15,6 +15,7 @@ use Rattle.gt_walk.specs.declared.rows.WalkRow.TheVariants as row
 use Rattle.gt_walk.specs.declared.rows.WalkRow.TheVariants.{outs-Note, outs-Ptr, outs-Sub, outs-Rep, outs-Tail, outs-Switch}
 use Rattle.gt_walk.specs.Nested.{is_note, has_note, note_at, note_in_arm, parts_in, part_at, in_arm, names_in, name_at}
 use Rattle.gt_tables.specs.Building.{parts_of}
+use Rattle.gt_tables.specs.Ordered.{in_count, exprs_at, exprs_in_arm, exprs_in}
 
 module _ {A B : Type 0} (step : WalkRow-F A B → A) (arm_step : Arm-F A B → B) where
   layer : (r : WalkRow) (x : WalkRow-F WalkRow Arm) → out-WalkRow r ≡ x
@@ -124,3 +125,40 @@ switch-parts desc arms = layer part_at in_arm (row.Switch desc arms) _ (outs-Swi
 
 pub switch-names : (desc : RowExpr) (arms : Vec Arm) → names_in (row.Switch desc arms) ≡ flat_map (λ a. names_of (out-Arm a).row) arms.items
 switch-names desc arms = layer name_at in_arm (row.Switch desc arms) _ (outs-Switch desc arms) ∙ arms-names arms.items
+
+-- ---- expressions
+
+pub note-exprs : (size : ℕ) (chain : Option ℕ) → exprs_in (row.Note size chain) ≡ []
+note-exprs size chain = layer exprs_at exprs_in_arm (row.Note size chain) _ (outs-Note size chain)
+
+pub ptr-exprs : (offset walk : ℕ) (count : Count) (reorder : Bool) → exprs_in (row.Ptr offset walk count reorder) ≡ in_count count
+ptr-exprs offset walk count reorder = layer exprs_at exprs_in_arm (row.Ptr offset walk count reorder) _ (outs-Ptr offset walk count reorder)
+
+pub sub-exprs : (offset walk : ℕ) → exprs_in (row.Sub offset walk) ≡ []
+sub-exprs offset walk = layer exprs_at exprs_in_arm (row.Sub offset walk) _ (outs-Sub offset walk)
+
+pub rep-exprs : (offset n size : ℕ) (elem : WalkRow) → exprs_in (row.Rep offset n size elem) ≡ exprs_in elem
+rep-exprs offset n size elem = layer exprs_at exprs_in_arm (row.Rep offset n size elem) _ (outs-Rep offset n size elem)
+
+pub tail-exprs : (offset : ℕ) (len : RowExpr) (size : ℕ) (elem : WalkRow) → exprs_in (row.Tail offset len size elem) ≡ len ∷ exprs_in elem
+tail-exprs offset len size elem = layer exprs_at exprs_in_arm (row.Tail offset len size elem) _ (outs-Tail offset len size elem)
+
+abbrev pub exprs_of : Option WalkRow → List RowExpr
+exprs_of (Some r) = exprs_in r
+exprs_of None = []
+
+exprs-layer : (active : Active) (o : Option WalkRow)
+    → exprs_in_arm (map-Arm WalkRow Arm (List RowExpr) (List RowExpr) exprs_in (fold-Arm (List RowExpr) (List RowExpr) exprs_at exprs_in_arm) (record { active = active; row = o })) ≡ exprs_of o
+exprs-layer active None = refl
+exprs-layer active (Some r) = refl
+
+arm-exprs : (arm : Arm) → fold-Arm (List RowExpr) (List RowExpr) exprs_at exprs_in_arm arm ≡ exprs_of (out-Arm arm).row
+arm-exprs arm = fold_out-Arm (List RowExpr) (List RowExpr) exprs_at exprs_in_arm arm ∙ exprs-layer (out-Arm arm).active (out-Arm arm).row
+
+arms-exprs : (arms : List Arm) → flat_map (λ (es : List RowExpr). es) (map (fold-Arm (List RowExpr) (List RowExpr) exprs_at exprs_in_arm) arms) ≡ flat_map (λ a. exprs_of (out-Arm a).row) arms
+arms-exprs [] = refl
+arms-exprs (a ∷ arms) =
+    ap (λ xs. xs ++ flat_map (λ (es : List RowExpr). es) (map (fold-Arm (List RowExpr) (List RowExpr) exprs_at exprs_in_arm) arms)) (arm-exprs a) ∙ ap (λ ys. exprs_of (out-Arm a).row ++ ys) (arms-exprs arms)
+
+pub switch-exprs : (desc : RowExpr) (arms : Vec Arm) → exprs_in (row.Switch desc arms) ≡ desc ∷ flat_map (λ a. exprs_of (out-Arm a).row) arms.items
+switch-exprs desc arms = layer exprs_at exprs_in_arm (row.Switch desc arms) _ (outs-Switch desc arms) ∙ ap (λ es. desc ∷ es) (arms-exprs arms.items)

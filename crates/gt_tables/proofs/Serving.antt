@@ -34,6 +34,7 @@ use Rattle.gt_tables.specs.declared.sources.Source.{Source}
 use Rattle.gt_tables.specs.declared.parts.Parts.{Parts}
 use Rattle.gt_edges.specs.Numbers.{first_part}
 use Rattle.gt_alike.specs.Alike.{AreEqual}
+use Rattle.gt_tables.specs.Ordered.{IsOrdered}
 use Rattle.gt_tables.specs.Building.{part_cmp, HaveWalks, Grows, HasEqual, Keeps, IsSource, IsAround, IsSiteOf, IsPlaced, AreServed, around_of, part_at, part_on_site, depends, part_of, ServesType, ServesPart, ServesStructure, AddsFields, ServesMembers}
 use Rattle.gt_tables.specs.Sharing.{Encloses}
 use Rattle.gt_tables.proofs.Growing.{fewer, append-assoc}
@@ -226,7 +227,7 @@ struct-serves source walks inner node desc chain s plane fields spots notes rows
 module _ (source : Source) (walks : List (List WalkRow)) (inner : CodeAround) (node : TypeId) (desc : Option Expr) (s : Structure) (arms : Vec Arm) where
   -- the row of a union, where it has one
   abbrev IsSwitch : Option WalkRow → Type 0
-  IsSwitch r = IfSome r (λ made. (value : RowExpr) × (made ≡ row.Switch value arms) × IsDescExpr source.program.now source.layouts.now (around_of inner) desc value)
+  IsSwitch r = IfSome r (λ made. (value : RowExpr) × (made ≡ row.Switch value arms) × IsDescExpr source.program.now source.layouts.now (around_of inner) desc value × IsOrdered value)
 
   -- where there is a row, one of the members has one
   abbrev HasArm : Option WalkRow → Type 0

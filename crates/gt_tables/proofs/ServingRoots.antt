@@ -106,12 +106,13 @@ pub root-walk-new : (source : Source) (a b : List (List WalkRow)) (rows : List W
 root-walk-new source a b rows r address walk is number s tables h =
     let first = first_part source.program.now in
     let have = subst (λ ws. HaveWalks first ws tables) is h in
-    (rows, ap (rows_of tables) number ∙ rows-there source.program.now first (a ++ rows ∷ []) 0 rows (length a) (slice-end a rows) tables have, root-more source a (rows ∷ []) b is r address rows s)
+    let late : first ≤ walk = omega (arith, number) in
+    (rows, ap (rows_of tables) number ∙ rows-there source.program.now first (a ++ rows ∷ []) 0 rows (length a) (slice-end a rows) tables have, root-more source a (rows ∷ []) b is r address rows s, late)
 
 pub root-walk-on : (source : Source) (a b : Parts) → Grows source.program.now a b → (r : Root) (address walk : ℕ) → IsWalkOfRoot source a.walks.items r address walk → IsWalkOfRoot source b.walks.items r address walk
 root-walk-on source a b grows r address walk is tables h =
     let w = is tables (fewer-on source.program.now a b grows tables h) in
-    (w.0, w.1, root-more source a.walks.items grows.more b.walks.items grows.walks r address w.0 w.2)
+    (w.0, w.1, root-more source a.walks.items grows.more b.walks.items grows.walks r address w.0 w.2, w.3)
 
 -- one root more was looked at, which has this address, where its place is known
 module _ (source : Source) (source-is : IsSource source) (a b : Parts) (grows : Grows source.program.now a b) (i : ℕ) (old new : List ℕ) (r : Root) (address : ℕ) (here : slice_get source.program.now.roots i ≡ Some r)

@@ -103,8 +103,7 @@ module _ (source : Source) (source-is : IsSource source) (tables : Tables) (walk
     roots = λ place walk r spot got plain found where_is.
         let w = roots.serves place walk r spot (slice_get_within source.program.now.roots place r got) got plain found where_is tables have in
         record {
-          size = source.layouts.now.statics.size;
-          chain = None;
+          late = w.3;
           line = w.2.line;
           is = w.1 ∙ w.2.is;
           of_root = subst (λ n. IsRowOf source.program.now source.layouts.now tables outside r.ty (n + spot.offset) w.2.line) source-is.start (w.2.of_root tables have);

@@ -1,6 +1,6 @@
 -- The tables that are made.
 use Rattle.std.proofs.Common.{◌≡◌, ◌∙◌, ℕ, ◌+◌, ◌≤◌, ◌<◌, Bool, true, false, not, cond, drop, List, [], ◌∷◌, ◌++◌, length, map, refl, ap, sym, subst, Option, Some, None, get_or, arith}
-use Rattle.std.specs.Prelude.{All}
+use Rattle.std.specs.Prelude.{All, flat_map}
 use Rattle.std.specs.BTreeMap.{get}
 use Rattle.std.proofs.lemmas.List.{length-append, append-nil, get_or_append_left, drop_more}
 use Rattle.std.proofs.Math.Seq.{get_or-append_seam}
@@ -15,7 +15,6 @@ use Rattle.gt_types.specs.declared.program.Program.{Program}
 use Rattle.gt_types.specs.Paths.{MayStand}
 use Rattle.gt_types.specs.Settled.{Settled, IsCache}
 use Rattle.gt_layout.specs.Progress.{HoldsWithinDepth}
-use Rattle.gt_walk.specs.declared.rows.Count.{Count}
 use Rattle.gt_walk.specs.declared.rows.WalkRow.{WalkRow}
 use Rattle.gt_walk.specs.declared.rows.WalkRow.TheVariants as row
 use Rattle.gt_walk.specs.declared.tables.CacheWalks.{CacheWalks}
@@ -28,22 +27,17 @@ use Rattle.gt_types.specs.declared.program.Root.{Root}
 use Rattle.gt_edges.specs.Edges.{has_walk}
 use Rattle.gt_edges.specs.Tables.{cache_walks, AreNumbered}
 use Rattle.gt_tables.specs.Building.{part_cmp, HaveWalks, IsWalkOf, AreRows, Shallow, AreParts, Grows, IsThere, EndAsBlocks, number_of_walks, HaveTurns}
-use Rattle.gt_tables.proofs.RowForms.{ptr-note, ptr-names, ptr-parts}
-use Rattle.gt_tables.proofs.Growing.{fewer, length-tables, nests-of, rows-note, rows-add, rows-grow, row-pointer, walk-grows}
+use Rattle.gt_tables.specs.Ordered.{IsOrdered, exprs_in}
+use Rattle.gt_tables.proofs.Growing.{fewer, length-tables, nests-of, rows-note, rows-add, rows-grow, row-pointer, pointer-fixed, walk-grows}
 use Rattle.gt_tables.proofs.Keeping.{rows-on}
 
 -- ---- rows of pointers
 
-pub rows-pointing : (first : ℕ) (walks : List (List WalkRow)) (deep : ℕ → Type 0) (size walk : ℕ) (chain : Option ℕ) (count : Count) (reorder : Bool) → walk < first
-    → AreRows first walks deep (row.Note size chain ∷ row.Ptr 0 walk count reorder ∷ [])
-rows-pointing first walks deep size walk chain count reorder lt =
-    let P = λ (w : ℕ). w < first in
-    rows-add first walks deep (row.Note size chain ∷ []) (Some (row.Ptr 0 walk count reorder)) (rows-note first walks deep size chain)
-    (row-pointer first walks deep (row.Ptr 0 walk count reorder) (record {
-      no_note = ptr-note 0 walk count reorder;
-      names = subst (All P) (sym (ptr-names 0 walk count reorder)) (All-cons P walk [] lt (All-nil P));
-      parts = ptr-parts 0 walk count reorder;
-    }))
+pub rows-pointing : (first : ℕ) (walks : List (List WalkRow)) (deep : ℕ → Type 0) (size walk : ℕ) (chain : Option ℕ) (n : ℕ) (reorder : Bool) → walk < first
+    → AreRows first walks deep (row.Note size chain ∷ row.Ptr 0 walk (count.Fixed n) reorder ∷ [])
+rows-pointing first walks deep size walk chain n reorder lt =
+    rows-add first walks deep (row.Note size chain ∷ []) (Some (row.Ptr 0 walk (count.Fixed n) reorder)) (rows-note first walks deep size chain)
+    (row-pointer first walks deep (row.Ptr 0 walk (count.Fixed n) reorder) (pointer-fixed first 0 walk n reorder lt))
 
 -- structures stand inside one another at most so deep
 pub holds-enough : (program : Program) (type : Ty) → Settled program → HoldsWithinDepth program type 33 → (depth : ℕ) → Shallow depth → HoldsWithinDepth program type depth
@@ -128,6 +122,12 @@ module _ (program : Program) (settled : Settled program) (tables : Tables) (walk
         caches = subst (All (λ (cache : CacheWalks). IsWalk tables cache.key × IsWalk tables cache.value)) (sym caches) (caches-there h program.caches settled.caches);
         shallow = λ walk there. nests-of tables 33 walk ((All-get_or P tables.walks walk [] there each).nests tables h 33 (omega arith));
       }
+
+  pub ordered-of : tables.walks ≡ walks ++ b.walks.items → All (AreRows (first_part program) a.walks.items Shallow) walks → All (λ rows. All IsOrdered (flat_map exprs_in rows)) tables.walks
+  ordered-of is all =
+      let P = AreRows (first_part program) b.walks.items Shallow in
+      let each : All P tables.walks = subst (All P) (sym is) (All-append P walks b.walks.items (list-on (first_part program) program a b grows walks all) grows.are.rows) in
+      All-weaker P (λ rows. All IsOrdered (flat_map exprs_in rows)) (λ rs r. r.ordered) tables.walks each
 
 -- the walks that each program has
 pub numbered-of : (program : Program) (tables : Tables) (walks parts : List (List WalkRow)) → tables.walks ≡ walks ++ parts → length walks ≡ first_part program → EndAsBlocks program walks

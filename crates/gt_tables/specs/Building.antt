@@ -32,6 +32,7 @@ use Rattle.gt_tree.specs.Fits.{types_of}
 use Rattle.gt_edges.specs.Edges.{has_walk}
 use Rattle.gt_edges.specs.Walks.{Around, outside, first_of as first_node, IsRowOf, IsPartOf, AreRowsOf, AreFieldRows, AreArmsOf}
 use Rattle.gt_edges.specs.Notes.{chain_offset}
+use Rattle.gt_tables.specs.Ordered.{IsOrdered, exprs_in}
 use Rattle.gt_tables.specs.Sharing.{ReadsOutermost, Encloses}
 use Rattle.gt_tables.specs.declared.sources.Around.{Around as CodeAround}
 use Rattle.gt_tables.specs.declared.sources.Lies.{Lies}
@@ -107,23 +108,26 @@ pub record IsWalkAt (program : Program) (node : ℕ) (walk : ℕ) (tables : Tabl
 abbrev pub IsWalkOf : Program → ℕ → List (List WalkRow) → ℕ → ℕ → Type 0
 IsWalkOf program first walks node walk = (tables : Tables) → HaveWalks first walks tables → IsWalkAt program node walk tables
 
--- a row is no note, names walks of tables, and its parts lie as deep as is given
+-- a row is no note, names walks of tables, its parts lie as deep as is given, and its expressions are ordered
 pub record IsRow (first : ℕ) (walks : List (List WalkRow)) (deep : ℕ → Type 0) (row : WalkRow) : Type 0 where
   pub no_note : has_note row ≡ false
   pub names : (tables : Tables) → HaveWalks first walks tables → All (IsWalk tables) (names_in row)
   pub nests : (tables : Tables) → HaveWalks first walks tables → (depth : ℕ) → deep depth → PartsWithin tables depth (parts_in row)
+  pub ordered : All IsOrdered (exprs_in row)
 
 -- rows after a note
 pub record AreRows (first : ℕ) (walks : List (List WalkRow)) (deep : ℕ → Type 0) (rows : List WalkRow) : Type 0 where
   pub note : HaveOneNote rows
   pub names : (tables : Tables) → HaveWalks first walks tables → All (IsWalk tables) (flat_map names_in rows)
   pub nests : (tables : Tables) → HaveWalks first walks tables → (depth : ℕ) → deep depth → PartsWithin tables depth (flat_map parts_in rows)
+  pub ordered : All IsOrdered (flat_map exprs_in rows)
 
 -- the row of a pointer
 pub record IsPointerRow (first : ℕ) (row : WalkRow) : Type 0 where
   pub no_note : has_note row ≡ false
   pub names : All (λ walk. walk < first) (names_in row)
   pub parts : parts_in row ≡ []
+  pub ordered : All IsOrdered (exprs_in row)
 
 -- ---- walks that are found by their rows
 
@@ -308,10 +312,10 @@ pub record ServesRoot (source : Source) (walks : List (List WalkRow)) (r : Root)
   pub is : rows ≡ Note source.layouts.now.statics.size None ∷ option_to_list line
   pub of_root : (tables : Tables) → HaveWalks (first_part source.program.now) walks tables → IsRowOf source.program.now source.layouts.now tables outside r.ty address line
 
--- a walk among these serves a root, which lies at an address
+-- a walk among these, after those of blocks, serves a root, which lies at an address
 abbrev pub IsWalkOfRoot : Source → List (List WalkRow) → Root → ℕ → ℕ → Type 0
 IsWalkOfRoot source walks r address walk =
-    (tables : Tables) → HaveWalks (first_part source.program.now) walks tables → (rows : List WalkRow) × (rows_of tables walk ≡ rows) × ServesRoot source walks r address rows
+    (tables : Tables) → HaveWalks (first_part source.program.now) walks tables → (rows : List WalkRow) × (rows_of tables walk ≡ rows) × ServesRoot source walks r address rows × (first_of source ≤ walk)
 
 -- ---- parts that are shared
 

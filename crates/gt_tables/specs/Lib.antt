@@ -1,3 +1,4 @@
+pub mod Ordered
 pub mod Sharing
 pub mod Building
 pub mod Leaves

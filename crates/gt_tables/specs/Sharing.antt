@@ -19,6 +19,7 @@ use Rattle.gt_walk.specs.Nested.{parts_in}
 use Rattle.gt_edges.specs.Numbers.{first_part}
 use Rattle.gt_edges.specs.Walks.{Around, inside, IsPartOf}
 use Rattle.gt_alike.specs.Alike.{AreEqual}
+use Rattle.gt_tables.specs.Ordered.{IsOrdered, exprs_in}
 
 -- where a structure lies by value: in which structure, and in which field of it
 pub record Site : Type 0 where
@@ -105,9 +106,11 @@ IsPartWalk program layouts tables p =
 abbrev pub IsNamed : Tables → ℕ → Type 0
 IsNamed tables walk = (from : ℕ) × Contains (flat_map parts_in (rows_of tables from)) walk
 
--- Each walk after those of blocks is a root's own, or a row names it as that of a part; and no two walks that rows name so have equal rows.
+-- Each walk after those of blocks is a root's own, or a row names it as that of a part; and no two walks that rows name so have equal rows. What serves the same
+-- has equal rows, since each expression in them has its leaves in one order.
 pub record AreDistinct (program : Program) (tables : Tables) : Type 0 where
   pub used : (walk : ℕ) → first_part program ≤ walk → walk < length tables.walks → Contains tables.roots walk ⊎ IsNamed tables walk
+  pub ordered : All (λ rows. All IsOrdered (flat_map exprs_in rows)) tables.walks
   pub apart : (v w : ℕ) → v ≢ w → IsNamed tables v → IsNamed tables w → ¬ AreEqual (rows_of tables v) (rows_of tables w)
 
 -- Besides the walks of blocks, and at most two for each root that is not deletable (its own, and that of what it holds where this depends on the root), there is

@@ -3,6 +3,7 @@ ghost use Rattle.std.specs.Prelude.{IfOk};
 ghost use Rattle.gt_edges.specs.Walks.{IsRowExpr, IsDescExpr};
 ghost use Rattle.gt_tables.specs.Building.{IsSource, around_of};
 ghost use Rattle.gt_tables.specs.Leaves.{IsRead, IsTranslated};
+ghost use Rattle.gt_tables.specs.Ordered.{IsOrdered};
 
 use crate::paths::{path_leaf, root_leaf};
 use crate::sources::{Around, Source};
@@ -64,6 +65,7 @@ fn translate(
 pub fn row_expr(source: &Source<'_>, around: Around, e: &Expr) -> Result<RowExpr, AllocError>
     requires source { IsSource source.now }
     ensures is { IfOk result (IsRowExpr source.now.program.now source.now.layouts.now (around_of around) e.now) }
+    ensures ordered { IfOk result IsOrdered }
 {
     let mut leaves = Vec::new(source.alloc);
     let expr = translate(source, around, e, &mut leaves)?;
@@ -81,6 +83,7 @@ pub fn desc_expr(
 ) -> Result<RowExpr, AllocError>
     requires source { IsSource source.now }
     ensures is { IfOk result (IsDescExpr source.now.program.now source.now.layouts.now (around_of around) desc.now) }
+    ensures ordered { IfOk result IsOrdered }
 {
     match desc {
         Some(desc) => row_expr(source, around, desc),

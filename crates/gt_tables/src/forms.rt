@@ -2,6 +2,7 @@
 ghost use Rattle.std.specs.Prelude.{◌≡◌, ◌≢◌, ◌++◌, [], ◌∷◌, None, All, Any, IfOk, IfSome, IsSome, OnOk, option_to_list, option_map};
 ghost use Rattle.gt_edges.specs.Walks.{IsRowExpr, IsDescExpr};
 ghost use Rattle.gt_tables.specs.Building.{IsSource, around_of};
+ghost use Rattle.gt_tables.specs.Ordered.{IsOrdered};
 ghost use Rattle.gt_walk.specs.declared.rows.RowExpr.{RowExpr};
 ghost use Rattle.gt_walk.specs.declared.rows.Arm.{out-Arm};
 ghost use Rattle.gt_walk.specs.declared.rows.WalkRow.TheVariants as row;
@@ -72,7 +73,7 @@ pub fn counted(
     elem: Option<WalkRow>,
 ) -> Result<Option<WalkRow>, AllocError>
     requires source { IsSource source.now }
-    ensures { IfOk result (λ made. (count : RowExpr) × (made ≡ option_map (row.Tail offset count size) elem) × (elem ≢ None → IsRowExpr source.now.program.now source.now.layouts.now (around_of around) len.now count)) }
+    ensures { IfOk result (λ made. (count : RowExpr) × (made ≡ option_map (row.Tail offset count size) elem) × (elem ≢ None → IsRowExpr source.now.program.now source.now.layouts.now (around_of around) len.now count) × (elem ≢ None → IsOrdered count)) }
 {
     let Some(elem) = elem else {
         return Ok(None);
@@ -107,7 +108,7 @@ pub fn switch_row(
     arms: Vec<Arm>,
 ) -> Result<Option<WalkRow>, AllocError>
     requires source { IsSource source.now }
-    ensures row { IfOk result (λ r. IfSome r (λ made. (value : RowExpr) × (made ≡ row.Switch value arms) × IsDescExpr source.now.program.now source.now.layouts.now (around_of inner) desc.now value)) }
+    ensures row { IfOk result (λ r. IfSome r (λ made. (value : RowExpr) × (made ≡ row.Switch value arms) × IsDescExpr source.now.program.now source.now.layouts.now (around_of inner) desc.now value × IsOrdered value)) }
     ensures some { IfOk result (λ r. IfSome r (λ made. Any (λ a. IsSome (out-Arm a).row) arms.items)) }
     ensures none { IfOk result (λ r. r ≡ None → All (λ a. (out-Arm a).row ≡ None) arms.items) }
 {

@@ -22,7 +22,7 @@ returns-clause-walks c =
     let lt : c.bare_walk.result < first = omega (arith, c.bare_walk.ensures, c.requires.source.count) in
     list-add first walks c.push.new.self.items c.push-2.new.self.items c.of-2.result c.in_ok-push-2.ensures.items
     (list-add first walks c.add_pointer_walks.new.walks.items c.push.new.self.items c.of.result c.in_ok-push.ensures.items (c.in_ok-add_pointer_walks.ensures.walks walks c.in_ok-walks.ensures.walks)
-    (subst (AreRows first walks Shallow) (sym (c.of.ensures.items ∙ c.in_ok-strings.ensures)) (rows-pointing first walks Shallow 8 c.bare_walk.result None (count.Fixed 0) false lt)))
+    (subst (AreRows first walks Shallow) (sym (c.of.ensures.items ∙ c.in_ok-strings.ensures)) (rows-pointing first walks Shallow 8 c.bare_walk.result None 0 false lt)))
     (subst (AreRows first walks Shallow) (sym (c.of-2.ensures.items ∙ c.in_ok-bare.ensures)) (rows-note first walks Shallow 1 None))
 
 pub returns-clause-ends : goal.returns-clause-ends

@@ -15,7 +15,7 @@ returns-then-may_stand-clause-rows c =
     let first = first_of c.args.source.now in
     let lt : c.args.id.0 < first = omega (arith, c.requires.there, c.requires.source.count) in
     if-ok (λ rows. rows.items ≡ row.Note 8 None ∷ row.Ptr 0 c.args.id.0 (count.Fixed 1) false ∷ []) (λ rows. (walks : List (List WalkRow)) → AreRows first walks Shallow rows.items) c.pointing_rows.result
-    (λ rows is walks. subst (AreRows first walks Shallow) (sym is) (rows-pointing first walks Shallow 8 c.args.id.0 None (count.Fixed 1) false lt)) c.pointing_rows.ensures
+    (λ rows is walks. subst (AreRows first walks Shallow) (sym is) (rows-pointing first walks Shallow 8 c.args.id.0 None 1 false lt)) c.pointing_rows.ensures
 
 -- they name no walk of a part
 pub returns-then-may_stand-clause-bare : goal.returns-then-may_stand-clause-bare

@@ -8,7 +8,7 @@ use Rattle.gt_edges.specs.Tables.{AreNumbered}
 use Rattle.gt_edges.specs.Deletable.{deletable_words}
 use Rattle.gt_tables.specs.Building.{IsThere}
 use Rattle.gt_tables.specs.Counting.{named_by}
-use Rattle.gt_tables.proofs.Wholes.{nested-of, numbered-of}
+use Rattle.gt_tables.proofs.Wholes.{nested-of, ordered-of, numbered-of}
 use Rattle.gt_tables.proofs.PartCounts.{counted-none, counted-more, parts-shared}
 use Rattle.gt_tables.proofs.TablesOf.{is-source, no-parts, none-served, made-walks}
 use Rattle.gt_tables.proofs.building.make.Goals as goal
@@ -94,3 +94,4 @@ returns-clause-shared c =
     let counted = c.in_ok-roots.ensures.counted 0 hand (c.in_ok-walks.ensures.counted 0 [] [] none) in
     parts-shared _ tables c.in_ok-walks.walks.items parts (c.of.ensures.items ∙ c.in_ok-append.ensures.items) c.in_ok-walks.ensures.long own c.of-2.ensures.items
     (counted-more _ parts (0 + 2 * length own) (2 * length own) own hand (omega arith) counted)
+    (ordered-of c.args.program.now c.requires.settled tables c.in_ok-walks.walks.items c.block_walks.new.parts parts c.in_ok-roots.ensures.grows (c.of.ensures.items ∙ c.in_ok-append.ensures.items) c.in_ok-walks.ensures.walks)

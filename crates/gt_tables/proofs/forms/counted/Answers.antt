@@ -9,4 +9,5 @@ returns c =
       len,
       ap (λ e. Some (row.Tail c.args.offset len c.args.size e)) c.in_ok-new.ensures ∙ ap (option_map (row.Tail c.args.offset len c.args.size)) (sym c.in-Some.is),
       λ _. c.in_ok-row_expr.ensures.is,
+      λ _. c.in_ok-row_expr.ensures.ordered,
     )

@@ -1,7 +1,8 @@
-use Rattle.std.proofs.Common.{◌≡◌, arith, rules, None}
+use Rattle.std.proofs.Common.{◌≡◌, ◌<◌, sym, subst, arith, rules, None}
 use Rattle.gt_tree.specs.Blocks.{Raw}
 use Rattle.gt_edges.specs.Numbers.{walk_of}
-use Rattle.gt_tables.specs.Building.{around_of}
+use Rattle.gt_tables.specs.Building.{IsPointerRow, first_of, around_of}
+use Rattle.gt_tables.proofs.Growing.{pointer-fixed, pointer-counted}
 use Rattle.gt_tables.proofs.PointerRows.{of-atomic, of-bare, of-missing, of-undefined, of-single, of-counted}
 use Rattle.gt_tables.proofs.pointers.pointer_row.Goals as goal
 
@@ -40,3 +41,25 @@ returns-in_ok-row_expr-in-Length-clause-serves c =
 pub returns-in-Atomic-kind-clause-serves : goal.returns-in-Atomic-kind-clause-serves
 returns-in-Atomic-kind-clause-serves c =
     of-undefined c.args.source.now.program.now c.args.source.now.layouts.now (around_of c.args.around) c.args.offset c.args.reorder c.args.target c.args.kind.now c.in-Some.target c.in-Some.is c.in-Atomic-kind.is
+
+-- ---- the rows themselves
+
+pub returns-in-Atomic-clause-row : goal.returns-in-Atomic-clause-row
+returns-in-Atomic-clause-row c =
+    let first = first_of c.args.source.now in
+    let lt : c.bare_walk.result < first = omega (arith, c.bare_walk.ensures, c.requires.source.count) in
+    subst (IsPointerRow first) (sym c.row_to.ensures) (pointer-fixed first c.args.offset c.bare_walk.result 0 c.args.reorder lt)
+
+pub returns-in-Plain-clause-row : goal.returns-in-Plain-clause-row
+returns-in-Plain-clause-row c =
+    let first = first_of c.args.source.now in
+    let walk = c.in-Some-target_walk.walk in
+    subst (IsPointerRow first) (sym c.row_to-in-Plain.ensures) (pointer-fixed first c.args.offset walk 1 c.args.reorder c.in-Some-target_walk.ensures.walk)
+
+pub returns-in_ok-row_expr-in-Length-clause-row : goal.returns-in_ok-row_expr-in-Length-clause-row
+returns-in_ok-row_expr-in-Length-clause-row c =
+    let first = first_of c.args.source.now in
+    let walk = c.in-Some-target_walk.walk in
+    let e = c.in_ok-row_expr-in-Length.field-0 in
+    subst (IsPointerRow first) (sym c.row_to-in-Length.ensures)
+    (pointer-counted first c.args.offset walk e c.args.reorder c.in-Some-target_walk.ensures.walk c.in_ok-row_expr-in-Length.ensures.ordered)

@@ -24,6 +24,7 @@ use Rattle.gt_walk.specs.declared.rows.WalkRow.TheVariants.{Rep, Tail}
 use Rattle.gt_walk.specs.Nested.{parts_in}
 use Rattle.gt_edges.specs.Walks.{IsRowExpr, IsDescExpr, IsPointerRow, IsRowOf, number, bits, opaque, pointer}
 use Rattle.gt_tables.specs.Building.{first_of, around_of, parts_of, IsPointerRow as NamesBlocks, AreRows, IsRow, IsWalkOf, Keeps, Grows, IsPlaced, AreServed, ServesType, ServesPart}
+use Rattle.gt_tables.specs.Ordered.{IsOrdered}
 use Rattle.gt_tables.specs.Counting.{Stays, Counts, with_site}
 use Rattle.gt_tables.proofs.Growing.{rows-note, rows-add, row-pointer, IsArm}
 use Rattle.gt_tables.proofs.Keeping.{on-ok, if-ok, if-both, on-both, grows-not, grows-on, rows-on, arms-on, rep-row, tail-row, sub-row, some-deeper, switch-some, known-walk, kept-walk, kept-grows}
@@ -397,9 +398,9 @@ type_row-returns-in_ok-row-in-Tail-clause-serves t c =
     let same : c.get-in-Tail-2.result.now ≡ elem = c.get-in-Tail-2.ensures ∙ sym c.get-in-Tail.ensures in
     let typed = subst (IsTypeIn source.program.now) (sym same) (of_tail c.requires.typed is) in
     let long = c.size_of-size-in-Tail.ensures.size source.program.now c.requires.source.settled c.requires.source.laid c.requires.source.within typed ∙ ap (λ e. (extent_of source.layouts.now.structures e).size) same in
-    if-ok (λ made. (e : RowExpr) × (made ≡ option_map (Tail c.args.offset e size) row) × (row ≢ None → IsRowExpr source.program.now source.layouts.now (around_of around) c.in-Tail.len e))
+    if-ok (λ made. (e : RowExpr) × (made ≡ option_map (Tail c.args.offset e size) row) × (row ≢ None → IsRowExpr source.program.now source.layouts.now (around_of around) c.in-Tail.len e) × (row ≢ None → IsOrdered e))
     (ServesType source walks around c.args.ty.now c.args.offset) c.counted.result
-    (λ made h. tail-serves source walks around c.args.ty.now elem c.in-Tail.len c.args.offset size row made is long h c.in_ok-row-in-Tail.ensures.serves) c.counted.ensures
+    (λ made h. tail-serves source walks around c.args.ty.now elem c.in-Tail.len c.args.offset size row made is long (h.0, h.1, h.2) c.in_ok-row-in-Tail.ensures.serves) c.counted.ensures
 
 -- what looking at a part, or at the elements of an array, adds
 pub part_walk-returns-clause-counts : goal.part_walk-returns-clause-counts
@@ -481,7 +482,7 @@ type_row-returns-in_ok-row-in-Tail-clause-counts t c =
     let is : out-Ty c.args.ty.now ≡ part.Tail c.in-Tail.len elem = ap out-Ty c.in-Tail.is ∙ outs-Tail c.in-Tail.len c.in-Tail.elem ∙ ap (part.Tail c.in-Tail.len) (sym c.get-in-Tail.ensures) in
     let deep = HoldsWithinDepth program c.args.ty.now in
     let inner = HoldsWithinDepth program elem in
-    if-ok (λ made. (e : RowExpr) × (made ≡ option_map (Tail c.args.offset e size) row) × (row ≢ None → IsRowExpr program source.layouts.now (around_of c.args.lies.around) c.in-Tail.len e))
+    if-ok (λ made. (e : RowExpr) × (made ≡ option_map (Tail c.args.offset e size) row) × (row ≢ None → IsRowExpr program source.layouts.now (around_of c.args.lies.around) c.in-Tail.len e) × (row ≢ None → IsOrdered e))
     (λ made. Counts source deep (with_site c.args.lies.site) [] (parts_of made) old new) c.counted.result
     (λ made h.
     counts-deeper source inner (with_site c.args.lies.site) old new deep [] (parts_of made) (λ depth holds node held. holds node (held-tail c.args.ty.now elem c.in-Tail.len is ∙ held))
