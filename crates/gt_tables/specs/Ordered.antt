@@ -1,4 +1,4 @@
--- The expressions in rows, each with its leaves in one order: what serves the same has the same rows.
+-- The expressions in rows, each with its leaves in one order: so what serves the same has equal rows.
 use Rattle.std.specs.Prelude.{◌≡◌, ℕ, ◌==◌, Bool, not, List, [], ◌∷◌, Option, Some, None, filter, length}
 use Rattle.std.specs.List.{flat_map, range_with_len}
 use Rattle.gt_types.specs.Paths.{roots_of}
@@ -11,14 +11,14 @@ use Rattle.gt_walk.specs.declared.rows.WalkRow.TheFolds.{fold-WalkRow}
 
 -- ---- the leaves that an expression reads
 
--- in a row `Root(i)` reads the i-th leaf, and this number stands for a leaf that there is not
+-- in a row `Root(i)` reads the i-th leaf; no leaf has this number
 abbrev pub NO_LEAF : ℕ
 NO_LEAF = 4294967295
 
 abbrev pub is_leaf : ℕ → Bool
 is_leaf i = not (i == NO_LEAF)
 
--- an expression reads each of its leaves once, in their order, and where there is no number it reads `NO_LEAF`
+-- an expression names each of its leaves once, in their order, and beside them only `NO_LEAF`; a number that it names twice has two leaves
 abbrev pub IsOrdered : RowExpr → Type 0
 IsOrdered r = filter is_leaf (roots_of r.expr) ≡ range_with_len 0 (length r.leaves)
 
@@ -28,7 +28,7 @@ abbrev pub in_count : Count → List RowExpr
 in_count (Fixed n) = []
 in_count (Length e) = e ∷ []
 
--- the expressions in one row, by those of its elements and arms: the length of a pointer or of a tail, and the value of a union
+-- the expressions in one row, by those of its elements and arms: the length of a pointer or of a tail, and the `desc` of a union
 abbrev pub exprs_at : WalkRow-F (List RowExpr) (List RowExpr) → List RowExpr
 exprs_at (Note size chain) = []
 exprs_at (Ptr offset walk count reorder) = in_count count

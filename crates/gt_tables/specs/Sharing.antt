@@ -26,7 +26,7 @@ pub record Site : Type 0 where
   pub container : TypeId
   pub field : ℕ
 
--- A part: a structure by value. Where it lies is told exactly where its rows depend on that, and so is the outermost structure.
+-- A part: a structure by value. Where it lies is told exactly where its rows depend on that, and the outermost structure exactly where its reader reads it.
 pub record Part : Type 0 where
   pub node : TypeId
   pub site : Option Site
@@ -92,7 +92,7 @@ pub record PartWalk : Type 0 where
 abbrev pub HoldsAt : Program → Site → TypeId → Option Expr → Type 0
 HoldsAt program site node desc = (s : Structure) × (f : Field) × HasStructure program site.container s × (slice_get s.fields site.field ≡ Some f) × (innermost f.ty ≡ ty.Node node desc)
 
--- some structures are those around a part, and where its site is told, its `desc` is that of the field there
+-- some structures are those around a part, as far as the part tells them, and where its site is told, its `desc` is that of the field there
 pub record LiesIn (program : Program) (p : Part) (around : Around) (desc : Option Expr) : Type 0 where
   pub site : IfSome p.site (λ site. (around.here ≡ Some site.container) × HoldsAt program site p.node desc)
   pub outermost : IfSome p.outermost (λ outermost. (inside around p.node).outermost ≡ Some (record { 0 = outermost }))
@@ -106,8 +106,8 @@ IsPartWalk program layouts tables p =
 abbrev pub IsNamed : Tables → ℕ → Type 0
 IsNamed tables walk = (from : ℕ) × Contains (flat_map parts_in (rows_of tables from)) walk
 
--- Each walk after those of blocks is a root's own, or a row names it as that of a part; and no two walks that rows name so have equal rows. What serves the same
--- has equal rows, since each expression in them has its leaves in one order.
+-- Each walk after those of blocks is a root's own, or a row names it as that of a part; and no two walks that rows name as those of parts have equal rows. So what
+-- serves the same has one walk: expressions in rows have their leaves in one order, and the parts inside have one walk each.
 pub record AreDistinct (program : Program) (tables : Tables) : Type 0 where
   pub used : (walk : ℕ) → first_part program ≤ walk → walk < length tables.walks → Contains tables.roots walk ⊎ IsNamed tables walk
   pub ordered : All (λ rows. All IsOrdered (flat_map exprs_in rows)) tables.walks
