@@ -1,4 +1,5 @@
 mod EndLemmas
+mod NoneRan
 mod WellLemmas
 mod RefusalOnce
 mod RefusedEnds

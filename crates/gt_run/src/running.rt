@@ -10,7 +10,7 @@ ghost use Rattle.gt_words.specs.declared.call.Call.{Call};
 ghost use Rattle.gt_words.specs.Calls.{call_of};
 ghost use Rattle.gt_words.specs.Ranges.{IsInRange};
 ghost use Rattle.gt_front.specs.Asks.{Asks};
-ghost use Rattle.gt_front.specs.Order.{AskNoFile, FailsIn};
+ghost use Rattle.gt_front.specs.Order.{AskNoFile, FailsIn, IsReadFor};
 ghost use Rattle.gt_front.specs.Refused.{IsRefusalLine};
 ghost use Rattle.gt_front.specs.Texts.{Texts};
 ghost use Rattle.gt_next.specs.States.{State};
@@ -58,6 +58,11 @@ pub fn top<F: Files, K: Sink>(
     ensures files { F.told files.new ≡ F.told files.old }
     ensures files_later { F.faults files.old ≤ F.faults files.new }
     ensures sink_later { K.faults out.old ≤ K.faults out.new }
+
+    // Where the script was run, to its end or in part, each file that the arguments name was read once and in order, and
+    // nothing else was read; with a generated script nothing was.
+    ensures read { (result.status ≡ 0) ⊎ (result.status ≡ 1) ⊎ (result.answers ≡ [] → ⊥)
+        → (call : Call) × (call_of words.now ≡ Some call) × IsReadFor F.reads call.script call.headers files.old files.new }
 
     // With a generated script no file is read, nor where the arguments are refused.
     ensures no_file { AskNoFile words.now → files.new ≡ files.old }
@@ -183,6 +188,8 @@ fn refuse_unbuilt<K: Sink>(alloc: Global, call: &Call, out: &mut K) -> Outcome
 fn refused_outcome<K: Sink>(alloc: Global, refusal: Refusal, line: &[u8], out: &mut K) -> Outcome
     ensures ended { (words : List (List ℕ)) (told : Option Held) (texts : Texts) (faulty : Option ℕ) → IsRefusedFirst words told texts refusal → IsToldBy faulty refusal
         → IsRefusalLine words texts refusal line.now → Ends words told faulty (K.written out.old) (K.written out.new) result empty_range }
+    ensures status { 2 ≤ result.status }
+    ensures unanswered { result.answers ≡ [] }
     ensures refusal { IfSome result.refusal (λ told. told ≡ refusal) }
     ensures later { K.faults out.old ≤ K.faults out.new }
     ensures cause { result.status ≡ 4 → Rose (K.faults out.old) (K.faults out.new) }

@@ -1,10 +1,10 @@
-use Rattle.std.proofs.Common.{◌≡◌, ℕ, List, Option, Some, None, Err, inl, ap, sym, subst, rules}
+use Rattle.std.proofs.Common.{◌≡◌, ◌∙◌, ℕ, List, Option, Some, None, Err, inl, ap, sym, subst, rules, arith}
 use Rattle.std.specs.Prelude.{IfSome}
 use Rattle.gt_space.specs.Range.{Range}
 use Rattle.gt_io.specs.Counts.{Rose}
 use Rattle.gt_io.specs.Held.{Held}
 use Rattle.gt_front.specs.Halts.{Halts}
-use Rattle.gt_front.specs.Order.{FailsIn}
+use Rattle.gt_front.specs.Order.{FailsIn, IsReadFor}
 use Rattle.gt_front.specs.Refused.{IsRefusalLine}
 use Rattle.gt_front.specs.declared.preparing.Halt.TheVariants as halt
 use Rattle.gt_front.specs.declared.refusal.FileWhy.TheVariants.{Fault}
@@ -12,6 +12,7 @@ use Rattle.gt_front.specs.declared.refusal.Refusal.{Refusal}
 use Rattle.gt_front.specs.declared.refusal.Refusal.TheVariants.{File as InFile}
 use Rattle.gt_run.specs.Ended.{Ends}
 use Rattle.gt_run.proofs.EndLemmas.{Ends-unanswered, faulty_of, HasFailed-own, IsToldBy-own}
+use Rattle.gt_run.proofs.NoneRan.{none_ran}
 use Rattle.gt_run.proofs.WellLemmas.{Ends-well}
 use Rattle.gt_run.proofs.running.top.Given.{Over}
 use Rattle.gt_run.proofs.running.top.Goals as goal
@@ -32,6 +33,12 @@ returns-in-Ok-clause-unused g c =
     let ended : Ends words before None (g.K.Sink.written c.args.out.now) (g.K.Sink.written c.run_ready.new.out) c.run_ready.result c.run_ready.new.space = search rules in
     Ends-unanswered words before None _ _ c.run_ready.result c.run_ready.new.space ended
 
+pub returns-in-Ok-clause-read : goal.returns-in-Ok-clause-read
+returns-in-Ok-clause-read g c = λ ran.
+    let call = c.in-Ok.ready.call in
+    let R : g.row.F.Denot → Type 0 = λ last. IsReadFor g.F.Files.reads call.script call.headers c.args.files.now last in
+    (call, c.in-Ok.ensures.ready.reads.called, subst R (sym c.run_ready.ensures.files) c.in-Ok.ensures.read)
+
 pub returns-in-Ok-clause-complete : goal.returns-in-Ok-clause-complete
 returns-in-Ok-clause-complete g c = λ well no_file no_sink.
     let words = c.args.words.now in
@@ -50,6 +57,11 @@ returns-in-Ok-clause-refused g c = λ held texts refusal told first known no_fil
     let E : Option Held → Type 0 = λ told. Ends words told None (g.K.Sink.written c.args.out.now) (g.K.Sink.written c.run_ready.new.out) c.run_ready.result c.run_ready.new.space in
     c.refused_is_told.ensures words held texts refusal None _ _ c.run_ready.result c.run_ready.new.space first known (subst E told ended)
     (λ word is. no_file (file_rose word is))
+
+pub returns-in-Err-Memory-clause-read : goal.returns-in-Err-Memory-clause-read
+returns-in-Err-Memory-clause-read g c = λ ran.
+    let status : c.of.result.status ≡ 9 = c.of.ensures.status in
+    absurd (none_ran c.of.result.status c.of.result.answers (omega (arith, status)) (c.of.ensures.answers ∙ c.new.ensures.empty) ran)
 
 module _ (g : Over) (c : goal.After-drop-line-inside g) where
   halts : Halts c.args.words.now (g.F.Files.told c.args.files.now) (halt.Refused c.in-Err-Refused.refusal c.in-Err-Refused.line)
@@ -77,6 +89,10 @@ returns-in-Err-Refused-clause-ended g c = (
   HasFailed-own g.F.Files.reads c.args.words.now c.args.files.now c.prepare.new.files c.in-Err-Refused.refusal (fails g c),
   refused_ends g c,
 )
+
+pub returns-in-Err-Refused-clause-read : goal.returns-in-Err-Refused-clause-read
+returns-in-Err-Refused-clause-read g c = λ ran.
+    absurd (none_ran c.refused_outcome.result.status c.refused_outcome.result.answers c.refused_outcome.ensures.status c.refused_outcome.ensures.unanswered ran)
 
 pub returns-in-Err-Refused-clause-failed : goal.returns-in-Err-Refused-clause-failed
 returns-in-Err-Refused-clause-failed g c = λ word is.
