@@ -3,7 +3,7 @@
 # built in a copy of the crates that it needs.
 . "$(dirname "$0")/shared.sh"
 mkdir -p "$work/crates/read_items/src"
-copy_crates gt_types gt_text gt_io gt_lex gt_expr gt_items gt_parse
+copy_crates gt_types gt_text gt_io gt_lex gt_expr gt_items gt_search gt_marked gt_parse
 echo 'read_items: gt_types gt_io gt_lex gt_parse' >>"$work/crates.txt"
 cat >"$work/crates/read_items/src/main.rt" <<'END'
 //! Reads the header `header.h` up to its items.
@@ -41,7 +41,7 @@ fn main(rt: HostRuntime) -> ExitCode {
     items(alloc, bytes.as_slice())
 }
 END
-build_copied gt_types gt_text gt_io gt_lex gt_expr gt_items gt_parse
+build_copied gt_types gt_text gt_io gt_lex gt_expr gt_items gt_search gt_marked gt_parse
 echo >"$work/crates/read_items/header.h"
 (cd "$work/crates/read_items" && quiet rt run)
 program=$work/crates/read_items/out/read_items

@@ -1,3 +1,4 @@
 pub mod Pairs
+pub mod Staying
 pub mod Kept
 pub mod Held

@@ -1,20 +1,22 @@
 // The pairs of caches.
-ghost use Rattle.std.specs.Prelude.{◌≡◌, ◌≤◌, ◌<◌, ◌+◌, ℕ, [], List, Some, None, IfOk, OnOk, OnErr, MatchOption, length, map, replicate, slice_get, slice_set};
+ghost use Rattle.std.specs.Prelude.{◌≡◌, ◌≤◌, ◌<◌, ◌+◌, ℕ, [], List, Some, None, IfOk, IfSome, OnOk, OnErr, MatchOption, length, map, replicate, slice_get, slice_set};
 ghost use Rattle.gt_graph.specs.Objects.{pairs_in};
 ghost use Rattle.gt_graph.specs.Good.{MAX_PAIRS};
 ghost use Rattle.gt_next.specs.Caching.{value_of_key, with_pair};
 ghost use Rattle.gt_caches.specs.Pairs.{Entry, pairs_of, staying, decided, IsEntryAt};
 ghost use Rattle.gt_caches.specs.Kept.{staying_in};
+ghost use Rattle.gt_caches.specs.Staying.{entry_in};
 
 use crate::keyed::KeyedPairs;
 use std::alloc::{AllocError, Global};
 use std::marker::Model;
 
-/// A pair of a cache: the addresses of its key and of its value.
+/// A pair of a cache: the addresses of its key and of its value, and whether it stays when a collection ends.
 #[derive(Clone, Copy, Debug, PartialEq, Eq)]
 pub struct Pair {
     pub key: u64,
     pub value: u64,
+    pub stays: bool,
 }
 
 /// Caches, which contracts see as their entries in order. How many pairs they have together is known without counting.
@@ -77,13 +79,18 @@ impl Caches {
         Ok(())
     }
 
-    /// The pair at a place of a cache, or None from its end on.
+    /// The pair at a place of a cache, with whether it stays, or None from its end on.
     pub fn get(&self, cache: usize, i: usize) -> Option<Pair>
         requires there { cache < length self.now }
         ensures pair { (pairs : List (ℕ × ℕ)) → slice_get (pairs_of self.now) cache ≡ Some pairs → MatchOption result (slice_get pairs i ≡ None) (λ pair. slice_get pairs i ≡ Some (pair.key, pair.value)) }
+        ensures stays { IfSome result (λ pair. IsEntryAt self.now cache i (entry_in pair)) }
     {
-        let (key, value) = self.caches[cache].get(i)?;
-        Some(Pair { key, value })
+        let (key, held) = self.caches[cache].get(i)?;
+        Some(Pair {
+            key,
+            value: held.value,
+            stays: held.stays,
+        })
     }
 
     /// Says whether the pair at a place of a cache stays when a collection ends. It takes no memory.

@@ -1,7 +1,8 @@
 // The pairs of one cache.
-ghost use Rattle.std.specs.Prelude.{◌≡◌, ◌+◌, ◌≤◌, ◌<◌, [], IfOk, OnOk, OnErr, MatchOption, None, Some, filter, length, map, slice_get};
+ghost use Rattle.std.specs.Prelude.{◌≡◌, ◌+◌, ◌≤◌, ◌<◌, [], IfOk, OnOk, OnErr, MatchOption, None, Some, filter, length, map, option_map, slice_get};
 ghost use Rattle.gt_next.specs.Caching.{value_of_key, with_pair};
 ghost use Rattle.gt_caches.specs.Pairs.{decided_at, pair_of};
+ghost use Rattle.gt_caches.specs.Held.{entry_of};
 ghost use Rattle.gt_caches.specs.Kept.{staying_in};
 
 use indexmap::IndexMap;
@@ -10,9 +11,9 @@ use std::marker::Model;
 
 // The value of a key, and whether the pair stays.
 #[derive(Clone, Copy)]
-struct Held {
-    value: u64,
-    stays: bool,
+pub(crate) struct Held {
+    pub(crate) value: u64,
+    pub(crate) stays: bool,
 }
 
 // The pairs of one cache, which contracts see as its entries in order.
@@ -66,12 +67,12 @@ impl KeyedPairs {
         Ok(())
     }
 
-    // The key and the value at a place, or None from the end on.
-    pub(crate) fn get(&self, i: usize) -> Option<(u64, u64)>
-        ensures pair { result ≡ slice_get (map pair_of self.now) i }
+    // The key at a place with what is held of it, or None from the end on.
+    pub(crate) fn get(&self, i: usize) -> Option<(u64, Held)>
+        ensures entry { option_map entry_of result ≡ slice_get self.now i }
     {
         let (key, held) = self.held.get_index(i)?;
-        Some((*key, held.value))
+        Some((*key, *held))
     }
 
     // Says whether the pair at a place stays.

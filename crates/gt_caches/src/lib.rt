@@ -4,7 +4,7 @@
 
 mod caches;
 mod keyed;
-mod laws;
+pub mod laws;
 
 pub use caches::{Caches, Pair};
 pub use laws::pairs_may_change;

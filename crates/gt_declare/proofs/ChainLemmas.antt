@@ -7,7 +7,7 @@ use Rattle.std.proofs.lemmas.List.{take_more, append-nil}
 use Rattle.std.proofs.lemmas.List.Elements.{filter_map-append}
 use Rattle.gt_types.specs.declared.program.Chain.{Chain}
 use Rattle.gt_types.specs.declared.program.Structure.{Structure}
-use Rattle.gt_resolve.specs.declared.draft.DraftStructure.{DraftStructure}
+use Rattle.gt_drafts.specs.declared.draft.DraftStructure.{DraftStructure}
 use Rattle.gt_declare.specs.Programs.{with_chains}
 use Rattle.gt_declare.specs.Chains.{chains_of, chains_from, joined}
 

@@ -10,14 +10,14 @@ use Rattle.gt_items.specs.declared.items.Stars.TheVariants.{Zero}
 use Rattle.gt_layout.specs.declared.planes.Plane.{Plane}
 use Rattle.gt_layout.specs.Storages.{extent_at}
 use Rattle.gt_layout.proofs.Types.{AreClose}
-use Rattle.gt_resolve.specs.declared.types.Amount.{Amount}
-use Rattle.gt_resolve.specs.declared.types.BaseType.{BaseType}
-use Rattle.gt_resolve.specs.declared.types.BaseType.TheVariants as base
-use Rattle.gt_resolve.specs.declared.types.DeclaredType.{DeclaredType}
-use Rattle.gt_resolve.specs.declared.draft.Draft.{Draft}
-use Rattle.gt_resolve.specs.Drafts.{has_skip}
-use Rattle.gt_resolve.specs.Faults.{is_zero}
-use Rattle.gt_resolve.specs.Shapes.{held_type, structure_by_value}
+use Rattle.gt_drafts.specs.declared.types.Amount.{Amount}
+use Rattle.gt_drafts.specs.declared.types.BaseType.{BaseType}
+use Rattle.gt_drafts.specs.declared.types.BaseType.TheVariants as base
+use Rattle.gt_drafts.specs.declared.types.DeclaredType.{DeclaredType}
+use Rattle.gt_drafts.specs.declared.draft.Draft.{Draft}
+use Rattle.gt_drafts.specs.Options.{has_skip}
+use Rattle.gt_drafts.specs.Undefined.{is_zero}
+use Rattle.gt_drafts.specs.Shapes.{held_type, structure_by_value}
 use Rattle.gt_markers.specs.Expressions.{Names}
 use Rattle.gt_markers.specs.Typing.{amount, bits_type, base_extent, elements, pointer_extent, says, single_extent, opaque_type, or_opaque, skipped_by, skipped_single, skipped_type, type_by, walked_type}
 use Rattle.gt_typing.proofs.SizeLemmas.{times_held}

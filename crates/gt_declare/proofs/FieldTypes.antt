@@ -26,14 +26,14 @@ use Rattle.gt_layout.specs.declared.storages.Storage.{Storage}
 use Rattle.gt_layout.specs.declared.storages.Storage.TheVariants.{Bytes, Bits}
 use Rattle.gt_layout.specs.Storages.{bytes_of, extent, extent_at, extent_of, extent_step, storage_of}
 use Rattle.gt_layout.specs.Planes.{is_alignment, is_placeable}
-use Rattle.gt_resolve.specs.declared.types.Amount.{Amount}
-use Rattle.gt_resolve.specs.declared.types.BaseType.{BaseType}
-use Rattle.gt_resolve.specs.declared.types.BaseType.TheVariants as base
-use Rattle.gt_resolve.specs.declared.types.DeclaredType.{DeclaredType}
-use Rattle.gt_resolve.specs.declared.draft.Draft.{Draft}
-use Rattle.gt_resolve.specs.Drafts.{has_skip}
-use Rattle.gt_resolve.specs.Faults.{is_zero}
-use Rattle.gt_resolve.specs.Shapes.{held_type, structure_by_value}
+use Rattle.gt_drafts.specs.declared.types.Amount.{Amount}
+use Rattle.gt_drafts.specs.declared.types.BaseType.{BaseType}
+use Rattle.gt_drafts.specs.declared.types.BaseType.TheVariants as base
+use Rattle.gt_drafts.specs.declared.types.DeclaredType.{DeclaredType}
+use Rattle.gt_drafts.specs.declared.draft.Draft.{Draft}
+use Rattle.gt_drafts.specs.Options.{has_skip}
+use Rattle.gt_drafts.specs.Undefined.{is_zero}
+use Rattle.gt_drafts.specs.Shapes.{held_type, structure_by_value}
 use Rattle.gt_markers.specs.declared.type_options.TypeOptions.{TypeOptions}
 use Rattle.gt_markers.specs.Expressions.{Names}
 use Rattle.gt_markers.specs.Sound.{IsBitCount}

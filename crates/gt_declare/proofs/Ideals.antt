@@ -13,9 +13,9 @@ use Rattle.gt_layout.specs.Places.{align_of}
 use Rattle.gt_layout.proofs.Placing.{IsPossible, plane_of, greatest_some}
 use Rattle.gt_layout.proofs.PlaneOf.{plane_is, plane_only}
 use Rattle.gt_layout.proofs.Ideal.{same_list}
-use Rattle.gt_resolve.specs.declared.draft.Draft.{Draft}
-use Rattle.gt_resolve.specs.declared.draft.DraftStructure.{DraftStructure}
-use Rattle.gt_resolve.specs.Shapes.{IsNested}
+use Rattle.gt_drafts.specs.declared.draft.Draft.{Draft}
+use Rattle.gt_drafts.specs.declared.draft.DraftStructure.{DraftStructure}
+use Rattle.gt_drafts.specs.Shapes.{IsNested}
 use Rattle.gt_markers.specs.Sound.{IsSound, IsSoundStructure}
 use Rattle.gt_declare.specs.Making.{AreLaidBy}
 use Rattle.gt_declare.specs.Programs.{unchained}

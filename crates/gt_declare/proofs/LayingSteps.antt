@@ -18,15 +18,15 @@ use Rattle.gt_layout.specs.Progress.{AreSound, Holds, IsLaid}
 use Rattle.gt_layout.proofs.Drafting.{alignment_between, one_of}
 use Rattle.gt_layout.proofs.Ideal.{same_list}
 use Rattle.gt_layout.proofs.Laying.{aligned_at, close_at, get-set_other, get-set_same, get_at, read_at}
-use Rattle.gt_resolve.specs.declared.types.BaseType.{BaseType}
-use Rattle.gt_resolve.specs.declared.types.BaseType.TheVariants as base
-use Rattle.gt_resolve.specs.declared.types.DeclaredType.{DeclaredType}
-use Rattle.gt_resolve.specs.declared.draft.Draft.{Draft}
-use Rattle.gt_resolve.specs.declared.draft.DraftField.{DraftField}
-use Rattle.gt_resolve.specs.declared.draft.DraftRoot.{DraftRoot}
-use Rattle.gt_resolve.specs.declared.draft.DraftStructure.{DraftStructure}
-use Rattle.gt_resolve.specs.Drafts.{has_length}
-use Rattle.gt_resolve.specs.Shapes.{IsNested, held_type, structure_by_value}
+use Rattle.gt_drafts.specs.declared.types.BaseType.{BaseType}
+use Rattle.gt_drafts.specs.declared.types.BaseType.TheVariants as base
+use Rattle.gt_drafts.specs.declared.types.DeclaredType.{DeclaredType}
+use Rattle.gt_drafts.specs.declared.draft.Draft.{Draft}
+use Rattle.gt_drafts.specs.declared.draft.DraftField.{DraftField}
+use Rattle.gt_drafts.specs.declared.draft.DraftRoot.{DraftRoot}
+use Rattle.gt_drafts.specs.declared.draft.DraftStructure.{DraftStructure}
+use Rattle.gt_drafts.specs.Options.{has_length}
+use Rattle.gt_drafts.specs.Shapes.{IsNested, held_type, structure_by_value}
 use Rattle.gt_markers.specs.Sound.{IsSound, IsSoundField, IsSoundRoot, IsSoundStructure, NamesStructure}
 use Rattle.gt_typing.specs.SmallTypes.{IsSmallType}
 use Rattle.gt_typing.proofs.SoundLemmas.{sound_small}

@@ -20,10 +20,10 @@ use Rattle.gt_layout.proofs.PlaneOf.{plane_only}
 use Rattle.gt_layout.proofs.Agreement.{Alike, held-alike}
 use Rattle.gt_layout.proofs.Drafting.{possible_from_placeable}
 use Rattle.gt_layout.proofs.Types.{AreClose, alike_storages, same_storage}
-use Rattle.gt_resolve.specs.declared.draft.Draft.{Draft}
-use Rattle.gt_resolve.specs.declared.draft.DraftField.{DraftField}
-use Rattle.gt_resolve.specs.declared.draft.DraftStructure.{DraftStructure}
-use Rattle.gt_resolve.specs.Shapes.{IsNested, held_in, held_type}
+use Rattle.gt_drafts.specs.declared.draft.Draft.{Draft}
+use Rattle.gt_drafts.specs.declared.draft.DraftField.{DraftField}
+use Rattle.gt_drafts.specs.declared.draft.DraftStructure.{DraftStructure}
+use Rattle.gt_drafts.specs.Shapes.{IsNested, held_in, held_type}
 use Rattle.gt_markers.specs.Expressions.{constants}
 use Rattle.gt_markers.specs.Sound.{IsSoundField}
 use Rattle.gt_declare.specs.Programs.{field_of, field_type, unchained}

@@ -19,10 +19,10 @@ use Rattle.gt_layout.specs.Storages.{extent_at, extent_of_plane}
 use Rattle.gt_layout.specs.Planes.{AreLaidOut, IsPlane, held}
 use Rattle.gt_layout.proofs.Laying.{held_close}
 use Rattle.gt_layout.proofs.Types.{AreClose}
-use Rattle.gt_resolve.specs.declared.draft.Draft.{Draft}
-use Rattle.gt_resolve.specs.declared.draft.DraftField.{DraftField}
-use Rattle.gt_resolve.specs.declared.draft.DraftRoot.{DraftRoot}
-use Rattle.gt_resolve.specs.declared.draft.DraftStructure.{DraftStructure}
+use Rattle.gt_drafts.specs.declared.draft.Draft.{Draft}
+use Rattle.gt_drafts.specs.declared.draft.DraftField.{DraftField}
+use Rattle.gt_drafts.specs.declared.draft.DraftRoot.{DraftRoot}
+use Rattle.gt_drafts.specs.declared.draft.DraftStructure.{DraftStructure}
 use Rattle.gt_markers.specs.Actives.{active_of}
 use Rattle.gt_markers.specs.Expressions.{constants, constants_and_roots}
 use Rattle.gt_markers.specs.Sound.{IsSound}

@@ -3,7 +3,7 @@ use Rattle.std.specs.Prelude.{ℕ, ◌+◌, List, [], ◌∷◌, filter_map}
 use Rattle.gt_types.specs.declared.program.Chain.{Chain}
 use Rattle.gt_types.specs.declared.program.Structure.{Structure}
 use Rattle.gt_items.specs.declared.items.RawOption.{RawOption}
-use Rattle.gt_resolve.specs.declared.draft.DraftStructure.{DraftStructure}
+use Rattle.gt_drafts.specs.declared.draft.DraftStructure.{DraftStructure}
 use Rattle.gt_markers.specs.Typing.{node}
 use Rattle.gt_declare.specs.Programs.{chain_of}
 

@@ -13,9 +13,8 @@ use Rattle.gt_types.specs.declared.program.Root.{Root}
 use Rattle.gt_types.specs.declared.program.Cache.{Cache}
 use Rattle.gt_types.specs.declared.program.TypeWord.{TypeWord}
 use Rattle.gt_types.specs.declared.program.Program.{Program}
-use Rattle.gt_expr.specs.declared.raw.RawExpr.{RawExpr}
+use Rattle.gt_expr.specs.declared.raw.RawExpr.{RawExpr, out-RawExpr}
 use Rattle.gt_expr.specs.declared.raw.RawExpr.TheOpen as raw
-use Rattle.gt_expr.specs.declared.raw.RawExpr.{out-RawExpr}
 use Rattle.gt_items.specs.declared.items.Parameter.{Parameter}
 use Rattle.gt_items.specs.declared.items.Parameter.TheVariants.{Expression}
 use Rattle.gt_items.specs.declared.items.RawOption.{RawOption}
@@ -23,16 +22,16 @@ use Rattle.gt_items.specs.declared.items.Stars.{Stars}
 use Rattle.gt_items.specs.declared.items.Stars.TheVariants.{One}
 use Rattle.gt_layout.specs.declared.planes.Plane.{Plane}
 use Rattle.gt_layout.specs.Planes.{AreLaidOut}
-use Rattle.gt_resolve.specs.declared.types.BaseType.{BaseType}
-use Rattle.gt_resolve.specs.declared.types.BaseType.TheVariants as base
-use Rattle.gt_resolve.specs.declared.types.Resolved.{Resolved}
-use Rattle.gt_resolve.specs.declared.draft.Draft.{Draft}
-use Rattle.gt_resolve.specs.declared.draft.DraftCache.{DraftCache}
-use Rattle.gt_resolve.specs.declared.draft.DraftField.{DraftField}
-use Rattle.gt_resolve.specs.declared.draft.DraftRoot.{DraftRoot}
-use Rattle.gt_resolve.specs.declared.draft.DraftStructure.{DraftStructure}
-use Rattle.gt_resolve.specs.declared.draft.DraftWord.{DraftWord}
-use Rattle.gt_resolve.specs.Drafts.{has_option}
+use Rattle.gt_drafts.specs.declared.types.BaseType.{BaseType}
+use Rattle.gt_drafts.specs.declared.types.BaseType.TheVariants as base
+use Rattle.gt_drafts.specs.declared.types.Resolved.{Resolved}
+use Rattle.gt_drafts.specs.declared.draft.Draft.{Draft}
+use Rattle.gt_drafts.specs.declared.draft.DraftCache.{DraftCache}
+use Rattle.gt_drafts.specs.declared.draft.DraftField.{DraftField}
+use Rattle.gt_drafts.specs.declared.draft.DraftRoot.{DraftRoot}
+use Rattle.gt_drafts.specs.declared.draft.DraftStructure.{DraftStructure}
+use Rattle.gt_drafts.specs.declared.draft.DraftWord.{DraftWord}
+use Rattle.gt_drafts.specs.Options.{has_option}
 use Rattle.gt_fields.specs.Places.{bind, place_in}
 use Rattle.gt_markers.specs.declared.kinds.OptionKind.{OptionKind}
 use Rattle.gt_markers.specs.declared.kinds.OptionKind.TheVariants.{ChainNext, ChainPrev, ChainCircular}

@@ -3,8 +3,8 @@ ghost use Rattle.std.specs.Prelude.{◌≡◌, IfOk};
 ghost use Rattle.gt_typing.specs.SmallTypes.{HasSmallId};
 ghost use Rattle.gt_declare.specs.Programs.{pointed, key_type, or_first, cache_of};
 
+use gt_drafts::{BaseType, DraftCache, Resolved};
 use gt_items::Stars;
-use gt_resolve::{BaseType, DraftCache, Resolved};
 use gt_types::{Cache, Copied, TypeId};
 use gt_typing::node;
 use std::alloc::{AllocError, Global};

@@ -7,10 +7,10 @@ ghost use Rattle.gt_fields.specs.FieldNames.{AreNamesOf};
 ghost use Rattle.gt_declare.specs.Chains.{chains_of, chains_from, joined};
 
 use crate::paths::path_places;
+use gt_drafts::DraftStructure;
 use gt_fields::FieldNames;
 use gt_items::RawOption;
 use gt_markers::OptionKind;
-use gt_resolve::DraftStructure;
 use gt_types::{Chain, ChainKind, List, Structure, TypeId};
 use std::alloc::{AllocError, Global};
 

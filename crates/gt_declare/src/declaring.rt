@@ -10,9 +10,9 @@ use crate::planes::planes_of;
 use crate::roots::root_of;
 use crate::structures::all_unchained;
 use crate::words::word_of;
+use gt_drafts::Draft;
 use gt_layout::Plane;
 use gt_markers::Lookup;
-use gt_resolve::Draft;
 use gt_types::{Cache, List, Program, Root, TypeWord};
 use std::alloc::{AllocError, Global};
 

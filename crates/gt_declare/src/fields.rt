@@ -4,9 +4,9 @@ ghost use Rattle.gt_markers.specs.Lookups.{IsLookupOf};
 ghost use Rattle.gt_typing.specs.SmallTypes.{IsSmallType};
 ghost use Rattle.gt_declare.specs.Programs.{field_of};
 
+use gt_drafts::{Draft, DraftField};
 use gt_layout::Plane;
 use gt_markers::{Lookup, Scope, active_of};
-use gt_resolve::{Draft, DraftField};
 use gt_types::{Copied, Field, List};
 use gt_typing::field_type;
 use std::alloc::{AllocError, Global};

@@ -3,14 +3,14 @@ ghost use Rattle.std.specs.Prelude.{◌≡◌, ◌<◌, length, OnOk, IfOk, All}
 ghost use Rattle.gt_layout.specs.Progress.{AreSound, IsLaid};
 ghost use Rattle.gt_markers.specs.Lookups.{IsLookupOf};
 ghost use Rattle.gt_markers.specs.Sound.{IsSound};
-ghost use Rattle.gt_resolve.specs.Shapes.{held_type, structure_by_value};
+ghost use Rattle.gt_drafts.specs.Shapes.{held_type, structure_by_value};
 ghost use Rattle.gt_declare.specs.Making.{AreHeldBy, Grows, HoldsShallow, IsHeldLaid, IsShallow};
 
 use crate::structures::unchained;
+use gt_drafts::{BaseType, DeclaredType, Draft, DraftStructure};
 use gt_items::Stars;
 use gt_layout::{Plane, plane};
 use gt_markers::Lookup;
-use gt_resolve::{BaseType, DeclaredType, Draft, DraftStructure};
 use gt_types::{List, MAX_DEPTH};
 use std::alloc::{AllocError, Global};
 

@@ -4,9 +4,9 @@ ghost use Rattle.gt_markers.specs.Lookups.{IsLookupOf};
 ghost use Rattle.gt_typing.specs.SmallTypes.{IsSmallType};
 ghost use Rattle.gt_declare.specs.Programs.{root_of};
 
+use gt_drafts::{Draft, DraftRoot};
 use gt_layout::Plane;
 use gt_markers::{Lookup, Scope, has_option};
-use gt_resolve::{Draft, DraftRoot};
 use gt_types::{Copied, Root};
 use gt_typing::field_type;
 use std::alloc::{AllocError, Global};

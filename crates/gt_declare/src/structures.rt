@@ -6,9 +6,9 @@ ghost use Rattle.gt_typing.specs.SmallTypes.{IsSmallType};
 ghost use Rattle.gt_declare.specs.Programs.{unchained, all_unchained};
 
 use crate::fields::fields_of;
+use gt_drafts::{Draft, DraftStructure};
 use gt_layout::Plane;
 use gt_markers::Lookup;
-use gt_resolve::{Draft, DraftStructure};
 use gt_types::{Copied, List, Structure};
 use gt_typing::own_desc;
 use std::alloc::{AllocError, Global};

@@ -2,7 +2,7 @@
 ghost use Rattle.std.specs.Prelude.{◌≡◌, ◌<◌, ◌^◌, IfOk};
 ghost use Rattle.gt_declare.specs.Programs.{word_of};
 
-use gt_resolve::DraftWord;
+use gt_drafts::DraftWord;
 use gt_types::{Copied, TypeWord};
 use gt_typing::node;
 use std::alloc::{AllocError, Global};

@@ -60,7 +60,7 @@ fn places_of(size: u32) -> usize
     requires { 8 ≤ size }
     ensures { result ≡ places_of size }
 {
-    (PAGE_BYTES as usize - 1) / size as usize + 1
+    ((PAGE_BYTES as u32 - 1) / size) as usize + 1
 }
 
 // The page in which an address lies.
@@ -77,7 +77,8 @@ fn place_of(addr: u64, size: u32) -> usize
     requires size { 8 ≤ size }
     ensures { result ≡ place_of addr size }
 {
-    ((addr - HEAP_START) % PAGE_BYTES / size as u64) as usize
+    let offset = ((addr - HEAP_START) % PAGE_BYTES) as u32;
+    (offset / size) as usize
 }
 
 // So many shelves without a place.

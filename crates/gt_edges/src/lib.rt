@@ -2,6 +2,6 @@
 //! [`walks_give_edges`] does nothing; a layer above cites its clauses.
 #![tactic(auto)]
 
-mod laws;
+pub mod laws;
 
 pub use laws::walks_give_edges;

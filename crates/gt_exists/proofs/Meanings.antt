@@ -2,10 +2,10 @@
 use Rattle.std.proofs.Common.{◌≡◌, ℕ, List, [], ◌∷◌, Option, Some, None, refl, ap, inl, inr}
 use Rattle.std.specs.Prelude.{◌⊎◌, All, map}
 use Rattle.std.proofs.lemmas.List.Elements.{All-nil, All-cons}
-use Rattle.gt_resolve.specs.declared.declaration.Declaration.{Declaration}
-use Rattle.gt_resolve.specs.declared.meaning.TypeName.{TypeName}
-use Rattle.gt_resolve.specs.declared.types.Resolved.{Resolved}
-use Rattle.gt_resolve.specs.Meanings.{AreTypeNames, IsMeaning, follow, opaque, typedef_names}
+use Rattle.gt_scope.specs.declared.declaration.Declaration.{Declaration}
+use Rattle.gt_scope.specs.declared.meaning.TypeName.{TypeName}
+use Rattle.gt_drafts.specs.declared.types.Resolved.{Resolved}
+use Rattle.gt_scope.specs.Meanings.{AreTypeNames, IsMeaning, follow, opaque, typedef_names}
 use Rattle.gt_exists.proofs.NotNot.{NotNot, holds, and_then, either}
 
 none_where_no : (found : Option Resolved) → ((m : Resolved) → found ≡ Some m → ⊥) → found ≡ None

@@ -7,15 +7,15 @@ use Rattle.gt_lex.specs.declared.tokens.Token.{Token}
 use Rattle.gt_lex.specs.declared.tokens.Define.{Define}
 use Rattle.gt_lex.specs.Texts.{IsLexed, HasAnswer}
 use Rattle.gt_items.specs.declared.items.Item.{Item}
-use Rattle.gt_parse.specs.declared.faults.TheConstants.{UNCLOSED}
-use Rattle.gt_parse.specs.declared.lexeme.Lexeme.{Lexeme}
-use Rattle.gt_parse.specs.declared.search.End.{End}
-use Rattle.gt_parse.specs.declared.search.End.TheVariants.{Complete, Fails}
+use Rattle.gt_search.specs.declared.faults.TheConstants.{UNCLOSED}
+use Rattle.gt_search.specs.declared.lexeme.Lexeme.{Lexeme}
+use Rattle.gt_search.specs.declared.search.End.{End}
+use Rattle.gt_search.specs.declared.search.End.TheVariants.{Complete, Fails}
 use Rattle.gt_parse.specs.Header.{Declare, constant_in, end_faults, faults_by, item_faults}
-use Rattle.gt_parse.specs.Lexemes.{lexemes_of, spot_of}
-use Rattle.gt_parse.specs.Outcome.{Outcome, Read, Stops, Ends}
+use Rattle.gt_search.specs.Lexemes.{lexemes_of, spot_of}
+use Rattle.gt_marked.specs.Outcome.{Outcome, Read, Stops, Ends}
 use Rattle.gt_parse.specs.Reading.{item_at}
-use Rattle.gt_parse.specs.Search.{EndsItem, Searches}
+use Rattle.gt_search.specs.Search.{EndsItem, Searches}
 use Rattle.gt_exists.specs.Outcomes.{HasReading}
 use Rattle.gt_exists.proofs.FirstPlaces.{HasFirst, has_first}
 

@@ -2,16 +2,16 @@
 use Rattle.std.proofs.Common.{◌≡◌, suc, Bool, List, [], ◌∷◌, length, Option, Some, None, refl}
 use Rattle.gt_types.specs.declared.faults.Fault.{Fault}
 use Rattle.gt_items.specs.declared.items.Items.{Items}
-use Rattle.gt_resolve.specs.declared.TheConstants.{MAX_DEPTH}
-use Rattle.gt_resolve.specs.declared.draft.Draft.{Draft}
-use Rattle.gt_resolve.specs.declared.draft.DraftStructure.{DraftStructure}
-use Rattle.gt_resolve.specs.declared.meaning.TypeName.{TypeName}
-use Rattle.gt_resolve.specs.Declarations.{declarations}
+use Rattle.gt_types.specs.declared.limits.TheConstants.{MAX_DEPTH}
+use Rattle.gt_drafts.specs.declared.draft.Draft.{Draft}
+use Rattle.gt_drafts.specs.declared.draft.DraftStructure.{DraftStructure}
+use Rattle.gt_scope.specs.declared.meaning.TypeName.{TypeName}
+use Rattle.gt_scope.specs.Declarations.{declarations}
 use Rattle.gt_resolve.specs.Drafts.{draft_of}
 use Rattle.gt_resolve.specs.Faults.{faults_of}
-use Rattle.gt_resolve.specs.Meanings.{AreTypeNames}
+use Rattle.gt_scope.specs.Meanings.{AreTypeNames}
 use Rattle.gt_resolve.specs.Resolution.{IsRead}
-use Rattle.gt_resolve.specs.Shapes.{AreShapes, Holds, IsNested, IsTail}
+use Rattle.gt_drafts.specs.Shapes.{AreShapes, Holds, IsNested, IsTail}
 use Rattle.gt_markers.specs.FirstFaults.{first_from, IsFirstOf}
 use Rattle.gt_markers.proofs.Firsts.{first_from_first}
 use Rattle.gt_exists.specs.Outcomes.{HasResolution}

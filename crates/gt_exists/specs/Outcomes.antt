@@ -6,7 +6,7 @@ use Rattle.gt_lex.specs.declared.tokens.Define.{Define}
 use Rattle.gt_lex.specs.Texts.{IsLexed, IsFirstFault as IsFirstTokenFault}
 use Rattle.gt_items.specs.declared.items.Items.{Items}
 use Rattle.gt_parse.specs.Header.{AreItems, IsFirstFault as IsFirstItemFault}
-use Rattle.gt_resolve.specs.declared.draft.Draft.{Draft}
+use Rattle.gt_drafts.specs.declared.draft.Draft.{Draft}
 use Rattle.gt_resolve.specs.Resolution.{Resolves, HasFirstFault}
 
 -- a text has items, or a first fault: one of its tokens, or else one of its items

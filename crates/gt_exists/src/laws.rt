@@ -4,7 +4,7 @@ ghost use Rattle.gt_items.specs.declared.items.Items.{Items};
 ghost use Rattle.gt_exists.specs.Outcomes.{HasReading, HasResolution};
 
 use gt_lex::one_answer;
-use gt_parse::some_search;
+use gt_search::some_search;
 
 /// Each text has items or a first fault.
 pub fn each_text()

@@ -1,16 +1,14 @@
 -- What the reading of files comes to, one file more.
-use Rattle.std.proofs.Common.{◌≡◌, ℕ, ◌+◌, ◌<◌, List, [], ◌∷◌, ◌++◌, length, get_or, take, drop, refl, ap, sym, subst, ◌∙◌, Option, Some, Result, Ok, Err, append_assoc, arith}
+use Rattle.std.proofs.Common.{◌≡◌, ℕ, ◌+◌, ◌<◌, List, [], ◌∷◌, ◌++◌, length, get_or, take, drop, refl, ap, sym, subst, ◌∙◌, Option, Some, Result, Ok, append_assoc, arith}
 use Rattle.std.proofs.lemmas.List.{take_more, drop_more, length-take-le, take-append-drop}
 use Rattle.std.specs.List.{AllByRecursion}
 use Rattle.gt_io.specs.declared.fail.ReadFail.{ReadFail}
-use Rattle.gt_io.specs.declared.fail.ReadFail.TheVariants.{Failed}
 use Rattle.gt_io.specs.Held.{Held}
 use Rattle.gt_front.specs.declared.TheConstants.{MAX_HEADER_BYTES}
 use Rattle.gt_front.specs.Texts.{File, headers_from, files_in_order, script_file, IsTextOf, AreTextsOf}
-use Rattle.gt_front.specs.Order.{AreRead, FailsAt}
+use Rattle.gt_front.specs.Order.{AreRead}
 use Rattle.gt_front.specs.Comes.{IsThere}
-use Rattle.gt_front.specs.Reading.{IsStopAt, IsStopIn, AreHeadersRead}
-use Rattle.gt_front.specs.declared.refusal.FileWhy.{FileWhy}
+use Rattle.gt_front.specs.Reading.{IsStopAt, IsStopIn, AreHeadersRead, HasStopped, IsAnswered}
 use Rattle.gt_front.specs.declared.reading.ReadStop.{ReadStop}
 use Rattle.gt_front.specs.declared.reading.ReadStop.TheVariants.{Memory, Refused}
 
@@ -84,65 +82,69 @@ stop_in told names texts k word name (Refused place why) l is at all stops = (
 
 module _ {F : Type 0} (reads : F → List ℕ → ℕ → Result (Option (List ℕ)) ReadFail → F → Type 0) where
   -- one file more was read
-  pub AreRead-push : (store between last : F) (files : List File) (file : File) (text : List ℕ) → AreRead reads store files between
-      → reads between file.name file.limit (Ok (Some text)) last → AreRead reads store (files ++ file ∷ []) last
-  AreRead-push store between last [] file text all one =
-      let R : F → Type 0 = λ s. reads s file.name file.limit (Ok (Some text)) last in (text, last, subst R all one, refl)
-  AreRead-push store between last (f ∷ files) file text all one = (all.0, all.1, all.2, AreRead-push all.1 between last files file text all.3 one)
+  pub AreRead-push : (store between last : F) (files : List File) (texts : List (List ℕ)) (file : File) (text : List ℕ) → AreRead reads store files texts between
+      → reads between file.name file.limit (Ok (Some text)) last → AreRead reads store (files ++ file ∷ []) (texts ++ text ∷ []) last
+  AreRead-push store between last [] [] file text all one =
+      let R : F → Type 0 = λ s. reads s file.name file.limit (Ok (Some text)) last in (last, subst R all one, refl)
+  AreRead-push store between last [] (t ∷ texts) file text all one = absurd all
+  AreRead-push store between last (f ∷ files) [] file text all one = absurd all
+  AreRead-push store between last (f ∷ files) (t ∷ texts) file text all one = (all.0, all.1, AreRead-push all.0 between last files texts file text all.2 one)
 
   -- one header more
-  pub AreRead-headers : (store between last : F) (names : List (List ℕ)) (k word : ℕ) (name text : List ℕ) → k < length names → name ≡ get_or names k name → word ≡ k + 1
-      → AreRead reads store (headers_from 1 (take k names)) between → reads between name MAX_HEADER_BYTES (Ok (Some text)) last
-      → AreRead reads store (headers_from 1 (take (k + 1) names)) last
-  AreRead-headers store between last names k word name text l is at all one =
-      let P : List File → Type 0 = λ files. AreRead reads store files last in
-      subst P (sym (headers-take k word names name l is at)) (AreRead-push store between last (headers_from 1 (take k names)) (header_file word name) text all one)
+  pub AreRead-headers : (store between last : F) (names texts : List (List ℕ)) (k word : ℕ) (name text : List ℕ) → k < length names → name ≡ get_or names k name → word ≡ k + 1
+      → AreRead reads store (headers_from 1 (take k names)) texts between → reads between name MAX_HEADER_BYTES (Ok (Some text)) last
+      → AreRead reads store (headers_from 1 (take (k + 1) names)) (texts ++ text ∷ []) last
+  AreRead-headers store between last names texts k word name text l is at all one =
+      let P : List File → Type 0 = λ files. AreRead reads store files (texts ++ text ∷ []) last in
+      subst P (sym (headers-take k word names name l is at)) (AreRead-push store between last (headers_from 1 (take k names)) texts (header_file word name) text all one)
 
-  -- the reading of a header failed
-  pub FailsAt-headers : (store between last : F) (names : List (List ℕ)) (k word : ℕ) (name : List ℕ) → k < length names → name ≡ get_or names k name → word ≡ k + 1
-      → AreRead reads store (headers_from 1 (take k names)) between → reads between name MAX_HEADER_BYTES (Err Failed) last
-      → FailsAt reads store (headers_from 1 names) word last
-  FailsAt-headers store between last names k word name l is at all one =
+  -- the reading of headers stopped at one
+  pub HasStopped-headers : (store between last : F) (names texts : List (List ℕ)) (k word : ℕ) (name : List ℕ) (stop : ReadStop) → k < length names → name ≡ get_or names k name → word ≡ k + 1
+      → AreRead reads store (headers_from 1 (take k names)) texts between → IsAnswered reads between (header_file word name) stop last
+      → HasStopped reads store (headers_from 1 names) stop last
+  HasStopped-headers store between last names texts k word name Memory l is at all one = tt
+  HasStopped-headers store between last names texts k word name (Refused place why) l is at all one =
       record {
         before = headers_from 1 (take k names);
         file = header_file word name;
         after = headers_from (word + 1) (drop (k + 1) names);
         split = headers-split k word names name l is at;
-        word_is = refl;
+        word_is = sym one.0;
+        texts = texts;
         between = between;
         are_read = all;
-        fails = one;
+        stops = one.1;
       }
 
-  -- and so the reading of one of all files
-  pub FailsAt-append : (store last : F) (files more : List File) (word : ℕ) → FailsAt reads store files word last → FailsAt reads store (files ++ more) word last
-  FailsAt-append store last files more word f =
+  -- and so did the reading of all files
+  pub HasStopped-append : (store last : F) (files more : List File) (stop : ReadStop) → HasStopped reads store files stop last → HasStopped reads store (files ++ more) stop last
+  HasStopped-append store last files more Memory f = tt
+  HasStopped-append store last files more (Refused word why) f =
       record {
         before = f.before;
         file = f.file;
         after = f.after ++ more;
         split = ap (λ fs. fs ++ more) f.split ∙ append_assoc f.before (f.file ∷ f.after) more;
         word_is = f.word_is;
+        texts = f.texts;
         between = f.between;
         are_read = f.are_read;
-        fails = f.fails;
+        stops = f.stops;
       }
 
-  -- the reading of the script failed, after the headers
-  pub FailsAt-script : (store between last : F) (name : List ℕ) (headers : List (List ℕ)) → AreRead reads store (headers_from 1 headers) between
-      → reads between name (script_file name).limit (Err Failed) last → FailsAt reads store (files_in_order name headers) 0 last
-  FailsAt-script store between last name headers all one =
+  -- the reading stopped at the script, after the headers
+  pub HasStopped-script : (store between last : F) (name : List ℕ) (headers texts : List (List ℕ)) (stop : ReadStop) → AreRead reads store (headers_from 1 headers) texts between
+      → IsAnswered reads between (script_file name) stop last → HasStopped reads store (files_in_order name headers) stop last
+  HasStopped-script store between last name headers texts Memory all one = tt
+  HasStopped-script store between last name headers texts (Refused word why) all one =
       record {
         before = headers_from 1 headers;
         file = script_file name;
         after = [];
         split = refl;
-        word_is = refl;
+        word_is = sym one.0;
+        texts = texts;
         between = between;
         are_read = all;
-        fails = one;
+        stops = one.1;
       }
-
--- a refusal is of the file that stopped
-pub stop_word : (told : Option Held) (file : File) (stop : ReadStop) (at : ℕ) (why : FileWhy) → IsStopAt told file stop → stop ≡ Refused at why → file.word ≡ at
-stop_word told file stop at why stops is = let S : ReadStop → Type 0 = λ s. IsStopAt told file s in sym (subst S is stops).0

@@ -1,7 +1,8 @@
 -- What one stage hands to the next, and why it stops.
-use Rattle.std.proofs.Common.{◌≡◌, ℕ, ◌+◌, ◌≤◌, List, [], ◌∷◌, ◌++◌, length, refl, ap, sym, subst, ◌∙◌, Some, Option, append_assoc, arith}
+use Rattle.std.proofs.Common.{◌≡◌, ℕ, ◌+◌, ◌≤◌, List, [], ◌∷◌, ◌++◌, length, refl, ap, sym, subst, ◌∙◌, Some, Option, Result, append_assoc, arith}
 use Rattle.std.specs.Prelude.{All}
 use Rattle.std.proofs.lemmas.List.Elements.{All-nil, All-cons}
+use Rattle.gt_io.specs.declared.fail.ReadFail.{ReadFail}
 use Rattle.gt_io.specs.Held.{Held}
 use Rattle.gt_words.specs.declared.call.Call.{Call}
 use Rattle.gt_words.specs.declared.call.Script.{Script as ScriptWord}
@@ -9,14 +10,20 @@ use Rattle.gt_words.specs.declared.call.Script.TheVariants.{File as FileWord}
 use Rattle.gt_words.specs.Calls.{call_of}
 use Rattle.gt_words.specs.Ranges.{HasHeaders}
 use Rattle.gt_front.specs.declared.TheConstants.{MAX_HEADER_BYTES}
-use Rattle.gt_front.specs.Texts.{File, Texts, script_file, headers_from, IsTextOf, AreTextsOf}
-use Rattle.gt_front.specs.Asks.{AreTextsFor, Reads}
+use Rattle.gt_front.specs.Texts.{File, Texts, files_in_order, script_file, headers_from, IsTextOf, AreTextsOf}
+use Rattle.gt_front.specs.Asks.{AreTextsFor, Calls, Reads}
 use Rattle.gt_front.specs.Comes.{IsRefusedFile}
-use Rattle.gt_front.specs.Reading.{IsStopAt, IsStopIn, IsStopOf, AreHeadersRead}
-use Rattle.gt_front.specs.Stages.{AreWithin}
+use Rattle.gt_front.specs.Halts.{Halts, HaltsAfter}
+use Rattle.gt_front.specs.Order.{FailsIn, HasRead, Extent, upto}
+use Rattle.gt_front.specs.Reading.{IsStopAt, IsStopIn, IsStopOf, AreHeadersRead, HasStopped}
+use Rattle.gt_front.specs.Stages.{AreWithin, HaltsAt, HaltsBy}
+use Rattle.gt_front.specs.declared.preparing.Halt.{Halt}
+use Rattle.gt_front.specs.declared.preparing.Halt.TheVariants as halt
 use Rattle.gt_front.specs.declared.reading.ReadStop.{ReadStop}
 use Rattle.gt_front.specs.declared.reading.ReadStop.TheVariants.{Memory, Refused}
 use Rattle.gt_front.specs.declared.refusal.FileWhy.{FileWhy}
+use Rattle.gt_front.specs.declared.refusal.FileWhy.TheVariants.{Fault}
+use Rattle.gt_front.specs.declared.refusal.Refusal.TheVariants.{File as InFile}
 use Rattle.gt_front.proofs.ReadingLemmas.{AreTextsOf-push, are_there}
 
 -- no texts, where a refusal needs none
@@ -87,3 +94,33 @@ pub AreWithin-read : (told : Option Held) (call : Call) (name : List ℕ) (texts
 AreWithin-read told call name texts has all =
     let each = each_header told 1 call.headers texts all in
     record { each = λ other is. omega (arith, each); few = omega (arith, each, has.1); short = each_short told 1 call.headers texts all }
+
+-- ---- why a call stops, and what was read up to then
+
+module _ {F : Type 0} (reads : F → List ℕ → ℕ → Result (Option (List ℕ)) ReadFail → F → Type 0) (words : List (List ℕ)) (told : Option Held) (store last : F) where
+  -- a halt by texts is one after what was read for it
+  pub HaltsAfter-by : (texts : Texts) (extent : Extent) (result : Halt) → HaltsBy words told texts extent result → HasRead reads words store extent last
+      → HaltsAfter reads words told store result last
+  HaltsAfter-by texts extent halt.Memory by has = tt
+  HaltsAfter-by texts extent (halt.Refused refusal line) by has =
+      let R : Extent → Type 0 = λ r. HasRead reads words store r last in (texts, by.0, by.1, subst R by.2 has)
+
+  -- a halt at a file is one after the files before it
+  pub HaltsAfter-at : (texts : Texts) (call : Call) (name : List ℕ) → Calls words call name → (stop : ReadStop) (result : Halt) → HaltsAt words told texts stop result
+      → HasStopped reads store (files_in_order name call.headers) stop last → HaltsAfter reads words told store result last
+  HaltsAfter-at texts call name calls Memory result at has =
+      let H : Halt → Type 0 = λ h. HaltsAfter reads words told store h last in subst H (sym at) tt
+  HaltsAfter-at texts call name calls (Refused word why) result at has =
+      HaltsAfter-by texts (upto word why) result at (record { call = call; name = name; calls = calls; stops = has })
+
+  -- a halt for a failed read is one after the reading of its file failed
+  pub HaltsAfter-failed : (word : ℕ) (line : List ℕ) (result : Halt) → result ≡ halt.Refused (InFile word Fault) line → HaltsAfter reads words told store result last
+      → FailsIn reads words store word last
+  HaltsAfter-failed word line result is after =
+      let H : Halt → Type 0 = λ h. HaltsAfter reads words told store h last in
+      let here : HaltsAfter reads words told store (halt.Refused (InFile word Fault) line) last = subst H is after in here.3
+
+  -- such a halt is one
+  pub Halts-after : (result : Halt) → HaltsAfter reads words told store result last → Halts words told result
+  Halts-after halt.Memory after = tt
+  Halts-after (halt.Refused refusal line) after = (after.0, after.1, after.2)

@@ -21,7 +21,7 @@ use Rattle.gt_front.specs.declared.refusal.Refusal.TheVariants.{Words, Header, S
 abbrev pub IsThere : Option Held → File → Type 0
 IsThere told file = (bytes : List ℕ) × IsTextOf told file bytes
 
--- a file is refused: it is told absent, or told longer than its limit; of which file the reading failed is said by its reads (`FailsIn`)
+-- a file is refused: it is told absent, or told longer than its limit; of which file the reading failed is said by its reads (`StopsIn`)
 abbrev pub IsRefusedFor : Option Held → File → FileWhy → Type 0
 IsRefusedFor told file Missing = Tells told file.name None
 IsRefusedFor told file TooLong = TellsLonger told file.name file.limit

@@ -5,8 +5,8 @@ ghost use Rattle.gt_layout.specs.Planes.{IsLaidOut};
 ghost use Rattle.gt_layout.specs.Excess.{IsWithin};
 ghost use Rattle.gt_words.specs.Ranges.{IsInRange};
 ghost use Rattle.gt_front.specs.Asks.{Asks};
-ghost use Rattle.gt_front.specs.Halts.{Halts};
-ghost use Rattle.gt_front.specs.Order.{AskNoFile, FailsIn, IsReadFor};
+ghost use Rattle.gt_front.specs.Halts.{Halts, HaltsAfter};
+ghost use Rattle.gt_front.specs.Order.{AskNoFile, FailsIn, IsReadAs, IsReadFor};
 
 use crate::stages::{called, declared, lines_of, read_texts};
 use crate::{FileWhy, Refusal};
@@ -46,9 +46,16 @@ pub fn prepare<F: Files>(alloc: Global, words: &[Word], files: &mut F) -> Result
     ensures told { F.told files.new ≡ F.told files.old }
     ensures later { F.faults files.old ≤ F.faults files.new }
 
-    // Each file that the arguments name is read once and in order; with a generated script none is.
+    // Each file that the arguments name is read once and in order; with a generated script none is. The program and the lines are those of
+    // the texts that the reads gave.
     ensures read { IfOk result (λ ready. IsReadFor F.reads ready.call.script ready.call.headers files.old files.new) }
+    ensures given { IfOk result (λ ready. (asks : Asks words.now (F.told files.old) ready.call ready.program ready.lines)
+        × IsReadAs F.reads ready.call.script ready.call.headers asks.texts files.old files.new) }
     ensures no_file { AskNoFile words.now → files.new ≡ files.old }
+
+    // Up to a refusal this was read: where it is of the words, nothing; where it is of a file, each one before it in order, and then this one
+    // with the answer for which it is refused; and else each file once and in order, and it is refused by the texts that the reads gave.
+    ensures stopped { IfErr result (λ halt. HaltsAfter F.reads words.now (F.told files.old) files.old halt files.new) }
 
     // A file is answered as failed only where the outside failed, and it is the one whose reading failed.
     ensures cause { (word : ℕ) (line : List ℕ) → result ≡ Err (Halt.Refused (Refusal.File word FileWhy.Fault) line) → Rose (F.faults files.old) (F.faults files.new) }

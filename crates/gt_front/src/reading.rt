@@ -1,8 +1,8 @@
 // The files that a call names, read in their order: each header, and then the script.
 ghost use Rattle.std.specs.Prelude.{◌≡◌, ◌≤◌, IfErr, IfOk, IsErrOf, List, length, ℕ, Some};
 ghost use Rattle.gt_io.specs.Counts.{Rose};
-ghost use Rattle.gt_front.specs.Order.{AreRead, FailsAt};
-ghost use Rattle.gt_front.specs.Reading.{AreHeadersRead, IsStopAt, IsStopIn};
+ghost use Rattle.gt_front.specs.Order.{AreRead};
+ghost use Rattle.gt_front.specs.Reading.{AreHeadersRead, HasStopped, IsAnswered, IsStopAt, IsStopIn};
 ghost use Rattle.gt_front.specs.Texts.{IsTextOf, headers_from};
 
 use crate::{FileWhy, MAX_HEADER_BYTES};
@@ -40,8 +40,8 @@ pub fn read_headers<F: Files>(
     ensures told { F.told files.new ≡ F.told files.old }
     ensures later { F.faults files.old ≤ F.faults files.new }
     ensures cause { (at : ℕ) → IsErrOf result (ReadStop.Refused at FileWhy.Fault) → Rose (F.faults files.old) (F.faults files.new) }
-    ensures all { IfOk result (λ _. AreRead F.reads files.old (headers_from 1 names.now) files.new) }
-    ensures failed { (at : ℕ) → IsErrOf result (ReadStop.Refused at FileWhy.Fault) → FailsAt F.reads files.old (headers_from 1 names.now) at files.new }
+    ensures all { IfOk result (λ texts. AreRead F.reads files.old (headers_from 1 names.now) texts.items files.new) }
+    ensures stops { IfErr result (λ stop. HasStopped F.reads files.old (headers_from 1 names.now) stop files.new) }
 {
     let mut texts = Vec::new(alloc);
     let mut word = 1;
@@ -69,7 +69,7 @@ pub fn read_file<F: Files>(
     ensures later { F.faults files.old ≤ F.faults files.new }
     ensures cause { (at : ℕ) → IsErrOf result (ReadStop.Refused at FileWhy.Fault) → Rose (F.faults files.old) (F.faults files.new) }
     ensures one { IfOk result (λ text. F.reads files.old name.now limit (Ok (Some text)) files.new) }
-    ensures failed { (at : ℕ) → IsErrOf result (ReadStop.Refused at FileWhy.Fault) → F.reads files.old name.now limit (Err ReadFail.Failed) files.new }
+    ensures answered { IfErr result (λ stop. IsAnswered F.reads files.old (record { word = word; name = name.now; limit = limit }) stop files.new) }
 {
     match files.read(alloc, name, limit) {
         Ok(Some(bytes)) => Ok(bytes),

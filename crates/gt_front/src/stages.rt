@@ -11,11 +11,11 @@ ghost use Rattle.gt_words.specs.Calls.{call_of};
 ghost use Rattle.gt_words.specs.Ranges.{IsInRange};
 ghost use Rattle.gt_front.specs.Asks.{Calls, Reads, generated_texts};
 ghost use Rattle.gt_front.specs.Comes.{Comes};
-ghost use Rattle.gt_front.specs.Halts.{Halts};
-ghost use Rattle.gt_front.specs.Order.{AskNoFile, FailsIn, IsReadFor};
+ghost use Rattle.gt_front.specs.Halts.{HaltsAfter};
+ghost use Rattle.gt_front.specs.Order.{AskNoFile, IsReadAs, nothing, extent_for, whole};
 ghost use Rattle.gt_front.specs.Reading.{HasWord, IsStopOf};
 ghost use Rattle.gt_front.specs.Refused.{IsRefusalLine};
-ghost use Rattle.gt_front.specs.Stages.{AreWithin, texts_of};
+ghost use Rattle.gt_front.specs.Stages.{AreWithin, HaltsAt, HaltsBy, texts_of};
 ghost use Rattle.gt_front.specs.Texts.{Texts};
 
 use crate::preparing::Halt;
@@ -40,7 +40,7 @@ pub struct Found {
 pub fn called(alloc: Global, words: &[Word]) -> Result<Call, Halt>
     ensures called { IfOk result (λ call. call_of words.now ≡ Some call) }
     ensures ranges { IfOk result IsInRange }
-    ensures halted { (told : Option Held) → IfErr result (Halts words.now told) }
+    ensures halted { (told : Option Held) (texts : Texts) → IfErr result (HaltsBy words.now told texts nothing) }
     ensures no_file { (word : ℕ) (line : List ℕ) → IsErrOf result (Halt.Refused (Refusal.File word FileWhy.Fault) line) → ⊥ }
 {
     match read_words(alloc, words) {
@@ -56,14 +56,12 @@ pub fn read_texts<F: Files>(alloc: Global, call: &Call, files: &mut F) -> Result
     ensures read { (words : List (List ℕ)) → call_of words ≡ Some call.now → IfOk result (λ found. Reads words (F.told files.old) call.now (texts_of found)) }
     ensures within { IfOk result (λ found. AreWithin call.now found.headers.items) }
     ensures short { IfOk result (λ found. length found.script ≤ MAX_SCRIPT_BYTES) }
-    ensures halted { (words : List (List ℕ)) → call_of words ≡ Some call.now → IfErr result (Halts words (F.told files.old)) }
+    ensures halted { (words : List (List ℕ)) → call_of words ≡ Some call.now → IfErr result (λ halt. HaltsAfter F.reads words (F.told files.old) files.old halt files.new) }
     ensures told { F.told files.new ≡ F.told files.old }
     ensures later { F.faults files.old ≤ F.faults files.new }
     ensures cause { (word : ℕ) (line : List ℕ) → IsErrOf result (Halt.Refused (Refusal.File word FileWhy.Fault) line) → Rose (F.faults files.old) (F.faults files.new) }
-    ensures files { IfOk result (λ _. IsReadFor F.reads call.now.script call.now.headers files.old files.new) }
+    ensures files { IfOk result (λ found. IsReadAs F.reads call.now.script call.now.headers (texts_of found) files.old files.new) }
     ensures no_file { (words : List (List ℕ)) → call_of words ≡ Some call.now → AskNoFile words → files.new ≡ files.old }
-    ensures failed { (words : List (List ℕ)) (word : ℕ) (line : List ℕ) → call_of words ≡ Some call.now
-        → IsErrOf result (Halt.Refused (Refusal.File word FileWhy.Fault) line) → FailsIn F.reads words files.old word files.new }
 {
     match &call.script {
         Script::File(name) => read_files(alloc, call, name, files),
@@ -86,13 +84,11 @@ fn read_files<F: Files>(
     ensures read { (words : List (List ℕ)) → call_of words ≡ Some call.now → IfOk result (λ found. Reads words (F.told files.old) call.now (texts_of found)) }
     ensures within { IfOk result (λ found. AreWithin call.now found.headers.items) }
     ensures short { IfOk result (λ found. length found.script ≤ MAX_SCRIPT_BYTES) }
-    ensures halted { (words : List (List ℕ)) → call_of words ≡ Some call.now → IfErr result (Halts words (F.told files.old)) }
+    ensures halted { (words : List (List ℕ)) → call_of words ≡ Some call.now → IfErr result (λ halt. HaltsAfter F.reads words (F.told files.old) files.old halt files.new) }
     ensures told { F.told files.new ≡ F.told files.old }
     ensures later { F.faults files.old ≤ F.faults files.new }
     ensures cause { (word : ℕ) (line : List ℕ) → IsErrOf result (Halt.Refused (Refusal.File word FileWhy.Fault) line) → Rose (F.faults files.old) (F.faults files.new) }
-    ensures files { IfOk result (λ _. IsReadFor F.reads call.now.script call.now.headers files.old files.new) }
-    ensures failed { (words : List (List ℕ)) (word : ℕ) (line : List ℕ) → call_of words ≡ Some call.now
-        → IsErrOf result (Halt.Refused (Refusal.File word FileWhy.Fault) line) → FailsIn F.reads words files.old word files.new }
+    ensures files { IfOk result (λ found. IsReadAs F.reads call.now.script call.now.headers (texts_of found) files.old files.new) }
 {
     let headers = match read_headers(alloc, files, call.headers.as_slice()) {
         Ok(texts) => texts,
@@ -111,7 +107,8 @@ pub fn declared(alloc: Global, call: &Call, texts: &[Bytes]) -> Result<Declared,
     ensures laid { IfOk result (λ declared. IsLaidOut declared.program declared.layouts) }
     ensures within { IfOk result (λ declared. IsWithin declared.program declared.layouts) }
     ensures halted { (words : List (List ℕ)) (told : Option Held) (script : List ℕ)
-        → Reads words told call.now (record { headers = texts.now; script = script }) → IfErr result (Halts words told) }
+        → Reads words told call.now (record { headers = texts.now; script = script })
+        → IfErr result (HaltsBy words told (record { headers = texts.now; script = script }) (whole (record { headers = texts.now; script = script }))) }
     ensures no_file { (word : ℕ) (line : List ℕ) → IsErrOf result (Halt.Refused (Refusal.File word FileWhy.Fault) line) → ⊥ }
 {
     match declare(alloc, texts) {
@@ -129,7 +126,8 @@ pub fn lines_of(alloc: Global, call: &Call, text: &[u8]) -> Result<List<Line>, H
     requires short { length text.now ≤ MAX_SCRIPT_BYTES }
     ensures parsed { IfOk result (Parsed text.now) }
     ensures halted { (words : List (List ℕ)) (told : Option Held) (headers : List (List ℕ)) (program : Program)
-        → Reads words told call.now (record { headers = headers; script = text.now }) → Declares headers program → IfErr result (Halts words told) }
+        → Reads words told call.now (record { headers = headers; script = text.now }) → Declares headers program
+        → IfErr result (HaltsBy words told (record { headers = headers; script = text.now }) (whole (record { headers = headers; script = text.now }))) }
     ensures no_file { (word : ℕ) (line : List ℕ) → IsErrOf result (Halt.Refused (Refusal.File word FileWhy.Fault) line) → ⊥ }
 {
     match parse_script(alloc, text) {
@@ -159,8 +157,8 @@ fn generated(alloc: Global, n: u32) -> Result<Found, AllocError>
 // The halt at a file that was not read.
 fn not_read(alloc: Global, call: &Call, stop: ReadStop) -> Halt
     requires there { HasWord call.now stop }
-    ensures halted { (words : List (List ℕ)) (told : Option Held) (name : List ℕ)
-        → Calls words call.now name → IsStopOf told name call.now.headers stop → Halts words told result }
+    ensures halted { (words : List (List ℕ)) (told : Option Held) (name : List ℕ) (texts : Texts)
+        → Calls words call.now name → IsStopOf told name call.now.headers stop → HaltsAt words told texts stop result }
     ensures same { (word : ℕ) (line : List ℕ) → result ≡ Halt.Refused (Refusal.File word FileWhy.Fault) line → stop ≡ ReadStop.Refused word FileWhy.Fault }
 {
     match stop {
@@ -175,7 +173,7 @@ fn not_read(alloc: Global, call: &Call, stop: ReadStop) -> Halt
 // The halt at a fault of the script.
 fn faulty_script(alloc: Global, call: &Call, number: u8, line: u32) -> Halt
     ensures halted { (words : List (List ℕ)) (told : Option Held) (texts : Texts)
-        → Comes words told texts (Refusal.Script number line) → call_of words ≡ Some call.now → Halts words told result }
+        → Comes words told texts (Refusal.Script number line) → call_of words ≡ Some call.now → HaltsBy words told texts (whole texts) result }
     ensures same { (other : Refusal) (bytes : List ℕ) → result ≡ Halt.Refused other bytes → other ≡ Refusal.Script number line }
 {
     refused(
@@ -187,7 +185,7 @@ fn faulty_script(alloc: Global, call: &Call, number: u8, line: u32) -> Halt
 // The halt with a refusal and its line, where there was memory for the line.
 fn refused(refusal: Refusal, line: Result<Bytes, AllocError>) -> Halt
     ensures halted { (words : List (List ℕ)) (told : Option Held) (texts : Texts)
-        → Comes words told texts refusal → IfOk line (IsRefusalLine words texts refusal) → Halts words told result }
+        → Comes words told texts refusal → IfOk line (IsRefusalLine words texts refusal) → HaltsBy words told texts (extent_for texts refusal) result }
     ensures same { (other : Refusal) (bytes : List ℕ) → result ≡ Halt.Refused other bytes → other ≡ refusal }
 {
     match line {

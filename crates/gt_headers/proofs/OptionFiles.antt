@@ -10,19 +10,19 @@ use Rattle.gt_types.specs.declared.program.Field.{Field}
 use Rattle.gt_types.specs.declared.program.Root.{Root}
 use Rattle.gt_types.specs.declared.types.TypeId.{TypeId}
 use Rattle.gt_items.specs.declared.items.RawOption.{RawOption}
-use Rattle.gt_resolve.specs.declared.draft.Draft.{Draft}
-use Rattle.gt_resolve.specs.declared.draft.DraftCache.{DraftCache}
-use Rattle.gt_resolve.specs.declared.draft.DraftField.{DraftField}
-use Rattle.gt_resolve.specs.declared.draft.DraftRoot.{DraftRoot}
-use Rattle.gt_resolve.specs.declared.draft.DraftStructure.{DraftStructure}
-use Rattle.gt_resolve.specs.Faults.{fault_if}
+use Rattle.gt_drafts.specs.declared.draft.Draft.{Draft}
+use Rattle.gt_drafts.specs.declared.draft.DraftCache.{DraftCache}
+use Rattle.gt_drafts.specs.declared.draft.DraftField.{DraftField}
+use Rattle.gt_drafts.specs.declared.draft.DraftRoot.{DraftRoot}
+use Rattle.gt_drafts.specs.declared.draft.DraftStructure.{DraftStructure}
+use Rattle.gt_drafts.specs.FirstFaults.{fault_if}
 use Rattle.gt_resolve.proofs.FaultFiles.{OfFault, OfStructure, OfRoot, OfCache}
 use Rattle.gt_markers.specs.declared.TheConstants.{UNKNOWN_OPTION, WRONG_PLACE, MISSING_DESC, DUPLICATE_TAG, BAD_PATH, UNKNOWN_HOOK}
 use Rattle.gt_markers.specs.declared.kinds.OptionKind.{OptionKind}
 use Rattle.gt_markers.specs.Options.{kind_of, option_named}
 use Rattle.gt_markers.specs.Expressions.{constant_value, constants, constants_and_roots}
 use Rattle.gt_markers.specs.Typing.{says, walked_type}
-use Rattle.gt_resolve.specs.Drafts.{has_skip}
+use Rattle.gt_drafts.specs.Options.{has_skip}
 use Rattle.gt_markers.specs.Sites.{Site, at_cache, at_field, at_root, at_structure, faults_after, is_ill_formed, is_passed_over, is_tag, is_unknown_hook, known_faults, marker_faults, may_stand, option_faults, stands_among, wrong_number}
 use Rattle.gt_markers.specs.MarkerFaults.{cache_faults, draft_faults, field_faults, fields_faults, has_tag, is_default, is_empty, is_unmarked, is_untyped, repeated_fault, repeated_faults, root_faults, structure_faults, tag_value}
 use Rattle.gt_rules.specs.Faults.{HasFault, HasProgramFault, IsFieldAt, IsRootAt, field_without_desc, field_to_bare_union, field_to_inner, root_without_desc, root_to_bare_union, root_to_inner, root_of_inner, field_length, field_desc, union_desc, root_length, root_desc, field_reorder, root_reorder, chain, cache_shape}

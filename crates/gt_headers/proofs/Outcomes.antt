@@ -5,7 +5,7 @@ use Rattle.gt_types.specs.declared.program.Program.{Program}
 use Rattle.gt_types.specs.Settled.{Settled}
 use Rattle.gt_items.specs.declared.items.Items.{Items}
 use Rattle.gt_layout.specs.Laws.{HasOneLayout}
-use Rattle.gt_resolve.specs.declared.draft.Draft.{Draft}
+use Rattle.gt_drafts.specs.declared.draft.Draft.{Draft}
 use Rattle.gt_resolve.specs.Resolution.{Resolves, HasFirstFault}
 use Rattle.gt_markers.specs.Sound.{IsSound}
 use Rattle.gt_rules.specs.Faults.{Declares as DeclaresProgram, IsFirstFault as IsFirstOptionFault}

@@ -5,10 +5,10 @@ use Rattle.gt_lex.specs.declared.tokens.Token.{Token}
 use Rattle.gt_lex.specs.declared.tokens.Define.{Define}
 use Rattle.gt_lex.specs.Texts.{IsLexed, IsFirstFault as IsFirstTokenFault}
 use Rattle.gt_items.specs.declared.items.Items.{Items}
-use Rattle.gt_parse.specs.declared.lexeme.Lexeme.{Lexeme}
-use Rattle.gt_parse.specs.declared.search.End.{End}
+use Rattle.gt_search.specs.declared.lexeme.Lexeme.{Lexeme}
+use Rattle.gt_search.specs.declared.search.End.{End}
 use Rattle.gt_parse.specs.Header.{AreItems, IsFirstFault as IsFirstItemFault}
-use Rattle.gt_parse.specs.Search.{Searches}
+use Rattle.gt_search.specs.Search.{Searches}
 use Rattle.gt_headers.specs.Reading.{AreRead, IsRead, IsReadingFault, IsTextFault}
 use Rattle.gt_headers.proofs.ItemOutcomes.{head_same, items_no_fault, one_item_fault, one_items, tail_same}
 

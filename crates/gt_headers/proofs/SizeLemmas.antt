@@ -19,7 +19,7 @@ use Rattle.gt_layout.specs.Places.{ends}
 use Rattle.gt_layout.specs.Planes.{IsLaidOut, root_storages}
 use Rattle.gt_layout.specs.Excess.{Exceeds, IsBeyond, IsTooLarge, IsWithin, IsFirst as IsFirstPlace}
 use Rattle.gt_layout.specs.Laws.{HasOneLayout}
-use Rattle.gt_resolve.specs.Faults.{IsFirst, is_no_later}
+use Rattle.gt_drafts.specs.FirstFaults.{IsFirst, is_no_later}
 use Rattle.gt_resolve.specs.Placings.{IsThere, faults_from, placed}
 use Rattle.gt_headers.specs.Sizes.{IsSizeFault}
 

@@ -13,8 +13,8 @@ use Rattle.gt_items.specs.declared.items.Item.TheVariants as item
 use Rattle.gt_items.specs.declared.items.Items.{Items}
 use Rattle.gt_declare.specs.Programs.{IsMadeOf, all_unchained, root_of, unchained}
 use Rattle.gt_declare.proofs.Wholes.{chained_length}
-use Rattle.gt_resolve.specs.declared.draft.Draft.{Draft}
-use Rattle.gt_resolve.specs.Declarations.{declarations}
+use Rattle.gt_drafts.specs.declared.draft.Draft.{Draft}
+use Rattle.gt_scope.specs.Declarations.{declarations}
 use Rattle.gt_resolve.specs.Drafts.{items_from, root_item, structure_item}
 use Rattle.gt_resolve.specs.Placings.{chosen, fault_item, faults_from, placed}
 use Rattle.gt_resolve.specs.Resolution.{Resolves}

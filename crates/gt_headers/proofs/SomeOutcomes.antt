@@ -3,7 +3,7 @@ use Rattle.std.proofs.Common.{◌⊎◌, inl, inr, ℕ, ◌+◌, List, [], ◌�
 use Rattle.gt_types.specs.declared.faults.Fault.{Fault}
 use Rattle.gt_types.specs.declared.program.Program.{Program}
 use Rattle.gt_items.specs.declared.items.Items.{Items}
-use Rattle.gt_resolve.specs.declared.draft.Draft.{Draft}
+use Rattle.gt_drafts.specs.declared.draft.Draft.{Draft}
 use Rattle.gt_exists.specs.Outcomes.{HasReading, has_items, has_token_fault, has_item_fault, HasResolution, has_draft, has_fault}
 use Rattle.gt_headers.specs.Reading.{AreRead, IsReadingFault, IsTextFault}
 use Rattle.gt_headers.specs.Headers.{AreResolved, Declares, IsFirstFault}

@@ -8,7 +8,7 @@ use Rattle.gt_lex.specs.declared.tokens.Define.{Define}
 use Rattle.gt_lex.specs.Texts.{IsLexed}
 use Rattle.gt_markers.specs.Sound.{IsSound}
 use Rattle.gt_parse.specs.Header.{AreItems}
-use Rattle.gt_resolve.specs.declared.draft.Draft.{Draft}
+use Rattle.gt_drafts.specs.declared.draft.Draft.{Draft}
 use Rattle.gt_resolve.specs.Resolution.{Resolves}
 use Rattle.gt_sound.specs.WellMade.{IsWellMade}
 use Rattle.gt_headers.specs.Headers.{AreResolved}

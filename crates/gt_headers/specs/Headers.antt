@@ -5,7 +5,7 @@ use Rattle.gt_types.specs.declared.faults.Stop.{Stop}
 use Rattle.gt_types.specs.declared.faults.Stop.TheVariants.{Memory, At}
 use Rattle.gt_types.specs.declared.program.Program.{Program}
 use Rattle.gt_items.specs.declared.items.Items.{Items}
-use Rattle.gt_resolve.specs.declared.draft.Draft.{Draft}
+use Rattle.gt_drafts.specs.declared.draft.Draft.{Draft}
 use Rattle.gt_resolve.specs.Resolution.{Resolves, HasFirstFault}
 use Rattle.gt_rules.specs.Faults.{Declares as DeclaresProgram, IsFirstFault as IsFirstOptionFault}
 use Rattle.gt_headers.specs.Reading.{AreRead, IsReadingFault}

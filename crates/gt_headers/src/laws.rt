@@ -1,24 +1,24 @@
 //! What follows from the words of the contracts. These calls do nothing but call the laws of the layers below, from which their
 //! own follow.
-ghost use Rattle.std.specs.Prelude.{◌≡◌, ◌≤◌, ℕ, List, length, pos};
+ghost use Rattle.std.specs.Prelude.{◌≡◌, ◌≤◌, ℕ, List, length};
 ghost use Rattle.gt_types.specs.declared.faults.Fault.{Fault};
 ghost use Rattle.gt_types.specs.declared.program.Program.{Program};
-ghost use Rattle.gt_types.specs.declared.limits.TheConstants.{MAX_STRUCTURES as most_structures, MAX_FIELDS as most_fields, MAX_ROOTS as most_roots, MAX_CACHES as most_caches, MAX_DEPTH as most_depth, MAX_DIMENSIONS as most_dimensions, MAX_BOUND as most_elements, TOO_LARGE};
+ghost use Rattle.gt_types.specs.declared.limits.TheConstants.{MAX_STRUCTURES, MAX_FIELDS, MAX_ROOTS, MAX_CACHES, MAX_DEPTH, MAX_DIMENSIONS, MAX_BOUND, TOO_LARGE};
 ghost use Rattle.gt_types.specs.Settled.{Settled};
 ghost use Rattle.gt_layout.specs.declared.planes.TheConstants.{MAX_SIZE};
-ghost use Rattle.gt_resolve.specs.declared.draft.Draft.{Draft};
+ghost use Rattle.gt_drafts.specs.declared.draft.Draft.{Draft};
 ghost use Rattle.gt_headers.specs.Headers.{AreResolved, Declares, IsFirstFault};
 ghost use Rattle.gt_lex.specs.declared.faults.TheConstants.{BAD_UTF8, OPEN_COMMENT, OPEN_STRING, BAD_NUMBER};
 ghost use Rattle.gt_expr.specs.declared.TheConstants.{BAD_EXPR, EXPR_TOO_LARGE, MAX_PARTS};
-ghost use Rattle.gt_parse.specs.declared.faults.TheConstants.{UNCLOSED, UNEXPECTED, UNSUPPORTED, BAD_MARKER_PLACE};
+ghost use Rattle.gt_search.specs.declared.faults.TheConstants.{UNCLOSED, UNEXPECTED, UNSUPPORTED, BAD_MARKER_PLACE};
 ghost use Rattle.gt_markers.specs.declared.TheConstants.{UNKNOWN_OPTION, WRONG_PLACE, MISSING_DESC, DUPLICATE_TAG, BAD_PATH, CHAIN_NOT_OWN_POINTER, UNKNOWN_HOOK, CACHE_SHAPE};
-ghost use Rattle.gt_resolve.specs.declared.TheConstants.{REDEFINED, UNDEFINED, BY_VALUE_CYCLE, BAD_BOUND, TOO_MANY, TYPE_TOO_LARGE, MAX_STRUCTURES, MAX_FIELDS, MAX_ROOTS, MAX_CACHES, MAX_DEPTH, MAX_DIMENSIONS, MAX_BOUND};
+ghost use Rattle.gt_resolve.specs.declared.TheConstants.{REDEFINED, UNDEFINED, BY_VALUE_CYCLE, BAD_BOUND, TOO_MANY, TYPE_TOO_LARGE};
 
 use gt_exists::{each_resolution, each_text};
 use gt_layout::laws::one_layout;
 use gt_lex::one_answer;
 use gt_options::laws::one_settlement;
-use gt_parse::one_search;
+use gt_search::one_search;
 use gt_settled::declared_is_settled;
 use gt_sound::{read_is_well_made, resolved_is_sound};
 
@@ -63,8 +63,7 @@ pub fn text_places()
     ensures fault { (texts : List (List ℕ)) (fault : Fault) → IsFirstFault texts fault → (1 ≤ fault.file) × (fault.file ≤ length texts) }
 {}
 
-/// The numbers of the faults and the limits, of which the definitions speak by name: those of the headers, and those of a settled
-/// program.
+/// The numbers of the faults and the limits, of which the definitions speak by name.
 pub fn numbers()
     ensures tokens { (BAD_UTF8 ≡ 1) × (OPEN_COMMENT ≡ 2) × (OPEN_STRING ≡ 3) × (BAD_NUMBER ≡ 4) }
     ensures options { (BAD_EXPR ≡ 5) × (EXPR_TOO_LARGE ≡ 6) }
@@ -72,8 +71,6 @@ pub fn numbers()
     ensures names { (REDEFINED ≡ 11) × (UNDEFINED ≡ 12) × (BY_VALUE_CYCLE ≡ 13) × (BAD_BOUND ≡ 14) × (TOO_MANY ≡ 15) × (TYPE_TOO_LARGE ≡ 24) }
     ensures markers { (UNKNOWN_OPTION ≡ 16) × (WRONG_PLACE ≡ 17) × (MISSING_DESC ≡ 18) × (DUPLICATE_TAG ≡ 19) × (BAD_PATH ≡ 20) × (CHAIN_NOT_OWN_POINTER ≡ 21) × (UNKNOWN_HOOK ≡ 22) × (CACHE_SHAPE ≡ 23) }
     ensures counts { (MAX_STRUCTURES ≡ 4096) × (MAX_FIELDS ≡ 1024) × (MAX_ROOTS ≡ 4096) × (MAX_CACHES ≡ 64) }
-    ensures shapes { (MAX_DEPTH ≡ 32) × (MAX_DIMENSIONS ≡ 4) × (MAX_BOUND ≡ pos 1048576) × (MAX_PARTS ≡ 256) }
-    ensures settled_counts { (most_structures ≡ 4096) × (most_fields ≡ 1024) × (most_roots ≡ 4096) × (most_caches ≡ 64) }
-    ensures settled_shapes { (most_depth ≡ 32) × (most_dimensions ≡ 4) × (most_elements ≡ 1048576) × (TOO_LARGE ≡ 1048577) }
+    ensures shapes { (MAX_DEPTH ≡ 32) × (MAX_DIMENSIONS ≡ 4) × (MAX_BOUND ≡ 1048576) × (TOO_LARGE ≡ 1048577) × (MAX_PARTS ≡ 256) }
     ensures layout { MAX_SIZE ≡ 1048576 }
 {}

@@ -3,6 +3,7 @@ pub mod Reads
 pub mod Writes
 pub mod Appends
 pub mod Counts
+pub mod Schedules
 pub mod MemFiles
 pub mod MemSink
 pub mod SureFiles

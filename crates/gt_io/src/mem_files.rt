@@ -8,7 +8,7 @@ use gt_types::{Bytes, Word};
 use std::alloc::{AllocError, Global};
 
 /// A store of files in memory. It tells what it holds. Reads and writes are counted together, and a call whose number is
-/// among those that are to fail answers `Failed` and changes nothing.
+/// among those that are to fail answers `Failed` and changes nothing that is held.
 #[derive(Drop)]
 pub struct MemFiles {
     shelf: Shelf,
@@ -41,15 +41,13 @@ impl MemFiles {
 }
 
 impl Files for MemFiles {
-    ghost use Rattle.gt_io.specs.declared.fail.ReadFail.TheVariants.{Failed};
-    ghost use Rattle.gt_io.specs.Counts.{HasCause};
-    ghost use Rattle.gt_io.specs.MemFiles.{files_of, faults_of};
+    ghost use Rattle.gt_io.specs.MemFiles.{files_of, faults_of, IsRead};
 
     ghost told = { λ f. Some (files_of f) };
 
     ghost faults = { faults_of };
 
-    ghost reads = { λ before _ _ result after. HasCause Failed (faults_of before) (faults_of after) result };
+    ghost reads = { IsRead };
 
     fn read(&mut self, alloc: Global, name: &Word, limit: u64) -> Result<Option<Bytes>, ReadFail> {
         if self.schedule.next_fails() {

@@ -1,7 +1,7 @@
 // Which calls of a store or a sink in memory are to fail.
-ghost use Rattle.std.specs.Prelude.{◌≡◌, ◌+◌, ◌-◌, ◌^◌, ◌≤◌, ◌<◌, ◌==◌, ℕ, min, true, false, vec_len};
-ghost use Rattle.std.specs.List.{list_any};
+ghost use Rattle.std.specs.Prelude.{◌≡◌, ◌≤◌, true, false};
 ghost use Rattle.gt_io.specs.Counts.{Rose};
+ghost use Rattle.gt_io.specs.Schedules.{after_call, fails_at, next_fails};
 
 /// The numbers of the calls that are to fail, counted from 1, with the calls and the failures so far.
 #[derive(Debug, Drop)]
@@ -26,19 +26,24 @@ impl Schedule {
 
     /// Counts one call, and says whether it is to fail.
     pub fn next_fails(&mut self) -> bool
-        ensures scheduled { result ≡ list_any (λ n. n == self.new.calls) self.old.fails.items }
-        ensures fails { self.new.fails ≡ self.old.fails }
-        ensures counted { self.new.calls ≡ min (self.old.calls + 1) (2 ^ 64 - 1) }
+        ensures scheduled { result ≡ next_fails self.old }
+        ensures counted { self.new ≡ after_call self.old }
         ensures later { self.old.faults ≤ self.new.faults }
         ensures rose { result ≡ true → Rose self.old.faults self.new.faults }
         ensures stood { result ≡ false → self.new.faults ≡ self.old.faults }
     {
         self.calls = self.calls.saturating_add(1);
-        let call = self.calls;
-        let fails = self.fails.iter().any(|n| *n == call);
+        let fails = self.fails_at(self.calls);
         if fails {
             self.faults = self.faults.saturating_add(1);
         }
         fails
+    }
+
+    // Whether the call of this number is to fail.
+    fn fails_at(&self, call: u64) -> bool
+        ensures { result ≡ fails_at self.now call }
+    {
+        self.fails.iter().any(|n| *n == call)
     }
 }

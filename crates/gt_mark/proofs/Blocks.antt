@@ -57,6 +57,9 @@ module _ {tables : Tables} {space : Range} (t : Task tables space) (hand : Optio
             can_all es (e.target ∷ begun) n (All-tail (Suits t) e es fits) one.good,
       )
 
+pub took_same : (m n : Marker) (xs ys : List Edge) → xs ≡ ys → Took Leaves m ys n → Took Leaves m xs n
+took_same m n xs ys same took = subst (λ es. Took Leaves m es n) (sym same) took
+
 -- ---- one block
 
 abbrev or_zero : Option ℕ → ℕ
@@ -106,6 +109,10 @@ module _ {tables : Tables} {space : Range} (t : Task tables space) (begun : List
 
     pub can_block : CanTake (λ m e. StartsSome m.pages.now.slots e.target) Leaves n (edges_of tables b.walk b.count space b.addr)
     can_block = can_all t (Some b.addr) (edges_of tables b.walk b.count space b.addr) begun n (block_fits t b h.fits) good_begun
+
+    -- the same edges, told otherwise
+    pub can_same : (es : List Edge) → edges_of tables b.walk b.count space b.addr ≡ es → CanTake (λ m e. StartsSome m.pages.now.slots e.target) Leaves n es
+    can_same es same = subst (CanTake (λ m e. StartsSome m.pages.now.slots e.target) Leaves n) same can_block
 
     module _ (o : Marker) (took : Took Leaves n (edges_of tables b.walk b.count space b.addr) o) where
       pub goes_block : Goes t begun (state_of o).next (state_of m) (record (state_of o) { chain = None; next = None })

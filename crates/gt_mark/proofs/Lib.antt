@@ -1,4 +1,3 @@
-mod Rows
 pub mod EdgeWords
 pub mod Remarked
 pub mod Losing

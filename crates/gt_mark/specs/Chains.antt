@@ -1,10 +1,15 @@
 -- Where the chain pointer of a block lies.
-use Rattle.std.specs.Prelude.{ℕ, ◌+◌, ◌^◌, ◌==◌, cond, nat_lt, Option, Some, None, option_and_then}
+use Rattle.std.specs.Prelude.{ℕ, ◌+◌, ◌^◌, ◌==◌, cond, nat_lt, List, Option, Some, None, option_and_then}
+use Rattle.gt_walk.specs.declared.rows.WalkRow.{WalkRow}
 use Rattle.gt_walk.specs.declared.tables.Tables.{Tables}
 use Rattle.gt_walk.specs.Rows.{rows_of}
 use Rattle.gt_mark.specs.declared.stack.Block.{Block}
 use Rattle.gt_mark.specs.Rounds.{chain_in_note}
 
--- the address of the chain pointer of a block of one element, where its walk tells one
+-- the address of the chain pointer of a block of one element, where the rows by which it is walked tell one
+abbrev pub chain_from : List WalkRow → Block → Option ℕ
+chain_from rows b = cond (b.count == 1) (option_and_then (λ offset. cond (nat_lt (b.addr + offset) (2 ^ 64)) (Some (b.addr + offset)) None) (chain_in_note rows)) None
+
+-- the same by its walk
 abbrev pub chain_place : Tables → Block → Option ℕ
-chain_place tables b = cond (b.count == 1) (option_and_then (λ offset. cond (nat_lt (b.addr + offset) (2 ^ 64)) (Some (b.addr + offset)) None) (chain_in_note (rows_of tables b.walk))) None
+chain_place tables b = chain_from (rows_of tables b.walk) b

@@ -12,7 +12,7 @@ use crate::stack::{Block, Stack};
 use arrayvec::ArrayVec;
 use gt_pages::Pages;
 use gt_space::Space;
-use gt_walk::{EdgeSink, Tables, visit};
+use gt_walk::{EdgeSink, Tables, rows_of, visit_with_rows};
 
 /// Marks the blocks that edges name. A block that is newly marked comes onto the stack, or it is the next of a chain. Where the stack has
 /// no room for it, its mark says that it is left to a pass: it lies ahead of the pass that runs, or in the span that the next one goes over.
@@ -35,6 +35,7 @@ impl<'a> EdgeSink for Marker<'a> {
 
     ghost leaves = { Leaves };
 
+    #[inline(always)]
     fn edge(&mut self, place: u64, target: u64, walk: u32, count: u32) {
         let block = Block {
             addr: target,
@@ -71,6 +72,8 @@ impl<'a> Marker<'a> {
     }
 
     // A block for which the stack has no room is left to the pass that runs, where that has not come to it, else to the next one.
+    #[cold]
+    #[inline(never)]
     fn lose(&mut self, addr: u64)
         requires start { StartsSome self.old.pages.now.slots addr }
         ensures same_reference { self.new.pages.ghost_name ≡ self.old.pages.ghost_name }
@@ -95,8 +98,9 @@ impl<'a> Marker<'a> {
         ensures goes { (t : Task tables.now space.now) (begun : List ℕ) → Holds t begun (Some block) (state_of self.old) → Goes t begun result (state_of self.old) (state_of self.new) }
         ensures wide { (t : Task tables.now space.now) (begun : List ℕ) → Holds t begun (Some block) (state_of self.old) → Wide t (state_of self.old) (Some block) → Wide t (state_of self.new) result }
     {
-        self.chain = chain_place(tables, block);
-        visit(tables, block.walk, block.count, space, block.addr, self);
+        let rows = rows_of(tables, block.walk);
+        self.chain = chain_place(rows, block);
+        visit_with_rows(tables, rows, block.count, space, block.addr, self);
         self.chain = None;
         self.next.take()
     }

@@ -7,8 +7,8 @@ use Rattle.std.proofs.lemmas.List.{drop_more}
 use Rattle.gt_names.specs.declared.tables.Entry.{Entry}
 use Rattle.gt_names.specs.Entries.{value_in, with_value, first_some}
 use Rattle.gt_names.proofs.TableLemmas.{value_with, first_assoc, none_first}
-use Rattle.gt_resolve.specs.declared.draft.DraftConstant.{DraftConstant}
-use Rattle.gt_resolve.specs.declared.draft.DraftRoot.{DraftRoot}
+use Rattle.gt_drafts.specs.declared.draft.DraftConstant.{DraftConstant}
+use Rattle.gt_drafts.specs.declared.draft.DraftRoot.{DraftRoot}
 use Rattle.gt_markers.specs.Expressions.{is_scalar}
 use Rattle.gt_markers.specs.Lookups.{constants_from, roots_from, with_root}
 

@@ -5,8 +5,8 @@ use Rattle.std.specs.Option.{option_map_or}
 use Rattle.std.proofs.lemmas.List.{take_more, drop_more, drop_all}
 use Rattle.gt_types.specs.declared.faults.Fault.{Fault}
 use Rattle.gt_items.specs.declared.items.RawOption.{RawOption}
-use Rattle.gt_resolve.specs.declared.draft.Draft.{Draft}
-use Rattle.gt_resolve.specs.Faults.{fault_if}
+use Rattle.gt_drafts.specs.declared.draft.Draft.{Draft}
+use Rattle.gt_drafts.specs.FirstFaults.{fault_if}
 use Rattle.gt_markers.specs.declared.TheConstants.{UNKNOWN_OPTION, WRONG_PLACE, DUPLICATE_TAG, BAD_PATH, UNKNOWN_HOOK}
 use Rattle.gt_markers.specs.declared.kinds.OptionKind.{OptionKind}
 use Rattle.gt_markers.specs.Expressions.{constant_value}

@@ -5,9 +5,9 @@ use Rattle.std.specs.List.{list_any}
 use Rattle.std.proofs.lemmas.List.Folds.{list_any-append}
 use Rattle.gt_types.specs.declared.faults.Fault.{Fault}
 use Rattle.gt_items.specs.declared.items.RawOption.{RawOption}
-use Rattle.gt_resolve.specs.declared.draft.Draft.{Draft}
-use Rattle.gt_resolve.specs.declared.draft.DraftField.{DraftField}
-use Rattle.gt_resolve.specs.Drafts.{has_option}
+use Rattle.gt_drafts.specs.declared.draft.Draft.{Draft}
+use Rattle.gt_drafts.specs.declared.draft.DraftField.{DraftField}
+use Rattle.gt_drafts.specs.Options.{has_option}
 use Rattle.gt_markers.specs.declared.members.Members.{Members}
 use Rattle.gt_markers.specs.FirstFaults.{first_from}
 use Rattle.gt_markers.specs.MarkerFaults.{has_tag, is_default, repeated_fault, same_tag, tag_value}

@@ -4,11 +4,11 @@ use Rattle.std.specs.Prelude.{find, option_map, is_some}
 use Rattle.std.specs.Str.{bytes_eq}
 use Rattle.gt_names.proofs.TableLemmas.{any_found}
 use Rattle.gt_items.specs.declared.items.RawOption.{RawOption}
-use Rattle.gt_resolve.specs.declared.types.Amount.{Amount}
-use Rattle.gt_resolve.specs.declared.types.DeclaredType.{DeclaredType}
-use Rattle.gt_resolve.specs.declared.draft.Draft.{Draft}
-use Rattle.gt_resolve.specs.Drafts.{has_option}
-use Rattle.gt_resolve.specs.Shapes.{is_nil}
+use Rattle.gt_drafts.specs.declared.types.Amount.{Amount}
+use Rattle.gt_drafts.specs.declared.types.DeclaredType.{DeclaredType}
+use Rattle.gt_drafts.specs.declared.draft.Draft.{Draft}
+use Rattle.gt_drafts.specs.Options.{has_option}
+use Rattle.gt_drafts.specs.Shapes.{is_nil}
 use Rattle.gt_markers.specs.Expressions.{Names, expression_of}
 use Rattle.gt_markers.specs.declared.type_options.TypeOptions.{TypeOptions}
 use Rattle.gt_markers.specs.Typing.{expression_named, of_elements, single_type, array_type, walked_by}

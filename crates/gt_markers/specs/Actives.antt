@@ -4,8 +4,8 @@ use Rattle.std.specs.Option.{option_map_or}
 use Rattle.gt_types.specs.declared.program.Active.{Active}
 use Rattle.gt_types.specs.declared.program.Active.TheVariants.{Always, Tag, Other, Never}
 use Rattle.gt_items.specs.declared.items.RawOption.{RawOption}
-use Rattle.gt_resolve.specs.declared.draft.Draft.{Draft}
-use Rattle.gt_resolve.specs.Drafts.{has_option}
+use Rattle.gt_drafts.specs.declared.draft.Draft.{Draft}
+use Rattle.gt_drafts.specs.Options.{has_option}
 use Rattle.gt_markers.specs.Options.{option_named}
 use Rattle.gt_markers.specs.Expressions.{constant_value}
 

@@ -1,7 +1,7 @@
 -- The first of some faults, found by keeping the earliest so far.
 use Rattle.std.specs.Prelude.{◌≡◌, if◌then◌else◌, List, [], ◌∷◌, Option, Some, None}
 use Rattle.gt_types.specs.declared.faults.Fault.{Fault}
-use Rattle.gt_resolve.specs.Faults.{IsFirst, is_no_later}
+use Rattle.gt_drafts.specs.FirstFaults.{IsFirst, is_no_later}
 
 -- the earlier of the earliest so far and another fault
 abbrev pub earlier_of : Option Fault → Fault → Option Fault

@@ -2,9 +2,9 @@
 use Rattle.std.specs.Prelude.{◌≡◌, ℕ, ◌+◌, ℤ, if◌then◌else◌, List, [], ◌∷◌}
 use Rattle.gt_names.specs.declared.tables.Entry.{Entry}
 use Rattle.gt_names.specs.Entries.{value_in, with_value}
-use Rattle.gt_resolve.specs.declared.draft.Draft.{Draft}
-use Rattle.gt_resolve.specs.declared.draft.DraftConstant.{DraftConstant}
-use Rattle.gt_resolve.specs.declared.draft.DraftRoot.{DraftRoot}
+use Rattle.gt_drafts.specs.declared.draft.Draft.{Draft}
+use Rattle.gt_drafts.specs.declared.draft.DraftConstant.{DraftConstant}
+use Rattle.gt_drafts.specs.declared.draft.DraftRoot.{DraftRoot}
 use Rattle.gt_markers.specs.declared.lookups.Lookup.{Lookup}
 use Rattle.gt_markers.specs.Expressions.{constant_of, scalar_root, is_scalar}
 

@@ -2,7 +2,7 @@
 use Rattle.std.specs.Prelude.{Bool, is_some}
 use Rattle.std.specs.List.{list_all}
 use Rattle.gt_expr.specs.declared.raw.RawExpr.{RawExpr}
-use Rattle.gt_resolve.specs.declared.draft.Draft.{Draft}
+use Rattle.gt_drafts.specs.declared.draft.Draft.{Draft}
 use Rattle.gt_markers.specs.declared.expressions.Scope.{Scope}
 use Rattle.gt_markers.specs.declared.expressions.Scope.TheVariants.{Fields, Roots}
 use Rattle.gt_markers.specs.Expressions.{Names, constants, constants_and_roots, names_in}

@@ -9,14 +9,16 @@ use Rattle.gt_items.specs.declared.items.Parameter.TheVariants.{Text}
 use Rattle.gt_items.specs.declared.items.RawOption.{RawOption}
 use Rattle.gt_items.specs.declared.items.Stars.{Stars}
 use Rattle.gt_items.specs.declared.items.Stars.TheVariants.{One, Two}
-use Rattle.gt_resolve.specs.declared.types.BaseType.{BaseType}
-use Rattle.gt_resolve.specs.declared.types.BaseType.TheVariants.{Number, Structure}
-use Rattle.gt_resolve.specs.declared.types.DeclaredType.{DeclaredType}
-use Rattle.gt_resolve.specs.declared.draft.Draft.{Draft}
-use Rattle.gt_resolve.specs.declared.draft.DraftStructure.{DraftStructure}
-use Rattle.gt_resolve.specs.Drafts.{has_option, has_skip}
-use Rattle.gt_resolve.specs.Faults.{fault_if, is_zero, same_bool}
-use Rattle.gt_resolve.specs.Shapes.{held_type, is_nil}
+use Rattle.gt_drafts.specs.declared.types.BaseType.{BaseType}
+use Rattle.gt_drafts.specs.declared.types.BaseType.TheVariants.{Number, Structure}
+use Rattle.gt_drafts.specs.declared.types.DeclaredType.{DeclaredType}
+use Rattle.gt_drafts.specs.declared.draft.Draft.{Draft}
+use Rattle.gt_drafts.specs.declared.draft.DraftStructure.{DraftStructure}
+use Rattle.gt_drafts.specs.Options.{has_option, has_skip}
+use Rattle.gt_drafts.specs.FirstFaults.{fault_if}
+use Rattle.gt_drafts.specs.Undefined.{is_zero}
+use Rattle.gt_drafts.specs.Sameness.{same_bool}
+use Rattle.gt_drafts.specs.Shapes.{held_type, is_nil}
 use Rattle.gt_markers.specs.declared.TheConstants.{UNKNOWN_OPTION, WRONG_PLACE, DUPLICATE_TAG, BAD_PATH, UNKNOWN_HOOK, CACHE_SHAPE}
 use Rattle.gt_markers.specs.declared.kinds.OptionKind.{OptionKind}
 use Rattle.gt_markers.specs.declared.kinds.OptionKind.TheVariants.{Skip, Length, Desc, Tag, Default, Cache, Deletable, MaybeUndef, ChainNext, ChainPrev, ChainCircular, Atomic, StringLength, VariableSize, ForUser, Reorder}

@@ -9,18 +9,18 @@ use Rattle.gt_items.specs.declared.items.Parameter.{Parameter}
 use Rattle.gt_items.specs.declared.items.Parameter.TheVariants.{Expression}
 use Rattle.gt_items.specs.declared.items.RawOption.{RawOption}
 use Rattle.gt_items.specs.declared.items.Stars.TheVariants.{Zero}
-use Rattle.gt_resolve.specs.declared.types.Amount.{Amount}
-use Rattle.gt_resolve.specs.declared.types.Amount.TheVariants.{Is, Unread}
-use Rattle.gt_resolve.specs.declared.types.BaseType.{BaseType}
-use Rattle.gt_resolve.specs.declared.types.BaseType.TheVariants.{Number, Structure}
-use Rattle.gt_resolve.specs.declared.types.DeclaredType.{DeclaredType}
-use Rattle.gt_resolve.specs.declared.draft.Draft.{Draft}
-use Rattle.gt_resolve.specs.declared.draft.DraftField.{DraftField}
-use Rattle.gt_resolve.specs.declared.draft.DraftRoot.{DraftRoot}
-use Rattle.gt_resolve.specs.declared.draft.DraftStructure.{DraftStructure}
-use Rattle.gt_resolve.specs.Drafts.{has_skip, has_length}
-use Rattle.gt_resolve.specs.Faults.{is_undefined_type}
-use Rattle.gt_resolve.specs.Shapes.{Holds, IsNested, IsTail, held_type, is_nil}
+use Rattle.gt_drafts.specs.declared.types.Amount.{Amount}
+use Rattle.gt_drafts.specs.declared.types.Amount.TheVariants.{Is, Unread}
+use Rattle.gt_drafts.specs.declared.types.BaseType.{BaseType}
+use Rattle.gt_drafts.specs.declared.types.BaseType.TheVariants.{Number, Structure}
+use Rattle.gt_drafts.specs.declared.types.DeclaredType.{DeclaredType}
+use Rattle.gt_drafts.specs.declared.draft.Draft.{Draft}
+use Rattle.gt_drafts.specs.declared.draft.DraftField.{DraftField}
+use Rattle.gt_drafts.specs.declared.draft.DraftRoot.{DraftRoot}
+use Rattle.gt_drafts.specs.declared.draft.DraftStructure.{DraftStructure}
+use Rattle.gt_drafts.specs.Options.{has_skip, has_length}
+use Rattle.gt_drafts.specs.Undefined.{is_undefined_type}
+use Rattle.gt_drafts.specs.Shapes.{Holds, IsNested, IsTail, held_type, is_nil}
 use Rattle.gt_markers.specs.Expressions.{Names, with_names}
 
 -- ---- types

@@ -15,17 +15,17 @@ use Rattle.gt_items.specs.declared.items.Stars.TheVariants.{One, Two}
 use Rattle.gt_layout.specs.declared.planes.Extent.{Extent}
 use Rattle.gt_layout.specs.declared.planes.Plane.{Plane}
 use Rattle.gt_layout.specs.Storages.{extent, extent_at, bytes_of}
-use Rattle.gt_resolve.specs.declared.types.Amount.{Amount}
-use Rattle.gt_resolve.specs.declared.types.Amount.TheVariants.{Is}
-use Rattle.gt_resolve.specs.declared.types.BaseType.{BaseType}
-use Rattle.gt_resolve.specs.declared.types.BaseType.TheVariants.{Number, Float, Double, Structure, Undefined}
-use Rattle.gt_resolve.specs.declared.types.DeclaredType.{DeclaredType}
-use Rattle.gt_resolve.specs.declared.draft.DraftStructure.{DraftStructure}
-use Rattle.gt_resolve.specs.Drafts.{has_option, has_skip}
-use Rattle.gt_resolve.specs.Faults.{is_zero}
+use Rattle.gt_drafts.specs.declared.types.Amount.{Amount}
+use Rattle.gt_drafts.specs.declared.types.Amount.TheVariants.{Is}
+use Rattle.gt_drafts.specs.declared.types.BaseType.{BaseType}
+use Rattle.gt_drafts.specs.declared.types.BaseType.TheVariants.{Number, Float, Double, Structure, Undefined}
+use Rattle.gt_drafts.specs.declared.types.DeclaredType.{DeclaredType}
+use Rattle.gt_drafts.specs.declared.draft.DraftStructure.{DraftStructure}
+use Rattle.gt_drafts.specs.Options.{has_option, has_skip}
+use Rattle.gt_drafts.specs.Undefined.{is_zero}
 use Rattle.gt_markers.specs.declared.type_options.TypeOptions.{TypeOptions}
 use Rattle.gt_markers.specs.Options.{option_named}
-use Rattle.gt_resolve.specs.declared.draft.Draft.{Draft}
+use Rattle.gt_drafts.specs.declared.draft.Draft.{Draft}
 use Rattle.gt_markers.specs.Expressions.{Names, constants, expression_of}
 
 -- ---- what options say

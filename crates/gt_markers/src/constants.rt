@@ -1,8 +1,8 @@
 // The values of parameters that are constant expressions.
 ghost use Rattle.std.specs.Prelude.{◌≡◌, IfOk, None};
 ghost use Rattle.gt_names.specs.Entries.{value_in};
-ghost use Rattle.gt_resolve.specs.declared.draft.Draft.{Draft};
-ghost use Rattle.gt_resolve.specs.Amounts as amounts;
+ghost use Rattle.gt_drafts.specs.declared.draft.Draft.{Draft};
+ghost use Rattle.gt_drafts.specs.Amounts as amounts;
 ghost use Rattle.gt_markers.specs.Expressions.{constant_value, value_of_amount};
 ghost use Rattle.gt_markers.specs.Lookups.{IsLookupOf};
 

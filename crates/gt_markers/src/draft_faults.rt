@@ -7,7 +7,7 @@ ghost use Rattle.gt_markers.specs.MarkerFaults.{cache_faults, draft_faults, root
 use crate::field_faults::{of_cache, of_root};
 use crate::lookups::Lookup;
 use crate::structure_faults::of_structure;
-use gt_resolve::{Draft, DraftCache, DraftRoot, DraftStructure};
+use gt_drafts::{Draft, DraftCache, DraftRoot, DraftStructure};
 use gt_types::Fault;
 use std::alloc::{AllocError, Global};
 

@@ -1,6 +1,6 @@
 // The earliest fault so far.
 ghost use Rattle.std.specs.Prelude.{◌≡◌, Some};
-ghost use Rattle.gt_resolve.specs.Faults.{fault_if, is_no_later};
+ghost use Rattle.gt_drafts.specs.FirstFaults.{fault_if, is_no_later};
 ghost use Rattle.gt_markers.specs.FirstFaults.{earlier_of, first_from};
 
 use gt_types::Fault;

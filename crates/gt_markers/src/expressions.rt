@@ -1,6 +1,6 @@
 // The expressions of options, with their names looked up.
 ghost use Rattle.std.specs.Prelude.{◌≡◌, IfOk, is_some};
-ghost use Rattle.gt_resolve.specs.declared.draft.Draft.{Draft};
+ghost use Rattle.gt_drafts.specs.declared.draft.Draft.{Draft};
 ghost use Rattle.gt_markers.specs.Expressions.{with_names, or_zero};
 ghost use Rattle.gt_markers.specs.Lookups.{IsLookupOf};
 ghost use Rattle.gt_markers.specs.NameScopes.{names_of, are_named};

@@ -1,7 +1,7 @@
 // The faults of fields, roots and caches by their options and types.
 ghost use Rattle.std.specs.Prelude.{◌≡◌, ◌&&◌, ◌||◌, codes, not, is_none, IfOk};
-ghost use Rattle.gt_resolve.specs.declared.draft.Draft.{Draft};
-ghost use Rattle.gt_resolve.specs.Drafts.{has_skip};
+ghost use Rattle.gt_drafts.specs.declared.draft.Draft.{Draft};
+ghost use Rattle.gt_drafts.specs.Options.{has_skip};
 ghost use Rattle.gt_markers.specs.Expressions.{Names};
 ghost use Rattle.gt_markers.specs.FirstFaults.{first_from};
 ghost use Rattle.gt_markers.specs.Lookups.{IsLookupOf};
@@ -15,8 +15,8 @@ use crate::marker_faults::{Marker, of_marker};
 use crate::options::{has_option, has_skip};
 use crate::sites::Site;
 use crate::walking::is_walked;
+use gt_drafts::{DeclaredType, Draft, DraftCache, DraftRoot};
 use gt_items::RawOption;
-use gt_resolve::{DeclaredType, Draft, DraftCache, DraftRoot};
 use gt_types::Fault;
 use std::alloc::{AllocError, Global};
 

@@ -1,13 +1,13 @@
 // Constants and roots by name.
 ghost use Rattle.std.specs.Prelude.{◌≡◌, ◌<◌, ◌^◌, [], length, IfOk};
 ghost use Rattle.gt_names.specs.Entries.{value_in, with_value};
-ghost use Rattle.gt_resolve.specs.declared.draft.Draft.{Draft};
+ghost use Rattle.gt_drafts.specs.declared.draft.Draft.{Draft};
 ghost use Rattle.gt_markers.specs.Expressions.{constant_of, scalar_root, is_scalar, is_number_base};
 ghost use Rattle.gt_markers.specs.Lookups.{IsLookupOf, constants_from, roots_from, with_root};
 
+use gt_drafts::{BaseType, Draft, DraftConstant, DraftRoot};
 use gt_items::Stars;
 use gt_names::Table;
-use gt_resolve::{BaseType, Draft, DraftConstant, DraftRoot};
 use gt_types::Word;
 use std::alloc::{AllocError, Global};
 

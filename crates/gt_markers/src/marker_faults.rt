@@ -1,8 +1,8 @@
 // The faults of one marker's options.
 ghost use Rattle.std.specs.Prelude.{◌≡◌, ◌&&◌, ◌||◌, not, IfOk, List, Some, is_none, false};
 ghost use Rattle.gt_items.specs.declared.items.RawOption.{RawOption};
-ghost use Rattle.gt_resolve.specs.declared.draft.Draft.{Draft};
-ghost use Rattle.gt_resolve.specs.Faults.{same_bool};
+ghost use Rattle.gt_drafts.specs.declared.draft.Draft.{Draft};
+ghost use Rattle.gt_drafts.specs.Sameness.{same_bool};
 ghost use Rattle.gt_markers.specs.Options.{has_parameter, needs_parameter, kind_of};
 ghost use Rattle.gt_markers.specs.Expressions.{constant_value};
 ghost use Rattle.gt_markers.specs.FirstFaults.{first_from};
@@ -18,8 +18,8 @@ use crate::kinds::OptionKind;
 use crate::lookups::Lookup;
 use crate::sites::Site;
 use crate::{BAD_PATH, DUPLICATE_TAG, UNKNOWN_HOOK, UNKNOWN_OPTION, WRONG_PLACE};
+use gt_drafts::Draft;
 use gt_items::{Parameter, RawOption};
-use gt_resolve::Draft;
 use gt_types::Fault;
 use std::alloc::{AllocError, Global};
 

@@ -2,7 +2,7 @@
 ghost use Rattle.std.specs.Prelude.{◌≡◌, ℤ, ◌||◌, [], IfOk, OnOk, Option};
 ghost use Rattle.std.specs.BTreeSet.{contains};
 ghost use Rattle.std.specs.Ordering.{int_cmp, int_eq};
-ghost use Rattle.gt_resolve.specs.declared.draft.Draft.{Draft};
+ghost use Rattle.gt_drafts.specs.declared.draft.Draft.{Draft};
 ghost use Rattle.gt_markers.specs.Actives.{active_of, tag_of, without_tag};
 ghost use Rattle.gt_markers.specs.Expressions.{constant_value};
 ghost use Rattle.gt_markers.specs.Lookups.{IsLookupOf};

@@ -3,7 +3,7 @@ ghost use Rattle.std.specs.Prelude.{◌≡◌, IsTrue};
 ghost use Rattle.std.specs.Option.{option_copied};
 ghost use Rattle.std.specs.List.{list_all};
 ghost use Rattle.std.specs.Char.{is_ascii};
-ghost use Rattle.gt_resolve.specs.Drafts.{has_option, has_skip};
+ghost use Rattle.gt_drafts.specs.Options.{has_option, has_skip};
 ghost use Rattle.gt_markers.specs.Options.{option_named};
 
 use crate::kinds::is_word;

@@ -2,19 +2,19 @@
 ghost use Rattle.std.specs.Prelude.{◌≡◌, ◌&&◌, not, List};
 ghost use Rattle.gt_markers.specs.Sites.{is_single, are_pointers, is_pointer, is_string, is_counted, is_last_array, holds_unions, is_sorted, may_stand, at_field, at_structure, at_root, at_cache, wrong_number, is_passed_over, points_to_characters, points_to_many, is_sorted_base, is_union_at};
 ghost use Rattle.gt_items.specs.declared.items.RawOption.{RawOption};
-ghost use Rattle.gt_resolve.specs.declared.draft.DraftStructure.{DraftStructure};
+ghost use Rattle.gt_drafts.specs.declared.draft.DraftStructure.{DraftStructure};
 ghost use Rattle.gt_markers.specs.SiteViews.{site_of};
 ghost use Rattle.gt_markers.specs.KindSets.{has_kind, AreKindsOf};
 ghost use Rattle.gt_markers.specs.Options.{stands_beside_skip};
 ghost use Rattle.gt_markers.specs.declared.kinds.OptionKind.TheVariants.{Skip};
-ghost use Rattle.gt_resolve.specs.Faults.{is_zero};
-ghost use Rattle.gt_resolve.specs.Shapes.{held_type};
+ghost use Rattle.gt_drafts.specs.Undefined.{is_zero};
+ghost use Rattle.gt_drafts.specs.Shapes.{held_type};
 
 use crate::kind_sets::Kinds;
 use crate::kinds::OptionKind;
 use crate::{CACHE_SHAPE, WRONG_PLACE};
+use gt_drafts::{BaseType, DeclaredType, DraftStructure};
 use gt_items::Stars;
-use gt_resolve::{BaseType, DeclaredType, DraftStructure};
 
 /// Where a marker stands: at a field, which is one of a union or not, and the last or not; at a structure; at a root; at a cache.
 #[derive(Clone, Copy)]

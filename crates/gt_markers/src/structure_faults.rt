@@ -2,8 +2,8 @@
 ghost use Rattle.std.specs.Prelude.{◌≡◌, ◌&&◌, ◌∷◌, ◌++◌, [], IfOk, OnOk, IsTrue, List};
 ghost use Rattle.std.specs.List.{list_all};
 ghost use Rattle.std.specs.Char.{is_ascii};
-ghost use Rattle.gt_resolve.specs.declared.draft.Draft.{Draft};
-ghost use Rattle.gt_resolve.specs.declared.draft.DraftField.{DraftField};
+ghost use Rattle.gt_drafts.specs.declared.draft.Draft.{Draft};
+ghost use Rattle.gt_drafts.specs.declared.draft.DraftField.{DraftField};
 ghost use Rattle.gt_markers.specs.FirstFaults.{first_from};
 ghost use Rattle.gt_markers.specs.Lookups.{IsLookupOf};
 ghost use Rattle.gt_markers.specs.MarkerFaults.{field_faults, fields_faults, is_unmarked, repeated_fault, repeated_faults, structure_faults};
@@ -18,8 +18,8 @@ use crate::members::{Members, tag_value};
 use crate::options::{has_option, has_skip, option_named};
 use crate::sites::Site;
 use crate::{DUPLICATE_TAG, MISSING_DESC, WRONG_PLACE};
+use gt_drafts::{Draft, DraftField, DraftStructure};
 use gt_items::RawOption;
-use gt_resolve::{Draft, DraftField, DraftStructure};
 use gt_types::Fault;
 use std::alloc::{AllocError, Global};
 

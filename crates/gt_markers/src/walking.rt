@@ -1,15 +1,15 @@
 // Whether a type can be a part of a walked value.
 ghost use Rattle.std.specs.Prelude.{◌≡◌, ℕ, is_some, not};
-ghost use Rattle.gt_resolve.specs.Shapes.{is_nil};
-ghost use Rattle.gt_resolve.specs.declared.draft.Draft.{Draft};
+ghost use Rattle.gt_drafts.specs.Shapes.{is_nil};
+ghost use Rattle.gt_drafts.specs.declared.draft.Draft.{Draft};
 ghost use Rattle.gt_markers.specs.Expressions.{Names};
 ghost use Rattle.gt_markers.specs.declared.type_options.TypeOptions.{TypeOptions};
 ghost use Rattle.gt_markers.specs.Typing.{says, of_elements, pointer_type, pointer_or_atomic, value_type, single_type, bits_type, walked_type};
 ghost use Rattle.gt_markers.specs.Walking.{AreOptionsOf};
 
 use crate::options::has_option;
+use gt_drafts::{BaseType, DeclaredType};
 use gt_items::{RawOption, Stars};
-use gt_resolve::{BaseType, DeclaredType};
 
 /// The options that make a pointer one that can be walked: whether it has `length`, `atomic` and `maybe_undef`.
 #[derive(Clone, Copy)]

@@ -1,5 +1,5 @@
 -- What a draft comes to.
-use Rattle.gt_resolve.specs.declared.draft.Draft.{Draft}
+use Rattle.gt_drafts.specs.declared.draft.Draft.{Draft}
 use Rattle.gt_rules.specs.Faults.{Declares, IsFirstFault}
 use Rattle.gt_options.specs.declared.settling.Settlement.{Settlement}
 use Rattle.gt_options.specs.declared.settling.Settlement.TheVariants.{Program, Fault}

@@ -2,7 +2,7 @@
 ghost use Rattle.std.specs.Prelude.{◌≡◌};
 ghost use Rattle.gt_types.specs.declared.faults.Fault.{Fault};
 ghost use Rattle.gt_types.specs.declared.program.Program.{Program};
-ghost use Rattle.gt_resolve.specs.declared.draft.Draft.{Draft};
+ghost use Rattle.gt_drafts.specs.declared.draft.Draft.{Draft};
 ghost use Rattle.gt_markers.specs.Sound.{IsSound};
 ghost use Rattle.gt_rules.specs.Faults.{Declares, IsFirstFault};
 ghost use Rattle.gt_options.specs.declared.settling.Settlement.{Settlement};

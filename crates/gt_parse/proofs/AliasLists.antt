@@ -1,13 +1,13 @@
 -- Aliases with commas between them and a semicolon after them, one at a time.
 use Rattle.std.proofs.Common.{◌≡◌, ℕ, suc, ◌+◌, ◌-◌, ◌<◌, ◌≤◌, true, false, List, [], ◌∷◌, ◌++◌, refl, sym, ◌∙◌, arith}
 use Rattle.gt_items.specs.declared.items.Alias.{Alias}
-use Rattle.gt_parse.specs.declared.lexeme.Lexeme.{Lexeme}
-use Rattle.gt_parse.specs.declared.lexeme.Lexeme.TheVariants as lexeme
-use Rattle.gt_parse.specs.declared.unread.Unread.{Unread}
-use Rattle.gt_parse.specs.declared.unread.Unread.TheVariants.{Memory, Ended, Fault}
-use Rattle.gt_parse.specs.Outcome.{Outcome, Read, Ends, Fails, ◌>>=◌}
-use Rattle.gt_parse.specs.Fields.{goes_on_at}
-use Rattle.gt_parse.specs.Marked.{alias_at}
+use Rattle.gt_search.specs.declared.lexeme.Lexeme.{Lexeme}
+use Rattle.gt_search.specs.declared.lexeme.Lexeme.TheVariants as lexeme
+use Rattle.gt_marked.specs.declared.unread.Unread.{Unread}
+use Rattle.gt_marked.specs.declared.unread.Unread.TheVariants.{Memory, Ended, Fault}
+use Rattle.gt_marked.specs.Outcome.{Outcome, Read, Ends, Fails, ◌>>=◌}
+use Rattle.gt_marked.specs.Fields.{goes_on_at}
+use Rattle.gt_marked.specs.Marked.{alias_at}
 use Rattle.gt_parse.specs.Unmarked.{after_alias, aliases_from}
 
 goes_on : {A : Type 0} (go : List Lexeme → Outcome A) (made : A) (ts next : List Lexeme) → goes_on_at ts ≡ Read true next → after_alias go made ts ≡ go next

@@ -5,16 +5,16 @@ use Rattle.std.proofs.lemmas.List.Edits.{between_more}
 use Rattle.gt_items.specs.declared.items.Name.{Name}
 use Rattle.gt_items.specs.declared.items.Item.{Item}
 use Rattle.gt_items.specs.declared.items.Enumerator.{Enumerator}
-use Rattle.gt_parse.specs.declared.lexeme.Spot.{Spot}
-use Rattle.gt_parse.specs.declared.lexeme.Bracket.TheVariants.{Round}
-use Rattle.gt_parse.specs.declared.lexeme.Lexeme.{Lexeme}
-use Rattle.gt_parse.specs.declared.lexeme.Lexeme.TheVariants as lexeme
-use Rattle.gt_parse.specs.Lexemes.{name_of}
-use Rattle.gt_parse.specs.Outcome.{Outcome, Read, Stops}
-use Rattle.gt_parse.specs.Groups.{depth_after}
+use Rattle.gt_search.specs.declared.lexeme.Spot.{Spot}
+use Rattle.gt_search.specs.declared.lexeme.Bracket.TheVariants.{Round}
+use Rattle.gt_search.specs.declared.lexeme.Lexeme.{Lexeme}
+use Rattle.gt_search.specs.declared.lexeme.Lexeme.TheVariants as lexeme
+use Rattle.gt_search.specs.Lexemes.{name_of}
+use Rattle.gt_marked.specs.Outcome.{Outcome, Read, Stops}
+use Rattle.gt_marked.specs.Groups.{depth_after}
 use Rattle.gt_parse.specs.Unmarked.{enumerator_of, is_comma, pieces_from, enumerators_of, last_name, opens_round, after_round, unmarked_of, unmarked_at}
 use Rattle.gt_parse.specs.Reading.{is_marker, is_marked}
-use Rattle.gt_parse.proofs.Insides.{drop_at}
+use Rattle.gt_marked.proofs.Insides.{drop_at}
 
 -- a token opens one bracket at the most
 pub depth_after-le : (depth : ℕ) (t : Lexeme) → depth_after depth t ≤ depth + 1

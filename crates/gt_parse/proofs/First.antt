@@ -5,8 +5,8 @@ use Rattle.std.specs.List.{AllByRecursion, flat_map}
 use Rattle.std.proofs.lemmas.List.{append-nil, map-append, take_more}
 use Rattle.std.proofs.lemmas.Grind.{flat_map-append}
 use Rattle.std.proofs.lemmas.Bool.{lt-ltb, le-ltb, ltb-true, ltb-false}
-use Rattle.gt_parse.specs.declared.search.End.{End}
-use Rattle.gt_parse.specs.declared.search.End.TheVariants.{Complete, Fails}
+use Rattle.gt_search.specs.declared.search.End.{End}
+use Rattle.gt_search.specs.declared.search.End.TheVariants.{Complete, Fails}
 use Rattle.gt_parse.specs.Header.{end_faults}
 use Rattle.gt_parse.specs.Answers.{earlier, first_of}
 

@@ -1,25 +1,25 @@
 -- Items are read as their rules say.
 use Rattle.std.proofs.Common.{◌≡◌, ℕ, zero, suc, Bool, true, false, ◌||◌, List, [], ◌∷◌, ◌++◌, Option, Some, None, refl, sym, ap, ◌∙◌}
 use Rattle.std.specs.List.{list_any}
-use Rattle.gt_parse.specs.declared.faults.TheConstants.{BAD_MARKER_PLACE}
+use Rattle.gt_search.specs.declared.faults.TheConstants.{BAD_MARKER_PLACE}
 use Rattle.gt_items.specs.declared.items.Item.{Item}
 use Rattle.gt_items.specs.declared.items.Keyword.TheVariants as keyword
-use Rattle.gt_parse.specs.declared.lexeme.Spot.{Spot}
-use Rattle.gt_parse.specs.declared.lexeme.Lexeme.{Lexeme}
-use Rattle.gt_parse.specs.declared.lexeme.Lexeme.TheVariants as lexeme
-use Rattle.gt_parse.specs.FieldGrammar.{depth_after, Stands}
+use Rattle.gt_search.specs.declared.lexeme.Spot.{Spot}
+use Rattle.gt_search.specs.declared.lexeme.Lexeme.{Lexeme}
+use Rattle.gt_search.specs.declared.lexeme.Lexeme.TheVariants as lexeme
+use Rattle.gt_marked.specs.FieldGrammar.{depth_after, Stands}
 use Rattle.gt_parse.specs.ItemGrammar.{begins_unmarked, UnmarkedItem, AnItem}
-use Rattle.gt_parse.specs.Marked.{marked_at}
-use Rattle.gt_parse.specs.MarkedGrammar.{MarkedItem}
-use Rattle.gt_parse.specs.MarkerGrammar.{failed, begins}
-use Rattle.gt_parse.specs.Outcome.{Outcome, Read, Stops, ◌>>=◌}
+use Rattle.gt_marked.specs.Marked.{marked_at}
+use Rattle.gt_marked.specs.MarkedGrammar.{MarkedItem}
+use Rattle.gt_marked.specs.MarkerGrammar.{failed, begins}
+use Rattle.gt_marked.specs.Outcome.{Outcome, Read, Stops, ◌>>=◌}
 use Rattle.gt_parse.specs.Reading.{is_marked, item_at}
-use Rattle.gt_parse.specs.Search.{is_gty}
+use Rattle.gt_search.specs.Search.{is_gty}
 use Rattle.gt_parse.specs.Unmarked.{unmarked_of, unmarked_at}
-use Rattle.gt_parse.proofs.MarkedLemmas.{marked_has, marked-alone}
-use Rattle.gt_parse.proofs.PlacesLemmas.{or_false, stands, Stands-stands, stands-Stands, stands-not, not-stands}
+use Rattle.gt_marked.proofs.MarkedLemmas.{marked_has, marked-alone}
+use Rattle.gt_marked.proofs.PlacesLemmas.{or_false, stands, Stands-stands, stands-Stands, stands-not, not-stands}
 use Rattle.gt_parse.proofs.UnmarkedLemmas.{enum-alone, enum_has, typedef-alone, typedef_has}
-use Rattle.gt_parse.proofs.GrammarWords.{Has, allowed, Comes, read, unread, comes, failed_step}
+use Rattle.gt_marked.proofs.GrammarWords.{Has, allowed, Comes, read, unread, comes, failed_step}
 
 -- ---- unmarked items
 

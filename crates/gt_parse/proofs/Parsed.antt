@@ -11,17 +11,17 @@ use Rattle.gt_lex.specs.declared.tokens.Define.{Define}
 use Rattle.gt_items.specs.declared.items.Item.{Item}
 use Rattle.gt_items.specs.declared.items.Items.{Items}
 use Rattle.gt_items.specs.declared.items.RawConstant.{RawConstant}
-use Rattle.gt_parse.specs.declared.lexeme.Lexeme.{Lexeme}
-use Rattle.gt_parse.specs.declared.search.End.{End}
-use Rattle.gt_parse.specs.declared.search.End.TheVariants.{Complete, Fails}
-use Rattle.gt_parse.specs.Lexemes.{lexemes_of}
-use Rattle.gt_parse.specs.Outcome.{Outcome, Read, Stops, Ends}
+use Rattle.gt_search.specs.declared.lexeme.Lexeme.{Lexeme}
+use Rattle.gt_search.specs.declared.search.End.{End}
+use Rattle.gt_search.specs.declared.search.End.TheVariants.{Complete, Fails}
+use Rattle.gt_search.specs.Lexemes.{lexemes_of}
+use Rattle.gt_marked.specs.Outcome.{Outcome, Read, Stops, Ends}
 use Rattle.gt_parse.specs.Reading.{is_marked, item_at}
 use Rattle.gt_parse.specs.Unmarked.{unmarked_of, unmarked_at}
 use Rattle.gt_parse.specs.Header.{AreItems, IsFirstFault, IsStop, GivesItems, GivesFault, Declare, faults_by, item_faults, end_faults}
 use Rattle.gt_parse.specs.Answers.{items_by, item_items, earlier, first_of, HasItems, HasFault, IsAnswer}
 use Rattle.gt_parse.proofs.First.{first_of-append, first_of-end, earlier-fails, Parted, Parted-first, first-Parted}
-use Rattle.gt_parse.proofs.Searched.{one_search}
+use Rattle.gt_search.proofs.Searched.{one_search}
 
 -- ---- items without a fault
 

@@ -15,28 +15,28 @@ use Rattle.gt_items.specs.declared.items.RawTypedef.{RawTypedef}
 use Rattle.gt_items.specs.declared.items.Enumerator.{Enumerator}
 use Rattle.gt_items.specs.declared.items.Enumerator.TheVariants.{Undefined, Passed}
 use Rattle.gt_items.specs.declared.items.Stars.{Stars}
-use Rattle.gt_parse.specs.declared.lexeme.Spot.{Spot}
-use Rattle.gt_parse.specs.declared.lexeme.Bracket.TheVariants.{Brace}
-use Rattle.gt_parse.specs.declared.lexeme.Lexeme.{Lexeme}
-use Rattle.gt_parse.specs.declared.lexeme.Lexeme.TheVariants as lexeme
-use Rattle.gt_parse.specs.declared.types.Place.TheVariants.{Elsewhere}
-use Rattle.gt_parse.specs.FieldGrammar.{depth_after, depth_through, Stands, closes_any}
+use Rattle.gt_search.specs.declared.lexeme.Spot.{Spot}
+use Rattle.gt_search.specs.declared.lexeme.Bracket.TheVariants.{Brace}
+use Rattle.gt_search.specs.declared.lexeme.Lexeme.{Lexeme}
+use Rattle.gt_search.specs.declared.lexeme.Lexeme.TheVariants as lexeme
+use Rattle.gt_marked.specs.declared.types.Place.TheVariants.{Elsewhere}
+use Rattle.gt_marked.specs.FieldGrammar.{depth_after, depth_through, Stands, closes_any}
 use Rattle.gt_parse.specs.ItemGrammar.{is_enum, begins_body, is_starred, IsEnumerator, Enumerators, EnumBody, UnmarkedEnum, HasBody, HasMeaning, Aliases, FirstForm, HasPointer, StarredName, LastName, UnmarkedTypedef}
-use Rattle.gt_parse.specs.Lexemes.{name_of}
-use Rattle.gt_parse.specs.Marked.{alias_at}
-use Rattle.gt_parse.specs.MarkedGrammar.{AnAlias}
-use Rattle.gt_parse.specs.MarkerGrammar.{begins, is_comma}
-use Rattle.gt_parse.specs.Outcome.{Outcome, Read, Stops, Ends, ◌>>=◌, unexpected}
-use Rattle.gt_parse.specs.Search.{is_equals}
-use Rattle.gt_parse.specs.TypeGrammar.{is_name, is_qualifier, opens_brace, Qualifiers, AreStars, BareType, AType}
-use Rattle.gt_parse.specs.Types.{type_at, bare_type_at}
+use Rattle.gt_search.specs.Lexemes.{name_of}
+use Rattle.gt_marked.specs.Marked.{alias_at}
+use Rattle.gt_marked.specs.MarkedGrammar.{AnAlias}
+use Rattle.gt_marked.specs.MarkerGrammar.{begins, is_comma}
+use Rattle.gt_marked.specs.Outcome.{Outcome, Read, Stops, Ends, ◌>>=◌, unexpected}
+use Rattle.gt_search.specs.Search.{is_equals}
+use Rattle.gt_marked.specs.TypeGrammar.{is_name, is_qualifier, opens_brace, Qualifiers, AreStars, BareType, AType}
+use Rattle.gt_marked.specs.Types.{type_at, bare_type_at}
 use Rattle.gt_parse.specs.Unmarked.{enumerator_of, pieces_from, enumerators_of, enum_body_at, enum_at, body_at, plain_meaning_at, tagged_meaning_at, keyword_meaning_at, bare_meaning_at, meaning_at, after_alias, aliases_from, first_form_at, last_name, after_round, starred_name, opaque_name, opaque_typedef, typedef_of, typedef_at}
-use Rattle.gt_parse.proofs.GroupsLemmas.{inside-closed, inside-unclosed, Closes, closed, unclosed, closes}
-use Rattle.gt_parse.proofs.MarkedLemmas.{alias-one, alias_has}
-use Rattle.gt_parse.proofs.PlacesLemmas.{stands, stands-not, not-stands, depth_one_more, stands_one_more}
+use Rattle.gt_marked.proofs.GroupsLemmas.{inside-closed, inside-unclosed, Closes, closed, unclosed, closes}
+use Rattle.gt_marked.proofs.MarkedLemmas.{alias-one, alias_has}
+use Rattle.gt_marked.proofs.PlacesLemmas.{stands, stands-not, not-stands, depth_one_more, stands_one_more}
 use Rattle.gt_parse.proofs.UnmarkedPlaces.{pieces_pass, last_stays, last_found, HasLast, last_place, pointer-round, round-pointer, no-pointer}
-use Rattle.gt_parse.proofs.TypesLemmas.{no_qualifiers, qualifiers-one, qualifiers-done, qualifiers_has, stars-leaves, bare_type-one, type-allowed}
-use Rattle.gt_parse.proofs.GrammarWords.{Has}
+use Rattle.gt_marked.proofs.TypesLemmas.{no_qualifiers, qualifiers-one, qualifiers-done, qualifiers_has, stars-leaves, bare_type-one, type-allowed}
+use Rattle.gt_marked.proofs.GrammarWords.{Has}
 
 -- ---- steps that read
 

@@ -3,17 +3,17 @@ use Rattle.std.proofs.Common.{◌≡◌, ℕ, zero, suc, Bool, true, false, List
 use Rattle.std.proofs.lemmas.Bool.{or_cases}
 use Rattle.std.proofs.lemmas.List.{append-nil}
 use Rattle.gt_items.specs.declared.items.Name.{Name}
-use Rattle.gt_parse.specs.declared.lexeme.Spot.{Spot}
-use Rattle.gt_parse.specs.declared.lexeme.Bracket.TheVariants.{Round}
-use Rattle.gt_parse.specs.declared.lexeme.Lexeme.{Lexeme}
-use Rattle.gt_parse.specs.declared.lexeme.Lexeme.TheVariants as lexeme
-use Rattle.gt_parse.specs.FieldGrammar.{depth_after, depth_through}
+use Rattle.gt_search.specs.declared.lexeme.Spot.{Spot}
+use Rattle.gt_search.specs.declared.lexeme.Bracket.TheVariants.{Round}
+use Rattle.gt_search.specs.declared.lexeme.Lexeme.{Lexeme}
+use Rattle.gt_search.specs.declared.lexeme.Lexeme.TheVariants as lexeme
+use Rattle.gt_marked.specs.FieldGrammar.{depth_after, depth_through}
 use Rattle.gt_parse.specs.ItemGrammar.{HasPointer}
-use Rattle.gt_parse.specs.Lexemes.{name_of}
-use Rattle.gt_parse.specs.MarkerGrammar.{is_comma, opens_round}
-use Rattle.gt_parse.specs.TypeGrammar.{is_name}
+use Rattle.gt_search.specs.Lexemes.{name_of}
+use Rattle.gt_marked.specs.MarkerGrammar.{is_comma, opens_round}
+use Rattle.gt_marked.specs.TypeGrammar.{is_name}
 use Rattle.gt_parse.specs.Unmarked.{pieces_from, last_name, after_round, opaque_name}
-use Rattle.gt_parse.proofs.PlacesLemmas.{or_false, stands, stands-not, not-stands}
+use Rattle.gt_marked.proofs.PlacesLemmas.{or_false, stands, stands-not, not-stands}
 
 -- ---- pieces between commas
 

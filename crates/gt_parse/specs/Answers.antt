@@ -7,13 +7,13 @@ use Rattle.gt_lex.specs.declared.tokens.Token.{Token}
 use Rattle.gt_lex.specs.declared.tokens.Define.{Define}
 use Rattle.gt_items.specs.declared.items.Item.{Item}
 use Rattle.gt_items.specs.declared.items.Items.{Items}
-use Rattle.gt_parse.specs.declared.lexeme.Lexeme.{Lexeme}
-use Rattle.gt_parse.specs.declared.search.End.{End}
-use Rattle.gt_parse.specs.declared.search.End.TheVariants.{Complete, Fails}
-use Rattle.gt_parse.specs.Lexemes.{lexemes_of}
-use Rattle.gt_parse.specs.Outcome.{Outcome, Read, Stops, Ends}
+use Rattle.gt_search.specs.declared.lexeme.Lexeme.{Lexeme}
+use Rattle.gt_search.specs.declared.search.End.{End}
+use Rattle.gt_search.specs.declared.search.End.TheVariants.{Complete, Fails}
+use Rattle.gt_search.specs.Lexemes.{lexemes_of}
+use Rattle.gt_marked.specs.Outcome.{Outcome, Read, Stops, Ends}
 use Rattle.gt_parse.specs.Reading.{item_at}
-use Rattle.gt_parse.specs.Search.{Searches}
+use Rattle.gt_search.specs.Search.{Searches}
 use Rattle.gt_parse.specs.Header.{constant_in, item_faults}
 
 -- what a whole item declares, if anything

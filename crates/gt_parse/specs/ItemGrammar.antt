@@ -1,7 +1,7 @@
 -- The grammar of unmarked items, and of whole items. Each case is a rule: what some tokens declare, or with which fault reading stops.
 use Rattle.std.specs.Prelude.{◌≡◌, Bool, true, false, List, [], ◌∷◌, ◌++◌, Option, Some, None}
 use Rattle.std.specs.List.{list_any}
-use Rattle.gt_parse.specs.declared.faults.TheConstants.{BAD_MARKER_PLACE}
+use Rattle.gt_search.specs.declared.faults.TheConstants.{BAD_MARKER_PLACE}
 use Rattle.gt_items.specs.declared.items.Name.{Name}
 use Rattle.gt_items.specs.declared.items.Alias.{Alias}
 use Rattle.gt_items.specs.declared.items.Keyword.{Keyword}
@@ -16,19 +16,19 @@ use Rattle.gt_items.specs.declared.items.RawTypedef.{RawTypedef}
 use Rattle.gt_items.specs.declared.items.Enumerator.{Enumerator}
 use Rattle.gt_items.specs.declared.items.Enumerator.TheVariants.{Counted, Valued, Undefined, Passed}
 use Rattle.gt_items.specs.declared.items.Stars.{Stars}
-use Rattle.gt_parse.specs.declared.lexeme.Spot.{Spot}
-use Rattle.gt_parse.specs.declared.lexeme.Bracket.{Bracket}
-use Rattle.gt_parse.specs.declared.lexeme.Bracket.TheVariants.{Round, Brace}
-use Rattle.gt_parse.specs.declared.lexeme.Lexeme.{Lexeme}
-use Rattle.gt_parse.specs.declared.lexeme.Lexeme.TheVariants as lexeme
-use Rattle.gt_parse.specs.declared.types.Place.TheVariants.{Elsewhere}
-use Rattle.gt_parse.specs.FieldGrammar.{closes_any, depth_through, Stands, IsFree}
-use Rattle.gt_parse.specs.Lexemes.{name_of, kept_text}
-use Rattle.gt_parse.specs.MarkedGrammar.{MarkedItem}
-use Rattle.gt_parse.specs.MarkerGrammar.{Failure, failed, begins, is_comma, opens_round}
-use Rattle.gt_parse.specs.Outcome.{Outcome, Read, Stops}
-use Rattle.gt_parse.specs.Search.{is_gty, is_equals}
-use Rattle.gt_parse.specs.TypeGrammar.{is_name, Qualifiers, AreStars, AType}
+use Rattle.gt_search.specs.declared.lexeme.Spot.{Spot}
+use Rattle.gt_search.specs.declared.lexeme.Bracket.{Bracket}
+use Rattle.gt_search.specs.declared.lexeme.Bracket.TheVariants.{Round, Brace}
+use Rattle.gt_search.specs.declared.lexeme.Lexeme.{Lexeme}
+use Rattle.gt_search.specs.declared.lexeme.Lexeme.TheVariants as lexeme
+use Rattle.gt_marked.specs.declared.types.Place.TheVariants.{Elsewhere}
+use Rattle.gt_marked.specs.FieldGrammar.{closes_any, depth_through, Stands, IsFree}
+use Rattle.gt_search.specs.Lexemes.{name_of, kept_text}
+use Rattle.gt_marked.specs.MarkedGrammar.{MarkedItem}
+use Rattle.gt_marked.specs.MarkerGrammar.{Failure, failed, begins, is_comma, opens_round}
+use Rattle.gt_marked.specs.Outcome.{Outcome, Read, Stops}
+use Rattle.gt_search.specs.Search.{is_gty, is_equals}
+use Rattle.gt_marked.specs.TypeGrammar.{is_name, Qualifiers, AreStars, AType}
 use Rattle.gt_parse.specs.Unmarked.{opaque_typedef}
 
 -- ---- the words of the rules

@@ -1,10 +1,10 @@
 -- How one whole item is read.
 use Rattle.std.specs.Prelude.{ℕ, zero, suc, Bool, true, false, if◌then◌else◌, List, [], ◌∷◌, Option, Some}
 use Rattle.gt_items.specs.declared.items.Item.{Item}
-use Rattle.gt_parse.specs.declared.lexeme.Lexeme.{Lexeme}
-use Rattle.gt_parse.specs.declared.lexeme.Lexeme.TheVariants as lexeme
-use Rattle.gt_parse.specs.Outcome.{Outcome, Read, ◌>>=◌}
-use Rattle.gt_parse.specs.Marked.{marked_at}
+use Rattle.gt_search.specs.declared.lexeme.Lexeme.{Lexeme}
+use Rattle.gt_search.specs.declared.lexeme.Lexeme.TheVariants as lexeme
+use Rattle.gt_marked.specs.Outcome.{Outcome, Read, ◌>>=◌}
+use Rattle.gt_marked.specs.Marked.{marked_at}
 use Rattle.gt_parse.specs.Unmarked.{unmarked_at}
 
 -- whether a token is the word of a marker

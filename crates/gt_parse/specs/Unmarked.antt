@@ -1,6 +1,6 @@
 -- What unmarked typedefs and enums declare. They give no faults.
 use Rattle.std.specs.Prelude.{ℕ, zero, suc, Bool, true, false, List, [], ◌∷◌, ◌++◌, length, Option, Some, None}
-use Rattle.gt_parse.specs.declared.faults.TheConstants.{BAD_MARKER_PLACE}
+use Rattle.gt_search.specs.declared.faults.TheConstants.{BAD_MARKER_PLACE}
 use Rattle.gt_items.specs.declared.items.Name.{Name}
 use Rattle.gt_items.specs.declared.items.Alias.{Alias}
 use Rattle.gt_items.specs.declared.items.Keyword.{Keyword}
@@ -14,15 +14,15 @@ use Rattle.gt_items.specs.declared.items.RawEnum.{RawEnum}
 use Rattle.gt_items.specs.declared.items.RawTypedef.{RawTypedef}
 use Rattle.gt_items.specs.declared.items.Enumerator.{Enumerator}
 use Rattle.gt_items.specs.declared.items.Enumerator.TheVariants.{Counted, Valued, Undefined, Passed}
-use Rattle.gt_parse.specs.declared.lexeme.Bracket.TheVariants.{Round, Brace}
-use Rattle.gt_parse.specs.declared.lexeme.Lexeme.{Lexeme}
-use Rattle.gt_parse.specs.declared.lexeme.Lexeme.TheVariants as lexeme
-use Rattle.gt_parse.specs.declared.types.Place.TheVariants.{Elsewhere}
-use Rattle.gt_parse.specs.Lexemes.{name_of, kept_text}
-use Rattle.gt_parse.specs.Outcome.{Outcome, Read, Stops, Ends, ◌>>=◌, unexpected}
-use Rattle.gt_parse.specs.Types.{without_qualifiers, type_at}
-use Rattle.gt_parse.specs.Groups.{inside_from}
-use Rattle.gt_parse.specs.Marked.{alias_at}
+use Rattle.gt_search.specs.declared.lexeme.Bracket.TheVariants.{Round, Brace}
+use Rattle.gt_search.specs.declared.lexeme.Lexeme.{Lexeme}
+use Rattle.gt_search.specs.declared.lexeme.Lexeme.TheVariants as lexeme
+use Rattle.gt_marked.specs.declared.types.Place.TheVariants.{Elsewhere}
+use Rattle.gt_search.specs.Lexemes.{name_of, kept_text}
+use Rattle.gt_marked.specs.Outcome.{Outcome, Read, Stops, Ends, ◌>>=◌, unexpected}
+use Rattle.gt_marked.specs.Types.{without_qualifiers, type_at}
+use Rattle.gt_marked.specs.Groups.{inside_from}
+use Rattle.gt_marked.specs.Marked.{alias_at}
 
 -- ---- enums
 

@@ -1,12 +1,11 @@
 // Enums and their constants.
 ghost use Rattle.std.specs.Prelude.{◌≡◌, [], IfOk};
-ghost use Rattle.gt_parse.specs.Outcome.{Gives};
+ghost use Rattle.gt_marked.specs.Outcome.{Gives};
 ghost use Rattle.gt_parse.specs.Unmarked.{is_comma, enumerator_of, pieces_from, enumerators_of, enum_body_at, enum_of, enum_at};
 
-use crate::groups::{depth_after, inside, kept_text};
-use crate::lexeme::{Bracket, Lexeme};
-use crate::unread::Unread;
 use gt_items::{Enumerator, Item, Name, RawEnum};
+use gt_marked::{Unread, depth_after, inside, kept_text};
+use gt_search::{Bracket, Lexeme};
 use gt_types::List;
 use std::alloc::{AllocError, Global};
 

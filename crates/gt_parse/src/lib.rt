@@ -3,35 +3,13 @@
 //! The layer above resolves names and types.
 #![tactic(auto)]
 
-mod caches;
-mod combinations;
 mod constants;
-mod declarators;
 mod enums;
-mod faults;
-mod fields;
-mod globals;
-mod groups;
 pub mod laws;
-mod lexeme;
-mod lexemes;
-mod markers;
-mod options;
 mod parsing;
 mod reading;
-mod search;
 mod slices;
-mod stack;
-mod strings;
-mod structures;
 mod typedefs;
-mod types;
-mod unread;
-mod words;
 
-pub use faults::{BAD_MARKER_PLACE, UNCLOSED, UNEXPECTED, UNSUPPORTED};
-pub use laws::{
-    each_rule, field_rules, marked_rules, marker_rules, one_outcome, one_search, some_search,
-    type_rules,
-};
+pub use laws::{each_rule, one_outcome};
 pub use parsing::parse;

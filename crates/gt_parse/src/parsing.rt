@@ -8,14 +8,11 @@ ghost use Rattle.gt_parse.specs.Header.{AreItems, IsFirstFault, IsStop, GivesIte
 ghost use Rattle.gt_parse.specs.Answers.{item_items, earlier, first_of, IsAnswer};
 
 use crate::constants::constants;
-use crate::faults::UNCLOSED;
-use crate::lexeme::Lexeme;
-use crate::lexemes::lexemes;
 use crate::reading::item;
-use crate::search::{End, search};
-use crate::unread::Unread;
 use gt_items::{Item, Items};
 use gt_lex::Lexed;
+use gt_marked::Unread;
+use gt_search::{End, Lexeme, UNCLOSED, find_items, read_lexemes};
 use gt_types::{Fault, List, Stop};
 use std::alloc::{AllocError, Global};
 
@@ -43,8 +40,8 @@ fn read(alloc: Global, file: u32, text: &[u8], lexed: &Lexed) -> Result<Items, S
     requires { IsLexed text.now lexed.now.tokens lexed.now.defines }
     ensures { IsAnswer file text.now lexed.now.tokens lexed.now.defines result }
 {
-    let lexemes = lexemes(alloc, text, lexed)?;
-    let (cut, end) = search(alloc, &lexemes)?;
+    let lexemes = read_lexemes(alloc, text, lexed)?;
+    let (cut, end) = find_items(alloc, &lexemes)?;
     let (items, first) = read_items(alloc, &cut)?;
     match earlier(first, end) {
         End::Complete => Ok(Items {

@@ -1,20 +1,14 @@
 // One item.
 ghost use Rattle.std.specs.Prelude.{◌≡◌, IfOk};
-ghost use Rattle.gt_parse.specs.Outcome.{Fails, Gives, ItemGives};
-ghost use Rattle.gt_parse.specs.Marked.{typedef_structure_at, reserved_at, marked_at};
+ghost use Rattle.gt_marked.specs.Outcome.{ItemGives};
 ghost use Rattle.gt_parse.specs.Unmarked.{unmarked_of, unmarked_at};
 ghost use Rattle.gt_parse.specs.Reading.{is_marker, is_marked, item_at};
 
 use crate::enums::enum_item;
-use crate::faults::{BAD_MARKER_PLACE, UNEXPECTED, UNSUPPORTED};
-use crate::globals::global;
-use crate::groups::depth_after;
-use crate::lexeme::{Lexeme, Spot};
-use crate::structures::structure;
 use crate::typedefs::typedef_item;
-use crate::unread::{Unread, unexpected};
-use crate::words::is_word;
 use gt_items::{Item, Keyword};
+use gt_marked::{Unread, depth_after, marked};
+use gt_search::{BAD_MARKER_PLACE, Lexeme};
 use std::alloc::{AllocError, Global};
 
 /// What the tokens of one item declare, or why they are refused.
@@ -47,52 +41,6 @@ fn is_marker(token: &Lexeme) -> bool
     ensures { result ≡ is_marker token.now }
 {
     matches!(token, Lexeme::Gty(_))
-}
-
-// A marked item.
-#[tactic(auto, unfolding(crate::specs::Marked::marked_at))]
-fn marked(alloc: Global, tokens: &[Lexeme]) -> Result<(Item, &[Lexeme]), Unread>
-    ensures { Gives (λ x. (x.0, x.1.now)) result (marked_at tokens.now) }
-{
-    match tokens {
-        [Lexeme::Typedef(_), rest @ ..] => typedef_structure(alloc, rest),
-        [Lexeme::Tag(Keyword::Struct, _), rest @ ..] => structure(alloc, false, false, rest),
-        [Lexeme::Tag(Keyword::Union, _), rest @ ..] => structure(alloc, false, true, rest),
-        [Lexeme::Static(_) | Lexeme::Extern(_), rest @ ..] => global(alloc, rest),
-        [Lexeme::Reserved(spot), ..] => Err(reserved(spot)),
-        [Lexeme::Gty(spot), ..] => Err(Unread::Fault {
-            number: BAD_MARKER_PLACE,
-            at: spot.start,
-        }),
-        _ => Err(unexpected(tokens)),
-    }
-}
-
-// A structure after the word `typedef`.
-#[tactic(auto, unfolding(crate::specs::Marked::typedef_structure_at))]
-fn typedef_structure(alloc: Global, tokens: &[Lexeme]) -> Result<(Item, &[Lexeme]), Unread>
-    ensures { Gives (λ x. (x.0, x.1.now)) result (typedef_structure_at tokens.now) }
-{
-    match tokens {
-        [Lexeme::Tag(Keyword::Struct, _), rest @ ..] => structure(alloc, true, false, rest),
-        [Lexeme::Tag(Keyword::Union, _), rest @ ..] => structure(alloc, true, true, rest),
-        _ => Err(unexpected(tokens)),
-    }
-}
-
-// `class` and `template` are not supported; `namespace` may not stand here.
-fn reserved(spot: &Spot) -> Unread
-    ensures { Fails result (reserved_at spot.now) }
-{
-    let number = if is_word(&spot.word, "namespace") {
-        UNEXPECTED
-    } else {
-        UNSUPPORTED
-    };
-    Unread::Fault {
-        number,
-        at: spot.start,
-    }
 }
 
 // An item without a marker in no brackets. No marker may stand in it at all.

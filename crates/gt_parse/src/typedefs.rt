@@ -1,18 +1,16 @@
 // Unmarked typedefs.
 ghost use Rattle.std.specs.Prelude.{◌≡◌, [], length, None, IfOk};
 ghost use Rattle.std.specs.Option.{option_map};
-ghost use Rattle.gt_parse.specs.Lexemes.{name_of};
-ghost use Rattle.gt_parse.specs.Outcome.{Gives};
+ghost use Rattle.gt_search.specs.Lexemes.{name_of};
+ghost use Rattle.gt_marked.specs.Outcome.{Gives};
 ghost use Rattle.gt_parse.specs.Unmarked.{body_at, plain_meaning_at, tagged_meaning_at, keyword_meaning_at, bare_meaning_at, meaning_at, aliases_from, first_form_at, last_name, opens_round, after_round, starred_name, opaque_name, opaque_typedef, typedef_at};
 
-use crate::declarators::goes_on;
 use crate::enums::enum_body;
-use crate::groups::{depth_after, inside};
-use crate::lexeme::{Bracket, Lexeme, Spot};
-use crate::structures::alias;
-use crate::types::{Place, base_type, without_qualifiers};
-use crate::unread::{Unread, unexpected};
 use gt_items::{Alias, Item, Keyword, Meaning, Name, RawTypedef, Stars};
+use gt_marked::{
+    Place, Unread, alias, base_type, depth_after, goes_on, inside, unexpected, without_qualifiers,
+};
+use gt_search::{Bracket, Lexeme, Spot};
 use gt_types::List;
 use std::alloc::{AllocError, Global};
 

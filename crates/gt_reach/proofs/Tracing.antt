@@ -1,6 +1,6 @@
 -- How far marking has come: from the roots, and from one more value.
 use Rattle.std.proofs.Common.{◌≡◌, ◌∙◌, ◌≤◌, ◌+◌, ◌-◌, ◌⊎◌, ◌↔◌, ℕ, true, false, List, [], ◌∷◌, ◌++◌, map, min, Some, inl, inr, refl, sym, ap, subst, arith}
-use Rattle.std.specs.Prelude.{Contains, All, IsTrue}
+use Rattle.std.specs.Prelude.{Contains, All, IfSome, IsTrue}
 use Rattle.std.proofs.lemmas.Bool.{false≢true}
 use Rattle.std.proofs.lemmas.List.Elements.{All-contains, Contains-append_left, Contains-append_right, Contains-append_cases}
 use Rattle.gt_types.specs.declared.types.TypeId.{TypeId}
@@ -22,7 +22,7 @@ use Rattle.gt_value.specs.declared.names.BlockKind.{BlockKind}
 use Rattle.gt_value.specs.declared.names.BlockKind.TheVariants as told
 use Rattle.gt_value.specs.Names.{kind_of}
 use Rattle.gt_walk.specs.declared.tables.Tables.{Tables}
-use Rattle.gt_mark.specs.Reached.{CanMark, NamesBlock, root_edges, root_targets}
+use Rattle.gt_mark.specs.Reached.{CanMark, IsOwn, NamesBlock, root_edges, root_targets}
 use Rattle.gt_mark.proofs.Further.{can_go_on, marks_both, rounds_both}
 use Rattle.gt_mark.specs.Marks.{Marks}
 use Rattle.gt_mark.specs.Rounds.{AreRounds}
@@ -183,10 +183,24 @@ module _ (program : Program) (tables : Tables) (heap : Heap) (values : List ℕ)
   pub traced_exact : (o : Object) → Contains heap.graph.objects o → IsTrue (is_marked objects o.id) ↔ ReachedWith program heap.graph values o.id
   traced_exact o has = marks_are_reached program tables objects.space heap.graph values t.starts t.before objects.pages o t.traces t.unmarked t.start t.marks has
 
+  -- no block is named
+  none_named : AreObjects heap.graph.objects []
+  none_named id has = contains_none id has
+
+  -- each mark is its block's own, since marking could go on
+  traced_own : (s : Slot) → Contains objects.pages.slots s → IfSome s.mark (IsOwn (walks_in program heap.graph.objects) s.address)
+  traced_own =
+      let walks = walks_in program heap.graph.objects in
+      let from_starts = can_mark program tables objects.space t.before.slots heap.graph t.traces t.starts t.unmarked t.named in
+      let from_none = can_mark program tables objects.space t.before.slots heap.graph t.traces [] t.unmarked none_named in
+      let on = can_go_on tables objects.space walks t.starts [] t.before objects.pages from_starts from_none t.marks in
+      on.marks
+
   -- exactly what is reached is marked, and the rounds are those that a collection may take
   pub traced_marked : AreMarked program objects heap values times
   traced_marked = record {
     exact = traced_exact;
+    own = traced_own;
     rounds = rounds_agree program tables objects.space heap.graph values t.starts t.before objects.pages times t.traces t.unmarked t.start t.marks t.rounds;
   }
 

@@ -13,15 +13,16 @@ use Rattle.gt_items.specs.declared.items.Keyword.{Keyword}
 use Rattle.gt_items.specs.declared.items.Keyword.TheVariants as keyword
 use Rattle.gt_items.specs.declared.items.Stars.{Stars}
 use Rattle.gt_items.specs.declared.items.Stars.TheVariants.{Zero, One, Two, More}
-use Rattle.gt_resolve.specs.declared.types.BaseType.{BaseType}
-use Rattle.gt_resolve.specs.declared.types.BaseType.TheVariants.{Number, Float, Double, Sizeless, Structure, Undefined, Unknown}
-use Rattle.gt_resolve.specs.declared.types.Resolved.{Resolved}
-use Rattle.gt_resolve.specs.declared.declaration.Declaration.{Declaration}
-use Rattle.gt_resolve.specs.declared.declaration.What.{What}
-use Rattle.gt_resolve.specs.declared.declaration.What.TheVariants as what
-use Rattle.gt_resolve.specs.declared.meaning.TypeName.{TypeName}
-use Rattle.gt_resolve.specs.Meanings.{means_after, resolved_type}
-use Rattle.gt_resolve.specs.Faults.{agree, same_base, same_bool, same_keyword, same_scalar, same_stars, same_type, same_width}
+use Rattle.gt_drafts.specs.declared.types.BaseType.{BaseType}
+use Rattle.gt_drafts.specs.declared.types.BaseType.TheVariants.{Number, Float, Double, Sizeless, Structure, Undefined, Unknown}
+use Rattle.gt_drafts.specs.declared.types.Resolved.{Resolved}
+use Rattle.gt_scope.specs.declared.declaration.Declaration.{Declaration}
+use Rattle.gt_scope.specs.declared.declaration.What.{What}
+use Rattle.gt_scope.specs.declared.declaration.What.TheVariants as what
+use Rattle.gt_scope.specs.declared.meaning.TypeName.{TypeName}
+use Rattle.gt_scope.specs.Meanings.{means_after, resolved_type}
+use Rattle.gt_resolve.specs.Faults.{agree}
+use Rattle.gt_drafts.specs.Sameness.{same_base, same_bool, same_keyword, same_scalar, same_stars, same_type, same_width}
 
 never : {A : Type 0} → false ≡ true → A
 never h = absurd (true≢false (sym h))

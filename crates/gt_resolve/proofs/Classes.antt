@@ -10,18 +10,19 @@ use Rattle.std.proofs.lemmas.Option.{none-some, same_Some, slice_get_within}
 use Rattle.std.proofs.lemmas.Slice.Eq.{bytes_eq-Decides}
 use Rattle.gt_types.specs.declared.faults.Fault.{Fault}
 use Rattle.gt_resolve.specs.declared.TheConstants.{REDEFINED}
-use Rattle.gt_resolve.specs.declared.declaration.Declaration.{Declaration}
-use Rattle.gt_resolve.specs.declared.meaning.TypeName.{TypeName}
-use Rattle.gt_resolve.specs.declared.table.Entry.{Entry}
-use Rattle.gt_resolve.specs.Declarations.{first_some}
-use Rattle.gt_resolve.specs.Faults.{agree, clashes, fault_if, is_tag, is_tail_type, redefinitions, same_bool}
+use Rattle.gt_scope.specs.declared.declaration.Declaration.{Declaration}
+use Rattle.gt_scope.specs.declared.meaning.TypeName.{TypeName}
+use Rattle.gt_names.specs.declared.tables.Entry.{Entry}
+use Rattle.gt_names.specs.Entries.{first_some, value_in, with_value}
+use Rattle.gt_resolve.specs.Faults.{agree, clashes, is_tag, redefinitions}
+use Rattle.gt_drafts.specs.FirstFaults.{fault_if, first_from}
+use Rattle.gt_drafts.specs.Shapes.{has_flag}
+use Rattle.gt_drafts.specs.Sameness.{same_bool}
 use Rattle.gt_resolve.specs.Redefinitions.{agrees_at, first_place, first_places, is_clash, marked_faults, with_clash, with_first}
-use Rattle.gt_resolve.specs.Tables.{value_in, with_value}
 use Rattle.gt_resolve.proofs.Agreements.{agree_two, agree_through, same_bool_is}
-use Rattle.gt_resolve.specs.FirstFaults.{first_from}
 use Rattle.gt_resolve.proofs.Firsts.{first_from_both, first_from_nil, if_ok}
-use Rattle.gt_resolve.proofs.SearchLemmas.{get_same, get_other, length_set}
-use Rattle.gt_resolve.proofs.TableLemmas.{first_assoc, none_first, value_with}
+use Rattle.gt_shapes.proofs.SearchLemmas.{get_same, get_other, length_set}
+use Rattle.gt_names.proofs.TableLemmas.{first_assoc, none_first, value_with}
 
 -- ---- classes of names
 
@@ -182,7 +183,7 @@ flag_is : (o : Option Bool) → option_map_or (λ flag. flag) o false ≡ true �
 flag_is None h = absurd (true≢false (sym h))
 flag_is (Some b) h = ap (λ (x : Bool). Some x) h
 
-is_flag : (flags : List Bool) (i : ℕ) → slice_get flags i ≡ Some true → is_tail_type flags i ≡ true
+is_flag : (flags : List Bool) (i : ℕ) → slice_get flags i ≡ Some true → has_flag flags i ≡ true
 is_flag flags i e = ap (λ (o : Option Bool). option_map_or (λ flag. flag) o false) e
 
 same_tests : (a b : Bool) → (a ≡ true → b ≡ true) → (b ≡ true → a ≡ true) → a ≡ b
@@ -286,30 +287,30 @@ module _ (all : List Declaration) (types : List TypeName) where
         true≢false (sym p.0 ∙ at_first.none r.at r.item l (in_all r.at r.item r.there))
 
     no_clash_at_first : L ≡ k → clash ≡ false
-    no_clash_at_first same = ap (λ (b : Bool). not b && (is_tail_type clashed L || not (agrees_at all types d.what L))) (eq-eqb L k same)
+    no_clash_at_first same = ap (λ (b : Bool). not b && (has_flag clashed L || not (agrees_at all types d.what L))) (eq-eqb L k same)
 
-    later_clash : L ≢ k → clash ≡ (is_tail_type clashed L || not (Agrees d e))
+    later_clash : L ≢ k → clash ≡ (has_flag clashed L || not (Agrees d e))
     later_clash other =
-        ap (λ (b : Bool). not b && (is_tail_type clashed L || not (agrees_at all types d.what L))) (ne_eqb L k other)
-        ∙ ap (λ (b : Bool). is_tail_type clashed L || not b) agrees_is
+        ap (λ (b : Bool). not b && (has_flag clashed L || not (agrees_at all types d.what L))) (ne_eqb L k other)
+        ∙ ap (λ (b : Bool). has_flag clashed L || not b) agrees_is
 
     first_before : L ≢ k → slice_get before L ≡ Some e
     first_before other = in_before L e (let l : L < k = omega (arith, at_first.below, other) in l) at_first.there
 
     -- a clash with one before is one with the first, or the first is marked
-    clash_from : L ≢ k → list_any (λ other. clashes all types d other) before ≡ true → (is_tail_type clashed L || not (Agrees d e)) ≡ true
+    clash_from : L ≢ k → list_any (λ other. clashes all types d other) before ≡ true → (has_flag clashed L || not (Agrees d e)) ≡ true
     clash_from other h =
         let r = somewhere (λ x. clashes all types d x) before h in
         let p = clash_parts d r.item r.passes in
         elim (cases_Bool (Agrees d e)) [
-          | inr differs ↦ or_right (is_tail_type clashed L) (not (Agrees d e)) (not_from_false (Agrees d e) differs)
+          | inr differs ↦ or_right (has_flag clashed L) (not (Agrees d e)) (not_from_false (Agrees d e) differs)
           | inl agrees ↦ elim (cases_Bool (Agrees r.item e)) [
             | inl too ↦ absurd (true≢false (sym (agree_through all types d.what r.item.what e.what agrees too) ∙ p.1))
             | inr differs ↦ elim (cases_eq L r.at) [
               | inl same ↦
                   let item : e ≡ r.item = same_Some e r.item (sym (first_before other) ∙ ap (λ (n : ℕ). slice_get before n) same ∙ r.there) in
                   absurd (true≢false (sym agrees ∙ ap (λ (x : Declaration). Agrees d x) item ∙ p.1))
-              | inr apart ↦ or_left (is_tail_type clashed L) (not (Agrees d e))
+              | inr apart ↦ or_left (has_flag clashed L) (not (Agrees d e))
                   (is_flag clashed L (marks.complete L r.at e r.item (first_before other) r.there apart
                   (λ j g l is. sym (same_names d e g at_first.named) ∙ at_first.none j g l is) (named_two d e r.item at_first.named p.0) differs))
             ]
@@ -319,11 +320,11 @@ module _ (all : List Declaration) (types : List TypeName) where
     clash_with_first : L ≢ k → Agrees d e ≡ false → list_any (λ other. clashes all types d other) before ≡ true
     clash_with_first other differs = any_at (λ x. clashes all types d x) before L e (first_before other) (clash_whole d e at_first.named differs)
 
-    clash_to : L ≢ k → (is_tail_type clashed L || not (Agrees d e)) ≡ true → list_any (λ other. clashes all types d other) before ≡ true
+    clash_to : L ≢ k → (has_flag clashed L || not (Agrees d e)) ≡ true → list_any (λ other. clashes all types d other) before ≡ true
     clash_to other h =
         elim (cases_Bool (Agrees d e)) [
           | inr differs ↦ clash_with_first other differs
-          | inl agrees ↦ elim (or_cases (is_tail_type clashed L) (not (Agrees d e)) h) [
+          | inl agrees ↦ elim (or_cases (has_flag clashed L) (not (Agrees d e)) h) [
             | inr differs ↦ clash_with_first other (not-true (Agrees d e) differs)
             | inl flag ↦
                 let m = marks.sound L (flag_is (slice_get clashed L) flag) in
@@ -378,7 +379,7 @@ module _ (all : List Declaration) (types : List TypeName) where
     marked_now h =
         elim (cases_eq L k) [
           | inl same ↦ absurd (true≢false (sym h ∙ no_clash_at_first same))
-          | inr other ↦ elim (or_cases (is_tail_type clashed L) (not (Agrees d e)) (sym (later_clash other) ∙ h)) [
+          | inr other ↦ elim (or_cases (has_flag clashed L) (not (Agrees d e)) (sym (later_clash other) ∙ h)) [
             | inl flag ↦ longer L (marks.sound L (flag_is (slice_get clashed L) flag))
             | inr differs ↦
                 record {
@@ -413,7 +414,7 @@ module _ (all : List Declaration) (types : List TypeName) where
               let other : L ≢ k = λ eq. (let lk : l < k = below in let kk : L ≡ l = same in omega (arith, lk, kk, eq)) in
               let now : clash ≡ true =
               later_clash other
-              ∙ or_right (is_tail_type clashed L) (not (Agrees d e)) (not_from_false (Agrees d e) (ap (λ (y : Declaration). Agrees d y) item ∙ differs)) in
+              ∙ or_right (has_flag clashed L) (not (Agrees d e)) (not_from_false (Agrees d e) (ap (λ (y : Declaration). Agrees d y) item ∙ differs)) in
               subst (λ (n : ℕ). slice_get after n ≡ Some true) same (set_now now)
           | inr (inl earlier) ↦
               absurd (true≢false (sym (named_two d x e (named_back x d named) at_first.named) ∙ none L e earlier at_first.there))

@@ -7,17 +7,19 @@ use Rattle.std.proofs.lemmas.Bool.Decides.{nat_tests}
 use Rattle.std.proofs.lemmas.Option.{none-some, same_Some}
 use Rattle.std.proofs.lemmas.List.Elements.{All-contains, All-weaker, All-contains_itself, Contains-append_left, Contains-append_right, Contains-append_cases}
 use Rattle.gt_types.specs.declared.faults.Fault.{Fault}
-use Rattle.gt_resolve.specs.declared.TheConstants.{BY_VALUE_CYCLE, TOO_MANY, MAX_STRUCTURES}
-use Rattle.gt_resolve.specs.declared.declaration.Declaration.{Declaration}
-use Rattle.gt_resolve.specs.declared.draft.Draft.{Draft}
-use Rattle.gt_resolve.specs.declared.draft.DraftStructure.{DraftStructure}
-use Rattle.gt_resolve.specs.declared.meaning.TypeName.{TypeName}
-use Rattle.gt_resolve.specs.Cycles.{comes_before, IsPreceded, Suffice}
-use Rattle.gt_resolve.specs.Faults.{is_no_later, fault_if, faults_of, fields_faults, is_tail_type, structure_faults, structures_faults, redefinitions, roots_faults, caches_faults}
-use Rattle.gt_resolve.specs.FirstFaults.{IsFirstOf}
+use Rattle.gt_resolve.specs.declared.TheConstants.{BY_VALUE_CYCLE, TOO_MANY}
+use Rattle.gt_types.specs.declared.limits.TheConstants.{MAX_STRUCTURES}
+use Rattle.gt_scope.specs.declared.declaration.Declaration.{Declaration}
+use Rattle.gt_drafts.specs.declared.draft.Draft.{Draft}
+use Rattle.gt_drafts.specs.declared.draft.DraftStructure.{DraftStructure}
+use Rattle.gt_scope.specs.declared.meaning.TypeName.{TypeName}
+use Rattle.gt_shapes.specs.Cycles.{comes_before, IsPreceded, Suffice}
+use Rattle.gt_drafts.specs.FirstFaults.{is_no_later, fault_if, IsFirstOf}
+use Rattle.gt_resolve.specs.Faults.{faults_of, fields_faults, structure_faults, structures_faults, redefinitions, roots_faults, caches_faults}
+use Rattle.gt_drafts.specs.Shapes.{has_flag}
 use Rattle.gt_resolve.proofs.Firsts.{trans_no_later}
-use Rattle.gt_resolve.proofs.SearchLemmas.{Contains_head, Contains_cases, Contains_none}
-use Rattle.gt_resolve.proofs.CycleLemmas.{flag_true}
+use Rattle.gt_shapes.proofs.SearchLemmas.{Contains_head, Contains_cases, Contains_none}
+use Rattle.gt_shapes.proofs.CycleLemmas.{flag_true}
 
 -- the faults of a structure at its tag
 abbrev cycle_at : DraftStructure → Fault
@@ -66,13 +68,13 @@ module _ (a b c : List Fault) (f : Fault) where
 
 module _ (cyclic told deep tails : List Bool) where
   abbrev many_if : ℕ → DraftStructure → List Fault
-  many_if place s = fault_if (is_tail_type deep place || nat_le MAX_STRUCTURES place) TOO_MANY s.file s.tag.at
+  many_if place s = fault_if (has_flag deep place || nat_le MAX_STRUCTURES place) TOO_MANY s.file s.tag.at
 
   abbrev fields_of : DraftStructure → List Fault
   fields_of s = fields_faults tails s.file s.is_union [] s.fields
 
   abbrev cycle_if : List Bool → ℕ → DraftStructure → List Fault
-  cycle_if flags place s = fault_if (is_tail_type flags place) BY_VALUE_CYCLE s.file s.tag.at
+  cycle_if flags place s = fault_if (has_flag flags place) BY_VALUE_CYCLE s.file s.tag.at
 
   abbrev all_of : List Bool → ℕ → List DraftStructure → List Fault
   all_of flags place ss = structures_faults flags deep tails place ss
@@ -82,7 +84,7 @@ module _ (cyclic told deep tails : List Bool) where
   SomeAt P place ss = (k : ℕ) × (s : DraftStructure) × (slice_get ss k ≡ Some s) × P s (place + k)
 
   abbrev IsCycle : Fault → DraftStructure → ℕ → Type 0
-  IsCycle f s i = (is_tail_type cyclic i ≡ true) × (f ≡ cycle_at s)
+  IsCycle f s i = (has_flag cyclic i ≡ true) × (f ≡ cycle_at s)
 
   next : (P : DraftStructure → ℕ → Type 0) (place : ℕ) (s : DraftStructure) (ss : List DraftStructure) → SomeAt P (suc place) ss → SomeAt P place (s ∷ ss)
   next P place s ss (k, t, at, is) = (suc k, t, at, subst (P t) (let e : suc place + k ≡ place + suc k = omega arith in e) is)
@@ -97,7 +99,7 @@ module _ (cyclic told deep tails : List Bool) where
   said_or_cycle place (s ∷ ss) f has =
       elim (Contains-append_cases (structure_faults cyclic deep tails place s) (all_of cyclic (suc place) ss) f has) [
         | inl of_one ↦ elim (in_three (cycle_if cyclic place s) (many_if place s) (fields_of s) f of_one) [
-          | inl cycle ↦ inr (here (IsCycle f) place s ss (fault_cases (is_tail_type cyclic place) BY_VALUE_CYCLE s.file s.tag.at f cycle))
+          | inl cycle ↦ inr (here (IsCycle f) place s ss (fault_cases (has_flag cyclic place) BY_VALUE_CYCLE s.file s.tag.at f cycle))
           | inr (inl many) ↦
               inl (Contains-append_left (structure_faults told deep tails place s) (all_of told (suc place) ss) f (in_second (cycle_if told place s) (many_if place s) (fields_of s) f many))
           | inr (inr field) ↦
@@ -110,7 +112,7 @@ module _ (cyclic told deep tails : List Bool) where
       ]
 
   -- a cycle that is told is a fault
-  cycle_there : (flags : List Bool) (place k : ℕ) (ss : List DraftStructure) (s : DraftStructure) → slice_get ss k ≡ Some s → is_tail_type flags (place + k) ≡ true → Contains (all_of flags place ss) (cycle_at s)
+  cycle_there : (flags : List Bool) (place k : ℕ) (ss : List DraftStructure) (s : DraftStructure) → slice_get ss k ≡ Some s → has_flag flags (place + k) ≡ true → Contains (all_of flags place ss) (cycle_at s)
   unfolding structures_faults
   cycle_there flags place k [] s at is = absurd (none-some s at)
   cycle_there flags place zero (t ∷ ss) s at is =
@@ -118,13 +120,13 @@ module _ (cyclic told deep tails : List Bool) where
       subst (λ (x : DraftStructure). Contains (all_of flags place (t ∷ ss)) (cycle_at x)) (same_Some t s at)
       (Contains-append_left (structure_faults flags deep tails place t) (all_of flags (suc place) ss) (cycle_at t)
       (in_first (cycle_if flags place t) (many_if place t) (fields_of t) (cycle_at t)
-      (fault_there (is_tail_type flags place) BY_VALUE_CYCLE t.file t.tag.at (ap (is_tail_type flags) (sym e) ∙ is))))
+      (fault_there (has_flag flags place) BY_VALUE_CYCLE t.file t.tag.at (ap (has_flag flags) (sym e) ∙ is))))
   cycle_there flags place (suc k) (t ∷ ss) s at is =
       let e : suc place + k ≡ place + suc k = omega arith in
-      Contains-append_right (structure_faults flags deep tails place t) (all_of flags (suc place) ss) (cycle_at s) (cycle_there flags (suc place) k ss s at (ap (is_tail_type flags) e ∙ is))
+      Contains-append_right (structure_faults flags deep tails place t) (all_of flags (suc place) ss) (cycle_at s) (cycle_there flags (suc place) k ss s at (ap (has_flag flags) e ∙ is))
 
   -- a structure that is too deep is a fault
-  deep_there : (place k : ℕ) (ss : List DraftStructure) (s : DraftStructure) → slice_get ss k ≡ Some s → is_tail_type deep (place + k) ≡ true → Contains (all_of told place ss) (too_many_at s)
+  deep_there : (place k : ℕ) (ss : List DraftStructure) (s : DraftStructure) → slice_get ss k ≡ Some s → has_flag deep (place + k) ≡ true → Contains (all_of told place ss) (too_many_at s)
   unfolding structures_faults
   deep_there place k [] s at is = absurd (none-some s at)
   deep_there place zero (t ∷ ss) s at is =
@@ -132,11 +134,11 @@ module _ (cyclic told deep tails : List Bool) where
       subst (λ (x : DraftStructure). Contains (all_of told place (t ∷ ss)) (too_many_at x)) (same_Some t s at)
       (Contains-append_left (structure_faults told deep tails place t) (all_of told (suc place) ss) (too_many_at t)
       (in_second (cycle_if told place t) (many_if place t) (fields_of t) (too_many_at t)
-      (fault_there (is_tail_type deep place || nat_le MAX_STRUCTURES place) TOO_MANY t.file t.tag.at
-      (or_left (is_tail_type deep place) (nat_le MAX_STRUCTURES place) (ap (is_tail_type deep) (sym e) ∙ is)))))
+      (fault_there (has_flag deep place || nat_le MAX_STRUCTURES place) TOO_MANY t.file t.tag.at
+      (or_left (has_flag deep place) (nat_le MAX_STRUCTURES place) (ap (has_flag deep) (sym e) ∙ is)))))
   deep_there place (suc k) (t ∷ ss) s at is =
       let e : suc place + k ≡ place + suc k = omega arith in
-      Contains-append_right (structure_faults told deep tails place t) (all_of told (suc place) ss) (too_many_at s) (deep_there (suc place) k ss s at (ap (is_tail_type deep) e ∙ is))
+      Contains-append_right (structure_faults told deep tails place t) (all_of told (suc place) ss) (too_many_at s) (deep_there (suc place) k ss s at (ap (has_flag deep) e ∙ is))
 
   -- what is said with fewer cycles is said with all
   still_said : ((i : ℕ) → slice_get told i ≡ Some true → slice_get cyclic i ≡ Some true) → (place : ℕ) (ss : List DraftStructure) (f : Fault) → Contains (all_of told place ss) f → Contains (all_of cyclic place ss) f
@@ -146,11 +148,11 @@ module _ (cyclic told deep tails : List Bool) where
       elim (Contains-append_cases (structure_faults told deep tails place s) (all_of told (suc place) ss) f has) [
         | inl of_one ↦ elim (in_three (cycle_if told place s) (many_if place s) (fields_of s) f of_one) [
           | inl cycle ↦
-              let c = fault_cases (is_tail_type told place) BY_VALUE_CYCLE s.file s.tag.at f cycle in
+              let c = fault_cases (has_flag told place) BY_VALUE_CYCLE s.file s.tag.at f cycle in
               let flag = flag_true (slice_get cyclic place) (only place (flag_some (slice_get told place) c.0)) in
               Contains-append_left (structure_faults cyclic deep tails place s) (all_of cyclic (suc place) ss) f
               (in_first (cycle_if cyclic place s) (many_if place s) (fields_of s) f
-              (subst (λ (x : Fault). Contains (cycle_if cyclic place s) x) (sym c.1) (fault_there (is_tail_type cyclic place) BY_VALUE_CYCLE s.file s.tag.at flag)))
+              (subst (λ (x : Fault). Contains (cycle_if cyclic place s) x) (sym c.1) (fault_there (has_flag cyclic place) BY_VALUE_CYCLE s.file s.tag.at flag)))
           | inr (inl many) ↦ Contains-append_left (structure_faults cyclic deep tails place s) (all_of cyclic (suc place) ss) f (in_second (cycle_if cyclic place s) (many_if place s) (fields_of s) f many)
           | inr (inr field) ↦ Contains-append_left (structure_faults cyclic deep tails place s) (all_of cyclic (suc place) ss) f (in_third (cycle_if cyclic place s) (many_if place s) (fields_of s) f field)
         ]
@@ -212,7 +214,7 @@ module _ (ds : List Declaration) (types : List TypeName) (draft : Draft) (cyclic
   later_cycle k s f at is p =
       inr (
         too_many_at p.s,
-        of_structures told (too_many_at p.s) (deep_there cyclic told deep tails 0 p.j ss p.s p.is.there (ap (is_tail_type deep) (from_zero p.j) ∙ p.is.is_deep)),
+        of_structures told (too_many_at p.s) (deep_there cyclic told deep tails 0 p.j ss p.s p.is.there (ap (has_flag deep) (from_zero p.j) ∙ p.is.is_deep)),
         subst (λ (x : Fault). IsTrue (is_no_later (too_many_at p.s) x)) (sym is)
             (let same : p.t ≡ s = same_Some p.t s (sym p.there ∙ at) in
             earlier_tag p.s.file p.s.tag.at s.file s.tag.at TOO_MANY BY_VALUE_CYCLE (subst (λ (x : DraftStructure). comes_before p.s x ≡ true) same p.before)),
@@ -220,7 +222,7 @@ module _ (ds : List Declaration) (types : List TypeName) (draft : Draft) (cyclic
 
   told_cycle : (k : ℕ) (s : DraftStructure) (f : Fault) → slice_get ss k ≡ Some s → f ≡ cycle_at s → slice_get told k ≡ Some true → ToldOrLater f
   told_cycle k s f at is tells =
-      inl (subst (λ (x : Fault). Contains (whole told) x) (sym is) (of_structures told (cycle_at s) (cycle_there cyclic told deep tails told 0 k ss s at (ap (is_tail_type told) (from_zero k) ∙ flag_true (slice_get told k) tells))))
+      inl (subst (λ (x : Fault). Contains (whole told) x) (sym is) (of_structures told (cycle_at s) (cycle_there cyclic told deep tails told 0 k ss s at (ap (has_flag told) (from_zero k) ∙ flag_true (slice_get told k) tells))))
 
   -- a fault with all cycles is one with those that are told, or stands after one
   told_or_later : (f : Fault) → Contains (whole cyclic) f → ToldOrLater f
@@ -228,7 +230,7 @@ module _ (ds : List Declaration) (types : List TypeName) (draft : Draft) (cyclic
       elim (of_whole cyclic told f has) [
         | inl of_one ↦ elim (said_or_cycle cyclic told deep tails 0 ss f of_one) [
           | inl said ↦ inl (of_structures told f said)
-          | inr (k, s, at, (cycle, is)) ↦ elim (suffice.known k (flag_some (slice_get cyclic k) (ap (is_tail_type cyclic) (sym (from_zero k)) ∙ cycle))) [
+          | inr (k, s, at, (cycle, is)) ↦ elim (suffice.known k (flag_some (slice_get cyclic k) (ap (has_flag cyclic) (sym (from_zero k)) ∙ cycle))) [
             | inl tells ↦ told_cycle k s f at is tells
             | inr p ↦ later_cycle k s f at is p
           ]

@@ -1,23 +1,21 @@
 -- The constants of a draft are those of the table of constants.
-use Rattle.std.proofs.Common.{◌≡◌, ◌∙◌, ℕ, ℤ, Bool, true, false, List, [], ◌∷◌, ◌++◌, map, Option, Some, None, refl, sym, ap}
-use Rattle.std.proofs.Common.{suc, ◌+◌, ◌<◌, ◌≤◌, take, drop, get_or, length, arith, append_assoc}
+use Rattle.std.proofs.Common.{◌≡◌, ◌∙◌, ℕ, ℤ, Bool, true, false, List, [], ◌∷◌, ◌++◌, map, Option, Some, None, refl, sym, ap, suc, ◌+◌, ◌<◌, ◌≤◌, take, drop, get_or, length, arith, append_assoc}
 use Rattle.std.specs.Prelude.{if◌then◌else◌, filter_map}
-use Rattle.std.specs.Option.{option_to_list}
+use Rattle.std.specs.Option.{option_to_list, option_map_or}
 use Rattle.std.proofs.lemmas.List.{take_more, drop_more, at_drop_all, append-nil, take_all}
-use Rattle.std.specs.List.{cons_option}
+use Rattle.std.specs.List.{cons_option, list_any}
 use Rattle.std.proofs.lemmas.List.Elements.{filter_map-append}
 use Rattle.gt_items.specs.declared.items.Item.{Item}
 use Rattle.gt_items.specs.declared.items.Items.{Items}
-use Rattle.std.specs.Option.{option_map_or}
-use Rattle.std.specs.List.{list_any}
 use Rattle.std.specs.Str.{bytes_eq}
-use Rattle.gt_resolve.specs.declared.declaration.Declaration.{Declaration}
-use Rattle.gt_resolve.specs.declared.draft.DraftConstant.{DraftConstant}
-use Rattle.gt_resolve.specs.declared.table.Entry.{Entry}
-use Rattle.gt_resolve.specs.Declarations.{as_constant}
+use Rattle.gt_scope.specs.declared.declaration.Declaration.{Declaration}
+use Rattle.gt_drafts.specs.declared.draft.DraftConstant.{DraftConstant}
+use Rattle.gt_names.specs.declared.tables.Entry.{Entry}
+use Rattle.gt_scope.specs.Declarations.{as_constant}
 use Rattle.gt_resolve.specs.Drafts.{with_constant, constants_from, items_from}
-use Rattle.gt_resolve.specs.Tables.{with_value, values_from}
-use Rattle.gt_resolve.proofs.TableLemmas.{list_any-map}
+use Rattle.gt_names.specs.Entries.{with_value}
+use Rattle.gt_scope.specs.Tables.{values_from}
+use Rattle.gt_names.proofs.TableLemmas.{list_any-map}
 
 -- a constant of a draft
 abbrev pub as_drafted : Entry ℤ → DraftConstant

@@ -5,16 +5,20 @@ use Rattle.std.specs.List.{list_any}
 use Rattle.std.specs.Str.{bytes_eq}
 use Rattle.std.proofs.lemmas.List.Elements.{All-nil, All-cons, All-head, All-tail, All-append}
 use Rattle.gt_types.specs.declared.faults.Fault.{Fault}
-use Rattle.gt_resolve.specs.declared.TheConstants.{REDEFINED, UNDEFINED, BY_VALUE_CYCLE, BAD_BOUND, TOO_MANY, MAX_STRUCTURES, MAX_FIELDS, MAX_ROOTS, MAX_CACHES}
-use Rattle.gt_resolve.specs.declared.declaration.Declaration.{Declaration}
-use Rattle.gt_resolve.specs.declared.meaning.TypeName.{TypeName}
-use Rattle.gt_resolve.specs.declared.draft.Draft.{Draft}
-use Rattle.gt_resolve.specs.declared.draft.DraftCache.{DraftCache}
-use Rattle.gt_resolve.specs.declared.draft.DraftField.{DraftField}
-use Rattle.gt_resolve.specs.declared.draft.DraftRoot.{DraftRoot}
-use Rattle.gt_resolve.specs.declared.draft.DraftStructure.{DraftStructure}
-use Rattle.gt_resolve.specs.Faults.{fault_if, clashes, redefinitions, is_undefined_type, is_bad_type, field_faults, fields_faults, is_tail_type, structure_faults, structures_faults, root_faults, roots_faults, is_nothing, cache_faults, caches_faults, faults_of}
-use Rattle.gt_resolve.proofs.DeclaredFiles.{Of}
+use Rattle.gt_resolve.specs.declared.TheConstants.{REDEFINED, UNDEFINED, BY_VALUE_CYCLE, BAD_BOUND, TOO_MANY}
+use Rattle.gt_types.specs.declared.limits.TheConstants.{MAX_STRUCTURES, MAX_FIELDS, MAX_ROOTS, MAX_CACHES}
+use Rattle.gt_scope.specs.declared.declaration.Declaration.{Declaration}
+use Rattle.gt_scope.specs.declared.meaning.TypeName.{TypeName}
+use Rattle.gt_drafts.specs.declared.draft.Draft.{Draft}
+use Rattle.gt_drafts.specs.declared.draft.DraftCache.{DraftCache}
+use Rattle.gt_drafts.specs.declared.draft.DraftField.{DraftField}
+use Rattle.gt_drafts.specs.declared.draft.DraftRoot.{DraftRoot}
+use Rattle.gt_drafts.specs.declared.draft.DraftStructure.{DraftStructure}
+use Rattle.gt_drafts.specs.FirstFaults.{fault_if}
+use Rattle.gt_resolve.specs.Faults.{clashes, redefinitions, is_bad_type, field_faults, fields_faults, structure_faults, structures_faults, root_faults, roots_faults, cache_faults, caches_faults, faults_of}
+use Rattle.gt_drafts.specs.Undefined.{is_undefined_type, is_nothing}
+use Rattle.gt_drafts.specs.Shapes.{has_flag}
+use Rattle.gt_scope.proofs.DeclaredFiles.{Of}
 
 -- of a property of files
 module _ (P : ℕ → Type 0) where
@@ -62,8 +66,8 @@ module _ (P : ℕ → Type 0) where
 
   of_structure : (cyclic deep tails : List Bool) (place : ℕ) (s : DraftStructure) → P s.file → All OfFault (structure_faults cyclic deep tails place s)
   of_structure cyclic deep tails place s here =
-      let cycle = fault_if (is_tail_type cyclic place) BY_VALUE_CYCLE s.file s.tag.at in
-      let many = fault_if (is_tail_type deep place || nat_le MAX_STRUCTURES place) TOO_MANY s.file s.tag.at in
+      let cycle = fault_if (has_flag cyclic place) BY_VALUE_CYCLE s.file s.tag.at in
+      let many = fault_if (has_flag deep place || nat_le MAX_STRUCTURES place) TOO_MANY s.file s.tag.at in
       both (cycle ++ many) (fields_faults tails s.file s.is_union [] s.fields)
       (both cycle many (one_fault _ BY_VALUE_CYCLE s.file s.tag.at here) (one_fault _ TOO_MANY s.file s.tag.at here))
       (of_fields tails s.file s.is_union [] s.fields here)

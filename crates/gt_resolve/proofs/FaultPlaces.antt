@@ -7,13 +7,13 @@ use Rattle.gt_types.specs.declared.faults.Fault.{Fault}
 use Rattle.gt_items.specs.declared.items.Item.{Item}
 use Rattle.gt_items.specs.declared.items.Item.TheVariants as item
 use Rattle.gt_items.specs.declared.items.Items.{Items}
-use Rattle.gt_resolve.specs.declared.declaration.Declaration.{Declaration}
-use Rattle.gt_resolve.specs.declared.meaning.TypeName.{TypeName}
-use Rattle.gt_resolve.specs.declared.draft.Draft.{Draft}
-use Rattle.gt_resolve.specs.Declarations.{Progress, declare_file, declare_files, nothing_declared, declarations}
+use Rattle.gt_scope.specs.declared.declaration.Declaration.{Declaration}
+use Rattle.gt_scope.specs.declared.meaning.TypeName.{TypeName}
+use Rattle.gt_drafts.specs.declared.draft.Draft.{Draft}
+use Rattle.gt_scope.specs.Declarations.{Progress, declare_file, declare_files, nothing_declared, declarations}
 use Rattle.gt_resolve.specs.Drafts.{structure_item, root_item, cache_item, items_from}
 use Rattle.gt_resolve.specs.Resolution.{HasFirstFault, IsRead}
-use Rattle.gt_resolve.proofs.DeclaredFiles.{Of, Kept, kept-declare_file}
+use Rattle.gt_scope.proofs.DeclaredFiles.{Of, Kept, kept-declare_file}
 use Rattle.gt_resolve.proofs.FaultFiles.{OfFault, OfStructure, OfRoot, OfCache, of_all}
 
 -- the place of a file, of so many

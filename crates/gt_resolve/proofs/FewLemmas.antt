@@ -5,14 +5,17 @@ use Rattle.std.proofs.lemmas.Bool.{leb-false, or_parts}
 use Rattle.std.proofs.lemmas.List.Elements.{All-nil, All-cons}
 use Rattle.gt_types.specs.declared.faults.Fault.{Fault}
 use Rattle.gt_items.specs.declared.items.Items.{Items}
-use Rattle.gt_resolve.specs.declared.TheConstants.{TOO_MANY, MAX_STRUCTURES, MAX_FIELDS, MAX_ROOTS, MAX_CACHES}
-use Rattle.gt_resolve.specs.declared.draft.Draft.{Draft}
-use Rattle.gt_resolve.specs.declared.draft.DraftCache.{DraftCache}
-use Rattle.gt_resolve.specs.declared.draft.DraftField.{DraftField}
-use Rattle.gt_resolve.specs.declared.draft.DraftRoot.{DraftRoot}
-use Rattle.gt_resolve.specs.declared.draft.DraftStructure.{DraftStructure}
-use Rattle.gt_resolve.specs.Faults.{cache_faults, caches_faults, fault_if, faults_of, field_faults, fields_faults, is_tail_type, redefinitions, root_faults, roots_faults, structure_faults, structures_faults}
-use Rattle.gt_resolve.specs.Declarations.{declarations}
+use Rattle.gt_resolve.specs.declared.TheConstants.{TOO_MANY}
+use Rattle.gt_types.specs.declared.limits.TheConstants.{MAX_STRUCTURES, MAX_FIELDS, MAX_ROOTS, MAX_CACHES}
+use Rattle.gt_drafts.specs.declared.draft.Draft.{Draft}
+use Rattle.gt_drafts.specs.declared.draft.DraftCache.{DraftCache}
+use Rattle.gt_drafts.specs.declared.draft.DraftField.{DraftField}
+use Rattle.gt_drafts.specs.declared.draft.DraftRoot.{DraftRoot}
+use Rattle.gt_drafts.specs.declared.draft.DraftStructure.{DraftStructure}
+use Rattle.gt_resolve.specs.Faults.{cache_faults, caches_faults, faults_of, field_faults, fields_faults, redefinitions, root_faults, roots_faults, structure_faults, structures_faults}
+use Rattle.gt_drafts.specs.FirstFaults.{fault_if}
+use Rattle.gt_drafts.specs.Shapes.{has_flag}
+use Rattle.gt_scope.specs.Declarations.{declarations}
 use Rattle.gt_resolve.specs.Resolution.{Resolves}
 
 pub not_nil : {X : Type 0} (x : X) (xs : List X) → x ∷ xs ≡ [] → ⊥
@@ -91,8 +94,8 @@ few_structures cyclic deep tails place [] l e = omega (arith, l)
 few_structures cyclic deep tails place (s ∷ ss) l e =
     let one = nil_front (structure_faults cyclic deep tails place s) (structures_faults cyclic deep tails (suc place) ss) e in
     let tag = nil_front _ (fields_faults tails s.file s.is_union [] s.fields) one in
-    let many = nil_back _ (fault_if (is_tail_type deep place || nat_le MAX_STRUCTURES place) TOO_MANY s.file s.tag.at) tag in
-    let b = or_parts (is_tail_type deep place) (nat_le MAX_STRUCTURES place) (no_fault (is_tail_type deep place || nat_le MAX_STRUCTURES place) TOO_MANY s.file s.tag.at many) in
+    let many = nil_back _ (fault_if (has_flag deep place || nat_le MAX_STRUCTURES place) TOO_MANY s.file s.tag.at) tag in
+    let b = or_parts (has_flag deep place) (nat_le MAX_STRUCTURES place) (no_fault (has_flag deep place || nat_le MAX_STRUCTURES place) TOO_MANY s.file s.tag.at many) in
     let k = below MAX_STRUCTURES place b.1 in
     let rest : suc place + length ss ≤ MAX_STRUCTURES =
     few_structures cyclic deep tails (suc place) ss (omega (arith, k))

@@ -5,11 +5,13 @@ use Rattle.std.proofs.lemmas.Bool.Decides.{nat_tests}
 use Rattle.std.proofs.lemmas.List.{drop_more, append-nil, drop_all, map_more, length-map, length-take-le}
 use Rattle.std.proofs.lemmas.List.Elements.{All-nil, All-push, All-weaker, Contains-push, Contains-append_left}
 use Rattle.gt_types.specs.declared.faults.Fault.{Fault}
-use Rattle.gt_resolve.specs.declared.draft.DraftField.{DraftField}
-use Rattle.gt_resolve.specs.declared.draft.DraftStructure.{DraftStructure}
-use Rattle.gt_resolve.specs.declared.TheConstants.{BY_VALUE_CYCLE, TOO_MANY, MAX_STRUCTURES}
-use Rattle.gt_resolve.specs.Faults.{IsFirst, is_no_later, fault_if, field_faults, fields_faults, is_tail_type, structure_faults}
-use Rattle.gt_resolve.specs.FirstFaults.{earlier_of, first_from, IsFirstOf}
+use Rattle.gt_drafts.specs.declared.draft.DraftField.{DraftField}
+use Rattle.gt_drafts.specs.declared.draft.DraftStructure.{DraftStructure}
+use Rattle.gt_resolve.specs.declared.TheConstants.{BY_VALUE_CYCLE, TOO_MANY}
+use Rattle.gt_types.specs.declared.limits.TheConstants.{MAX_STRUCTURES}
+use Rattle.gt_drafts.specs.FirstFaults.{IsFirst, is_no_later, fault_if, earlier_of, first_from, IsFirstOf}
+use Rattle.gt_resolve.specs.Faults.{field_faults, fields_faults, structure_faults}
+use Rattle.gt_drafts.specs.Shapes.{has_flag}
 
 -- ---- parts
 
@@ -167,8 +169,8 @@ module _ (tails : List Bool) (file : ℕ) (in_union : Bool) where
 -- the faults of a structure at its tag and of its fields
 pub first_from_structure :
     {E : Type 0} (cyclic deep tails tests : List Bool) (place : ℕ) (s : DraftStructure) (fields : List DraftField) (e e1 e2 : Option Fault) (r : Result (Option Fault) E)
-    → e1 ≡ first_from e (fault_if (is_tail_type cyclic place) BY_VALUE_CYCLE s.file s.tag.at)
-    → e2 ≡ first_from e1 (fault_if (is_tail_type deep place || nat_le MAX_STRUCTURES place) TOO_MANY s.file s.tag.at)
+    → e1 ≡ first_from e (fault_if (has_flag cyclic place) BY_VALUE_CYCLE s.file s.tag.at)
+    → e2 ≡ first_from e1 (fault_if (has_flag deep place || nat_le MAX_STRUCTURES place) TOO_MANY s.file s.tag.at)
     → tests ≡ tails → fields ≡ s.fields
     → IfOk r (λ found. found ≡ first_from e2 (fields_faults tests s.file s.is_union [] fields))
     → IfOk r (λ found. found ≡ first_from e (structure_faults cyclic deep tails place s))
@@ -177,10 +179,10 @@ first_from_structure cyclic deep tails tests place s fields e e1 e2 r h k t f =
     (λ found. found ≡ first_from e (structure_faults cyclic deep tails place s))
     (λ found l.
     first_from_both e e2 found
-    (fault_if (is_tail_type cyclic place) BY_VALUE_CYCLE s.file s.tag.at ++ fault_if (is_tail_type deep place || nat_le MAX_STRUCTURES place) TOO_MANY s.file s.tag.at)
+    (fault_if (has_flag cyclic place) BY_VALUE_CYCLE s.file s.tag.at ++ fault_if (has_flag deep place || nat_le MAX_STRUCTURES place) TOO_MANY s.file s.tag.at)
     (fields_faults tails s.file s.is_union [] s.fields)
-    (first_from_both e e1 e2 (fault_if (is_tail_type cyclic place) BY_VALUE_CYCLE s.file s.tag.at)
-    (fault_if (is_tail_type deep place || nat_le MAX_STRUCTURES place) TOO_MANY s.file s.tag.at) h k)
+    (first_from_both e e1 e2 (fault_if (has_flag cyclic place) BY_VALUE_CYCLE s.file s.tag.at)
+    (fault_if (has_flag deep place || nat_le MAX_STRUCTURES place) TOO_MANY s.file s.tag.at) h k)
     (l ∙ ap (λ (ts : List Bool). first_from e2 (fields_faults ts s.file s.is_union [] fields)) t
     ∙ ap (λ (fs : List DraftField). first_from e2 (fields_faults tails s.file s.is_union [] fs)) f))
 

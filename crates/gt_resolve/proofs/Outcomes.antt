@@ -7,22 +7,23 @@ use Rattle.gt_types.specs.declared.faults.Fault.{Fault}
 use Rattle.gt_items.specs.declared.items.Items.{Items}
 use Rattle.gt_items.specs.declared.items.Stars.{Stars}
 use Rattle.gt_items.specs.declared.items.Stars.TheVariants.{Zero}
-use Rattle.gt_resolve.specs.declared.declaration.Declaration.{Declaration}
-use Rattle.gt_resolve.specs.declared.draft.Draft.{Draft}
-use Rattle.gt_resolve.specs.declared.draft.DraftStructure.{DraftStructure}
-use Rattle.gt_resolve.specs.declared.meaning.TypeName.{TypeName}
-use Rattle.gt_resolve.specs.declared.types.Resolved.{Resolved}
-use Rattle.gt_resolve.specs.declared.types.Spelled.{Spelled}
-use Rattle.gt_resolve.specs.declared.types.Spelled.TheVariants as spelled
-use Rattle.gt_resolve.specs.Declarations.{declarations}
+use Rattle.gt_scope.specs.declared.declaration.Declaration.{Declaration}
+use Rattle.gt_drafts.specs.declared.draft.Draft.{Draft}
+use Rattle.gt_drafts.specs.declared.draft.DraftStructure.{DraftStructure}
+use Rattle.gt_scope.specs.declared.meaning.TypeName.{TypeName}
+use Rattle.gt_drafts.specs.declared.types.Resolved.{Resolved}
+use Rattle.gt_scope.specs.declared.types.Spelled.{Spelled}
+use Rattle.gt_scope.specs.declared.types.Spelled.TheVariants as spelled
+use Rattle.gt_scope.specs.Declarations.{declarations}
 use Rattle.gt_resolve.specs.Drafts.{draft_of}
-use Rattle.gt_resolve.specs.Faults.{IsFirst, faults_of, is_no_later}
-use Rattle.gt_resolve.specs.Meanings.{IsMeaning, follow, follow_type, follow_typedef, means_after, plain_type, typedef_in}
+use Rattle.gt_drafts.specs.FirstFaults.{IsFirst, is_no_later}
+use Rattle.gt_resolve.specs.Faults.{faults_of}
+use Rattle.gt_scope.specs.Meanings.{IsMeaning, follow, follow_type, follow_typedef, means_after, plain_type, typedef_in}
 use Rattle.gt_resolve.specs.Resolution.{IsRead, Resolves, HasFirstFault}
-use Rattle.gt_resolve.specs.Shapes.{AreShapes}
+use Rattle.gt_drafts.specs.Shapes.{AreShapes}
 use Rattle.gt_resolve.proofs.FewLemmas.{not_nil}
 use Rattle.gt_resolve.proofs.Firsts.{one_no_later}
-use Rattle.gt_resolve.proofs.SearchLemmas.{Contains_none}
+use Rattle.gt_shapes.proofs.SearchLemmas.{Contains_none}
 
 -- ---- meanings
 

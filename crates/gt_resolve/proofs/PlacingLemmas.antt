@@ -10,8 +10,7 @@ use Rattle.gt_types.specs.declared.faults.Fault.{Fault}
 use Rattle.gt_items.specs.declared.items.Item.{Item}
 use Rattle.gt_items.specs.declared.items.Items.{Items}
 use Rattle.gt_resolve.specs.Drafts.{items_from}
-use Rattle.gt_resolve.specs.Faults.{IsFirst}
-use Rattle.gt_resolve.specs.FirstFaults.{IsFirstOf, earlier_of, first_from}
+use Rattle.gt_drafts.specs.FirstFaults.{IsFirst, IsFirstOf, earlier_of, first_from}
 use Rattle.gt_resolve.specs.Placings.{IsThere, chosen, fault_item, faults_from, item_or_rest, one_item}
 use Rattle.gt_resolve.proofs.Firsts.{first_from_first}
 

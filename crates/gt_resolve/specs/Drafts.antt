@@ -1,5 +1,5 @@
 -- What files declare, with resolved types.
-use Rattle.std.specs.Prelude.{ℕ, suc, ℤ, Bool, true, false, ◌&&◌, not, if◌then◌else◌, codes, List, [], ◌∷◌, ◌++◌, map, Option, Some, None, filter_map, option_map}
+use Rattle.std.specs.Prelude.{ℕ, suc, ℤ, Bool, true, false, if◌then◌else◌, List, [], ◌∷◌, ◌++◌, map, Option, Some, None, filter_map, option_map}
 use Rattle.std.specs.Option.{option_map_or}
 use Rattle.std.specs.List.{list_any, flat_map}
 use Rattle.std.specs.Str.{bytes_eq}
@@ -9,45 +9,32 @@ use Rattle.gt_items.specs.declared.items.Item.TheVariants as item
 use Rattle.gt_items.specs.declared.items.Items.{Items}
 use Rattle.gt_items.specs.declared.items.RawCache.{RawCache}
 use Rattle.gt_items.specs.declared.items.RawField.{RawField}
-use Rattle.gt_items.specs.declared.items.RawOption.{RawOption}
 use Rattle.gt_items.specs.declared.items.RawRoot.{RawRoot}
 use Rattle.gt_items.specs.declared.items.RawStructure.{RawStructure}
 use Rattle.gt_items.specs.declared.items.RawType.{RawType}
 use Rattle.gt_items.specs.declared.items.PointedType.{PointedType}
 use Rattle.gt_items.specs.declared.items.Stars.{Stars}
 use Rattle.gt_items.specs.declared.items.Stars.TheVariants.{Zero, One}
-use Rattle.gt_resolve.specs.declared.types.Amount.{Amount}
-use Rattle.gt_resolve.specs.declared.types.Amount.TheVariants.{Unread}
-use Rattle.gt_resolve.specs.declared.types.BaseType.{BaseType}
-use Rattle.gt_resolve.specs.declared.types.BaseType.TheVariants as base
-use Rattle.gt_resolve.specs.declared.types.DeclaredType.{DeclaredType}
-use Rattle.gt_resolve.specs.declared.types.Resolved.{Resolved}
-use Rattle.gt_resolve.specs.declared.declaration.Declaration.{Declaration}
-use Rattle.gt_resolve.specs.declared.meaning.TypeName.{TypeName}
-use Rattle.gt_resolve.specs.declared.draft.Draft.{Draft}
-use Rattle.gt_resolve.specs.declared.draft.DraftCache.{DraftCache}
-use Rattle.gt_resolve.specs.declared.draft.DraftConstant.{DraftConstant}
-use Rattle.gt_resolve.specs.declared.draft.DraftField.{DraftField}
-use Rattle.gt_resolve.specs.declared.draft.DraftRoot.{DraftRoot}
-use Rattle.gt_resolve.specs.declared.draft.DraftStructure.{DraftStructure}
-use Rattle.gt_resolve.specs.declared.draft.DraftWord.{DraftWord}
-use Rattle.gt_resolve.specs.Amounts.{amount_of}
-use Rattle.gt_resolve.specs.Declarations.{as_constant, constant_in}
-use Rattle.gt_resolve.specs.Meanings.{resolved_type}
-use Rattle.gt_resolve.specs.Spelling.{spelled_of}
-
--- ---- options, by their names alone
-
--- an option of this name stands there
-abbrev pub has_option : List ℕ → List RawOption → Bool
-has_option name options = list_any (λ option. bytes_eq option.name.word name) options
-
-abbrev pub has_skip : List RawOption → Bool
-has_skip options = has_option (codes "skip") options
-
--- beside `skip`, `length` is passed over
-abbrev pub has_length : List RawOption → Bool
-has_length options = has_option (codes "length") options && not (has_skip options)
+use Rattle.gt_drafts.specs.declared.types.Amount.{Amount}
+use Rattle.gt_drafts.specs.declared.types.Amount.TheVariants.{Unread}
+use Rattle.gt_drafts.specs.declared.types.BaseType.{BaseType}
+use Rattle.gt_drafts.specs.declared.types.BaseType.TheVariants as base
+use Rattle.gt_drafts.specs.declared.types.DeclaredType.{DeclaredType}
+use Rattle.gt_drafts.specs.declared.types.Resolved.{Resolved}
+use Rattle.gt_scope.specs.declared.declaration.Declaration.{Declaration}
+use Rattle.gt_scope.specs.declared.meaning.TypeName.{TypeName}
+use Rattle.gt_drafts.specs.declared.draft.Draft.{Draft}
+use Rattle.gt_drafts.specs.declared.draft.DraftCache.{DraftCache}
+use Rattle.gt_drafts.specs.declared.draft.DraftConstant.{DraftConstant}
+use Rattle.gt_drafts.specs.declared.draft.DraftField.{DraftField}
+use Rattle.gt_drafts.specs.declared.draft.DraftRoot.{DraftRoot}
+use Rattle.gt_drafts.specs.declared.draft.DraftStructure.{DraftStructure}
+use Rattle.gt_drafts.specs.declared.draft.DraftWord.{DraftWord}
+use Rattle.gt_drafts.specs.Amounts.{amount_of}
+use Rattle.gt_drafts.specs.Options.{has_length}
+use Rattle.gt_scope.specs.Declarations.{as_constant, constant_in}
+use Rattle.gt_scope.specs.Meanings.{resolved_type}
+use Rattle.gt_scope.specs.Spelling.{spelled_of}
 
 -- ---- bounds and bits
 

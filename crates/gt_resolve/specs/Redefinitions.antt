@@ -3,12 +3,15 @@ use Rattle.std.specs.Prelude.{ℕ, suc, Bool, true, ◌&&◌, ◌||◌, not, ◌
 use Rattle.std.specs.Option.{option_map_or}
 use Rattle.gt_types.specs.declared.faults.Fault.{Fault}
 use Rattle.gt_resolve.specs.declared.TheConstants.{REDEFINED}
-use Rattle.gt_resolve.specs.declared.declaration.Declaration.{Declaration}
-use Rattle.gt_resolve.specs.declared.declaration.What.{What}
-use Rattle.gt_resolve.specs.declared.meaning.TypeName.{TypeName}
-use Rattle.gt_resolve.specs.declared.table.Entry.{Entry}
-use Rattle.gt_resolve.specs.Faults.{agree, fault_if, is_tag, is_tail_type, same_bool}
-use Rattle.gt_resolve.specs.Tables.{value_in, with_value}
+use Rattle.gt_scope.specs.declared.declaration.Declaration.{Declaration}
+use Rattle.gt_scope.specs.declared.declaration.What.{What}
+use Rattle.gt_scope.specs.declared.meaning.TypeName.{TypeName}
+use Rattle.gt_names.specs.declared.tables.Entry.{Entry}
+use Rattle.gt_resolve.specs.Faults.{agree, is_tag}
+use Rattle.gt_drafts.specs.FirstFaults.{fault_if}
+use Rattle.gt_drafts.specs.Shapes.{has_flag}
+use Rattle.gt_drafts.specs.Sameness.{same_bool}
+use Rattle.gt_names.specs.Entries.{value_in, with_value}
 
 -- the places with one more declaration, where it is of this space of names
 abbrev pub with_first : (tags : Bool) → ℕ → Declaration → List (Entry ℕ) → List (Entry ℕ)
@@ -29,7 +32,7 @@ agrees_at all types w first = option_map_or (λ other. agree all types w other.w
 
 -- the definition has another meaning than the first of its name, or than one between that has another
 abbrev pub is_clash : List Declaration → List TypeName → (clashed : List Bool) → What → (first place : ℕ) → Bool
-is_clash all types clashed w first place = not (first == place) && (is_tail_type clashed first || not (agrees_at all types w first))
+is_clash all types clashed w first place = not (first == place) && (has_flag clashed first || not (agrees_at all types w first))
 
 abbrev pub with_clash : Bool → ℕ → List Bool → List Bool
 with_clash clash first clashed = if clash then slice_set clashed first true else clashed

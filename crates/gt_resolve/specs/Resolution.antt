@@ -4,13 +4,14 @@ use Rattle.gt_types.specs.declared.faults.Fault.{Fault}
 use Rattle.gt_types.specs.declared.faults.Stop.{Stop}
 use Rattle.gt_types.specs.declared.faults.Stop.TheVariants.{Memory, At}
 use Rattle.gt_items.specs.declared.items.Items.{Items}
-use Rattle.gt_resolve.specs.declared.meaning.TypeName.{TypeName}
-use Rattle.gt_resolve.specs.declared.draft.Draft.{Draft}
-use Rattle.gt_resolve.specs.Declarations.{declarations}
+use Rattle.gt_scope.specs.declared.meaning.TypeName.{TypeName}
+use Rattle.gt_drafts.specs.declared.draft.Draft.{Draft}
+use Rattle.gt_scope.specs.Declarations.{declarations}
 use Rattle.gt_resolve.specs.Drafts.{draft_of}
-use Rattle.gt_resolve.specs.Faults.{faults_of, IsFirst}
-use Rattle.gt_resolve.specs.Meanings.{AreTypeNames}
-use Rattle.gt_resolve.specs.Shapes.{AreShapes}
+use Rattle.gt_resolve.specs.Faults.{faults_of}
+use Rattle.gt_drafts.specs.FirstFaults.{IsFirst}
+use Rattle.gt_scope.specs.Meanings.{AreTypeNames}
+use Rattle.gt_drafts.specs.Shapes.{AreShapes}
 
 -- what the files declare, and the faults that they have
 pub record IsRead (files : List Items) (draft : Draft) (faults : List Fault) : Type 0 where

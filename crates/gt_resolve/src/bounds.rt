@@ -2,14 +2,14 @@
 ghost use Rattle.std.specs.Prelude.{◌≡◌, ◌&&◌, false, pos, int_le};
 ghost use Rattle.std.specs.List.{list_any};
 ghost use Rattle.std.specs.Option.{option_map_or};
-ghost use Rattle.gt_resolve.specs.Faults.{is_bad_bound, bits_of_width, bits_of, unit_bits, is_bad_count, is_bad_field, is_tail_type, is_misused_tail, is_bad_type};
-ghost use Rattle.gt_resolve.specs.Shapes.{held_type, structure_by_value};
+ghost use Rattle.gt_types.specs.Shapes.{bits_of};
+ghost use Rattle.gt_resolve.specs.Faults.{is_bad_bound, unit_bits, is_bad_count, is_bad_field, is_misused_tail, is_bad_type};
+ghost use Rattle.gt_drafts.specs.Shapes.{held_type};
 ghost use Rattle.gt_items.specs.declared.items.Stars.TheVariants.{Zero};
 
-use crate::options::has_skip;
-use crate::{Amount, BaseType, DeclaredType, MAX_BOUND, MAX_DIMENSIONS, Resolved};
+use gt_drafts::{Amount, BaseType, DeclaredType, Resolved, flag_at, has_skip, held_type};
 use gt_items::{RawOption, Stars};
-use gt_types::{Scalar, Width};
+use gt_types::{MAX_BOUND, MAX_DIMENSIONS, Scalar, Width};
 
 fn is_within(n: i64, most: i64) -> bool
     ensures same { result ≡ (int_le (pos 1) n && int_le n most) }
@@ -22,19 +22,8 @@ fn is_bad_bound(bound: Amount) -> bool
 {
     match bound {
         Amount::Unread => false,
-        Amount::Is(n) => !is_within(n, MAX_BOUND),
+        Amount::Is(n) => !is_within(n, MAX_BOUND as i64),
         Amount::NoExpression | Amount::Undefined | Amount::NoValue => true,
-    }
-}
-
-fn bits_of_width(width: Width) -> i64
-    ensures same { result ≡ pos (bits_of_width width) }
-{
-    match width {
-        Width::W1 => 8,
-        Width::W2 => 16,
-        Width::W4 => 32,
-        Width::W8 => 64,
     }
 }
 
@@ -43,7 +32,12 @@ fn bits_of(scalar: Scalar) -> i64
 {
     match scalar {
         Scalar::Bool => 1,
-        Scalar::Int { width, .. } => bits_of_width(width),
+        Scalar::Int { width, .. } => match width {
+            Width::W1 => 8,
+            Width::W2 => 16,
+            Width::W4 => 32,
+            Width::W8 => 64,
+        },
     }
 }
 
@@ -76,38 +70,6 @@ fn is_bad_bit_field(ty: &DeclaredType) -> bool
     match ty.bits {
         None => false,
         Some(count) => !ty.bounds.is_empty() || is_bad_count(&ty.resolved, count),
-    }
-}
-
-/// The flag of a structure; there is none after the last.
-pub fn flag_at(flags: &[bool], id: usize) -> bool
-    ensures same { result ≡ is_tail_type flags.now id }
-{
-    match flags.get(id) {
-        None => false,
-        Some(flag) => *flag,
-    }
-}
-
-/// The structure that something of the type contains by value, alone or in an array.
-pub fn held_type(ty: &DeclaredType) -> Option<usize>
-    ensures same { result ≡ held_type ty.now }
-{
-    if ty.is_function {
-        return None;
-    }
-    structure_by_value(&ty.resolved.base, ty.resolved.stars)
-}
-
-fn structure_by_value(base: &BaseType, stars: Stars) -> Option<usize>
-    ensures same { result ≡ structure_by_value base.now stars }
-{
-    match base {
-        BaseType::Structure(id) => match stars {
-            Stars::Zero => Some(*id),
-            _ => None,
-        },
-        _ => None,
     }
 }
 

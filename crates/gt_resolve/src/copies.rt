@@ -1,7 +1,6 @@
 // Copies of what the headers say, since a draft outlives the items that it is made from.
 ghost use Rattle.std.specs.Prelude.{◌≡◌, IfOk};
 
-use crate::{BaseType, Resolved, Spelled};
 use gt_expr::RawExpr;
 use gt_items::{Name, Parameter, RawOption};
 use gt_types::{Boxed, Copied, List};
@@ -75,55 +74,4 @@ pub fn options_copy(alloc: Global, options: &List<RawOption>) -> Result<List<Raw
         made.push(option_copy(alloc, option)?)?;
     }
     Ok(List::of(made))
-}
-
-/// A copy of a type as it is spelled.
-pub fn spelled_copy(alloc: Global, ty: &Spelled) -> Result<Spelled, AllocError>
-    ensures same { IfOk result (λ made. made ≡ ty.now) }
-{
-    match ty {
-        Spelled::Number { scalar, is_char } => Ok(Spelled::Number {
-            scalar: *scalar,
-            is_char: *is_char,
-        }),
-        Spelled::Float => Ok(Spelled::Float),
-        Spelled::Double => Ok(Spelled::Double),
-        Spelled::Sizeless => Ok(Spelled::Sizeless),
-        Spelled::Tagged { keyword, tag } => Ok(Spelled::Tagged {
-            keyword: *keyword,
-            tag: tag.copy(alloc)?,
-        }),
-        Spelled::Named(word) => Ok(Spelled::Named(word.copy(alloc)?)),
-    }
-}
-
-/// A copy of what a type is after its stars.
-pub fn base_copy(alloc: Global, base: &BaseType) -> Result<BaseType, AllocError>
-    ensures same { IfOk result (λ made. made ≡ base.now) }
-{
-    match base {
-        BaseType::Number { scalar, is_char } => Ok(BaseType::Number {
-            scalar: *scalar,
-            is_char: *is_char,
-        }),
-        BaseType::Float => Ok(BaseType::Float),
-        BaseType::Double => Ok(BaseType::Double),
-        BaseType::Sizeless => Ok(BaseType::Sizeless),
-        BaseType::Structure(id) => Ok(BaseType::Structure(*id)),
-        BaseType::Undefined { keyword, tag } => Ok(BaseType::Undefined {
-            keyword: *keyword,
-            tag: tag.copy(alloc)?,
-        }),
-        BaseType::Unknown => Ok(BaseType::Unknown),
-    }
-}
-
-/// A copy of a type with its typedefs followed.
-pub fn resolved_copy(alloc: Global, resolved: &Resolved) -> Result<Resolved, AllocError>
-    ensures same { IfOk result (λ made. made ≡ resolved.now) }
-{
-    Ok(Resolved {
-        base: base_copy(alloc, &resolved.base)?,
-        stars: resolved.stars,
-    })
 }

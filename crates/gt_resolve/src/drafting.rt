@@ -1,29 +1,25 @@
 // The draft of files: what they declare, with resolved types.
-ghost use Rattle.std.specs.Prelude.{◌≡◌, ℕ, List, [], ◌++◌, Option, map, filter_map, IfOk, OnOk, if◌then◌else◌, option_map};
+ghost use Rattle.std.specs.Prelude.{◌≡◌, ℕ, List, [], ◌++◌, Option, map, filter_map, IfOk, if◌then◌else◌, option_map, OnOk};
 ghost use Rattle.std.specs.List.{flat_map};
 ghost use Rattle.std.specs.Option.{option_to_list};
 ghost use Rattle.gt_items.specs.declared.items.Item.{Item};
-ghost use Rattle.gt_resolve.specs.declared.declaration.Declaration.{Declaration};
-ghost use Rattle.gt_resolve.specs.declared.meaning.TypeName.{TypeName};
-ghost use Rattle.gt_resolve.specs.declared.types.Amount.TheVariants.{Unread};
-ghost use Rattle.gt_resolve.specs.Meanings.{resolved_type};
-ghost use Rattle.gt_resolve.specs.Spelling.{spelled_of};
+ghost use Rattle.gt_scope.specs.declared.declaration.Declaration.{Declaration};
+ghost use Rattle.gt_scope.specs.declared.meaning.TypeName.{TypeName};
+ghost use Rattle.gt_drafts.specs.declared.types.Amount.TheVariants.{Unread};
+ghost use Rattle.gt_scope.specs.Meanings.{resolved_type};
+ghost use Rattle.gt_scope.specs.Spelling.{spelled_of};
 ghost use Rattle.gt_resolve.specs.Drafts.{amount_in, bounds_of, declarator_type, field_of, fields_in, structure_of, root_type, root_of, pointed_type, cache_of, structure_item, root_item, cache_item, items_from, word_of, constants_from, draft_of};
 
-use crate::amounts::amount;
 use crate::copies::{name_copy, options_copy};
-use crate::meaning::TypeName;
-use crate::options::has_length;
-use crate::scope::Scope;
-use crate::spelling::spelled;
-use crate::table::Entry;
-use crate::{
+use gt_drafts::{
     Amount, BaseType, DeclaredType, Draft, DraftCache, DraftConstant, DraftField, DraftRoot,
-    DraftStructure, DraftWord, Resolved,
+    DraftStructure, DraftWord, Resolved, has_length,
 };
 use gt_items::{
     Declarator, Item, Items, PointedType, RawCache, RawField, RawRoot, RawStructure, RawType, Stars,
 };
+use gt_names::Entry;
+use gt_scope::{Scope, TypeName, spelled};
 use gt_types::{Bytes, Copied, List};
 use std::alloc::{AllocError, Global};
 
@@ -32,7 +28,7 @@ use std::alloc::{AllocError, Global};
 fn amount_in(alloc: Global, scope: &Scope, text: &Bytes) -> Result<Amount, AllocError>
     ensures amount { IfOk result (λ a. a ≡ amount_in scope.now.declarations.items text.now) }
 {
-    amount(alloc, scope, text.as_slice())
+    scope.amount(alloc, text.as_slice())
 }
 
 // The outermost bound, which is not read where it is replaced by a length.

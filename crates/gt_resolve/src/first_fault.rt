@@ -2,22 +2,22 @@
 ghost use Rattle.std.specs.Prelude.{◌≡◌, ◌||◌, ℕ, Bool, false, nat_le, List, [], length, IfOk};
 ghost use Rattle.std.specs.List.{list_any};
 ghost use Rattle.std.specs.Str.{bytes_eq};
-ghost use Rattle.gt_resolve.specs.Cycles.{Suffice};
-ghost use Rattle.gt_resolve.specs.Faults.{faults_of, field_faults, fields_faults, structure_faults, structures_faults, root_faults, roots_faults, cache_faults, caches_faults, is_tail_type};
-ghost use Rattle.gt_resolve.specs.FirstFaults.{IsFirstOf, first_from};
+ghost use Rattle.gt_shapes.specs.Cycles.{Suffice};
+ghost use Rattle.gt_resolve.specs.Faults.{faults_of, field_faults, fields_faults, structure_faults, structures_faults, root_faults, roots_faults, cache_faults, caches_faults};
+ghost use Rattle.gt_drafts.specs.Shapes.{has_flag};
+ghost use Rattle.gt_drafts.specs.FirstFaults.{IsFirstOf, first_from};
 
-use crate::bounds::{flag_at, is_bad_type};
-use crate::earliest::with_fault;
-use crate::names::NameIndex;
+use crate::bounds::is_bad_type;
 use crate::redefined::redefined;
-use crate::scope::Scope;
-use crate::shapes::Shapes;
-use crate::undefined::{is_undefined_type, names_nothing};
-use crate::{
-    BAD_BOUND, BY_VALUE_CYCLE, Draft, DraftCache, DraftField, DraftRoot, DraftStructure,
-    MAX_CACHES, MAX_FIELDS, MAX_ROOTS, MAX_STRUCTURES, REDEFINED, TOO_MANY, UNDEFINED,
+use crate::{BAD_BOUND, BY_VALUE_CYCLE, REDEFINED, TOO_MANY, UNDEFINED};
+use gt_drafts::{
+    Draft, DraftCache, DraftField, DraftRoot, DraftStructure, flag_at, is_undefined_type,
+    names_nothing, with_fault,
 };
-use gt_types::Fault;
+use gt_names::NameIndex;
+use gt_scope::Scope;
+use gt_shapes::Shapes;
+use gt_types::{Fault, MAX_CACHES, MAX_FIELDS, MAX_ROOTS, MAX_STRUCTURES};
 use std::alloc::{AllocError, Global};
 
 /// The first fault of names and types: the one at the earliest place over all files, and at one place the one with the lowest
@@ -88,7 +88,7 @@ fn of_structure(
 
 // Whether too many containments stand in a structure, or too many structures before it.
 fn is_one_too_many(deep: &[bool], place: usize) -> bool
-    ensures same { result ≡ (is_tail_type deep.now place || nat_le MAX_STRUCTURES place) }
+    ensures same { result ≡ (has_flag deep.now place || nat_le MAX_STRUCTURES place) }
 {
     flag_at(deep, place) || MAX_STRUCTURES <= place
 }

@@ -2,8 +2,8 @@
 ghost use Rattle.std.specs.Prelude.{◌≡◌, ◌≤◌, List, All, length};
 ghost use Rattle.gt_types.specs.declared.faults.Fault.{Fault};
 ghost use Rattle.gt_items.specs.declared.items.Items.{Items};
-ghost use Rattle.gt_resolve.specs.declared.TheConstants.{MAX_STRUCTURES, MAX_FIELDS, MAX_ROOTS, MAX_CACHES};
-ghost use Rattle.gt_resolve.specs.declared.draft.Draft.{Draft};
+ghost use Rattle.gt_types.specs.declared.limits.TheConstants.{MAX_STRUCTURES, MAX_FIELDS, MAX_ROOTS, MAX_CACHES};
+ghost use Rattle.gt_drafts.specs.declared.draft.Draft.{Draft};
 ghost use Rattle.gt_resolve.specs.Resolution.{Resolves, HasFirstFault};
 
 /// What resolves is few enough: structures, fields of each structure, roots and caches.

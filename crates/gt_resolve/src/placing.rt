@@ -1,10 +1,10 @@
 // Where a structure or a root stands whose type is too large.
 ghost use Rattle.std.specs.Prelude.{◌≡◌, ◌≤◌, ◌||◌, true, false, length, filter_map, is_some, IsTrue, Some};
-ghost use Rattle.gt_resolve.specs.Faults.{IsFirst};
+ghost use Rattle.gt_drafts.specs.FirstFaults.{IsFirst};
 ghost use Rattle.gt_resolve.specs.Placings.{IsThere, chosen, fault_item, faults_from, item_or_rest, one_item, placed};
 
 use crate::TYPE_TOO_LARGE;
-use crate::earliest::earlier;
+use gt_drafts::earlier;
 use gt_items::{Item, Items};
 use gt_types::Fault;
 

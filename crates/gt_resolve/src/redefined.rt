@@ -4,19 +4,16 @@ ghost use Rattle.std.specs.Prelude.{◌≡◌, [], None, false, length, replicat
 ghost use Rattle.std.specs.Option.{option_map_or};
 ghost use Rattle.gt_items.specs.declared.items.Stars.TheVariants.{Zero};
 ghost use Rattle.gt_resolve.specs.Faults.{agree, is_tag, redefinitions};
-ghost use Rattle.gt_resolve.specs.FirstFaults.{first_from};
-ghost use Rattle.gt_resolve.specs.Meanings.{is_transparent, means_after, opaque, resolved_type, transparent};
+ghost use Rattle.gt_drafts.specs.FirstFaults.{first_from};
+ghost use Rattle.gt_scope.specs.Meanings.{means_after, resolved_type};
 ghost use Rattle.gt_resolve.specs.Redefinitions.{agrees_at, first_place, first_places, is_clash, marked_faults, with_clash, with_first};
-ghost use Rattle.gt_resolve.specs.Tables.{value_in};
+ghost use Rattle.gt_names.specs.Entries.{value_in};
 
-use crate::bounds::flag_at;
-use crate::declaration::{Declaration, What};
-use crate::earliest::with_fault;
-use crate::sameness::{same_bool, same_type};
-use crate::scope::Scope;
-use crate::table::Table;
-use crate::{BaseType, REDEFINED, Resolved, Spelled};
-use gt_items::{Keyword, Stars};
+use crate::REDEFINED;
+use gt_drafts::{Resolved, flag_at, same_bool, same_type, with_fault};
+use gt_items::Stars;
+use gt_names::Table;
+use gt_scope::{Declaration, Scope, Spelled, What, after_stars};
 use gt_types::Fault;
 use std::alloc::{AllocError, Global};
 
@@ -74,56 +71,10 @@ fn first_place(tags: &Table<usize>, others: &Table<usize>, d: &Declaration, plac
     place_or(others, d, place)
 }
 
-fn is_transparent(base: &BaseType) -> bool
-    ensures transparent { result ≡ is_transparent base.now }
-{
-    match base {
-        BaseType::Number { .. } | BaseType::Structure(_) => true,
-        BaseType::Undefined { keyword, .. } => match keyword {
-            Keyword::Struct | Keyword::Union => true,
-            Keyword::Enum => false,
-        },
-        BaseType::Float | BaseType::Double | BaseType::Sizeless | BaseType::Unknown => false,
-    }
-}
-
-fn transparent(base: BaseType, stars: Stars) -> Resolved
-    ensures transparent { result ≡ transparent base stars }
-{
-    if is_transparent(&base) {
-        return Resolved { base, stars };
-    }
-    opaque()
-}
-
-fn opaque() -> Resolved
-    ensures opaque { result ≡ opaque }
-{
-    Resolved {
-        base: BaseType::Sizeless,
-        stars: Stars::Zero,
-    }
-}
-
-// What a typedef of a type after stars means.
-#[tactic(auto, unfolding(crate::specs::Meanings::following))]
-fn means_after(stars: Stars, means: Resolved) -> Resolved
-    ensures means { result ≡ means_after stars means }
-{
-    match stars {
-        Stars::Zero => transparent(means.base, means.stars),
-        Stars::One => match means.stars {
-            Stars::Zero => transparent(means.base, Stars::One),
-            Stars::One | Stars::Two | Stars::More => opaque(),
-        },
-        Stars::Two | Stars::More => opaque(),
-    }
-}
-
 fn meaning(alloc: Global, scope: &Scope, ty: &Spelled, stars: Stars) -> Result<Resolved, AllocError>
     ensures means { IfOk result (λ r. r ≡ means_after stars (resolved_type scope.now.declarations.items scope.now.types.items ty.now Zero)) }
 {
-    Ok(means_after(stars, scope.resolved(alloc, ty, Stars::Zero)?))
+    Ok(after_stars(stars, scope.resolved(alloc, ty, Stars::Zero)?))
 }
 
 // Whether two definitions of one name may stand beside one another.

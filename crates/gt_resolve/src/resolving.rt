@@ -1,12 +1,12 @@
-ghost use Rattle.std.specs.Prelude.{◌≡◌, ◌≤◌, length, IfOk, IfErr};
+ghost use Rattle.std.specs.Prelude.{◌≤◌, length, IfOk, IfErr, ◌≡◌};
 ghost use Rattle.gt_resolve.specs.Resolution.{Resolves, IsResolveStop};
 
-use crate::Draft;
 use crate::drafting::drafted;
 use crate::first_fault::first_fault;
-use crate::scope::scope_of;
-use crate::shapes::shapes_of;
+use gt_drafts::Draft;
 use gt_items::Items;
+use gt_scope::scope_of;
+use gt_shapes::shapes_of;
 use gt_types::Stop;
 use std::alloc::Global;
 

@@ -16,9 +16,9 @@ use Rattle.gt_expr.specs.declared.raw.RawExpr.{RawExpr}
 use Rattle.gt_items.specs.declared.items.Parameter.{Parameter}
 use Rattle.gt_items.specs.declared.items.Parameter.TheVariants.{Expression}
 use Rattle.gt_items.specs.declared.items.RawOption.{RawOption}
-use Rattle.gt_resolve.specs.declared.draft.Draft.{Draft}
-use Rattle.gt_resolve.specs.declared.draft.DraftStructure.{DraftStructure}
-use Rattle.gt_resolve.specs.Faults.{fault_if}
+use Rattle.gt_drafts.specs.declared.draft.Draft.{Draft}
+use Rattle.gt_drafts.specs.declared.draft.DraftStructure.{DraftStructure}
+use Rattle.gt_drafts.specs.FirstFaults.{fault_if}
 use Rattle.gt_markers.specs.FirstFaults.{first_from}
 use Rattle.gt_markers.specs.declared.TheConstants.{BAD_PATH, CHAIN_NOT_OWN_POINTER}
 use Rattle.gt_markers.specs.Expressions.{Names as NamesOf, names_in, with_names}

@@ -9,12 +9,12 @@ use Rattle.gt_types.specs.declared.program.Structure.{Structure}
 use Rattle.gt_types.specs.declared.program.Root.{Root}
 use Rattle.gt_types.specs.declared.program.Program.{Program}
 use Rattle.gt_items.specs.declared.items.RawOption.{RawOption}
-use Rattle.gt_resolve.specs.declared.draft.Draft.{Draft}
-use Rattle.gt_resolve.specs.declared.draft.DraftField.{DraftField}
-use Rattle.gt_resolve.specs.declared.draft.DraftRoot.{DraftRoot}
-use Rattle.gt_resolve.specs.declared.draft.DraftStructure.{DraftStructure}
-use Rattle.gt_resolve.specs.Drafts.{has_skip}
-use Rattle.gt_resolve.specs.Faults.{is_no_later}
+use Rattle.gt_drafts.specs.declared.draft.Draft.{Draft}
+use Rattle.gt_drafts.specs.declared.draft.DraftField.{DraftField}
+use Rattle.gt_drafts.specs.declared.draft.DraftRoot.{DraftRoot}
+use Rattle.gt_drafts.specs.declared.draft.DraftStructure.{DraftStructure}
+use Rattle.gt_drafts.specs.Options.{has_skip}
+use Rattle.gt_drafts.specs.FirstFaults.{is_no_later}
 use Rattle.gt_markers.specs.Options.{option_named}
 use Rattle.gt_markers.specs.Typing.{node}
 use Rattle.gt_rules.specs.Faults.{HasProgramFault, field_without_desc, field_to_bare_union, field_to_inner, root_without_desc, root_to_bare_union, root_to_inner, root_of_inner, field_length, field_desc, union_desc, root_length, root_desc, field_reorder, root_reorder, chain, cache_shape, IsFieldAt, IsReadOption, IsRootAt}

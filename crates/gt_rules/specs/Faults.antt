@@ -19,17 +19,17 @@ use Rattle.gt_items.specs.declared.items.Parameter.TheVariants.{Expression}
 use Rattle.gt_items.specs.declared.items.RawOption.{RawOption}
 use Rattle.gt_items.specs.declared.items.Stars.{Stars}
 use Rattle.gt_items.specs.declared.items.Stars.TheVariants.{One, Two}
-use Rattle.gt_resolve.specs.declared.types.BaseType.{BaseType}
-use Rattle.gt_resolve.specs.declared.types.BaseType.TheVariants.{Structure as StructureOf}
-use Rattle.gt_resolve.specs.declared.types.DeclaredType.{DeclaredType}
-use Rattle.gt_resolve.specs.declared.draft.Draft.{Draft}
-use Rattle.gt_resolve.specs.declared.draft.DraftCache.{DraftCache}
-use Rattle.gt_resolve.specs.declared.draft.DraftField.{DraftField}
-use Rattle.gt_resolve.specs.declared.draft.DraftRoot.{DraftRoot}
-use Rattle.gt_resolve.specs.declared.draft.DraftStructure.{DraftStructure}
-use Rattle.gt_resolve.specs.Drafts.{has_option, has_skip}
-use Rattle.gt_resolve.specs.Faults.{is_no_later}
-use Rattle.gt_resolve.specs.Shapes.{held_type, is_nil}
+use Rattle.gt_drafts.specs.declared.types.BaseType.{BaseType}
+use Rattle.gt_drafts.specs.declared.types.BaseType.TheVariants.{Structure as StructureOf}
+use Rattle.gt_drafts.specs.declared.types.DeclaredType.{DeclaredType}
+use Rattle.gt_drafts.specs.declared.draft.Draft.{Draft}
+use Rattle.gt_drafts.specs.declared.draft.DraftCache.{DraftCache}
+use Rattle.gt_drafts.specs.declared.draft.DraftField.{DraftField}
+use Rattle.gt_drafts.specs.declared.draft.DraftRoot.{DraftRoot}
+use Rattle.gt_drafts.specs.declared.draft.DraftStructure.{DraftStructure}
+use Rattle.gt_drafts.specs.Options.{has_option, has_skip}
+use Rattle.gt_drafts.specs.FirstFaults.{is_no_later}
+use Rattle.gt_drafts.specs.Shapes.{held_type, is_nil}
 use Rattle.gt_markers.specs.declared.TheConstants.{WRONG_PLACE, MISSING_DESC, BAD_PATH, CHAIN_NOT_OWN_POINTER, CACHE_SHAPE}
 use Rattle.gt_markers.specs.Options.{kind_of, option_named}
 use Rattle.gt_markers.specs.Expressions.{Names, constants, constants_and_roots, names_in, with_names}

@@ -2,8 +2,8 @@
 use Rattle.std.specs.Prelude.{IsTrue, Option, Some, None}
 use Rattle.gt_types.specs.declared.faults.Fault.{Fault}
 use Rattle.gt_types.specs.declared.program.Program.{Program}
-use Rattle.gt_resolve.specs.declared.draft.Draft.{Draft}
-use Rattle.gt_resolve.specs.Faults.{is_no_later}
+use Rattle.gt_drafts.specs.declared.draft.Draft.{Draft}
+use Rattle.gt_drafts.specs.FirstFaults.{is_no_later}
 use Rattle.gt_rules.specs.Faults.{HasProgramFault}
 
 -- none where there is none, else the first of them

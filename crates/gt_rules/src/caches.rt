@@ -9,9 +9,9 @@ ghost use Rattle.gt_rules.specs.Parts.{IsFirstWith, CacheFault, CachesFaults};
 
 use crate::known::Known;
 use gt_declare::key_type;
+use gt_drafts::{DraftCache, Resolved};
 use gt_markers::{CACHE_SHAPE, with_fault};
 use gt_paths::may_stand;
-use gt_resolve::{DraftCache, Resolved};
 use gt_types::Fault;
 
 // Whether a key or a value points to a structure that may stand alone.

@@ -11,8 +11,8 @@ use crate::names::{is_bare, is_named_inner, names_node};
 use crate::options::{of_expression, of_reorder};
 use crate::purposes::Purpose;
 use crate::types::{held_by, lacks_desc};
+use gt_drafts::{DeclaredType, DraftField};
 use gt_markers::{BAD_PATH, MISSING_DESC, with_fault};
-use gt_resolve::{DeclaredType, DraftField};
 use gt_types::{Fault, Field, Program, Ty, TypeId};
 use std::alloc::AllocError;
 

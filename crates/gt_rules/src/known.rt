@@ -1,9 +1,9 @@
 // What faults are looked for in.
+use gt_drafts::Draft;
 use gt_fields::FieldNames;
 use gt_items::RawOption;
 use gt_markers::Lookup;
 use gt_paths::PathIndex;
-use gt_resolve::Draft;
 use gt_types::Program;
 use std::alloc::Global;
 

@@ -10,10 +10,10 @@ ghost use Rattle.gt_rules.specs.Faults.{IsBareUnion, held_node, is_plain, named_
 ghost use Rattle.gt_rules.specs.Parts.{Names};
 
 use crate::known::Known;
+use gt_drafts::{BaseType, DeclaredType};
 use gt_items::{RawOption, Stars};
 use gt_markers::{has_option, has_skip};
 use gt_paths::{is_bare_union, is_inner};
-use gt_resolve::{BaseType, DeclaredType};
 use gt_types::{Program, TypeId};
 use gt_typing::node;
 

@@ -9,10 +9,10 @@ use crate::caches::of_caches;
 use crate::known::Known;
 use crate::roots::of_roots;
 use crate::structures::of_structures;
+use gt_drafts::Draft;
 use gt_fields::FieldNames;
 use gt_markers::Lookup;
 use gt_paths::PathIndex;
-use gt_resolve::Draft;
 use gt_types::{Fault, Program};
 use std::alloc::{AllocError, Global};
 

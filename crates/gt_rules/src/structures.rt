@@ -12,8 +12,8 @@ use crate::chains::of_chains;
 use crate::fields::of_fields;
 use crate::known::Known;
 use crate::purposes::{Purpose, serves};
+use gt_drafts::DraftStructure;
 use gt_markers::{BAD_PATH, option_named, with_fault};
-use gt_resolve::DraftStructure;
 use gt_types::{Fault, Structure, TypeId};
 use std::alloc::AllocError;
 

@@ -140,7 +140,7 @@ place : (words : List (List ℕ)) (held : Held) (texts : Texts) (refusal : Refus
 place words held texts refusal (inl c) t = place_comes words held texts refusal c t
 place words held texts refusal (inr u) t =
     let asks = u.4 in
-    subst (Place words held) (sym u.0) (of_texts u.1 asks.texts NotBuilt asks.reads (unbuilt u.2 u.3 asks.declares asks.parsed u.5))
+    subst (Place words held) (sym u.0) (of_texts u.1 asks.texts NotBuilt asks.reads (unbuilt u.2 u.3 asks.declares asks.parsed u.6))
 
 -- the same number and the same line are the same refusal
 same_script : (number other line place : ℕ) → number ≡ other → line ≡ place → Script number line ≡ Script other place

@@ -2,6 +2,7 @@
 use Rattle.std.proofs.Common.{◌≡◌, ℕ, ◌⊎◌, List, refl, ap, ◌∙◌, Some, Option, inl, inr}
 use Rattle.gt_space.specs.Range.{Range}
 use Rattle.gt_io.specs.Held.{Held}
+use Rattle.gt_front.specs.Order.{Extent}
 use Rattle.gt_front.specs.Texts.{Texts}
 use Rattle.gt_front.specs.declared.refusal.FileWhy.TheVariants.{Missing, TooLong, Fault}
 use Rattle.gt_front.specs.declared.refusal.Refusal.{Refusal}
@@ -34,14 +35,14 @@ abbrev NoRun : Type 0
 NoRun = (words : List (List ℕ)) (held : Held) (texts : Texts) (refusal : Refusal) (answers : List Answer) (range : Range)
     → IsRefusedFirst words (Some held) texts refusal → IsTold refusal → Runs words (Some held) answers range → ⊥
 
-module _ (one : OneRefusal) (no_run : NoRun) (words : List (List ℕ)) (held : Held) (texts : Texts) (refusal : Refusal) (faulty : Option ℕ) (old new : Option (List ℕ)) (outcome : Outcome) (range : Range) where
-  pub Ends-refused : IsRefusedFirst words (Some held) texts refusal → IsTold refusal → Ends words (Some held) faulty old new outcome range
+module _ (one : OneRefusal) (no_run : NoRun) (words : List (List ℕ)) (held : Held) (texts : Texts) (refusal : Refusal) (read : Option Extent) (old new : Option (List ℕ)) (outcome : Outcome) (range : Range) where
+  pub Ends-refused : IsRefusedFirst words (Some held) texts refusal → IsTold refusal → Ends words (Some held) read old new outcome range
       → ((word : ℕ) → outcome.refusal ≡ Some (InFile word Fault) → ⊥)
       → ((outcome.refusal ≡ Some refusal) × (outcome.status ≡ refusal_status refusal)) ⊎ (outcome.status ≡ 4) ⊎ (outcome.status ≡ 9)
   Ends-refused first told ends no_fault =
       by_ending ends.ending ends.status ends.refusal ends.ended where
         by_ending : (ending : Ending) → outcome.status ≡ status_of ending outcome.answers → outcome.refusal ≡ refusal_of ending
-            → Ended words (Some held) faulty old ending outcome.answers new range
+            → Ended words (Some held) read old ending outcome.answers new range
             → ((outcome.refusal ≡ Some refusal) × (outcome.status ≡ refusal_status refusal)) ⊎ (outcome.status ≡ 4) ⊎ (outcome.status ≡ 9)
         by_ending Finished s r h = absurd (no_run words held texts refusal outcome.answers range first told h.0)
         by_ending (Refused other) s r h =

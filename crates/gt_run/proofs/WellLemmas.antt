@@ -18,6 +18,7 @@ use Rattle.gt_headers.specs.Headers.{Declares, IsFirstFault}
 use Rattle.gt_front.specs.Texts.{File, Texts, AreTextsOf, files_in_order}
 use Rattle.gt_front.specs.Asks.{Asks, AreTextsFor, Calls, Reads}
 use Rattle.gt_front.specs.Comes.{Comes, IsRefusedFile, IsRefusedFor, IsScriptFault}
+use Rattle.gt_front.specs.Order.{Extent}
 use Rattle.gt_front.specs.declared.refusal.FileWhy.{FileWhy}
 use Rattle.gt_front.specs.declared.refusal.FileWhy.TheVariants.{Missing, TooLong, Fault}
 use Rattle.gt_front.specs.declared.refusal.Refusal.{Refusal}
@@ -173,21 +174,21 @@ module _ (one : OneOutcome) (no_fault : NoFault) (words : List (List ℕ)) (told
   -- and so it is after them
   pub refused_well : (texts : Texts) (refusal : Refusal) → IsRefusedFirst words told texts refusal → IsReadFault refusal
   refused_well texts refusal (inl comes) = Comes-well texts refusal comes
-  refused_well texts refusal (inr unbuilt) = absurd (no_unbuilt unbuilt.1 unbuilt.2 unbuilt.3 unbuilt.4 unbuilt.5)
+  refused_well texts refusal (inr unbuilt) = absurd (no_unbuilt unbuilt.1 unbuilt.2 unbuilt.3 unbuilt.4 unbuilt.6)
 
 one_or_none : (b : Bool) (n : ℕ) → n ≡ cond b 1 0 → (n ≡ 0) ⊎ (n ≡ 1) ⊎ (n ≡ 9)
 one_or_none true n e = inr (inl e)
 one_or_none false n e = inl e
 
 -- where nothing is refused and nothing outside failed, the script is run to its end, or memory runs out
-pub Ends-well : (words : List (List ℕ)) (told : Option Held) (faulty : Option ℕ) (old new : Option (List ℕ)) (outcome : Outcome) (range : Range) (FileRose SinkRose : Type 0)
+pub Ends-well : (words : List (List ℕ)) (told : Option Held) (read : Option Extent) (old new : Option (List ℕ)) (outcome : Outcome) (range : Range) (FileRose SinkRose : Type 0)
     → ((texts : Texts) (refusal : Refusal) → IsRefusedFirst words told texts refusal → IsReadFault refusal) → (FileRose → ⊥) → (SinkRose → ⊥)
     → ((word : ℕ) → outcome.refusal ≡ Some (InFile word Fault) → FileRose) → (outcome.status ≡ 4 → SinkRose)
-    → Ends words told faulty old new outcome range → (outcome.status ≡ 0) ⊎ (outcome.status ≡ 1) ⊎ (outcome.status ≡ 9)
-Ends-well words told faulty old new outcome range FileRose SinkRose nothing no_file no_sink file_cause sink_cause ends =
+    → Ends words told read old new outcome range → (outcome.status ≡ 0) ⊎ (outcome.status ≡ 1) ⊎ (outcome.status ≡ 9)
+Ends-well words told read old new outcome range FileRose SinkRose nothing no_file no_sink file_cause sink_cause ends =
     ends_well ends.ending ends.status ends.refusal ends.ended where
       ends_well : (ending : Ending) → outcome.status ≡ status_of ending outcome.answers → outcome.refusal ≡ refusal_of ending
-          → Ended words told faulty old ending outcome.answers new range → (outcome.status ≡ 0) ⊎ (outcome.status ≡ 1) ⊎ (outcome.status ≡ 9)
+          → Ended words told read old ending outcome.answers new range → (outcome.status ≡ 0) ⊎ (outcome.status ≡ 1) ⊎ (outcome.status ≡ 9)
       ends_well Finished s r h = one_or_none (list_any is_refusal outcome.answers) outcome.status s
       ends_well (Refused refusal) s r h =
           let w = nothing h.2 refusal h.3 in

@@ -16,11 +16,12 @@ use Rattle.gt_next.specs.Laws.{IsBuilt}
 abbrev pub HasUnbuilt : List Line → Type 0
 HasUnbuilt lines = (line : Line) × Contains lines line × (IsBuilt line.command → ⊥)
 
--- what is refused first: up to the lines of the script; or else one of its commands is not built so far
+-- what is refused first, where these are the texts: up to the lines of the script; or else one of its commands is not built so far
 abbrev pub IsRefusedFirst : List (List ℕ) → Option Held → Texts → Refusal → Type 0
 IsRefusedFirst words told texts refusal =
     Comes words told texts refusal
-    ⊎ ((refusal ≡ NotBuilt) × (call : Call) × (program : Program) × (lines : List Line) × Asks words told call program lines × HasUnbuilt lines)
+    ⊎ ((refusal ≡ NotBuilt) × (call : Call) × (program : Program) × (lines : List Line) × (asks : Asks words told call program lines) × (asks.texts ≡ texts)
+    × HasUnbuilt lines)
 
 -- a refusal that the files tell: not the failure of a read
 abbrev pub IsTold : Refusal → Type 0

@@ -5,10 +5,9 @@ use Rattle.gt_space.specs.Range.{Range, empty_range}
 use Rattle.gt_io.specs.declared.fail.ReadFail.{ReadFail}
 use Rattle.gt_io.specs.Held.{Held}
 use Rattle.gt_io.specs.Appends.{Adds, AddsFront, IsFrontOf}
-use Rattle.gt_front.specs.Order.{FailsIn}
+use Rattle.gt_front.specs.Order.{HasRead, Extent, extent_for, whole}
 use Rattle.gt_front.specs.Texts.{Texts}
 use Rattle.gt_front.specs.Refused.{IsRefusalLine}
-use Rattle.gt_front.specs.declared.refusal.FileWhy.TheVariants.{Missing, TooLong, Fault}
 use Rattle.gt_front.specs.declared.refusal.Refusal.{Refusal}
 use Rattle.gt_front.specs.declared.refusal.Refusal.TheVariants.{Words, Header, Script, NotBuilt, File as InFile}
 use Rattle.gt_next.specs.declared.answer.Answer.{Answer}
@@ -27,41 +26,30 @@ Refuses refusal line taken takes SinkFailed = AddsFront taken line takes
 Refuses refusal line taken takes NoMemory = takes ≡ taken
 Refuses refusal line taken takes Finished = ⊥
 
--- by the reads of a store, the reading of the file at this place failed; where no place is named, nothing is said
-abbrev pub HasFailed : {F : Type 0} → (F → List ℕ → ℕ → Result (Option (List ℕ)) ReadFail → F → Type 0) → List (List ℕ) → F → Option ℕ → F → Type 0
-HasFailed reads words store (Some word) last = FailsIn reads words store word last
-HasFailed reads words store None last = Unit {0}
+-- this was read, by the reads of a store; where nothing is named, nothing is said
+abbrev pub WasRead : {F : Type 0} → (F → List ℕ → ℕ → Result (Option (List ℕ)) ReadFail → F → Type 0) → List (List ℕ) → F → Option Extent → F → Type 0
+WasRead reads words store (Some extent) last = HasRead reads words store extent last
+WasRead reads words store None last = Unit {0}
 
--- a read fault names the file whose reading failed; of other refusals nothing is said
-abbrev pub IsToldBy : (faulty : Option ℕ) → Refusal → Type 0
-IsToldBy faulty Words = Unit {0}
-IsToldBy faulty (InFile word Missing) = Unit {0}
-IsToldBy faulty (InFile word TooLong) = Unit {0}
-IsToldBy faulty (InFile word Fault) = faulty ≡ Some word
-IsToldBy faulty (Header fault) = Unit {0}
-IsToldBy faulty NotBuilt = Unit {0}
-IsToldBy faulty (Script number line) = Unit {0}
-
--- how the program ends, with its answers, what the sink took, and the bytes of the space; `faulty` is the place of the file whose
--- reading failed, if one did
--- finished: a run of all lines, and the text of its answers
--- refused: what comes first in the order of work, and its line, where a read fault is of the file whose reading failed; no command
--- ran, and the space is empty, as it came
--- the sink failed: a prefix of a refusal's line, where no command ran and the space is empty, as it came; or of the text of the
+-- how the program ends, with its answers, what the sink took, and the bytes of the space, where this was read
+-- finished: a run of all lines, by the texts that were read, and the text of its answers
+-- refused: what comes first in the order of work, by the texts that were read, with its line, where it was read as far as this refusal
+-- takes (`extent_for`); no command ran, and the space is empty, as it came
+-- the sink failed: a prefix of such a refusal's line, where no command ran and the space is empty, as it came; or of the text of the
 -- answers with all but the last whole
--- out of memory: no answer, where nothing was written and the space is empty, as it came; or some, and the text of the answers, or of
--- all but the last: the answers are those to the lines that were run
-abbrev pub Ended : List (List ℕ) → Option Held → (faulty : Option ℕ) → Option (List ℕ) → Ending → List Answer → Option (List ℕ) → Range → Type 0
-Ended words told faulty old Finished answers new range = (r : Runs words told answers range) × (r.left ≡ []) × Adds old (texts_of r.done answers) new
-Ended words told faulty old (Refused refusal) answers new range = (answers ≡ []) × (range ≡ empty_range) × (texts : Texts) × IsRefusedFirst words told texts refusal
-    × IsToldBy faulty refusal × (line : List ℕ) × IsRefusalLine words texts refusal line × Adds old line new
-Ended words told faulty old SinkFailed answers new range =
+-- out of memory: no answer, where nothing was written and the space is empty, as it came, and nothing is said of what was read; or some,
+-- and the text of the answers, or of all but the last: the answers are those to the lines that were run
+abbrev pub Ended : List (List ℕ) → Option Held → Option Extent → Option (List ℕ) → Ending → List Answer → Option (List ℕ) → Range → Type 0
+Ended words told read old Finished answers new range = (r : Runs words told answers range) × (read ≡ Some (whole r.asks.texts)) × (r.left ≡ []) × Adds old (texts_of r.done answers) new
+Ended words told read old (Refused refusal) answers new range = (answers ≡ []) × (range ≡ empty_range) × (texts : Texts) × IsRefusedFirst words told texts refusal
+    × (read ≡ Some (extent_for texts refusal)) × (line : List ℕ) × IsRefusalLine words texts refusal line × Adds old line new
+Ended words told read old SinkFailed answers new range =
     ((answers ≡ []) × (range ≡ empty_range) × (refusal : Refusal) × (texts : Texts) × IsRefusedFirst words told texts refusal
-    × IsToldBy faulty refusal × (line : List ℕ) × IsRefusalLine words texts refusal line × AddsFront old line new)
-    ⊎ ((r : Runs words told answers range) × AddsAllBut old r.done answers IsFrontOf new)
-Ended words told faulty old NoMemory answers new range =
+    × (read ≡ Some (extent_for texts refusal)) × (line : List ℕ) × IsRefusalLine words texts refusal line × AddsFront old line new)
+    ⊎ ((r : Runs words told answers range) × (read ≡ Some (whole r.asks.texts)) × AddsAllBut old r.done answers IsFrontOf new)
+Ended words told read old NoMemory answers new range =
     ((answers ≡ []) × (new ≡ old) × (range ≡ empty_range))
-    ⊎ ((answers ≡ [] → ⊥) × (r : Runs words told answers range) × (Adds old (texts_of r.done answers) new ⊎ AddsAllBut old r.done answers IsNothing new))
+    ⊎ ((answers ≡ [] → ⊥) × (r : Runs words told answers range) × (read ≡ Some (whole r.asks.texts)) × (Adds old (texts_of r.done answers) new ⊎ AddsAllBut old r.done answers IsNothing new))
 
 -- the status of a refusal: 3 for a file, else 2
 abbrev pub refusal_status : Refusal → ℕ
@@ -86,8 +74,8 @@ refusal_of SinkFailed = None
 refusal_of NoMemory = None
 
 -- the program ended in one of these ways, and told it
-pub record Ends (words : List (List ℕ)) (told : Option Held) (faulty : Option ℕ) (old new : Option (List ℕ)) (outcome : Outcome) (range : Range) : Type 0 where
+pub record Ends (words : List (List ℕ)) (told : Option Held) (read : Option Extent) (old new : Option (List ℕ)) (outcome : Outcome) (range : Range) : Type 0 where
   pub ending : Ending
   pub status : outcome.status ≡ status_of ending outcome.answers
   pub refusal : outcome.refusal ≡ refusal_of ending
-  pub ended : Ended words told faulty old ending outcome.answers new range
+  pub ended : Ended words told read old ending outcome.answers new range

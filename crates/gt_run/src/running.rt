@@ -10,7 +10,7 @@ ghost use Rattle.gt_words.specs.declared.call.Call.{Call};
 ghost use Rattle.gt_words.specs.Calls.{call_of};
 ghost use Rattle.gt_words.specs.Ranges.{IsInRange};
 ghost use Rattle.gt_front.specs.Asks.{Asks};
-ghost use Rattle.gt_front.specs.Order.{AskNoFile, FailsIn, IsReadFor};
+ghost use Rattle.gt_front.specs.Order.{AskNoFile, FailsIn, HasRead, IsReadFor, Extent, extent_for, whole};
 ghost use Rattle.gt_front.specs.Refused.{IsRefusalLine};
 ghost use Rattle.gt_front.specs.Texts.{Texts};
 ghost use Rattle.gt_next.specs.States.{State};
@@ -18,7 +18,7 @@ ghost use Rattle.gt_session.specs.Sessions.{IsSession, StandsFor};
 ghost use Rattle.gt_next.specs.Laws.{IsBuilt};
 ghost use Rattle.gt_run.specs.Comes.{IsRefusedFirst, IsTold};
 ghost use Rattle.gt_run.specs.Complete.{IsWell};
-ghost use Rattle.gt_run.specs.Ended.{Ends, HasFailed, IsToldBy, refusal_status};
+ghost use Rattle.gt_run.specs.Ended.{Ends, WasRead, refusal_status};
 ghost use Rattle.gt_run.specs.Runs.{Opens};
 
 use crate::built::are_built;
@@ -48,8 +48,8 @@ pub fn top<F: Files, K: Sink>(
     space: &mut Space,
 ) -> Outcome
     requires empty { space.old ≡ empty_range }
-    ensures ended { (faulty : Option ℕ) × HasFailed F.reads words.now files.old faulty files.new
-        × Ends words.now (F.told files.old) faulty (K.written out.old) (K.written out.new) result space.new }
+    ensures ended { (read : Option Extent) × WasRead F.reads words.now files.old read files.new
+        × Ends words.now (F.told files.old) read (K.written out.old) (K.written out.new) result space.new }
 
     // Where no line was answered, the space is empty, as it came, unless all is done.
     ensures unused { result.answers ≡ [] → (space.new ≡ empty_range) ⊎ (result.status ≡ 0) }
@@ -66,6 +66,11 @@ pub fn top<F: Files, K: Sink>(
 
     // With a generated script no file is read, nor where the arguments are refused.
     ensures no_file { AskNoFile words.now → files.new ≡ files.old }
+
+    // Up to a refusal this was read: where it is of the arguments, nothing; where it is of a file, each one before it in order, and then this
+    // one with the answer for which it is refused; and else each file once and in order, and it is refused by the texts that the reads gave.
+    ensures stopped { (refusal : Refusal) → result.refusal ≡ Some refusal
+        → (texts : Texts) × IsRefusedFirst words.now (F.told files.old) texts refusal × HasRead F.reads words.now files.old (extent_for texts refusal) files.new }
 
     // A read fault names the file whose reading failed, after each file before it was read.
     ensures failed { (word : ℕ) → result.refusal ≡ Some (Refusal.File word FileWhy.Fault) → FailsIn F.reads words.now files.old word files.new }
@@ -110,8 +115,8 @@ fn well_is_not_refused()
 // Where something is refused first, and no file's reading failed, it is what is told, or the sink failed, or memory runs out.
 // It does nothing: its clause is a law.
 fn refused_is_told()
-    ensures { (words : List (List ℕ)) (held : Held) (texts : Texts) (refusal : Refusal) (faulty : Option ℕ) (old new : Option (List ℕ)) (outcome : Outcome) (range : Range) → IsRefusedFirst words (Some held) texts refusal → IsTold refusal
-        → Ends words (Some held) faulty old new outcome range → ((word : ℕ) → outcome.refusal ≡ Some (Refusal.File word FileWhy.Fault) → ⊥)
+    ensures { (words : List (List ℕ)) (held : Held) (texts : Texts) (refusal : Refusal) (read : Option Extent) (old new : Option (List ℕ)) (outcome : Outcome) (range : Range) → IsRefusedFirst words (Some held) texts refusal → IsTold refusal
+        → Ends words (Some held) read old new outcome range → ((word : ℕ) → outcome.refusal ≡ Some (Refusal.File word FileWhy.Fault) → ⊥)
         → ((outcome.refusal ≡ Some refusal) × (outcome.status ≡ refusal_status refusal)) ⊎ (outcome.status ≡ 4) ⊎ (outcome.status ≡ 9) }
 {
     one_refusal();
@@ -130,7 +135,8 @@ fn run_ready<F: Files, K: Sink>(
     requires within { IsWithin ready.program ready.layouts }
     requires ranges { IsInRange ready.call }
     requires empty { space.old ≡ empty_range }
-    ensures ended { (words : List (List ℕ)) → Asks words (F.told files.old) ready.call ready.program ready.lines → Ends words (F.told files.old) None (K.written out.old) (K.written out.new) result space.new }
+    ensures ended { (words : List (List ℕ)) (asks : Asks words (F.told files.old) ready.call ready.program ready.lines)
+        → Ends words (F.told files.old) (Some (whole asks.texts)) (K.written out.old) (K.written out.new) result space.new }
     ensures refusal { IfSome result.refusal (λ refusal. refusal ≡ Refusal.NotBuilt) }
     ensures files { files.new ≡ files.old }
     ensures later { K.faults out.old ≤ K.faults out.new }
@@ -158,9 +164,9 @@ fn run_lines<F: Files, K: Sink>(
     requires session { IsSession session }
     requires built { All (λ line. IsBuilt line.command) lines.now }
     requires empty { space.old ≡ empty_range }
-    ensures ended { (words : List (List ℕ)) (call : Call) (opening : State) → Asks words (F.told files.old) call session.schema.program lines.now
+    ensures ended { (words : List (List ℕ)) (call : Call) (opening : State) (asks : Asks words (F.told files.old) call session.schema.program lines.now)
         → Opens session.schema.program call.settings (F.told files.old) opening → StandsFor session (F.told files.old) opening
-        → Ends words (F.told files.old) None (K.written out.old) (K.written out.new) result space.new }
+        → Ends words (F.told files.old) (Some (whole asks.texts)) (K.written out.old) (K.written out.new) result space.new }
     ensures refusal { result.refusal ≡ None }
     ensures files { files.new ≡ files.old }
     ensures later { K.faults out.old ≤ K.faults out.new }
@@ -173,7 +179,7 @@ fn run_lines<F: Files, K: Sink>(
 
 // Says that the script asks for what is not built so far.
 fn refuse_unbuilt<K: Sink>(alloc: Global, call: &Call, out: &mut K) -> Outcome
-    ensures ended { (words : List (List ℕ)) (told : Option Held) (texts : Texts) → call_of words ≡ Some call.now → IsRefusedFirst words told texts Refusal.NotBuilt → Ends words told None (K.written out.old) (K.written out.new) result empty_range }
+    ensures ended { (words : List (List ℕ)) (told : Option Held) (texts : Texts) → call_of words ≡ Some call.now → IsRefusedFirst words told texts Refusal.NotBuilt → Ends words told (Some (whole texts)) (K.written out.old) (K.written out.new) result empty_range }
     ensures refusal { IfSome result.refusal (λ refusal. refusal ≡ Refusal.NotBuilt) }
     ensures later { K.faults out.old ≤ K.faults out.new }
     ensures cause { result.status ≡ 4 → Rose (K.faults out.old) (K.faults out.new) }
@@ -186,8 +192,8 @@ fn refuse_unbuilt<K: Sink>(alloc: Global, call: &Call, out: &mut K) -> Outcome
 
 // Writes the line of a refusal, and ends with it.
 fn refused_outcome<K: Sink>(alloc: Global, refusal: Refusal, line: &[u8], out: &mut K) -> Outcome
-    ensures ended { (words : List (List ℕ)) (told : Option Held) (texts : Texts) (faulty : Option ℕ) → IsRefusedFirst words told texts refusal → IsToldBy faulty refusal
-        → IsRefusalLine words texts refusal line.now → Ends words told faulty (K.written out.old) (K.written out.new) result empty_range }
+    ensures ended { (words : List (List ℕ)) (told : Option Held) (texts : Texts) → IsRefusedFirst words told texts refusal
+        → IsRefusalLine words texts refusal line.now → Ends words told (Some (extent_for texts refusal)) (K.written out.old) (K.written out.new) result empty_range }
     ensures status { 2 ≤ result.status }
     ensures unanswered { result.answers ≡ [] }
     ensures refusal { IfSome result.refusal (λ told. told ≡ refusal) }

@@ -15,8 +15,8 @@ use Rattle.gt_types.specs.declared.program.Structure.{Structure}
 use Rattle.gt_types.specs.declared.program.Program.{Program}
 use Rattle.gt_types.specs.Paths.{LeadsToOwnPointer}
 use Rattle.gt_items.specs.declared.items.RawOption.{RawOption}
-use Rattle.gt_resolve.specs.declared.draft.Draft.{Draft}
-use Rattle.gt_resolve.specs.declared.draft.DraftStructure.{DraftStructure}
+use Rattle.gt_drafts.specs.declared.draft.Draft.{Draft}
+use Rattle.gt_drafts.specs.declared.draft.DraftStructure.{DraftStructure}
 use Rattle.gt_layout.specs.declared.planes.Plane.{Plane}
 use Rattle.gt_fields.specs.Places.{bind}
 use Rattle.gt_markers.specs.declared.TheConstants.{CHAIN_NOT_OWN_POINTER}

@@ -3,11 +3,11 @@ use Rattle.std.proofs.Common.{◌≡◌, ℕ, zero, suc, Bool, false, not, ◌&&
 use Rattle.std.specs.Prelude.{slice_get, is_none}
 use Rattle.std.specs.List.{flat_map}
 use Rattle.std.proofs.lemmas.Option.{none-some, same_Some}
-use Rattle.gt_resolve.specs.declared.draft.Draft.{Draft}
-use Rattle.gt_resolve.specs.declared.draft.DraftField.{DraftField}
-use Rattle.gt_resolve.specs.declared.draft.DraftRoot.{DraftRoot}
-use Rattle.gt_resolve.specs.declared.draft.DraftStructure.{DraftStructure}
-use Rattle.gt_resolve.specs.Drafts.{has_skip}
+use Rattle.gt_drafts.specs.declared.draft.Draft.{Draft}
+use Rattle.gt_drafts.specs.declared.draft.DraftField.{DraftField}
+use Rattle.gt_drafts.specs.declared.draft.DraftRoot.{DraftRoot}
+use Rattle.gt_drafts.specs.declared.draft.DraftStructure.{DraftStructure}
+use Rattle.gt_drafts.specs.Options.{has_skip}
 use Rattle.gt_markers.specs.Expressions.{constants, constants_and_roots}
 use Rattle.gt_markers.specs.MarkerFaults.{is_empty, is_unmarked, is_untyped, field_faults, fields_faults, structure_faults, root_faults, cache_faults, draft_faults}
 use Rattle.gt_markers.specs.Sites.{at_field, at_root, at_structure, marker_faults}

@@ -15,11 +15,11 @@ use Rattle.gt_types.specs.Paths.{LeadsToNumber, IsOption, IsFieldDesc}
 use Rattle.gt_types.specs.Settled.{NamesFit, NamesStanding, NamesSortable, NamesDescribed}
 use Rattle.gt_items.specs.declared.items.RawOption.{RawOption}
 use Rattle.gt_layout.specs.declared.planes.Plane.{Plane}
-use Rattle.gt_resolve.specs.declared.types.BaseType.TheVariants as base
-use Rattle.gt_resolve.specs.declared.draft.Draft.{Draft}
-use Rattle.gt_resolve.specs.declared.draft.DraftField.{DraftField}
-use Rattle.gt_resolve.specs.declared.draft.DraftStructure.{DraftStructure}
-use Rattle.gt_resolve.specs.Drafts.{has_option, has_skip}
+use Rattle.gt_drafts.specs.declared.types.BaseType.TheVariants as base
+use Rattle.gt_drafts.specs.declared.draft.Draft.{Draft}
+use Rattle.gt_drafts.specs.declared.draft.DraftField.{DraftField}
+use Rattle.gt_drafts.specs.declared.draft.DraftStructure.{DraftStructure}
+use Rattle.gt_drafts.specs.Options.{has_option, has_skip}
 use Rattle.gt_markers.specs.declared.TheConstants.{WRONG_PLACE, MISSING_DESC, BAD_PATH}
 use Rattle.gt_markers.specs.declared.kinds.OptionKind.TheVariants.{Reorder}
 use Rattle.gt_markers.specs.declared.type_options.TypeOptions.{TypeOptions}

@@ -22,11 +22,11 @@ use Rattle.gt_types.specs.Tails.{elements_of, elements_at}
 use Rattle.gt_types.specs.Settled.{EndsInPointers, NamesStanding, NamesSortable, NamesDescribed}
 use Rattle.gt_items.specs.declared.items.Stars.{Stars}
 use Rattle.gt_items.specs.declared.items.Stars.TheVariants.{Zero, One, Two, More}
-use Rattle.gt_resolve.specs.declared.types.Amount.{Amount}
-use Rattle.gt_resolve.specs.declared.types.BaseType.TheVariants as base
-use Rattle.gt_resolve.specs.declared.types.DeclaredType.{DeclaredType}
-use Rattle.gt_resolve.specs.declared.draft.Draft.{Draft}
-use Rattle.gt_resolve.specs.Faults.{is_zero}
+use Rattle.gt_drafts.specs.declared.types.Amount.{Amount}
+use Rattle.gt_drafts.specs.declared.types.BaseType.TheVariants as base
+use Rattle.gt_drafts.specs.declared.types.DeclaredType.{DeclaredType}
+use Rattle.gt_drafts.specs.declared.draft.Draft.{Draft}
+use Rattle.gt_drafts.specs.Undefined.{is_zero}
 use Rattle.gt_markers.specs.declared.type_options.TypeOptions.{TypeOptions}
 use Rattle.gt_markers.specs.Typing.{amount, arrays, desc_at, kind_by, node, of_elements}
 use Rattle.gt_settled.proofs.Types.{Single, number, structure, atomic, pointer, pointers, string, strings, undefined, Walked, bits, single, array, tail}

@@ -9,10 +9,10 @@ use Rattle.gt_types.specs.declared.program.Structure.{Structure}
 use Rattle.gt_types.specs.declared.program.Program.{Program}
 use Rattle.gt_types.specs.Contains.{HasStructure, ContainsStructure, ContainsAtDepth, Nests, once, deeper, held_by}
 use Rattle.gt_layout.specs.declared.planes.Plane.{Plane}
-use Rattle.gt_resolve.specs.declared.draft.Draft.{Draft}
-use Rattle.gt_resolve.specs.declared.draft.DraftField.{DraftField}
-use Rattle.gt_resolve.specs.declared.draft.DraftStructure.{DraftStructure}
-use Rattle.gt_resolve.specs.Shapes.{Holds, directly, through, IsNested, held_at, held_in, held_type}
+use Rattle.gt_drafts.specs.declared.draft.Draft.{Draft}
+use Rattle.gt_drafts.specs.declared.draft.DraftField.{DraftField}
+use Rattle.gt_drafts.specs.declared.draft.DraftStructure.{DraftStructure}
+use Rattle.gt_drafts.specs.Shapes.{Holds, directly, through, IsNested, held_at, held_in, held_type}
 use Rattle.gt_markers.specs.Expressions.{constants}
 use Rattle.gt_markers.specs.Sound.{IsSound, IsSoundField, IsSoundStructure}
 use Rattle.gt_declare.specs.Programs.{field_of, field_type, program_by}

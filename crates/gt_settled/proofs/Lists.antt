@@ -5,8 +5,8 @@ use Rattle.std.specs.List.{cons_option, flat_map}
 use Rattle.std.proofs.lemmas.List.Elements.{All-nil, All-cons, All-head, All-tail}
 use Rattle.std.proofs.lemmas.List.Kept.{AllPairs-cons}
 use Rattle.std.proofs.lemmas.Option.{none-some, same_Some, slice_get_within, slice_get-get_or, get_or_from_slice_get}
-use Rattle.gt_resolve.specs.Faults.{fault_if}
-use Rattle.gt_resolve.specs.Shapes.{is_nil}
+use Rattle.gt_drafts.specs.FirstFaults.{fault_if}
+use Rattle.gt_drafts.specs.Shapes.{is_nil}
 
 -- ---- no faults
 

@@ -14,11 +14,11 @@ use Rattle.gt_types.specs.Shapes.{is_unscanned}
 use Rattle.gt_types.specs.Unions.{AreApart}
 use Rattle.gt_items.specs.declared.items.RawOption.{RawOption}
 use Rattle.gt_layout.specs.declared.planes.Plane.{Plane}
-use Rattle.gt_resolve.specs.declared.types.DeclaredType.{DeclaredType}
-use Rattle.gt_resolve.specs.declared.draft.Draft.{Draft}
-use Rattle.gt_resolve.specs.declared.draft.DraftField.{DraftField}
-use Rattle.gt_resolve.specs.declared.draft.DraftStructure.{DraftStructure}
-use Rattle.gt_resolve.specs.Drafts.{has_option, has_skip}
+use Rattle.gt_drafts.specs.declared.types.DeclaredType.{DeclaredType}
+use Rattle.gt_drafts.specs.declared.draft.Draft.{Draft}
+use Rattle.gt_drafts.specs.declared.draft.DraftField.{DraftField}
+use Rattle.gt_drafts.specs.declared.draft.DraftStructure.{DraftStructure}
+use Rattle.gt_drafts.specs.Options.{has_option, has_skip}
 use Rattle.gt_markers.specs.declared.TheConstants.{DUPLICATE_TAG}
 use Rattle.gt_markers.specs.declared.kinds.OptionKind.TheVariants as kinds
 use Rattle.gt_markers.specs.Actives.{active_of, tag_of, without_tag}

@@ -18,14 +18,14 @@ use Rattle.gt_items.specs.declared.items.RawOption.{RawOption}
 use Rattle.gt_items.specs.declared.items.Stars.{Stars}
 use Rattle.gt_items.specs.declared.items.Stars.TheVariants.{One}
 use Rattle.gt_layout.specs.declared.planes.Plane.{Plane}
-use Rattle.gt_resolve.specs.declared.types.BaseType.{BaseType}
-use Rattle.gt_resolve.specs.declared.types.BaseType.TheVariants as base
-use Rattle.gt_resolve.specs.declared.draft.Draft.{Draft}
-use Rattle.gt_resolve.specs.declared.draft.DraftRoot.{DraftRoot}
-use Rattle.gt_resolve.specs.declared.draft.DraftStructure.{DraftStructure}
-use Rattle.gt_resolve.specs.Drafts.{has_option, has_skip}
-use Rattle.gt_resolve.specs.Faults.{is_zero}
-use Rattle.gt_resolve.specs.Shapes.{held_type, is_nil}
+use Rattle.gt_drafts.specs.declared.types.BaseType.{BaseType}
+use Rattle.gt_drafts.specs.declared.types.BaseType.TheVariants as base
+use Rattle.gt_drafts.specs.declared.draft.Draft.{Draft}
+use Rattle.gt_drafts.specs.declared.draft.DraftRoot.{DraftRoot}
+use Rattle.gt_drafts.specs.declared.draft.DraftStructure.{DraftStructure}
+use Rattle.gt_drafts.specs.Options.{has_option, has_skip}
+use Rattle.gt_drafts.specs.Undefined.{is_zero}
+use Rattle.gt_drafts.specs.Shapes.{held_type, is_nil}
 use Rattle.gt_markers.specs.declared.TheConstants.{WRONG_PLACE, MISSING_DESC, BAD_PATH}
 use Rattle.gt_markers.specs.declared.kinds.OptionKind.TheVariants.{Skip, Length, Deletable, MaybeUndef, StringLength, Reorder}
 use Rattle.gt_markers.specs.declared.type_options.TypeOptions.{TypeOptions}

@@ -34,16 +34,16 @@ use Rattle.gt_layout.specs.declared.storages.Storage.TheVariants.{Bytes, Bits}
 use Rattle.gt_layout.specs.Storages.{bytes_of, extent, extent_at, extent_of, extent_of_plane, extent_step, storage_of, storages_of}
 use Rattle.gt_layout.specs.Places.{Lie, ends, end_at, align_of}
 use Rattle.gt_layout.specs.Planes.{AreLaidOut, IsPlane, IsPlaneOf, greatest, is_alignment, is_placeable}
-use Rattle.gt_resolve.specs.declared.types.Amount.{Amount}
-use Rattle.gt_resolve.specs.declared.types.BaseType.{BaseType}
-use Rattle.gt_resolve.specs.declared.types.BaseType.TheVariants as base
-use Rattle.gt_resolve.specs.declared.types.DeclaredType.{DeclaredType}
-use Rattle.gt_resolve.specs.declared.draft.Draft.{Draft}
-use Rattle.gt_resolve.specs.declared.draft.DraftField.{DraftField}
-use Rattle.gt_resolve.specs.declared.draft.DraftStructure.{DraftStructure}
-use Rattle.gt_resolve.specs.Drafts.{has_option, has_skip, has_length}
-use Rattle.gt_resolve.specs.Faults.{has_no_target, is_sizeless, is_undefined_type, is_unknown, is_zero, names_undefined}
-use Rattle.gt_resolve.specs.Shapes.{IsNested, IsTail, struct_tail, union_tail, ends_in_tail, held_type, is_nil, member_structure, structure_by_value}
+use Rattle.gt_drafts.specs.declared.types.Amount.{Amount}
+use Rattle.gt_drafts.specs.declared.types.BaseType.{BaseType}
+use Rattle.gt_drafts.specs.declared.types.BaseType.TheVariants as base
+use Rattle.gt_drafts.specs.declared.types.DeclaredType.{DeclaredType}
+use Rattle.gt_drafts.specs.declared.draft.Draft.{Draft}
+use Rattle.gt_drafts.specs.declared.draft.DraftField.{DraftField}
+use Rattle.gt_drafts.specs.declared.draft.DraftStructure.{DraftStructure}
+use Rattle.gt_drafts.specs.Options.{has_option, has_skip, has_length}
+use Rattle.gt_drafts.specs.Undefined.{has_no_target, is_sizeless, is_undefined_type, is_unknown, is_zero, names_undefined}
+use Rattle.gt_drafts.specs.Shapes.{IsNested, IsTail, struct_tail, union_tail, ends_in_tail, held_type, is_nil, member_structure, structure_by_value}
 use Rattle.gt_markers.specs.declared.type_options.TypeOptions.{TypeOptions}
 use Rattle.gt_markers.specs.Expressions.{constants}
 use Rattle.gt_markers.specs.MarkerFaults.{draft_faults, is_empty}

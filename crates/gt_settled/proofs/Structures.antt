@@ -18,10 +18,10 @@ use Rattle.gt_types.specs.Settled.{IsField, IsStruct, IsUnion, IsOfItsKind, IsSt
 use Rattle.gt_types.specs.Tails.{only_last_is_tail, no_tails}
 use Rattle.gt_types.specs.Unions.{AreApart, IsMember}
 use Rattle.gt_layout.specs.declared.planes.Plane.{Plane}
-use Rattle.gt_resolve.specs.declared.draft.Draft.{Draft}
-use Rattle.gt_resolve.specs.declared.draft.DraftField.{DraftField}
-use Rattle.gt_resolve.specs.declared.draft.DraftStructure.{DraftStructure}
-use Rattle.gt_resolve.specs.Drafts.{has_skip}
+use Rattle.gt_drafts.specs.declared.draft.Draft.{Draft}
+use Rattle.gt_drafts.specs.declared.draft.DraftField.{DraftField}
+use Rattle.gt_drafts.specs.declared.draft.DraftStructure.{DraftStructure}
+use Rattle.gt_drafts.specs.Options.{has_skip}
 use Rattle.gt_markers.specs.Actives.{active_of}
 use Rattle.gt_markers.specs.Expressions.{constants}
 use Rattle.gt_markers.specs.MarkerFaults.{draft_faults}

@@ -13,12 +13,12 @@ use Rattle.gt_types.specs.Shapes.{is_tail, is_structure}
 use Rattle.gt_types.specs.Contains.{HasStructure, held_by, itself}
 use Rattle.gt_types.specs.Tails.{IsTailType, ends, has_member, elements_at, elements_of, tail_of, only_last_is_tail, no_tails}
 use Rattle.gt_layout.specs.declared.planes.Plane.{Plane}
-use Rattle.gt_resolve.specs.declared.draft.Draft.{Draft}
-use Rattle.gt_resolve.specs.declared.draft.DraftField.{DraftField}
-use Rattle.gt_resolve.specs.declared.draft.DraftStructure.{DraftStructure}
-use Rattle.gt_resolve.specs.declared.types.DeclaredType.{DeclaredType}
-use Rattle.gt_resolve.specs.Drafts.{has_option, has_skip, has_length}
-use Rattle.gt_resolve.specs.Shapes.{IsTail, struct_tail, union_tail, ends_in_tail, is_tail_array, is_nil, member_structure, held_type}
+use Rattle.gt_drafts.specs.declared.draft.Draft.{Draft}
+use Rattle.gt_drafts.specs.declared.draft.DraftField.{DraftField}
+use Rattle.gt_drafts.specs.declared.draft.DraftStructure.{DraftStructure}
+use Rattle.gt_drafts.specs.declared.types.DeclaredType.{DeclaredType}
+use Rattle.gt_drafts.specs.Options.{has_option, has_skip, has_length}
+use Rattle.gt_drafts.specs.Shapes.{IsTail, struct_tail, union_tail, ends_in_tail, is_tail_array, is_nil, member_structure, held_type}
 use Rattle.gt_markers.specs.declared.kinds.OptionKind.TheVariants.{Length}
 use Rattle.gt_markers.specs.Expressions.{constants}
 use Rattle.gt_markers.specs.MarkerFaults.{is_empty, is_untyped}

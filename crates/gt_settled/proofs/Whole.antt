@@ -15,11 +15,11 @@ use Rattle.gt_types.specs.Paths.{MayStand}
 use Rattle.gt_types.specs.Settled.{Settled, IsCache, IsRoot, IsTypeWord, global_names}
 use Rattle.gt_layout.specs.Planes.{AreLaidOut}
 use Rattle.gt_layout.specs.declared.planes.Plane.{Plane}
-use Rattle.gt_resolve.specs.declared.draft.Draft.{Draft}
-use Rattle.gt_resolve.specs.declared.draft.DraftCache.{DraftCache}
-use Rattle.gt_resolve.specs.declared.draft.DraftRoot.{DraftRoot}
-use Rattle.gt_resolve.specs.declared.draft.DraftStructure.{DraftStructure}
-use Rattle.gt_resolve.specs.declared.draft.DraftWord.{DraftWord}
+use Rattle.gt_drafts.specs.declared.draft.Draft.{Draft}
+use Rattle.gt_drafts.specs.declared.draft.DraftCache.{DraftCache}
+use Rattle.gt_drafts.specs.declared.draft.DraftRoot.{DraftRoot}
+use Rattle.gt_drafts.specs.declared.draft.DraftStructure.{DraftStructure}
+use Rattle.gt_drafts.specs.declared.draft.DraftWord.{DraftWord}
 use Rattle.gt_markers.specs.declared.TheConstants.{CACHE_SHAPE}
 use Rattle.gt_markers.specs.MarkerFaults.{draft_faults}
 use Rattle.gt_markers.specs.Sound.{IsSound}

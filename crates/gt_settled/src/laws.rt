@@ -1,7 +1,7 @@
 // Laws on what headers declare, for callers to cite. The functions do nothing.
 ghost use Rattle.gt_types.specs.declared.program.Program.{Program};
 ghost use Rattle.gt_types.specs.Settled.{Settled};
-ghost use Rattle.gt_resolve.specs.declared.draft.Draft.{Draft};
+ghost use Rattle.gt_drafts.specs.declared.draft.Draft.{Draft};
 ghost use Rattle.gt_markers.specs.Sound.{IsSound};
 ghost use Rattle.gt_rules.specs.Faults.{Declares};
 ghost use Rattle.gt_options.specs.declared.settling.Settlement.TheVariants as Settlement;

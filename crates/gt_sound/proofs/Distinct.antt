@@ -12,15 +12,18 @@ use Rattle.gt_types.specs.Names.{IsName}
 use Rattle.gt_items.specs.declared.items.Stars.{Stars}
 use Rattle.gt_items.specs.declared.items.Stars.TheVariants.{Zero, One}
 use Rattle.gt_resolve.specs.declared.TheConstants.{REDEFINED}
-use Rattle.gt_resolve.specs.declared.types.BaseType.{BaseType}
-use Rattle.gt_resolve.specs.declared.types.BaseType.TheVariants as base
-use Rattle.gt_resolve.specs.declared.declaration.Declaration.{Declaration}
-use Rattle.gt_resolve.specs.declared.declaration.What.{What}
-use Rattle.gt_resolve.specs.declared.declaration.What.TheVariants.{Structure, Typedef, Root, Cache}
-use Rattle.gt_resolve.specs.declared.meaning.TypeName.{TypeName}
-use Rattle.gt_resolve.specs.declared.draft.DraftWord.{DraftWord}
-use Rattle.gt_resolve.specs.Faults.{same_bool, is_tag, agree, clashes, redefinitions, fault_if}
-use Rattle.gt_resolve.specs.Meanings.{as_typedef, with_name, typedef_names}
+use Rattle.gt_drafts.specs.declared.types.BaseType.{BaseType}
+use Rattle.gt_drafts.specs.declared.types.BaseType.TheVariants as base
+use Rattle.gt_scope.specs.declared.declaration.Declaration.{Declaration}
+use Rattle.gt_scope.specs.declared.declaration.What.{What}
+use Rattle.gt_scope.specs.declared.declaration.What.TheVariants.{Structure, Typedef, Root, Cache}
+use Rattle.gt_scope.specs.declared.meaning.TypeName.{TypeName}
+use Rattle.gt_drafts.specs.declared.draft.DraftWord.{DraftWord}
+use Rattle.gt_drafts.specs.Sameness.{same_bool}
+use Rattle.gt_resolve.specs.Faults.{is_tag, agree, clashes, redefinitions}
+use Rattle.gt_drafts.specs.FirstFaults.{fault_if}
+use Rattle.gt_scope.specs.Meanings.{as_typedef, typedef_names}
+use Rattle.gt_names.specs.Lists.{with_name}
 use Rattle.gt_resolve.specs.Drafts.{word_by, word_of}
 use Rattle.gt_sound.proofs.Lists.{nil_front, nil_back, no_fault, AllPairs-nil, AllPairs-append, pairs_head, pairs_tail}
 use Rattle.gt_sound.proofs.Names.{Kind, tags, roots, caches, is_of, name_if, picked, Words, HasWord}

@@ -9,7 +9,7 @@ use Rattle.gt_lex.specs.declared.tokens.Define.{Define}
 use Rattle.gt_lex.specs.Texts.{IsLexed}
 use Rattle.gt_items.specs.declared.items.Item.{Item}
 use Rattle.gt_items.specs.declared.items.Items.{Items}
-use Rattle.gt_parse.specs.declared.lexeme.Lexeme.{Lexeme}
+use Rattle.gt_search.specs.declared.lexeme.Lexeme.{Lexeme}
 use Rattle.gt_parse.specs.Header.{AreItems, Declare}
 use Rattle.gt_parse.specs.ItemGrammar.{AnItem}
 use Rattle.gt_parse.specs.Reading.{item_at}

@@ -4,7 +4,7 @@ use Rattle.std.specs.Prelude.{All, AllPairs, IfSome, find}
 use Rattle.std.specs.List.{filter_map, cons_option, flat_map}
 use Rattle.std.proofs.lemmas.List.Elements.{All-nil, All-cons, All-head, All-tail, All-append}
 use Rattle.std.proofs.lemmas.List.Kept.{AllPairs-cons}
-use Rattle.gt_resolve.specs.Faults.{fault_if}
+use Rattle.gt_drafts.specs.FirstFaults.{fault_if}
 
 -- ---- no faults
 

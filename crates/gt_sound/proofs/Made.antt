@@ -11,15 +11,16 @@ use Rattle.gt_items.specs.declared.items.Item.TheVariants as item
 use Rattle.gt_items.specs.declared.items.Items.{Items}
 use Rattle.gt_items.specs.declared.items.RawField.{RawField}
 use Rattle.gt_items.specs.declared.items.RawType.{RawType}
-use Rattle.gt_resolve.specs.declared.declaration.Declaration.{Declaration}
-use Rattle.gt_resolve.specs.declared.meaning.TypeName.{TypeName}
-use Rattle.gt_resolve.specs.declared.draft.Draft.{Draft}
-use Rattle.gt_resolve.specs.declared.draft.DraftCache.{DraftCache}
-use Rattle.gt_resolve.specs.declared.draft.DraftField.{DraftField}
-use Rattle.gt_resolve.specs.declared.draft.DraftRoot.{DraftRoot}
-use Rattle.gt_resolve.specs.declared.draft.DraftStructure.{DraftStructure}
-use Rattle.gt_resolve.specs.Drafts.{has_length, amount_in, field_of, fields_in, structure_item, root_item, cache_item, items_from}
-use Rattle.gt_resolve.specs.Spelling.{spelled_of}
+use Rattle.gt_scope.specs.declared.declaration.Declaration.{Declaration}
+use Rattle.gt_scope.specs.declared.meaning.TypeName.{TypeName}
+use Rattle.gt_drafts.specs.declared.draft.Draft.{Draft}
+use Rattle.gt_drafts.specs.declared.draft.DraftCache.{DraftCache}
+use Rattle.gt_drafts.specs.declared.draft.DraftField.{DraftField}
+use Rattle.gt_drafts.specs.declared.draft.DraftRoot.{DraftRoot}
+use Rattle.gt_drafts.specs.declared.draft.DraftStructure.{DraftStructure}
+use Rattle.gt_drafts.specs.Options.{has_length}
+use Rattle.gt_resolve.specs.Drafts.{amount_in, field_of, fields_in, structure_item, root_item, cache_item, items_from}
+use Rattle.gt_scope.specs.Spelling.{spelled_of}
 use Rattle.gt_markers.specs.Sound.{AreWellFormed, NamesStructure}
 use Rattle.gt_sound.specs.WellMade.{IsWellMade, IsWellMadeItem, IsWellMadeField, IsWellMadeDeclarator}
 use Rattle.gt_sound.proofs.Lists.{All-filtered, All-flattened}

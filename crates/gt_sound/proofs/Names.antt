@@ -20,14 +20,14 @@ use Rattle.gt_items.specs.declared.items.RawEnum.{RawEnum}
 use Rattle.gt_items.specs.declared.items.RawStructure.{RawStructure}
 use Rattle.gt_items.specs.declared.items.Enumerator.{Enumerator}
 use Rattle.gt_items.specs.declared.items.Enumerator.TheVariants as enumerator
-use Rattle.gt_resolve.specs.declared.types.Spelled.{Spelled}
-use Rattle.gt_resolve.specs.declared.types.Spelled.TheVariants.{Number, Tagged}
-use Rattle.gt_resolve.specs.declared.declaration.Declaration.{Declaration}
-use Rattle.gt_resolve.specs.declared.declaration.What.{What}
-use Rattle.gt_resolve.specs.declared.declaration.What.TheVariants.{Structure, Enum, Constant, Typedef, Root, Cache}
-use Rattle.gt_resolve.specs.declared.meaning.TypeName.{TypeName}
-use Rattle.gt_resolve.specs.Spelling.{fixed_of}
-use Rattle.gt_resolve.specs.Declarations.{Progress, define_of, defines_before, up_to, declare, is_in_range, with_constant, enumerate, next_count, value_at, enumerators, enum_tag, declare_enum, keyword_of, declare_alias, declare_aliases, declare_structure, meaning_type, declare_typedef, declare_item, declare_items, declare_file, declare_files, nothing_declared, declarations}
+use Rattle.gt_scope.specs.declared.types.Spelled.{Spelled}
+use Rattle.gt_scope.specs.declared.types.Spelled.TheVariants.{Number, Tagged}
+use Rattle.gt_scope.specs.declared.declaration.Declaration.{Declaration}
+use Rattle.gt_scope.specs.declared.declaration.What.{What}
+use Rattle.gt_scope.specs.declared.declaration.What.TheVariants.{Structure, Enum, Constant, Typedef, Root, Cache}
+use Rattle.gt_scope.specs.declared.meaning.TypeName.{TypeName}
+use Rattle.gt_scope.specs.Spelling.{fixed_of}
+use Rattle.gt_scope.specs.Declarations.{Progress, define_of, defines_before, up_to, declare, is_in_range, with_constant, enumerate, next_count, value_at, enumerators, enum_tag, declare_enum, keyword_of, declare_alias, declare_aliases, declare_structure, meaning_type, declare_typedef, declare_item, declare_items, declare_file, declare_files, nothing_declared, declarations}
 use Rattle.gt_resolve.specs.Drafts.{structure_item, root_item, cache_item, items_from}
 use Rattle.gt_sound.specs.WellMade.{IsWellMade, IsWellMadeItem, IsWellMadeStructure}
 

@@ -3,14 +3,14 @@ use Rattle.std.proofs.Common.{◌≡◌, ℕ, ◌≤◌, List, [], ◌∷◌, le
 use Rattle.std.specs.Prelude.{All}
 use Rattle.std.proofs.lemmas.Bool.{true≢false}
 use Rattle.std.proofs.lemmas.List.Elements.{All-nil, All-cons}
-use Rattle.gt_parse.specs.declared.lexeme.Lexeme.{Lexeme}
-use Rattle.gt_parse.specs.declared.lexeme.Lexeme.TheVariants as lexeme
-use Rattle.gt_parse.specs.Outcome.{Outcome}
+use Rattle.gt_search.specs.declared.lexeme.Lexeme.{Lexeme}
+use Rattle.gt_search.specs.declared.lexeme.Lexeme.TheVariants as lexeme
+use Rattle.gt_marked.specs.Outcome.{Outcome}
 use Rattle.gt_expr.specs.declared.raw.RawExpr.{RawExpr}
 use Rattle.gt_expr.specs.Expression.{IsExpression, expression_of}
 use Rattle.gt_items.specs.declared.items.Declarator.{Declarator}
 use Rattle.gt_items.specs.declared.items.RawField.{RawField}
-use Rattle.gt_parse.specs.FieldGrammar.{Bounds, Bits, PlainDeclarator, ADeclarator, Declarators, Field, FieldsToBrace}
+use Rattle.gt_marked.specs.FieldGrammar.{Bounds, Bits, PlainDeclarator, ADeclarator, Declarators, Field, FieldsToBrace}
 use Rattle.gt_sound.specs.WellMade.{IsWellMadeDeclarator, IsWellMadeField}
 use Rattle.gt_sound.proofs.ReadMarkers.{AreNamed, Keeps, failed_keeps, unexpected_keeps, named_right, qualifiers_read, stars_read, maybe_marker_read, type_read}
 

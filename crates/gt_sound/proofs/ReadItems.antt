@@ -3,9 +3,9 @@ use Rattle.std.proofs.Common.{◌≡◌, ℕ, Bool, List, [], ◌∷◌, Option,
 use Rattle.std.specs.Prelude.{All, IfSome}
 use Rattle.std.proofs.lemmas.List.Elements.{All-nil, All-cons}
 use Rattle.gt_types.specs.Names.{IsName}
-use Rattle.gt_parse.specs.declared.lexeme.Lexeme.{Lexeme}
-use Rattle.gt_parse.specs.declared.lexeme.Lexeme.TheVariants as lexeme
-use Rattle.gt_parse.specs.Outcome.{Outcome, Read, Stops, Ends}
+use Rattle.gt_search.specs.declared.lexeme.Lexeme.{Lexeme}
+use Rattle.gt_search.specs.declared.lexeme.Lexeme.TheVariants as lexeme
+use Rattle.gt_marked.specs.Outcome.{Outcome, Read, Stops, Ends}
 use Rattle.gt_expr.specs.declared.raw.RawExpr.{RawExpr}
 use Rattle.gt_expr.specs.Expression.{IsExpression, expression_of}
 use Rattle.gt_items.specs.declared.items.Alias.{Alias}
@@ -17,9 +17,9 @@ use Rattle.gt_items.specs.declared.items.PointedType.{PointedType}
 use Rattle.gt_items.specs.declared.items.RawEnum.{RawEnum}
 use Rattle.gt_items.specs.declared.items.RawOption.{RawOption}
 use Rattle.gt_parse.specs.ItemGrammar.{EnumBody, UnmarkedEnum, HasBody, HasMeaning, Aliases, FirstForm, StarredName, LastName, UnmarkedTypedef, UnmarkedItem, AnItem}
-use Rattle.gt_parse.specs.MarkedGrammar.{TagAndMarker, AnAlias, AStructure, ARoot, APointed, Traits, ACache, AGlobal, MarkedItem}
-use Rattle.gt_parse.specs.MarkerGrammar.{Failure, Fault, Early, failed}
-use Rattle.gt_parse.specs.declared.lexeme.Bracket.TheVariants.{Round}
+use Rattle.gt_marked.specs.MarkedGrammar.{TagAndMarker, AnAlias, AStructure, ARoot, APointed, Traits, ACache, AGlobal, MarkedItem}
+use Rattle.gt_marked.specs.MarkerGrammar.{Failure, Fault, Early, failed}
+use Rattle.gt_search.specs.declared.lexeme.Bracket.TheVariants.{Round}
 use Rattle.gt_parse.specs.Unmarked.{opaque_typedef}
 use Rattle.gt_markers.specs.Sound.{AreWellFormed}
 use Rattle.gt_sound.specs.WellMade.{IsWellMadeItem}

@@ -3,9 +3,9 @@ use Rattle.std.proofs.Common.{◌≡◌, ℕ, List, [], ◌∷◌, ◌++◌, Res
 use Rattle.std.specs.Prelude.{All}
 use Rattle.std.proofs.lemmas.List.Elements.{All-nil, All-cons}
 use Rattle.gt_types.specs.Names.{IsName}
-use Rattle.gt_parse.specs.declared.lexeme.Lexeme.{Lexeme}
-use Rattle.gt_parse.specs.declared.lexeme.Lexeme.TheVariants as lexeme
-use Rattle.gt_parse.specs.Outcome.{Outcome, Read, Stops, Ends, unexpected}
+use Rattle.gt_search.specs.declared.lexeme.Lexeme.{Lexeme}
+use Rattle.gt_search.specs.declared.lexeme.Lexeme.TheVariants as lexeme
+use Rattle.gt_marked.specs.Outcome.{Outcome, Read, Stops, Ends, unexpected}
 use Rattle.gt_expr.specs.declared.raw.RawExpr.{RawExpr}
 use Rattle.gt_expr.specs.Expression.{IsExpression, expression_of}
 use Rattle.gt_items.specs.declared.items.Combination.{Combination}
@@ -13,9 +13,9 @@ use Rattle.gt_items.specs.declared.items.Parameter.{Parameter}
 use Rattle.gt_items.specs.declared.items.RawOption.{RawOption}
 use Rattle.gt_items.specs.declared.items.RawType.{RawType}
 use Rattle.gt_items.specs.declared.items.Stars.{Stars}
-use Rattle.gt_parse.specs.declared.types.Place.{Place}
-use Rattle.gt_parse.specs.MarkerGrammar.{Failure, Fault, Early, failed, IsParameter, Joins, AnOption, Options, MaybeOptions, Marker, MaybeMarker}
-use Rattle.gt_parse.specs.TypeGrammar.{Qualifiers, AreStars, MoreWords, BareType, AType}
+use Rattle.gt_marked.specs.declared.types.Place.{Place}
+use Rattle.gt_marked.specs.MarkerGrammar.{Failure, Fault, Early, failed, IsParameter, Joins, AnOption, Options, MaybeOptions, Marker, MaybeMarker}
+use Rattle.gt_marked.specs.TypeGrammar.{Qualifiers, AreStars, MoreWords, BareType, AType}
 use Rattle.gt_sound.proofs.Expressions.{IsFormedParameter, absent_formed, text_formed, expression_formed}
 
 -- ---- names among tokens

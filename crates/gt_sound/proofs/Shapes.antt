@@ -9,14 +9,17 @@ use Rattle.std.proofs.lemmas.Option.{slice_get_within}
 use Rattle.std.proofs.lemmas.List.Elements.{All-nil, All-cons, All-weaker}
 use Rattle.std.proofs.lemmas.List.Kept.{AllPairs-cons}
 use Rattle.gt_items.specs.declared.items.RawOption.{RawOption}
-use Rattle.gt_resolve.specs.declared.TheConstants.{REDEFINED, UNDEFINED, BY_VALUE_CYCLE, BAD_BOUND, TOO_MANY, MAX_STRUCTURES, MAX_FIELDS, MAX_ROOTS, MAX_DEPTH}
-use Rattle.gt_resolve.specs.declared.types.DeclaredType.{DeclaredType}
-use Rattle.gt_resolve.specs.declared.draft.DraftField.{DraftField}
-use Rattle.gt_resolve.specs.declared.draft.DraftRoot.{DraftRoot}
-use Rattle.gt_resolve.specs.declared.draft.DraftStructure.{DraftStructure}
-use Rattle.gt_resolve.specs.Drafts.{has_skip}
-use Rattle.gt_resolve.specs.Faults.{fault_if, is_undefined_type, is_bad_type, is_tail_type, is_misused_tail, fields_faults, structure_faults, structures_faults, roots_faults}
-use Rattle.gt_resolve.specs.Shapes.{Holds, directly, through, IsNested, IsTail, struct_tail, union_tail, AreShapes, held_at, held_type, is_nil}
+use Rattle.gt_resolve.specs.declared.TheConstants.{REDEFINED, UNDEFINED, BY_VALUE_CYCLE, BAD_BOUND, TOO_MANY}
+use Rattle.gt_types.specs.declared.limits.TheConstants.{MAX_STRUCTURES, MAX_FIELDS, MAX_ROOTS, MAX_DEPTH}
+use Rattle.gt_drafts.specs.declared.types.DeclaredType.{DeclaredType}
+use Rattle.gt_drafts.specs.declared.draft.DraftField.{DraftField}
+use Rattle.gt_drafts.specs.declared.draft.DraftRoot.{DraftRoot}
+use Rattle.gt_drafts.specs.declared.draft.DraftStructure.{DraftStructure}
+use Rattle.gt_drafts.specs.Options.{has_skip}
+use Rattle.gt_drafts.specs.FirstFaults.{fault_if}
+use Rattle.gt_drafts.specs.Undefined.{is_undefined_type}
+use Rattle.gt_resolve.specs.Faults.{is_bad_type, is_misused_tail, fields_faults, structure_faults, structures_faults, roots_faults}
+use Rattle.gt_drafts.specs.Shapes.{has_flag, Holds, directly, through, IsNested, IsTail, struct_tail, union_tail, AreShapes, held_at, held_type, is_nil}
 use Rattle.gt_sound.proofs.Lists.{nil_front, nil_back, no_fault, AllPairs-nil}
 use Rattle.gt_sound.proofs.Distinct.{any_none, unequal, All-left, All-last}
 
@@ -80,8 +83,8 @@ module _ (tails : List Bool) where
   free_structures cyclic deep place (s ∷ ss) none =
       let first = structure_faults cyclic deep tails place s in
       let rest = structures_faults cyclic deep tails (suc place) ss in
-      let cycle = fault_if (is_tail_type cyclic place) BY_VALUE_CYCLE s.file s.tag.at in
-      let many = fault_if (is_tail_type deep place || nat_le MAX_STRUCTURES place) TOO_MANY s.file s.tag.at in
+      let cycle = fault_if (has_flag cyclic place) BY_VALUE_CYCLE s.file s.tag.at in
+      let many = fault_if (has_flag deep place || nat_le MAX_STRUCTURES place) TOO_MANY s.file s.tag.at in
       let fields = nil_back (cycle ++ many) (fields_faults tails s.file s.is_union [] s.fields) (nil_front first rest none) in
       All-cons IsFreeStructure s ss
       (record { fields = free_fields s.file s.is_union [] s.fields fields; distinct = (apart_fields s.file s.is_union [] s.fields fields).1 })
@@ -103,33 +106,33 @@ module _ (tails : List Bool) where
 
   -- no flag of a cycle or of a depth is set
   no_flags : (cyclic deep : List Bool) (place : ℕ) (ss : List DraftStructure) → structures_faults cyclic deep tails place ss ≡ []
-      → (i : ℕ) → i < length ss → (is_tail_type cyclic (place + i) ≡ false) × (is_tail_type deep (place + i) ≡ false)
+      → (i : ℕ) → i < length ss → (has_flag cyclic (place + i) ≡ false) × (has_flag deep (place + i) ≡ false)
   unfolding structures_faults
   no_flags cyclic deep place [] none i l = absurd (omega (arith, l))
   no_flags cyclic deep place (s ∷ ss) none zero l =
       let first = structure_faults cyclic deep tails place s in
       let rest = structures_faults cyclic deep tails (suc place) ss in
-      let cycle = fault_if (is_tail_type cyclic place) BY_VALUE_CYCLE s.file s.tag.at in
-      let many = fault_if (is_tail_type deep place || nat_le MAX_STRUCTURES place) TOO_MANY s.file s.tag.at in
+      let cycle = fault_if (has_flag cyclic place) BY_VALUE_CYCLE s.file s.tag.at in
+      let many = fault_if (has_flag deep place || nat_le MAX_STRUCTURES place) TOO_MANY s.file s.tag.at in
       let tag = nil_front (cycle ++ many) (fields_faults tails s.file s.is_union [] s.fields) (nil_front first rest none) in
       let same : place ≡ place + 0 = omega arith in (
-        subst (λ n. is_tail_type cyclic n ≡ false) same (no_fault (is_tail_type cyclic place) BY_VALUE_CYCLE s.file s.tag.at (nil_front cycle many tag)),
-        subst (λ n. is_tail_type deep n ≡ false) same
-            (or_parts (is_tail_type deep place) (nat_le MAX_STRUCTURES place) (no_fault (is_tail_type deep place || nat_le MAX_STRUCTURES place) TOO_MANY s.file s.tag.at (nil_back cycle many tag))).0,
+        subst (λ n. has_flag cyclic n ≡ false) same (no_fault (has_flag cyclic place) BY_VALUE_CYCLE s.file s.tag.at (nil_front cycle many tag)),
+        subst (λ n. has_flag deep n ≡ false) same
+            (or_parts (has_flag deep place) (nat_le MAX_STRUCTURES place) (no_fault (has_flag deep place || nat_le MAX_STRUCTURES place) TOO_MANY s.file s.tag.at (nil_back cycle many tag))).0,
       )
   no_flags cyclic deep place (s ∷ ss) none (suc i) l =
       let first = structure_faults cyclic deep tails place s in
       let rest = structures_faults cyclic deep tails (suc place) ss in
       let same : suc place + i ≡ place + suc i = omega arith in
       let more = no_flags cyclic deep (suc place) ss (nil_back first rest none) i (omega (arith, l)) in
-      (subst (λ n. is_tail_type cyclic n ≡ false) same more.0, subst (λ n. is_tail_type deep n ≡ false) same more.1)
+      (subst (λ n. has_flag cyclic n ≡ false) same more.0, subst (λ n. has_flag deep n ≡ false) same more.1)
 
   pub no_flag : (cyclic deep : List Bool) (ss : List DraftStructure) → structures_faults cyclic deep tails 0 ss ≡ []
-      → (i : ℕ) → i < length ss → (is_tail_type cyclic i ≡ false) × (is_tail_type deep i ≡ false)
+      → (i : ℕ) → i < length ss → (has_flag cyclic i ≡ false) × (has_flag deep i ≡ false)
   no_flag cyclic deep ss none i l =
       let more = no_flags cyclic deep 0 ss none i l in
       let same : 0 + i ≡ i = omega arith in
-      (subst (λ n. is_tail_type cyclic n ≡ false) same more.0, subst (λ n. is_tail_type deep n ≡ false) same more.1)
+      (subst (λ n. has_flag cyclic n ≡ false) same more.0, subst (λ n. has_flag deep n ≡ false) same more.1)
 
 -- ---- flags
 
@@ -189,7 +192,7 @@ module _ (ss : List DraftStructure) (cyclic deep tails : List Bool) (shapes : Ar
 
   -- ---- tails
 
-  tail_flag : (i : ℕ) → IsTail ss i → is_tail_type tails i ≡ true
+  tail_flag : (i : ℕ) → IsTail ss i → has_flag tails i ≡ true
   tail_flag i tail = set_flag (slice_get tails i) ((shapes.tail_types i (tail_within ss i tail)).1 tail)
 
   may_stand : (in_union single skipped : Bool) → not (in_union && single && not skipped) ≡ false → (in_union ≡ true) × (single ≡ true) × (skipped ≡ false)
@@ -201,9 +204,9 @@ module _ (ss : List DraftStructure) (cyclic deep tails : List Bool) (shapes : Ar
   pub keeps_tail : (in_union : Bool) (options : List RawOption) (t : DeclaredType) → is_misused_tail tails in_union options t ≡ false
       → (id : ℕ) → held_type t ≡ Some id → IsTail ss id → (in_union ≡ true) × (is_nil t.bounds ≡ true) × (has_skip options ≡ false)
   keeps_tail in_union options t h id held tail =
-      let at : (is_tail_type tails id && not (in_union && is_nil t.bounds && not (has_skip options))) ≡ false =
-      sym (ap (λ o. option_map_or (λ i. is_tail_type tails i && not (in_union && is_nil t.bounds && not (has_skip options))) o false) held) ∙ h in
-      elim (and_cases (is_tail_type tails id) (not (in_union && is_nil t.bounds && not (has_skip options))) at) [
+      let at : (has_flag tails id && not (in_union && is_nil t.bounds && not (has_skip options))) ≡ false =
+      sym (ap (λ o. option_map_or (λ i. has_flag tails i && not (in_union && is_nil t.bounds && not (has_skip options))) o false) held) ∙ h in
+      elim (and_cases (has_flag tails id) (not (in_union && is_nil t.bounds && not (has_skip options))) at) [
         | inl off ↦ absurd (true≢false (sym (tail_flag id tail) ∙ off))
         | inr may ↦ may_stand in_union (is_nil t.bounds) (has_skip options) may
       ]

@@ -7,18 +7,18 @@ use Rattle.std.proofs.lemmas.List.Elements.{All-head, All-tail, All-weaker}
 use Rattle.gt_items.specs.declared.items.Keyword.{Keyword}
 use Rattle.gt_items.specs.declared.items.Stars.{Stars}
 use Rattle.gt_items.specs.declared.items.Stars.TheVariants.{Zero, One, Two, More}
-use Rattle.gt_resolve.specs.declared.types.Spelled.{Spelled}
-use Rattle.gt_resolve.specs.declared.types.Spelled.TheVariants as spelled
-use Rattle.gt_resolve.specs.declared.types.BaseType.{BaseType}
-use Rattle.gt_resolve.specs.declared.types.BaseType.TheVariants.{Number, Float, Double, Sizeless, Structure, Undefined}
-use Rattle.gt_resolve.specs.declared.types.Resolved.{Resolved}
-use Rattle.gt_resolve.specs.declared.meaning.TypeName.{TypeName}
-use Rattle.gt_resolve.specs.declared.declaration.Declaration.{Declaration}
-use Rattle.gt_resolve.specs.declared.declaration.What.{What}
-use Rattle.gt_resolve.specs.declared.declaration.What.TheVariants as what
-use Rattle.gt_resolve.specs.declared.draft.Draft.{Draft}
-use Rattle.gt_resolve.specs.Declarations.{first_some}
-use Rattle.gt_resolve.specs.Meanings.{as_tag, tag_in, is_keyword_of, defined_type, tagged_type, type_of_tag, plain_type, typedef_in, is_transparent, opaque, transparent, following, means_after, follow_type, follow_typedef, follow, IsMeaning, AreTypeNames, meaning_in, with_stars, resolved_type}
+use Rattle.gt_scope.specs.declared.types.Spelled.{Spelled}
+use Rattle.gt_scope.specs.declared.types.Spelled.TheVariants as spelled
+use Rattle.gt_drafts.specs.declared.types.BaseType.{BaseType}
+use Rattle.gt_drafts.specs.declared.types.BaseType.TheVariants.{Number, Float, Double, Sizeless, Structure, Undefined}
+use Rattle.gt_drafts.specs.declared.types.Resolved.{Resolved}
+use Rattle.gt_scope.specs.declared.meaning.TypeName.{TypeName}
+use Rattle.gt_scope.specs.declared.declaration.Declaration.{Declaration}
+use Rattle.gt_scope.specs.declared.declaration.What.{What}
+use Rattle.gt_scope.specs.declared.declaration.What.TheVariants as what
+use Rattle.gt_drafts.specs.declared.draft.Draft.{Draft}
+use Rattle.gt_names.specs.Entries.{first_some}
+use Rattle.gt_scope.specs.Meanings.{as_tag, tag_in, is_keyword_of, defined_type, tagged_type, type_of_tag, plain_type, typedef_in, is_transparent, opaque, transparent, following, means_after, follow_type, follow_typedef, follow, IsMeaning, AreTypeNames, meaning_in, with_stars, resolved_type}
 use Rattle.gt_markers.specs.Sound.{NamesStructure}
 use Rattle.gt_sound.proofs.Lists.{IfSome-if, IfSome-find, IfSome-at}
 use Rattle.gt_sound.proofs.Names.{IsBelow}

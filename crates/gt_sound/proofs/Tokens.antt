@@ -16,14 +16,14 @@ use Rattle.gt_lex.specs.Extents.{IsIdentifier, Reaches}
 use Rattle.gt_lex.specs.Parts.{Space, Block, Line, Continuation, Item, Piece, Plain, Directive, piece_spelling, text_of}
 use Rattle.gt_lex.specs.Texts.{IsLexed, Stands, ArePieces, fresh_after, token_at, tokens_from}
 use Rattle.gt_items.specs.declared.items.Keyword.TheVariants as keyword
-use Rattle.gt_parse.specs.declared.lexeme.Bracket.TheVariants.{Round, Square, Brace}
-use Rattle.gt_parse.specs.declared.lexeme.TypeWord.TheVariants as word
-use Rattle.gt_parse.specs.declared.lexeme.Spot.{Spot}
-use Rattle.gt_parse.specs.declared.lexeme.Lexeme.{Lexeme}
-use Rattle.gt_parse.specs.declared.lexeme.Lexeme.TheVariants as lexeme
-use Rattle.gt_parse.specs.declared.search.End.{End}
-use Rattle.gt_parse.specs.Lexemes.{type_lexeme, identifier_lexeme, mark_lexeme, lexeme_of, spot_in, lexemes_of}
-use Rattle.gt_parse.specs.Search.{Searches}
+use Rattle.gt_search.specs.declared.lexeme.Bracket.TheVariants.{Round, Square, Brace}
+use Rattle.gt_search.specs.declared.lexeme.TypeWord.TheVariants as word
+use Rattle.gt_search.specs.declared.lexeme.Spot.{Spot}
+use Rattle.gt_search.specs.declared.lexeme.Lexeme.{Lexeme}
+use Rattle.gt_search.specs.declared.lexeme.Lexeme.TheVariants as lexeme
+use Rattle.gt_search.specs.declared.search.End.{End}
+use Rattle.gt_search.specs.Lexemes.{type_lexeme, identifier_lexeme, mark_lexeme, lexeme_of, spot_in, lexemes_of}
+use Rattle.gt_search.specs.Search.{Searches}
 use Rattle.gt_sound.proofs.Words.{continues_name, starts_continues, all_names}
 use Rattle.gt_sound.proofs.ReadMarkers.{Named, AreNamed, named_left, named_right}
 

@@ -1,13 +1,11 @@
 -- A type that is made from a declarator and has no fault is sound.
-use Rattle.std.proofs.Common.{◌≡◌, ◌∙◌, ℕ, ◌≤◌, ℤ, pos, negsuc, int_le, Bool, true, false, not, ◌&&◌, ◌||◌, List, [], ◌∷◌, length, map, Option, Some, None, Result, Ok, Err, refl, sym, ap, subst, nat_lt, nat_le, if◌then◌else◌}
+use Rattle.std.proofs.Common.{◌≡◌, ◌∙◌, ℕ, ◌≤◌, ℤ, pos, negsuc, int_le, Bool, true, false, not, ◌&&◌, ◌||◌, List, [], ◌∷◌, length, map, Option, Some, None, Result, Ok, Err, refl, sym, ap, nat_lt, nat_le, if◌then◌else◌}
 use Rattle.std.specs.Prelude.{All, IfSome}
 use Rattle.std.specs.Option.{option_map_or}
 use Rattle.std.specs.List.{list_any}
 use Rattle.std.proofs.lemmas.Bool.{or_parts, and_parts, true≢false, not-false, ltb-false, leb-true}
 use Rattle.std.proofs.lemmas.List.Elements.{All-nil, All-cons, All-head, All-tail}
 use Rattle.gt_types.specs.declared.types.Scalar.{Scalar}
-use Rattle.gt_types.specs.declared.types.Scalar.TheVariants as scalar
-use Rattle.gt_types.specs.declared.types.Width.TheVariants.{W1, W2, W4, W8}
 use Rattle.gt_types.specs.Shapes.{bits_of}
 use Rattle.gt_expr.specs.declared.raw.RawExpr.{RawExpr}
 use Rattle.gt_expr.specs.Expression.{expression_of}
@@ -15,21 +13,21 @@ use Rattle.gt_types.specs.declared.expressions.Expr.{Expr}
 use Rattle.gt_items.specs.declared.items.RawOption.{RawOption}
 use Rattle.gt_items.specs.declared.items.Stars.{Stars}
 use Rattle.gt_items.specs.declared.items.Stars.TheVariants.{Zero, One, Two, More}
-use Rattle.gt_resolve.specs.declared.TheConstants.{MAX_DIMENSIONS}
-use Rattle.gt_resolve.specs.declared.types.Amount.{Amount}
-use Rattle.gt_resolve.specs.declared.types.Amount.TheVariants.{Unread, NoExpression, NoValue, Is}
-use Rattle.gt_resolve.specs.declared.types.Amount.TheVariants as amount
-use Rattle.gt_resolve.specs.declared.types.BaseType.{BaseType}
-use Rattle.gt_resolve.specs.declared.types.BaseType.TheVariants.{Number, Float, Double, Sizeless, Structure, Undefined, Unknown}
-use Rattle.gt_resolve.specs.declared.types.DeclaredType.{DeclaredType}
-use Rattle.gt_resolve.specs.declared.declaration.Declaration.{Declaration}
-use Rattle.gt_resolve.specs.declared.draft.Draft.{Draft}
-use Rattle.gt_resolve.specs.Amounts.{has_path, with_values, constant_value, amount_of, amount_of_value, amount_of_reading}
-use Rattle.gt_resolve.specs.Declarations.{constant_in}
-use Rattle.gt_resolve.specs.Drafts.{has_length, amount_in, bounds_of}
+use Rattle.gt_types.specs.declared.limits.TheConstants.{MAX_DIMENSIONS}
+use Rattle.gt_drafts.specs.declared.types.Amount.{Amount}
+use Rattle.gt_drafts.specs.declared.types.Amount.TheVariants.{Unread, NoExpression, NoValue, Is}
+use Rattle.gt_drafts.specs.declared.types.Amount.TheVariants as amount
+use Rattle.gt_drafts.specs.declared.types.BaseType.{BaseType}
+use Rattle.gt_drafts.specs.declared.types.BaseType.TheVariants.{Number, Float, Double, Sizeless, Structure, Undefined, Unknown}
+use Rattle.gt_drafts.specs.declared.types.DeclaredType.{DeclaredType}
+use Rattle.gt_scope.specs.declared.declaration.Declaration.{Declaration}
+use Rattle.gt_drafts.specs.declared.draft.Draft.{Draft}
+use Rattle.gt_drafts.specs.Amounts.{has_path, with_values, constant_value, amount_of, amount_of_value, amount_of_reading}
+use Rattle.gt_scope.specs.Declarations.{constant_in}
+use Rattle.gt_drafts.specs.Options.{has_length}
+use Rattle.gt_resolve.specs.Drafts.{amount_in, bounds_of}
 use Rattle.gt_resolve.specs.Faults.{is_bad_bound, is_bad_count, is_bad_field, unit_bits, is_misused_tail, is_bad_type}
-use Rattle.gt_resolve.specs.Faults as faults
-use Rattle.gt_resolve.specs.Shapes.{AreShapes, is_nil}
+use Rattle.gt_drafts.specs.Shapes.{AreShapes, is_nil}
 use Rattle.gt_markers.specs.Sound.{IsBound, AreBounds, IsBitCount, NamesStructure, IsSoundType}
 use Rattle.gt_sound.proofs.Distinct.{any_none}
 use Rattle.gt_sound.proofs.Shapes.{IsFree, keeps_tail}
@@ -113,13 +111,6 @@ are_bounds false (bound ∷ bounds) r h = bounds_good (bound ∷ bounds) r h
 
 -- ---- bits
 
-same_bits : (s : Scalar) → faults.bits_of s ≡ bits_of s
-same_bits scalar.Bool = refl
-same_bits (scalar.Int W1 signed) = refl
-same_bits (scalar.Int W2 signed) = refl
-same_bits (scalar.Int W4 signed) = refl
-same_bits (scalar.Int W8 signed) = refl
-
 -- the count of a bit-field of a number
 abbrev IsCount : BaseType → Stars → Amount → Type 0
 IsCount base stars a = (n : ℕ) × (a ≡ Is (pos n)) × (1 ≤ n) × (stars ≡ Zero) × ((s : Scalar) × (is_char : Bool) × (base ≡ Number s is_char) × (n ≤ bits_of s))
@@ -131,14 +122,14 @@ no_count amount.Undefined = refl
 no_count NoValue = refl
 no_count (Is n) = refl
 
-number_count : (s : Scalar) (is_char : Bool) (a : Amount) → is_bad_count (Some (faults.bits_of s)) a ≡ false → IsCount (Number s is_char) Zero a
+number_count : (s : Scalar) (is_char : Bool) (a : Amount) → is_bad_count (Some (bits_of s)) a ≡ false → IsCount (Number s is_char) Zero a
 number_count s is_char Unread h = absurd (true≢false h)
 number_count s is_char NoExpression h = absurd (true≢false h)
 number_count s is_char amount.Undefined h = absurd (true≢false h)
 number_count s is_char NoValue h = absurd (true≢false h)
 number_count s is_char (Is n) h =
-    let k = from1 (faults.bits_of s) n h in
-    (k.0, ap (λ m. Is m) k.1, k.2, refl, (s, is_char, refl, subst (λ m. k.0 ≤ m) (same_bits s) k.3))
+    let k = from1 (bits_of s) n h in
+    (k.0, ap (λ m. Is m) k.1, k.2, refl, (s, is_char, refl, k.3))
 
 count_good : (base : BaseType) (stars : Stars) (a : Amount) → is_bad_count (unit_bits (record { base = base; stars = stars })) a ≡ false → IsCount base stars a
 count_good (Number s is_char) Zero a h = number_count s is_char a h

@@ -9,15 +9,15 @@ use Rattle.gt_types.specs.declared.faults.Fault.{Fault}
 use Rattle.gt_items.specs.declared.items.Items.{Items}
 use Rattle.gt_items.specs.declared.items.Stars.{Stars}
 use Rattle.gt_items.specs.declared.items.Stars.TheVariants.{Zero, One}
-use Rattle.gt_resolve.specs.declared.TheConstants.{MAX_STRUCTURES, MAX_FIELDS, MAX_ROOTS, MAX_CACHES}
-use Rattle.gt_resolve.specs.declared.types.BaseType.{BaseType}
-use Rattle.gt_resolve.specs.declared.types.BaseType.TheVariants as base
-use Rattle.gt_resolve.specs.declared.declaration.Declaration.{Declaration}
-use Rattle.gt_resolve.specs.declared.draft.Draft.{Draft}
-use Rattle.gt_resolve.specs.declared.draft.DraftField.{DraftField}
-use Rattle.gt_resolve.specs.declared.draft.DraftRoot.{DraftRoot}
-use Rattle.gt_resolve.specs.declared.draft.DraftStructure.{DraftStructure}
-use Rattle.gt_resolve.specs.Declarations.{declarations}
+use Rattle.gt_types.specs.declared.limits.TheConstants.{MAX_STRUCTURES, MAX_FIELDS, MAX_ROOTS, MAX_CACHES}
+use Rattle.gt_drafts.specs.declared.types.BaseType.{BaseType}
+use Rattle.gt_drafts.specs.declared.types.BaseType.TheVariants as base
+use Rattle.gt_scope.specs.declared.declaration.Declaration.{Declaration}
+use Rattle.gt_drafts.specs.declared.draft.Draft.{Draft}
+use Rattle.gt_drafts.specs.declared.draft.DraftField.{DraftField}
+use Rattle.gt_drafts.specs.declared.draft.DraftRoot.{DraftRoot}
+use Rattle.gt_drafts.specs.declared.draft.DraftStructure.{DraftStructure}
+use Rattle.gt_scope.specs.Declarations.{declarations}
 use Rattle.gt_resolve.specs.Drafts.{word_by, word_of}
 use Rattle.gt_resolve.specs.Faults.{faults_of, redefinitions, structures_faults, roots_faults, caches_faults}
 use Rattle.gt_resolve.specs.Resolution.{Resolves}

@@ -6,7 +6,7 @@ ghost use Rattle.gt_lex.specs.declared.tokens.Define.{Define};
 ghost use Rattle.gt_lex.specs.Texts.{IsLexed};
 ghost use Rattle.gt_markers.specs.Sound.{IsSound};
 ghost use Rattle.gt_parse.specs.Header.{AreItems};
-ghost use Rattle.gt_resolve.specs.declared.draft.Draft.{Draft};
+ghost use Rattle.gt_drafts.specs.declared.draft.Draft.{Draft};
 ghost use Rattle.gt_resolve.specs.Resolution.{Resolves};
 ghost use Rattle.gt_sound.specs.WellMade.{IsWellMade};
 

@@ -112,6 +112,6 @@ impl Ord for Word {
     ghost matches_eq = { texts_ties };
 
     fn cmp(&self, other: &Word) -> Ordering {
-        self.text.chars().cmp(other.text.chars())
+        self.text.as_str().cmp(other.text.as_str())
     }
 }

@@ -2,7 +2,7 @@
 use Rattle.std.proofs.Common.{◌≡◌, ◌∙◌, ◌⊎◌, inl, inr, ℕ, zero, suc, ◌*◌, ◌≤◌, ◌<◌, min, sym, ap, arith, mul_assoc, zero-mul, ◌-◌, List, [], ◌∷◌, length, take, drop}
 use Rattle.std.proofs.Math.ListN.{get_or}
 use Rattle.std.proofs.lemmas.List.{take_rest}
-use Rattle.gt_resolve.specs.declared.types.Amount.{Amount}
+use Rattle.gt_drafts.specs.declared.types.Amount.{Amount}
 use Rattle.gt_markers.specs.Typing.{amount, elements}
 use Rattle.std.proofs.lemmas.Bool.{cases_lt}
 use Rattle.std.proofs.lemmas.Nat.{mul-le}

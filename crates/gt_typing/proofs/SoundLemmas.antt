@@ -6,11 +6,11 @@ use Rattle.gt_types.specs.declared.types.Scalar.{Scalar}
 use Rattle.gt_types.specs.declared.types.Scalar.TheVariants as scalar
 use Rattle.gt_types.specs.declared.types.Width.TheVariants.{W1, W2, W4, W8}
 use Rattle.gt_types.specs.Shapes.{bits_of}
-use Rattle.gt_resolve.specs.declared.types.Amount.{Amount}
-use Rattle.gt_resolve.specs.declared.types.BaseType.{BaseType}
-use Rattle.gt_resolve.specs.declared.types.BaseType.TheVariants as base
-use Rattle.gt_resolve.specs.declared.types.DeclaredType.{DeclaredType}
-use Rattle.gt_resolve.specs.declared.draft.Draft.{Draft}
+use Rattle.gt_drafts.specs.declared.types.Amount.{Amount}
+use Rattle.gt_drafts.specs.declared.types.BaseType.{BaseType}
+use Rattle.gt_drafts.specs.declared.types.BaseType.TheVariants as base
+use Rattle.gt_drafts.specs.declared.types.DeclaredType.{DeclaredType}
+use Rattle.gt_drafts.specs.declared.draft.Draft.{Draft}
 use Rattle.gt_markers.specs.Typing.{amount}
 use Rattle.gt_markers.specs.Sound.{IsBound, AreBounds, IsBitCount, NamesStructure}
 use Rattle.gt_typing.specs.SmallTypes.{IsSmall, HasSmallId, IsSmallType}

@@ -1,9 +1,9 @@
 -- Types whose numbers fit, as those of each draft that headers resolve to do.
 use Rattle.std.specs.Prelude.{◌<◌, ◌^◌, IfSome, All}
-use Rattle.gt_resolve.specs.declared.types.Amount.{Amount}
-use Rattle.gt_resolve.specs.declared.types.BaseType.{BaseType}
-use Rattle.gt_resolve.specs.declared.types.BaseType.TheVariants.{Structure}
-use Rattle.gt_resolve.specs.declared.types.DeclaredType.{DeclaredType}
+use Rattle.gt_drafts.specs.declared.types.Amount.{Amount}
+use Rattle.gt_drafts.specs.declared.types.BaseType.{BaseType}
+use Rattle.gt_drafts.specs.declared.types.BaseType.TheVariants.{Structure}
+use Rattle.gt_drafts.specs.declared.types.DeclaredType.{DeclaredType}
 use Rattle.gt_markers.specs.Typing.{amount}
 
 -- a number of elements fits 32 bits

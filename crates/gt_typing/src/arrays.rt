@@ -3,7 +3,7 @@ ghost use Rattle.std.specs.Prelude.{◌≡◌, ◌<◌, ◌^◌, IfOk, All, opti
 ghost use Rattle.gt_markers.specs.Typing.{amount, arrays, array_type, bits_type};
 ghost use Rattle.gt_typing.specs.SmallTypes.{IsSmall};
 
-use gt_resolve::{Amount, BaseType};
+use gt_drafts::{Amount, BaseType};
 use gt_types::{Boxed, Expr, Ty};
 use std::alloc::{AllocError, Global};
 

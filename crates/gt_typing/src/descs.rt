@@ -1,12 +1,12 @@
 // The `desc` of a union.
 ghost use Rattle.std.specs.Prelude.{◌≡◌, IfOk};
-ghost use Rattle.gt_resolve.specs.declared.draft.Draft.{Draft};
+ghost use Rattle.gt_drafts.specs.declared.draft.Draft.{Draft};
 ghost use Rattle.gt_markers.specs.Lookups.{IsLookupOf};
 ghost use Rattle.gt_markers.specs.Typing.{own_desc, used_desc, desc_at};
 
 use crate::sayings::expression_named;
+use gt_drafts::{Draft, DraftStructure};
 use gt_markers::{Lookup, Scope};
-use gt_resolve::{Draft, DraftStructure};
 use gt_types::Expr;
 use std::alloc::{AllocError, Global};
 

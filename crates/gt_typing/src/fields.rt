@@ -8,10 +8,10 @@ ghost use Rattle.gt_typing.specs.SmallTypes.{IsSmallType};
 use crate::sayings::type_options;
 use crate::skipped::{or_opaque, skipped_type};
 use crate::walked::walked_type;
+use gt_drafts::{DeclaredType, Draft};
 use gt_items::RawOption;
 use gt_layout::Plane;
 use gt_markers::{Lookup, Scope, has_skip};
-use gt_resolve::{DeclaredType, Draft};
 use gt_types::Ty;
 use std::alloc::{AllocError, Global};
 

@@ -2,13 +2,13 @@
 ghost use Rattle.std.specs.Prelude.{◌≡◌, ◌<◌, ◌^◌, ℕ, true, List};
 ghost use Rattle.gt_types.specs.declared.types.Scalar.{Scalar};
 ghost use Rattle.gt_items.specs.declared.items.Keyword.{Keyword};
-ghost use Rattle.gt_resolve.specs.declared.types.BaseType.TheVariants.{Structure, Number, Undefined};
+ghost use Rattle.gt_drafts.specs.declared.types.BaseType.TheVariants.{Structure, Number, Undefined};
 ghost use Rattle.gt_markers.specs.Typing.{node, kind_by, pointer_type, pointer_or_atomic};
 ghost use Rattle.gt_typing.specs.SmallTypes.{HasSmallId};
 
+use gt_drafts::BaseType;
 use gt_items::Stars;
 use gt_markers::TypeOptions;
-use gt_resolve::BaseType;
 use gt_types::{Expr, PtrKind, Target, Ty, TypeId};
 
 /// A structure, by its place.

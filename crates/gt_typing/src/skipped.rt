@@ -6,9 +6,9 @@ ghost use Rattle.gt_markers.specs.Typing.{base_extent, single_extent, elements, 
 ghost use Rattle.gt_typing.specs.SmallTypes.{IsSmall, IsSmallType};
 
 use crate::arrays::{bits_type, number_of};
+use gt_drafts::{Amount, BaseType, DeclaredType};
 use gt_items::Stars;
 use gt_layout::{Extent, Plane, extent};
-use gt_resolve::{Amount, BaseType, DeclaredType};
 use gt_types::{TOO_LARGE, Ty};
 
 // Size and alignment of the structure at a place, held within the limit.

@@ -8,9 +8,9 @@ use crate::arrays::{array_of, bits_type};
 use crate::descs::desc_at;
 use crate::pointers::{node, pointer_or_atomic};
 use crate::sayings::of_elements;
+use gt_drafts::{Amount, BaseType, DeclaredType, Draft};
 use gt_items::Stars;
 use gt_markers::{Lookup, TypeOptions};
-use gt_resolve::{Amount, BaseType, DeclaredType, Draft};
 use gt_types::Ty;
 use std::alloc::{AllocError, Global};
 

@@ -16,12 +16,12 @@ use Rattle.gt_walk.proofs.RowEdges.{rep-edges, tail-edges, switch-edges}
 use Rattle.gt_walk.proofs.Arms.{arm-chosen}
 use Rattle.gt_walk.proofs.Silence.{flat-none, row-silent, rows-silent, walk-silent}
 
-get-index : {X : Type 0} (xs : List X) (i : ℕ) (x d : X) → Some x ≡ slice_get xs i → slice_index_or xs i d ≡ x
+pub get-index : {X : Type 0} (xs : List X) (i : ℕ) (x d : X) → Some x ≡ slice_get xs i → slice_index_or xs i d ≡ x
 get-index [] i x d e = absurd (cc)
 get-index (y ∷ ys) zero x d e = cc
 get-index (y ∷ ys) (suc i) x d e = get-index ys i x d e
 
-none-index : {X : Type 0} (xs : List X) (i : ℕ) (d : X) → slice_get xs i ≡ None → slice_index_or xs i d ≡ d
+pub none-index : {X : Type 0} (xs : List X) (i : ℕ) (d : X) → slice_get xs i ≡ None → slice_index_or xs i d ≡ d
 none-index [] i d e = refl
 none-index (y ∷ ys) zero d e = absurd (cc)
 none-index (y ∷ ys) (suc i) d e = none-index ys i d e
@@ -86,17 +86,19 @@ module _ (tables : Tables) (range : Range) where
   block-none walk count address e =
       flat-none (λ i. walk_edges tables range 34 walk (frame_at (address + i * size_in_note (rows_of tables walk)))) (λ i. walk-none 34 walk (frame_at (address + i * size_in_note (rows_of tables walk))) e) (range_with_len 0 count)
 
-  pub block-run : (walk count address size : ℕ) (rows same : List WalkRow) → Some rows ≡ slice_get tables.walks walk → same ≡ rows → size ≡ size_in_note same
-      → edges_of tables walk count range address ≡ run_edges (element_edges tables range same) address size count
-  block-run walk count address size rows same got is sized =
-      let there : rows_of tables walk ≡ same = get-index tables.walks walk rows [] got ∙ sym is in
-      let bytes : size_in_note (rows_of tables walk) ≡ size = ap size_in_note there ∙ sym sized in
-      run-from (λ i. walk_edges tables range 34 walk (frame_at (address + i * size_in_note (rows_of tables walk)))) (element_edges tables range same) address size
-      (λ i. ap (λ s. walk_edges tables range 34 walk (frame_at (address + i * s))) bytes ∙ ap (λ xs. rows_at tables range 33 xs (frame_at (address + i * size))) there) count
+  -- the elements of a walk, by its rows
+  pub edges-run : (walk count address : ℕ) → edges_of tables walk count range address ≡ run_edges (element_edges tables range (rows_of tables walk)) address (size_in_note (rows_of tables walk)) count
+  edges-run walk count address =
+      let size = size_in_note (rows_of tables walk) in
+      run-from (λ i. walk_edges tables range 34 walk (frame_at (address + i * size))) (element_edges tables range (rows_of tables walk)) address size (λ i. refl) count
+
+  pub edges-rows : (walk count address : ℕ) (rows : List WalkRow) → rows ≡ rows_of tables walk → edges_of tables walk count range address ≡ run_edges (element_edges tables range rows) address (size_in_note rows) count
+  edges-rows walk count address rows same =
+      edges-run walk count address ∙ ap (λ xs. run_edges (element_edges tables range xs) address (size_in_note xs) count) (sym same)
+
+  pub rows-found : (walk : ℕ) (rows same : List WalkRow) → Some rows ≡ slice_get tables.walks walk → same ≡ rows → same ≡ rows_of tables walk
+  rows-found walk rows same got is = is ∙ sym (get-index tables.walks walk rows [] got)
 
   -- a block with one element
-  pub block-single : (walk count address : ℕ) (rows same : List WalkRow) → count ≡ 1 → Some rows ≡ slice_get tables.walks walk → same ≡ rows → edges_of tables walk count range address ≡ element_edges tables range same address
-  block-single walk count address rows same one got is =
-      block-run walk count address (size_in_note same) rows same got is refl
-      ∙ ap (run_edges (element_edges tables range same) address (size_in_note same)) one
-      ∙ append-nil (element_edges tables range same address)
+  pub run-single : (rows : List WalkRow) (address size count : ℕ) → count ≡ 1 → run_edges (element_edges tables range rows) address size count ≡ element_edges tables range rows address
+  run-single rows address size count one = ap (run_edges (element_edges tables range rows) address size) one ∙ append-nil (element_edges tables range rows address)

@@ -12,4 +12,4 @@ mod visiting;
 pub use rows::{Arm, Count, Origin, RowExpr, RowLeaf, WalkRow};
 pub use sinks::EdgeSink;
 pub use tables::{CacheWalks, Tables};
-pub use visiting::visit;
+pub use visiting::{rows_of, visit, visit_with_rows};

@@ -4,7 +4,7 @@ ghost use Rattle.gt_walk.specs.declared.rows.Arm.{out-Arm};
 ghost use Rattle.std.specs.List.{position_from};
 ghost use Rattle.std.specs.Option.{option_copied};
 ghost use Rattle.gt_tree.specs.Fits.{is_tag, is_default};
-ghost use Rattle.gt_walk.specs.Rows.{edges_of, walk_edges, size_in_note, pointer_edges, word_at};
+ghost use Rattle.gt_walk.specs.Rows.{edges_of, walk_edges, rows_of, size_in_note, pointer_edges, word_at};
 ghost use Rattle.gt_walk.specs.Sinks.{CanTake, Took};
 ghost use Rattle.gt_walk.specs.Frames.{frame_of};
 ghost use Rattle.gt_walk.specs.Visiting.{after_note, elements, row_at, rows_at, stood, run_edges, chosen_of, arm_at, element_edges, element_row};
@@ -349,6 +349,40 @@ fn visit_block<S: EdgeSink>(source: &Source<'_>, rows: &[WalkRow], elements: Ele
     }
 }
 
+/// The rows of a walk; none where there is no such walk.
+#[inline(always)]
+pub fn rows_of(tables: &Tables, walk: u32) -> &[WalkRow]
+    ensures { result.now ≡ rows_of tables.now walk }
+{
+    let Some(rows) = tables.walks.get(walk as usize) else {
+        return &[];
+    };
+    rows.as_slice()
+}
+
+/// What `visit` does, for the rows of a walk.
+#[inline(always)]
+pub fn visit_with_rows<S: EdgeSink>(
+    tables: &Tables,
+    rows: &[WalkRow],
+    count: u32,
+    space: &Space,
+    addr: u64,
+    sink: &mut S,
+)
+    requires can { CanTake S.takes S.leaves sink.old (run_edges (element_edges tables.now space.now rows.now) addr (size_in_note rows.now) count) }
+    ensures took { Took S.leaves sink.old (run_edges (element_edges tables.now space.now rows.now) addr (size_in_note rows.now) count) sink.new }
+{
+    let source = Source { tables, space };
+    let bare = after_note(rows);
+    if count == 1 {
+        visit_single(&source, bare, addr, sink);
+    } else {
+        let elements = Elements::new(addr, size_in_note(rows), count);
+        visit_block(&source, bare, elements, sink);
+    }
+}
+
 /// Calls the sink once for each edge that a walk gives on the bytes from an address on, for so many elements, in the order of the
 /// rows: with the address of the pointer, the address that it holds, and the walk and the count of the block there. A root's walk is
 /// visited at address 0. What does not lie in the space gives no edge. It takes no memory.
@@ -366,13 +400,5 @@ pub fn visit<S: EdgeSink>(
     let Some(rows) = tables.walks.get(walk as usize) else {
         return;
     };
-    let rows = rows.as_slice();
-    let source = Source { tables, space };
-    let bare = after_note(rows);
-    if count == 1 {
-        visit_single(&source, bare, addr, sink);
-    } else {
-        let elements = Elements::new(addr, size_in_note(rows), count);
-        visit_block(&source, bare, elements, sink);
-    }
+    visit_with_rows(tables, rows.as_slice(), count, space, addr, sink);
 }

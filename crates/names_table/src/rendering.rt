@@ -1,9 +1,9 @@
 // A draft in the notation of the table.
 
-use gt_items::{Keyword, RawOption, Stars};
-use gt_resolve::{
+use gt_drafts::{
     Amount, BaseType, DeclaredType, Draft, DraftCache, DraftRoot, DraftStructure, Resolved,
 };
+use gt_items::{Keyword, RawOption, Stars};
 use gt_types::{Scalar, Width, Word};
 use std::alloc::{AllocError, Global};
 use std::fmt::Write;

@@ -1,6 +1,6 @@
 use Rattle.std.proofs.Common.{◌+◌, ◌*◌, take}
 use Rattle.std.specs.List.{All}
-use Rattle.gt_resolve.specs.declared.draft.DraftField.{DraftField}
+use Rattle.gt_drafts.specs.declared.draft.DraftField.{DraftField}
 use Rattle.gt_declare.specs.Making.{Grows, IsHeldLaid}
 use Rattle.gt_declare.proofs.planes.+order.Given as goal
 

@@ -10,6 +10,6 @@ invariant-loop-name g l =
       told : g.F.Files.told l.files ≡ g.F.Files.told l.fn.files;
       later : g.F.Files.faults l.fn.files ≤ g.F.Files.faults l.files;
       place : l.word ≡ l.name-index + 1;
-      order : AreRead g.F.Files.reads l.fn.files (headers_from 1 (take l.name-index l.names)) l.files;
+      order : AreRead g.F.Files.reads l.fn.files (headers_from 1 (take l.name-index l.names)) l.texts.items l.files;
       so_far : AreHeadersRead (g.F.Files.told l.fn.files) (take l.name-index l.names) l.texts.items;
     }

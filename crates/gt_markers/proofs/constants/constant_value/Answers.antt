@@ -1,8 +1,8 @@
 use Rattle.std.proofs.Common.{◌≡◌, ◌∙◌, List, ℕ, ℤ, Option, sym, ap}
 use Rattle.std.proofs.Math.Path.{fun_ext}
 use Rattle.gt_names.specs.Entries.{value_in}
-use Rattle.gt_resolve.specs.declared.draft.Draft.{Draft}
-use Rattle.gt_resolve.specs.Amounts.{amount_of_tree}
+use Rattle.gt_drafts.specs.declared.draft.Draft.{Draft}
+use Rattle.gt_drafts.specs.Amounts.{amount_of_tree}
 use Rattle.gt_markers.specs.Expressions.{constant_value, value_of_amount}
 use Rattle.gt_markers.specs.Lookups.{IsLookupOf}
 use Rattle.gt_markers.proofs.Firsts.{if_ok}

@@ -2,7 +2,7 @@ use Rattle.std.proofs.Common.{◌∙◌, Bool, refl, ap}
 use Rattle.std.specs.Prelude.{◌&&◌, not, codes}
 use Rattle.gt_markers.specs.declared.kinds.OptionKind.TheVariants.{Length, Atomic}
 use Rattle.gt_markers.specs.Sites.{is_single, is_sorted_base}
-use Rattle.gt_resolve.specs.Drafts.{has_option}
+use Rattle.gt_drafts.specs.Options.{has_option}
 use Rattle.gt_markers.proofs.KindLemmas.{has_word}
 use Rattle.gt_markers.proofs.sites.is_sorted.Goals as goal
 

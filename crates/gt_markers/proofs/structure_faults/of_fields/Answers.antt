@@ -1,5 +1,5 @@
 use Rattle.std.proofs.Common.{◌+◌, ◌∙◌, refl, sym, subst, take, arith, List}
-use Rattle.gt_resolve.specs.declared.draft.DraftField.{DraftField}
+use Rattle.gt_drafts.specs.declared.draft.DraftField.{DraftField}
 use Rattle.gt_markers.specs.Members.{AreMembers}
 use Rattle.gt_markers.proofs.FieldLemmas.{first_from_field, first_from_fields, is_end, taken_more}
 use Rattle.gt_markers.proofs.structure_faults.of_fields.Goals as goal

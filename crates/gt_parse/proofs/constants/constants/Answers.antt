@@ -1,6 +1,6 @@
 use Rattle.std.proofs.Common.{get_or}
 use Rattle.gt_lex.specs.declared.tokens.Define.{Define}
-use Rattle.gt_parse.proofs.Cuts.{MayBeCut, define_cut}
+use Rattle.gt_search.proofs.Cuts.{MayBeCut, define_cut}
 use Rattle.gt_parse.proofs.constants.constants.Goals as goal
 use Rattle.gt_parse.proofs.constants.constants.Goals.{In-loop-define}
 

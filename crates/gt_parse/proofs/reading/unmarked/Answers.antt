@@ -1,5 +1,5 @@
 use Rattle.std.proofs.Common.{[], sym, ap, ◌∙◌, arith}
-use Rattle.gt_parse.specs.Outcome.{Read}
+use Rattle.gt_marked.specs.Outcome.{Read}
 use Rattle.gt_parse.proofs.Depths.{unmarked_stops, unmarked_after, unmarked_end}
 use Rattle.gt_parse.proofs.reading.unmarked.Goals as goal
 

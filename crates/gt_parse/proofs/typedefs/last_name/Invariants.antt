@@ -1,6 +1,6 @@
 use Rattle.std.proofs.Common.{◌≡◌, ◌≤◌, drop, None}
 use Rattle.std.specs.Option.{option_map}
-use Rattle.gt_parse.specs.Lexemes.{name_of}
+use Rattle.gt_search.specs.Lexemes.{name_of}
 use Rattle.gt_parse.specs.Unmarked.{last_name}
 use Rattle.gt_parse.proofs.typedefs.last_name.Given as goal
 

@@ -1,10 +1,10 @@
 use Rattle.std.proofs.Common.{◌≡◌, ◌∙◌, ◌++◌, [], List, Bool, None, Option, sym, ap, subst}
 use Rattle.gt_types.specs.declared.faults.Fault.{Fault}
-use Rattle.gt_resolve.specs.declared.draft.DraftStructure.{DraftStructure}
-use Rattle.gt_resolve.specs.declared.draft.DraftRoot.{DraftRoot}
-use Rattle.gt_resolve.specs.declared.draft.DraftCache.{DraftCache}
+use Rattle.gt_drafts.specs.declared.draft.DraftStructure.{DraftStructure}
+use Rattle.gt_drafts.specs.declared.draft.DraftRoot.{DraftRoot}
+use Rattle.gt_drafts.specs.declared.draft.DraftCache.{DraftCache}
 use Rattle.gt_resolve.specs.Faults.{faults_of, redefinitions, structures_faults, roots_faults, caches_faults}
-use Rattle.gt_resolve.specs.FirstFaults.{IsFirstOf, first_from}
+use Rattle.gt_drafts.specs.FirstFaults.{IsFirstOf, first_from}
 use Rattle.gt_resolve.proofs.CycleFaults.{first_for}
 use Rattle.gt_resolve.proofs.Firsts.{first_from_both, first_from_first}
 use Rattle.gt_resolve.proofs.first_fault.first_fault.Goals as goal

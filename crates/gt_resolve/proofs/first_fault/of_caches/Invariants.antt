@@ -1,6 +1,6 @@
 use Rattle.std.proofs.Common.{◌≡◌, drop}
 use Rattle.gt_resolve.specs.Faults.{caches_faults}
-use Rattle.gt_resolve.specs.FirstFaults.{first_from}
+use Rattle.gt_drafts.specs.FirstFaults.{first_from}
 use Rattle.gt_resolve.proofs.first_fault.of_caches.Given as goal
 
 -- the earliest of the faults of so many caches and of those of the others is the earliest of all

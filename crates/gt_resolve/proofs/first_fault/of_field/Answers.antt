@@ -1,7 +1,8 @@
 use Rattle.std.proofs.Common.{◌∙◌, ap, sym}
 use Rattle.std.specs.Prelude.{nat_le}
-use Rattle.gt_resolve.specs.Faults.{is_undefined_type, is_bad_type}
-use Rattle.gt_resolve.specs.declared.TheConstants.{MAX_FIELDS}
+use Rattle.gt_drafts.specs.Undefined.{is_undefined_type}
+use Rattle.gt_resolve.specs.Faults.{is_bad_type}
+use Rattle.gt_types.specs.declared.limits.TheConstants.{MAX_FIELDS}
 use Rattle.gt_resolve.proofs.Firsts.{first_from_both, first_from_if}
 use Rattle.gt_resolve.proofs.first_fault.of_field.Goals as goal
 

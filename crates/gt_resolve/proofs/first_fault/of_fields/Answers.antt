@@ -2,7 +2,8 @@ use Rattle.std.proofs.Common.{◌≡◌, ◌∙◌, ◌<◌, length, take, sym, 
 use Rattle.std.specs.Prelude.{is_some}
 use Rattle.std.specs.Str.{bytes_eq}
 use Rattle.gt_resolve.proofs.Firsts.{names_of, names_more, length_names, first_from_field, first_from_fields}
-use Rattle.gt_resolve.proofs.NameTests.{is_among, is_some_position, among_more}
+use Rattle.gt_resolve.proofs.NameTests.{is_among, among_more}
+use Rattle.gt_names.proofs.NameTests.{is_some_position}
 use Rattle.gt_resolve.proofs.first_fault.of_fields.Goals as goal
 
 pub loop-place-preserved : goal.loop-place-preserved

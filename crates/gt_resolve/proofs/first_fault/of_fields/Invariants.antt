@@ -1,6 +1,6 @@
 use Rattle.std.proofs.Common.{◌≡◌, ℕ, List, [], take}
 use Rattle.gt_resolve.specs.Faults.{fields_faults}
-use Rattle.gt_resolve.specs.FirstFaults.{first_from}
+use Rattle.gt_drafts.specs.FirstFaults.{first_from}
 use Rattle.gt_resolve.proofs.Firsts.{fields_after, names_of}
 use Rattle.gt_resolve.proofs.NameTests.{is_among}
 use Rattle.gt_resolve.proofs.first_fault.of_fields.Given as goal

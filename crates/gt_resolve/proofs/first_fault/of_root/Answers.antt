@@ -1,5 +1,6 @@
 use Rattle.std.proofs.Common.{◌∙◌, ap, false}
-use Rattle.gt_resolve.specs.Faults.{is_undefined_type, is_bad_type}
+use Rattle.gt_drafts.specs.Undefined.{is_undefined_type}
+use Rattle.gt_resolve.specs.Faults.{is_bad_type}
 use Rattle.gt_resolve.proofs.Firsts.{first_from_both, first_from_if}
 use Rattle.gt_resolve.proofs.first_fault.of_root.Goals as goal
 

@@ -1,7 +1,7 @@
 use Rattle.std.proofs.Common.{◌∙◌, ◌||◌, Bool, List, ap}
 use Rattle.std.specs.Prelude.{nat_le}
-use Rattle.gt_resolve.specs.Faults.{is_tail_type}
-use Rattle.gt_resolve.specs.declared.TheConstants.{MAX_STRUCTURES}
+use Rattle.gt_drafts.specs.Shapes.{has_flag}
+use Rattle.gt_types.specs.declared.limits.TheConstants.{MAX_STRUCTURES}
 use Rattle.gt_resolve.proofs.Firsts.{first_from_if, first_from_structure}
 use Rattle.gt_resolve.proofs.first_fault.of_structure.Goals as goal
 
@@ -9,8 +9,8 @@ pub returns : goal.returns
 returns c =
     let shapes = c.args.shapes.now in
     let place = c.args.place in
-    let cyclic = c.flag_at.ensures.same ∙ ap (λ (flags : List Bool). is_tail_type flags place) c.deref.ensures.value in
-    let deep = c.is_one_too_many.ensures.same ∙ ap (λ (flags : List Bool). is_tail_type flags place || nat_le MAX_STRUCTURES place) c.deref-2.ensures.value in
+    let cyclic = c.flag_at.ensures.same ∙ ap (λ (flags : List Bool). has_flag flags place) c.deref.ensures.value in
+    let deep = c.is_one_too_many.ensures.same ∙ ap (λ (flags : List Bool). has_flag flags place || nat_le MAX_STRUCTURES place) c.deref-2.ensures.value in
     record {
       earliest =
           first_from_structure shapes.cyclic.items shapes.deep.items shapes.tails.items c.deref-3.result.now place c.args.s.now c.as_slice.result.now

@@ -1,6 +1,6 @@
 use Rattle.std.proofs.Common.{◌≡◌, drop}
 use Rattle.gt_resolve.specs.Faults.{structures_faults}
-use Rattle.gt_resolve.specs.FirstFaults.{first_from}
+use Rattle.gt_drafts.specs.FirstFaults.{first_from}
 use Rattle.gt_resolve.proofs.first_fault.of_structures.Given as goal
 
 -- the earliest of the faults of so many structures and of those of the others is the earliest of all

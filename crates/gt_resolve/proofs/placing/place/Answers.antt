@@ -1,5 +1,5 @@
 use Rattle.std.proofs.Common.{◌∙◌, true, false, ap, sym}
-use Rattle.gt_resolve.specs.FirstFaults.{earlier_of}
+use Rattle.gt_drafts.specs.FirstFaults.{earlier_of}
 use Rattle.gt_resolve.specs.Placings.{chosen, faults_from}
 use Rattle.gt_resolve.proofs.PlacingLemmas.{first_of_two, first_with}
 use Rattle.gt_resolve.proofs.placing.place.Goals as goal

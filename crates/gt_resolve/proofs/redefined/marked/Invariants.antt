@@ -1,5 +1,5 @@
 use Rattle.std.proofs.Common.{◌≡◌, None, false, length, replicate, drop}
-use Rattle.gt_resolve.specs.FirstFaults.{first_from}
+use Rattle.gt_drafts.specs.FirstFaults.{first_from}
 use Rattle.gt_resolve.specs.Redefinitions.{marked_faults}
 use Rattle.gt_resolve.proofs.redefined.marked.Given as goal
 

@@ -1,7 +1,7 @@
 use Rattle.std.proofs.Common.{length, refl, arith}
 use Rattle.std.proofs.lemmas.Option.{slice_get_read}
 use Rattle.gt_types.specs.declared.program.Field.{Field}
-use Rattle.gt_resolve.specs.declared.draft.DraftField.{DraftField}
+use Rattle.gt_drafts.specs.declared.draft.DraftField.{DraftField}
 use Rattle.gt_rules.specs.Parts.{AtPlace, FieldFaults}
 use Rattle.gt_rules.proofs.FirstLemmas.{first_at_place, first_below_more, first_below_none, first_of_each}
 use Rattle.gt_rules.proofs.fields.of_fields.Goals as goal

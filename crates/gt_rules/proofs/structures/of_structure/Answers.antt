@@ -2,7 +2,7 @@ use Rattle.std.proofs.Common.{List, subst}
 use Rattle.std.proofs.lemmas.Result.{IfOk-weaker}
 use Rattle.gt_types.specs.declared.program.Field.{Field}
 use Rattle.gt_items.specs.declared.items.RawOption.{RawOption}
-use Rattle.gt_resolve.specs.declared.draft.DraftField.{DraftField}
+use Rattle.gt_drafts.specs.declared.draft.DraftField.{DraftField}
 use Rattle.gt_rules.specs.Parts.{ChainsFaults, FieldsFaults, IsFirstWith, StructureFaults}
 use Rattle.gt_rules.proofs.FirstLemmas.{first_of_both}
 use Rattle.gt_rules.proofs.structures.of_structure.Goals as goal

@@ -1,15 +1,16 @@
-use Rattle.std.proofs.Common.{ℕ, ◌≤◌, ◌∙◌, ap, sym, subst}
+use Rattle.std.proofs.Common.{ℕ, ◌≤◌, ◌∙◌, Some, ap, sym, subst}
 use Rattle.gt_space.specs.Range.{empty_range}
+use Rattle.gt_front.specs.Order.{extent_for}
 use Rattle.gt_run.specs.Ended.{status_of}
 use Rattle.gt_run.proofs.EndLemmas.{Ended-refused, Ends-of}
 use Rattle.gt_run.proofs.NoneRan.{refused-high}
 use Rattle.gt_run.proofs.running.refused_outcome.Goals as goal
 
 pub returns-clause-ended : goal.returns-clause-ended
-returns-clause-ended g c = λ words told texts faulty first by is.
-    Ends-of words told faulty _ _ c.refuse.result _ empty_range c.of.result
+returns-clause-ended g c = λ words told texts first is.
+    Ends-of words told (Some (extent_for texts c.args.refusal)) _ _ c.refuse.result _ empty_range c.of.result
     (c.of.ensures.status ∙ ap (status_of c.refuse.result) c.new.ensures.empty) (c.of.ensures.answers ∙ c.new.ensures.empty) c.of.ensures.refusal
-    (Ended-refused words told texts faulty c.args.refusal c.args.line.now first by is _ _ c.refuse.result c.refuse.ensures.refused)
+    (Ended-refused words told texts c.args.refusal c.args.line.now first is _ _ c.refuse.result c.refuse.ensures.refused)
 
 pub returns-clause-status : goal.returns-clause-status
 returns-clause-status g c =

@@ -1,8 +1,10 @@
-use Rattle.std.proofs.Common.{◌≡◌, List, None, All, inr, refl, sym, subst, rules}
+use Rattle.std.proofs.Common.{◌≡◌, List, Some, All, inr, refl, sym, subst, rules}
 use Rattle.gt_types.specs.declared.program.Program.{Program}
 use Rattle.gt_space.specs.Range.{Range}
 use Rattle.gt_script.specs.declared.command.Line.{Line}
-use Rattle.gt_front.specs.Asks.{Asks}
+use Rattle.gt_script.specs.Outcome.{Parsed}
+use Rattle.gt_headers.specs.Headers.{Declares}
+use Rattle.gt_front.specs.Order.{whole}
 use Rattle.gt_next.specs.Laws.{IsBuilt}
 use Rattle.gt_run.specs.Comes.{HasUnbuilt}
 use Rattle.gt_run.specs.Ended.{Ends}
@@ -15,9 +17,9 @@ returns-then-not-are_built-clause-ended g c = λ words asks.
     let unbuilt : HasUnbuilt c.as_slice.result.now = rw c.if-not-are_built.true at c.are_built.ensures in
     let U : List Line → Type 0 = λ lines. HasUnbuilt lines in
     let told = g.F.Files.told c.args.files.now in
-    let E : Range → Type 0 = λ range. Ends words told None (g.K.Sink.written c.args.out.now) (g.K.Sink.written c.refuse_unbuilt.new.out) c.refuse_unbuilt.result range in
+    let E : Range → Type 0 = λ range. Ends words told (Some (whole asks.texts)) (g.K.Sink.written c.args.out.now) (g.K.Sink.written c.refuse_unbuilt.new.out) c.refuse_unbuilt.result range in
     subst E (sym c.requires.empty) (c.refuse_unbuilt.ensures.ended words told asks.texts asks.reads.called
-    (inr (refl, c.args.ready.call, c.args.ready.program, c.args.ready.lines, asks, subst U same unbuilt)))
+    (inr (refl, c.args.ready.call, c.args.ready.program, c.args.ready.lines, asks, refl, subst U same unbuilt)))
 
 pub run_lines-requires-clause-session : goal.run_lines-requires-clause-session
 run_lines-requires-clause-session g c =
@@ -38,8 +40,9 @@ returns-in-Ok-clause-ended g c = λ words asks.
     let ready = c.args.ready in
     let opened = c.in-Ok.ensures.opens told in
     let again : c.as_slice-in-Ok.result.now ≡ ready.lines = search rules in
-    let L : List Line → Type 0 = λ lines. Asks words told ready.call ready.program lines in
-    let P : Program → Type 0 = λ program. Asks words told ready.call program c.as_slice-in-Ok.result.now in
+    let L : List Line → Type 0 = λ lines. Parsed asks.texts.script lines in
+    let P : Program → Type 0 = λ program. Declares asks.texts.headers program in
     let O : Program → Type 0 = λ program. Opens program ready.call.settings told opened.0 in
     let program = sym c.in-Ok.ensures.program in
-    c.run_lines.ensures.ended words ready.call opened.0 (subst P program (subst L (sym again) asks)) (subst O program opened.1) opened.2
+    c.run_lines.ensures.ended words ready.call opened.0
+    (record { texts = asks.texts; reads = asks.reads; declares = subst P program asks.declares; parsed = subst L (sym again) asks.parsed }) (subst O program opened.1) opened.2

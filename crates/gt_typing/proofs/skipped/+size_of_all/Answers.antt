@@ -1,6 +1,6 @@
 use Rattle.std.proofs.Common.{◌∙◌}
 use Rattle.gt_types.specs.declared.limits.TheConstants.{TOO_LARGE}
-use Rattle.gt_resolve.specs.declared.types.Amount.TheVariants.{Unread}
+use Rattle.gt_drafts.specs.declared.types.Amount.TheVariants.{Unread}
 use Rattle.gt_typing.proofs.SizeLemmas.{size_cut}
 use Rattle.gt_typing.proofs.skipped.+size_of_all.Goals as goal
 

@@ -1,10 +1,10 @@
-use Rattle.std.proofs.Common.{map, ap, sym, ◌∙◌}
-use Rattle.std.specs.Prelude.{slice_get}
-use Rattle.gt_caches.specs.Pairs.{pair_of}
-use Rattle.gt_caches.proofs.Entries.{pair-at}
+use Rattle.std.proofs.Common.{ap, sym, ◌∙◌}
+use Rattle.std.specs.Prelude.{option_map, slice_get}
+use Rattle.std.proofs.lemmas.Option.{slice_get-map}
+use Rattle.gt_caches.specs.Held.{entry_of}
 use Rattle.gt_caches.proofs.keyed.KeyedPairs.get.Goals as goal
 
 pub returns : goal.returns
 returns c = record {
-  pair = sym (pair-at c.self.inside.held.entries c.args.i _ (sym c.in_ok-key.ensures.entry)) ∙ ap (λ entries. slice_get (map pair_of entries) c.args.i) c.self.view_is;
+  entry = ap (option_map entry_of) c.in_ok-key.ensures.entry ∙ sym (slice_get-map entry_of c.self.inside.held.entries c.args.i) ∙ ap (λ entries. slice_get entries c.args.i) c.self.view_is;
 }

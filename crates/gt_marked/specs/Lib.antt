@@ -1,0 +1,10 @@
+pub mod FieldGrammar
+pub mod Fields
+pub mod Groups
+pub mod Marked
+pub mod MarkedGrammar
+pub mod MarkerGrammar
+pub mod Markers
+pub mod Outcome
+pub mod TypeGrammar
+pub mod Types

@@ -1,8 +1,0 @@
-use Rattle.gt_parse.proofs.MarkedLemmas.{marked-allowed, marked-alone}
-use Rattle.gt_parse.proofs.laws.marked_rules.Goals as goal
-
-pub returns-clause-allowed : goal.returns-clause-allowed
-returns-clause-allowed c = marked-allowed
-
-pub returns-clause-alone : goal.returns-clause-alone
-returns-clause-alone c = marked-alone

@@ -1,5 +1,0 @@
-use Rattle.gt_parse.proofs.Searched.{one_search}
-use Rattle.gt_parse.proofs.laws.one_search.Goals as goal
-
-pub returns : goal.returns
-returns c = one_search

@@ -1,5 +1,0 @@
-use Rattle.gt_parse.proofs.Searched.{some_search}
-use Rattle.gt_parse.proofs.laws.some_search.Goals as goal
-
-pub returns : goal.returns
-returns c = some_search

@@ -1,8 +1,0 @@
-use Rattle.gt_parse.proofs.TypesLemmas.{type-allowed, type-alone}
-use Rattle.gt_parse.proofs.laws.type_rules.Goals as goal
-
-pub returns-clause-allowed : goal.returns-clause-allowed
-returns-clause-allowed c = type-allowed
-
-pub returns-clause-alone : goal.returns-clause-alone
-returns-clause-alone c = type-alone

@@ -1,6 +1,0 @@
-use Rattle.gt_parse.proofs.options.expression.Goals as goal
-
-pub returns-in-Err-At : goal.returns-in-Err-At
-returns-in-Err-At c ts =
-    let refused = rw c.in-Err-At.field-0-is at c.in-Err-At.ensures.stopped in
-    rw (c.one_answer.ensures.fault c.args.text.now 0 0 c.in-Err-At.fault refused)

@@ -1,7 +1,0 @@
-use Rattle.std.proofs.Common.{◌≡◌, false, ◌++◌, drop}
-use Rattle.std.specs.Option.{option_map}
-use Rattle.gt_parse.specs.Markers.{unescaped}
-use Rattle.gt_parse.proofs.strings.unescaped.Given as goal
-
-abbrev pub invariant-loop-byte : goal.invariant-loop-byte
-invariant-loop-byte l = option_map (λ rest. l.bytes ++ rest) (unescaped l.is_escaped (drop l.byte-index l.text)) ≡ unescaped false l.text

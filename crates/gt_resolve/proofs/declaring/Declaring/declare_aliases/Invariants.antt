@@ -1,6 +1,0 @@
-use Rattle.std.proofs.Common.{◌≡◌, drop}
-use Rattle.gt_resolve.specs.Declarations.{declare_aliases}
-use Rattle.gt_resolve.proofs.declaring.Declaring.declare_aliases.Given as goal
-
-abbrev pub invariant-loop-alias : goal.invariant-loop-alias
-invariant-loop-alias l = declare_aliases l.file l.ty (drop l.alias-index l.aliases) l.self ≡ declare_aliases l.file l.ty l.aliases l.fn.self

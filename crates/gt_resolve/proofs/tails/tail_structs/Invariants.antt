@@ -1,7 +1,0 @@
-use Rattle.std.proofs.Common.{◌≡◌, ◌++◌, drop}
-use Rattle.gt_resolve.specs.TailGraphs.{tail_structs}
-use Rattle.gt_resolve.proofs.tails.tail_structs.Given as goal
-
--- the places among so many structures and those among the others are all
-abbrev pub invariant-loop-place : goal.invariant-loop-place
-invariant-loop-place l = l.places.items ++ tail_structs l.place (drop l.place l.structures) ≡ tail_structs 0 l.structures

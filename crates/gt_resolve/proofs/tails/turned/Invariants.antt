@@ -1,7 +1,0 @@
-use Rattle.std.proofs.Common.{◌≡◌, [], drop, length, replicate}
-use Rattle.gt_resolve.specs.Graphs.{with_turned}
-use Rattle.gt_resolve.proofs.tails.turned.Given as goal
-
--- the edges of the places after so many come to what all come to
-abbrev pub invariant-loop-place : goal.invariant-loop-place
-invariant-loop-place l = with_turned l.place (drop l.place l.graph) l.turned.items ≡ with_turned 0 l.graph (replicate (length l.graph) [])

@@ -1,5 +1,0 @@
-use Rattle.gt_resolve.proofs.ChainLemmas.{AreUnknown}
-use Rattle.gt_resolve.proofs.typedefs.unknown.Given as goal
-
-abbrev pub invariant-loop-link : goal.invariant-loop-link
-invariant-loop-link l = AreUnknown l.memo.items l._link-index

@@ -1,9 +1,0 @@
-use crate::Resolved;
-use gt_types::Word;
-
-/// What a name of a typedef means.
-#[derive(Debug, Drop)]
-pub struct TypeName {
-    pub name: Word,
-    pub means: Resolved,
-}

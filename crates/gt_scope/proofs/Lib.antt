@@ -1,0 +1,7 @@
+mod ChainLemmas
+pub mod DeclaredFiles
+mod DeclaringLemmas
+mod NamedValues
+mod Progresses
+mod ScopeLemmas
+mod TableLemmas

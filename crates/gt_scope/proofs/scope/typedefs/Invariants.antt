@@ -1,0 +1,7 @@
+use Rattle.std.proofs.Common.{◌≡◌, [], drop}
+use Rattle.gt_scope.specs.Meanings.{as_typedef}
+use Rattle.gt_scope.specs.Tables.{values_from}
+use Rattle.gt_scope.proofs.scope.typedefs.Given as goal
+
+abbrev pub invariant-loop-declaration : goal.invariant-loop-declaration
+invariant-loop-declaration l = values_from as_typedef l.made (drop l.declaration-index l.declarations) ≡ values_from as_typedef [] l.declarations

@@ -1,0 +1,32 @@
+use Rattle.std.proofs.Common.{◌≡◌, ◌∙◌, ℕ, ◌<◌, true, List, [], ◌∷◌, sym, arith, ap}
+use Rattle.std.specs.Prelude.{encode_utf8_all}
+use Rattle.std.specs.List.{list_all}
+use Rattle.std.specs.Char.{is_ascii}
+use Rattle.std.specs.Str.{bytes_eq, IsAscii}
+use Rattle.std.proofs.lemmas.Bool.{and_parts}
+use Rattle.std.proofs.lemmas.Bool.Decides.{same_from_decides}
+use Rattle.std.proofs.lemmas.Slice.Eq.{bytes_eq-Decides}
+use Rattle.std.proofs.lemmas.Str.{encodes_same, encodes-IsAscii}
+use Rattle.std.proofs.lemmas.Str.Ascii.{IsAscii-nil, IsAscii-cons}
+use Rattle.gt_scope.proofs.spelling.is_word.Goals as goal
+
+below : (b : ℕ) → is_ascii b ≡ true → b < 128
+below b h = grind arith
+
+IsAscii-word : (word : List ℕ) → list_all is_ascii word ≡ true → IsAscii word
+IsAscii-word [] h = IsAscii-nil
+IsAscii-word (b ∷ bs) h =
+    let p = and_parts (is_ascii b) (list_all is_ascii bs) h in IsAscii-cons b bs (below b p.0) (IsAscii-word bs p.1)
+
+-- characters are those of an ASCII word where their bytes are
+bytes_eq-encodes : (word cs : List ℕ) → IsAscii word → bytes_eq word (encode_utf8_all cs) ≡ bytes_eq word cs
+bytes_eq-encodes word cs a =
+    let bytes = bytes_eq-Decides word (encode_utf8_all cs) in
+    let characters = bytes_eq-Decides word cs in
+    same_from_decides _ _ bytes
+    (λ h. sym (encodes-IsAscii word a) ∙ ap encode_utf8_all (characters.0 h), λ e. characters.1 (sym (encodes_same cs word (sym e ∙ sym (encodes-IsAscii word a)))))
+
+pub returns : goal.returns
+returns c =
+    c.eq.ensures ∙ ap (λ bytes. bytes_eq c.args.ascii.now bytes) c.as_str.ensures.text
+    ∙ bytes_eq-encodes c.args.ascii.now c.args.word.now (IsAscii-word c.args.ascii.now c.requires)

@@ -1,0 +1,48 @@
+use Rattle.std.proofs.Common.{◌∙◌, ◌<◌, ap, sym, subst, Some, slice_get, length, reverse}
+use Rattle.gt_scope.specs.declared.link.Target.TheVariants.{Next}
+use Rattle.gt_scope.specs.Chains.{IsWalk}
+use Rattle.gt_scope.proofs.ChainLemmas.{past_walk, known_walk, within_walk, on_walk, end_walk, walk_smaller}
+use Rattle.gt_scope.proofs.typedefs.walk.Goals as goal
+
+pub returns-in-None : goal.returns-in-None
+returns-in-None c = record { walked = past_walk _ _ _ _ c.walk.at _ c.walk.invariant c.in-None.ensures.item c.nothing.ensures.opaque }
+
+pub known-requires : goal.known-requires
+known-requires c =
+    record {
+      within =
+          subst (λ memo. c.walk.at < length memo) (sym c.deref.ensures.value)
+          (within_walk _ _ _ _ c.walk.at c.in-Some.link.now (Next c.walk.at) c.walk.invariant c.in-Some.ensures.item);
+    }
+
+pub returns-in-Some-2 : goal.returns-in-Some-2
+returns-in-Some-2 c =
+    record {
+      walked =
+          known_walk _ _ _ _ c.walk.at c.in-Some-2.means c.walk.invariant
+          (ap Some (sym c.in-Some-2.is) ∙ c.in_ok-means-in-Some.ensures.known ∙ ap (λ memo. slice_get memo c.walk.at) c.deref.ensures.value);
+    }
+
+pub note-requires : goal.note-requires
+note-requires c =
+    record { within = within_walk _ _ _ _ c.walk.at c.in-Some.link.now (Next c.walk.at) c.walk.invariant c.in-Some.ensures.item }
+
+pub returns-in-End : goal.returns-in-End
+returns-in-End c =
+    record {
+      walked =
+          end_walk _ _ c.walk.way.items c.push.new.self.items c.walk.memo.items c.note.new.memo.items c.walk.at c.in-Some.link.now c.nothing-in-None-2.result
+          c.in-End.base c.in_ok-base_copy-in-End.field-0 c.walk.invariant c.in-Some.ensures.item c.in_ok-push-in-None-2.ensures.items c.note.ensures.noted
+          c.nothing-in-None-2.ensures.opaque c.in-End.is c.in_ok-base_copy-in-End.ensures.same;
+    }
+
+pub walk-preserved : goal.walk-preserved
+walk-preserved c =
+    subst (λ to. IsWalk c.args.links.now c.args.start (reverse c.push.new.self.items) c.note.new.memo.items to) c.in-Next.is
+    (on_walk _ _ c.walk.way.items c.push.new.self.items c.walk.memo.items c.note.new.memo.items c.walk.at c.in-Some.link.now c.nothing-in-None-2.result
+    c.walk.invariant c.in-Some.ensures.item c.in_ok-push-in-None-2.ensures.items c.note.ensures.noted c.nothing-in-None-2.ensures.opaque)
+
+pub walk-smaller : goal.walk-smaller
+walk-smaller c =
+    walk_smaller c.walk.memo.items c.note.new.memo.items c.walk.at c.nothing-in-None-2.result
+    (sym (ap (λ memo. slice_get memo c.walk.at) c.deref.ensures.value) ∙ sym c.in_ok-means-in-Some.ensures.known ∙ ap Some c.in-None-2.is) c.note.ensures.noted

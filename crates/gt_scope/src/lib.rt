@@ -1,0 +1,22 @@
+//! What each name means over all headers: declarations in the order of the texts, tags, constants, and typedefs, which are followed.
+//! The layer above makes the draft by it, and looks for second definitions.
+#![tactic(auto)]
+
+mod constants;
+mod copies;
+mod declaration;
+mod declaring;
+mod link;
+mod meaning;
+mod plain;
+mod scope;
+mod spelling;
+mod typedefs;
+mod types;
+
+pub use declaration::{Declaration, What};
+pub use meaning::TypeName;
+pub use scope::{Scope, scope_of};
+pub use spelling::spelled;
+pub use typedefs::after_stars;
+pub use types::Spelled;

@@ -1,0 +1,8 @@
+pub mod AsciiWords
+pub mod Cuts
+mod Determined
+mod ItemEnds
+pub mod Searched
+mod Sound
+mod Stacks
+mod Turns

@@ -1,0 +1,6 @@
+mod CycleFlags
+pub mod CycleLemmas
+mod Depths
+mod FilterMaps
+pub mod SearchLemmas
+mod TailLemmas

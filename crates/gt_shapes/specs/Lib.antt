@@ -1,0 +1,4 @@
+pub mod Graphs
+pub mod Searches
+pub mod TailGraphs
+pub mod Cycles
