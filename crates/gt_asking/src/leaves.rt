@@ -14,8 +14,8 @@ ghost use Rattle.gt_schema.specs.Schemas.{IsSchema};
 ghost use Rattle.gt_writes.specs.SpotWrites.{SpotTakes};
 ghost use Rattle.gt_asking.specs.Judging.{is_beyond, is_idle, IsFixedIn, SuitsAs, RefusesLeaf};
 
-use gt_assign::{has_room, number_fits};
 use gt_elements::Owner;
+use gt_fit::{has_room, number_fits};
 use gt_next::Why;
 use gt_objects::Objects;
 use gt_routes::{End, Reached};

@@ -13,7 +13,6 @@ use Rattle.gt_types.specs.declared.program.Field.{Field}
 use Rattle.gt_types.specs.declared.program.Structure.{Structure}
 use Rattle.gt_types.specs.declared.program.Program.{Program}
 use Rattle.gt_types.specs.Contains.{HasStructure}
-use Rattle.gt_types.specs.Unions.{IsCommon}
 use Rattle.gt_types.specs.Settled.{Settled}
 use Rattle.gt_tree.specs.Trees.{Tree, Num, Null, To, Raw, Rec, Alt, Row, End, IsZero, without_pointers}
 use Rattle.gt_tree.specs.Scopes.{is_node, beginning, type_of_field, type_there}
@@ -21,17 +20,13 @@ use Rattle.gt_tree.specs.Fits.{active_member}
 use Rattle.gt_tree.specs.Reshapes.{IsZeroOutside, OutsideOf, Reshapes, Changes}
 use Rattle.gt_tree.proofs.PathBegins.{beginning-self, same-number}
 use Rattle.gt_assign.specs.Pasts.{Was, Whole, Nothing, Begun, Past, past_inside, value_was, desc_was}
-use Rattle.gt_assign.specs.Commons.{common_of}
+use Rattle.gt_fit.specs.Commons.{common_of}
 use Rattle.gt_assign.specs.Turning.{Maker, within, begun_by, is_member, rest_by, rest_whole, rest_zero, alt_made, member_made, struct_made, stays, or_made, structure_made, node_made, tail_made, layer_made, made}
+use Rattle.gt_fit.proofs.CommonFound.{CommonIs}
 use Rattle.gt_assign.proofs.Comes.{Comes, IsSound, leaf-comes, row-comes, struct-comes}
 
 some-is : {X : Type 0} (a b : X) → Some a ≡ Some b → a ≡ b
 some-is a b e = cc
-
--- the answer to which structure is common to the members of a union
-abbrev pub CommonIs : Program → Structure → Option TypeId → Type 0
-CommonIs program s (Some common) = IsCommon program s common
-CommonIs program s None = (common : TypeId) → ¬ IsCommon program s common
 
 -- nothing is outside of a value of the structure itself
 outside-self : (program : Program) (node : TypeId) (type : Ty) (tree : Tree) → is_node node type ≡ true → IsZeroOutside program node (Some type) tree

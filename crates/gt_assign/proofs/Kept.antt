@@ -10,13 +10,13 @@ use Rattle.gt_types.specs.declared.program.Program.{Program}
 use Rattle.gt_tree.specs.Trees.{Tree, Trees, Rec, Alt, Row, count, tree_at}
 use Rattle.gt_value.specs.declared.values.Value.{Value}
 use Rattle.gt_value.specs.Values.{trees, tree_of}
-use Rattle.gt_assign.specs.Checks.{maybe_tree}
-use Rattle.gt_assign.specs.Commons.{common_of}
+use Rattle.gt_fit.specs.Values.{maybe_tree}
+use Rattle.gt_fit.specs.Commons.{common_of}
 use Rattle.gt_assign.specs.Pasts.{Was, Whole, Past}
 use Rattle.gt_assign.specs.Turning.{Maker, fields_made, elements_made, maybe_whole, begun_by, alt_made, member_was, member_made, row_made}
-use Rattle.gt_assign.proofs.Endings.{equals}
+use Rattle.gt_fit.proofs.Endings.{equals}
 use Rattle.gt_assign.proofs.Rows.{following, FieldsSoFar, fields-more, fields-end, ElementsSoFar, elements-more, elements-end}
-use Rattle.gt_assign.proofs.Values.{tree_at-trees, count-trees}
+use Rattle.gt_fit.proofs.Values.{tree_at-trees, count-trees}
 
 after-none : (o : Option Trees) → o ≡ following [] o
 after-none (Some rest) = refl

@@ -9,7 +9,7 @@ use Rattle.gt_value.specs.declared.values.ValueFail.TheVariants.{Shape, Memory}
 use Rattle.gt_value.specs.Values.{trees, tree_of}
 use Rattle.gt_assign.specs.Pasts.{Was, Past}
 use Rattle.gt_assign.specs.Turning.{Gives, Maker, field_was, fields_made, element_was, elements_made}
-use Rattle.gt_assign.proofs.Listing.{drop-item, drop-none}
+use Rattle.gt_fit.proofs.Listing.{drop-item, drop-none}
 
 -- values before others
 abbrev pub before : List Value → Trees → Trees

@@ -13,9 +13,8 @@ use Rattle.gt_types.specs.declared.program.Structure.{Structure}
 use Rattle.gt_types.specs.declared.program.Program.{Program}
 use Rattle.gt_types.specs.Values.{value_of}
 use Rattle.gt_tree.specs.Trees.{Tree, Trees, tree_at}
-use Rattle.gt_tree.specs.Scopes.{Typed, typed, ◌then◌, is_node, number_at, read_path}
+use Rattle.gt_tree.specs.Scopes.{◌then◌, is_node, number_at, read_path}
 use Rattle.gt_value.specs.Values.{trees, tree_of}
-use Rattle.gt_assign.specs.declared.paths.TypedAt.{TypedAt}
 use Rattle.gt_assign.specs.declared.seeing.Seen.{Seen}
 use Rattle.gt_assign.specs.declared.seeing.Seen.TheVariants as seen
 use Rattle.gt_assign.specs.declared.seeing.SeenAt.{SeenAt}
@@ -111,10 +110,6 @@ desc_was program past (Some e) = value_was program past e
 desc_was program past None = None
 
 -- ---- as the code holds it
-
-abbrev pub typed_of : Option TypedAt → Option Typed
-typed_of (Some at) = Some (typed at.ty.now (tree_of at.value.now))
-typed_of None = None
 
 abbrev pub was_of : Seen → Was
 was_of (seen.Whole value) = Whole (tree_of value.now)

@@ -12,13 +12,12 @@ ghost use Rattle.gt_assign.specs.Pasts.{Whole, past_outside};
 ghost use Rattle.gt_assign.specs.Turning.{Gives, made};
 ghost use Rattle.gt_assign.specs.Results.{FitsBeside, IsAssigned, IsMisfit, IsMadeWhereFit, NoneElseIsMade, NoneIsMade};
 
-use crate::checks::{Checking, fits};
 use crate::copies::is_word;
 use crate::keeping::is_kept;
 use crate::parts::{part_at, with_part};
-use crate::scoping::Within;
 use crate::seeing::{Around, Seen};
 use crate::turning::{Making, turn};
+use gt_fit::{Checking, Within, fits};
 use gt_types::{Program, Ty};
 use gt_value::{BlockNames, Value, ValueFail};
 use std::alloc::Global;

@@ -8,10 +8,10 @@ ghost use Rattle.gt_value.specs.Values.{trees, tree_of};
 ghost use Rattle.gt_assign.specs.Pasts.{Whole, past_of, desc_was};
 ghost use Rattle.gt_assign.specs.Turning.{made, layer_made, node_made, struct_made, tail_made, row_made, member_made};
 
-use crate::checks::{is_active, is_bare};
 use crate::copies::is_leaf;
 use crate::seeing::{Around, Seen, desc_value};
 use crate::turning::{Making, tail_length};
+use gt_fit::{is_active, is_bare};
 use gt_types::{Expr, Field, Structure, Ty, TypeId};
 use gt_value::Value;
 

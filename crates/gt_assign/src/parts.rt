@@ -2,9 +2,9 @@
 ghost use Rattle.std.specs.Prelude.{◌≡◌, IfOk, map, option_copied};
 ghost use Rattle.gt_tree.specs.Trees.{part_at, part_of, with_part, with_part_of};
 ghost use Rattle.gt_value.specs.Values.{trees, tree_of};
-ghost use Rattle.gt_assign.specs.Checks.{maybe_tree};
+ghost use Rattle.gt_fit.specs.Values.{maybe_tree};
 
-use crate::paths::item;
+use gt_fit::item;
 use gt_value::Value;
 use sqlite_items::Boxed;
 use std::alloc::{AllocError, Global};

@@ -6,7 +6,7 @@ ghost use Rattle.gt_tree.specs.Scopes.{is_node};
 ghost use Rattle.gt_value.specs.Values.{tree_of};
 ghost use Rattle.gt_assign.specs.Pasts.{was_of, past_of, past_inside, base_was, was_at, begun_at, begun_in, begun_next, begun_path, was_path, value_was, desc_was};
 
-use crate::paths::{item, number_at, place_of, read_path};
+use gt_fit::{item, number_at, place_of, read_path};
 use gt_types::{Base, Expr, Program, Reader, Structure, Ty, TypeId, Word, eval};
 use gt_value::Value;
 

@@ -1,18 +1,15 @@
 // Steps from what a value was to what its parts were.
-ghost use Rattle.std.specs.Prelude.{◌≡◌, ◌<◌, IfSome, length, map, option_copied};
-ghost use Rattle.std.specs.List.{position_from};
-ghost use Rattle.gt_tree.specs.Fits.{active_member, is_tag, is_default};
+ghost use Rattle.std.specs.Prelude.{◌≡◌, map, option_copied};
 ghost use Rattle.gt_tree.specs.Trees.{count};
 ghost use Rattle.gt_value.specs.Values.{trees, tree_of};
-ghost use Rattle.gt_assign.specs.Checks.{maybe_tree};
+ghost use Rattle.gt_fit.specs.Values.{maybe_tree};
 ghost use Rattle.gt_assign.specs.Pasts.{was_of, maybe_was};
-ghost use Rattle.gt_assign.specs.Commons.{common_of};
+ghost use Rattle.gt_fit.specs.Commons.{common_of};
 ghost use Rattle.gt_assign.specs.Turning.{field_was, has_fields, is_row, element_was, member_was, begun_by, stays};
 
-use crate::commons::common_of;
-use crate::paths::{beginning, item, member_type};
 use crate::seeing::Seen;
-use gt_types::{Active, Field, Program, Structure, TypeId};
+use gt_fit::{beginning, common_of, item, member_type};
+use gt_types::{Program, Structure, TypeId};
 use gt_value::Value;
 
 /// What the field at a place was. None where a struct had none there, or was no struct.
@@ -136,48 +133,5 @@ pub fn stays<'a>(id: TypeId, seen: Seen<'a>) -> Option<&'a Value>
     match seen {
         Seen::Begins { id: begun, value } if begun.0 == id.0 => Some(value),
         _ => None,
-    }
-}
-
-fn is_tag(value: Option<i64>, active: Active) -> bool
-    ensures { result ≡ is_tag value active }
-{
-    match (value, active) {
-        (Some(n), Active::Tag(tag)) => n == tag,
-        _ => false,
-    }
-}
-
-fn is_default(active: Active) -> bool
-    ensures { result ≡ is_default active }
-{
-    match active {
-        Active::Other => true,
-        _ => false,
-    }
-}
-
-fn tagged(value: Option<i64>, fields: &[Field]) -> Option<usize>
-    ensures place { result ≡ position_from (λ f. is_tag value f.active) 0 fields.now }
-    ensures within { IfSome result (λ place. place < length fields.now) }
-{
-    fields.iter().position(|f| is_tag(value, f.active))
-}
-
-fn default_member(fields: &[Field]) -> Option<usize>
-    ensures place { result ≡ position_from (λ f. is_default f.active) 0 fields.now }
-    ensures within { IfSome result (λ place. place < length fields.now) }
-{
-    fields.iter().position(|f| is_default(f.active))
-}
-
-/// Which member of a union is active: that of the tag, else the default, else none.
-pub fn active_member(value: Option<i64>, fields: &[Field]) -> Option<usize>
-    ensures place { result ≡ active_member value fields.now }
-    ensures within { IfSome result (λ place. place < length fields.now) }
-{
-    match tagged(value, fields) {
-        Some(place) => Some(place),
-        None => default_member(fields),
     }
 }

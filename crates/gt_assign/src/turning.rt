@@ -8,11 +8,10 @@ ghost use Rattle.gt_value.specs.Values.{tree_of};
 ghost use Rattle.gt_assign.specs.Pasts.{was_of, past_of, value_was, desc_was};
 ghost use Rattle.gt_assign.specs.Turning.{Gives, within, made, layer_made, tail_made, node_made, struct_made, row_made, member_made, rest_whole, rest_made};
 
-use crate::commons::common_of;
 use crate::copies::{copy, leaf, without_pointers};
-use crate::paths::{beginning, member_type};
 use crate::seeing::{Around, Seen, desc_value, value_of};
-use crate::steps::{active_member, element_of, field_of, has_fields, is_row, member_of, stays};
+use crate::steps::{element_of, field_of, has_fields, is_row, member_of, stays};
+use gt_fit::{active_member, beginning, common_of, member_type};
 use gt_types::{Expr, Field, Program, Structure, Ty, TypeId};
 use gt_value::{Value, ValueFail};
 use sqlite_items::Boxed;

@@ -20,7 +20,7 @@ use Rattle.gt_value.specs.Bytes.{itself, Takes, IsRoomFor, StandsFor, StandForSt
 use Rattle.gt_value.specs.Places.{Part, PartLies, IsPlaceOf, IsPlaceOfPart, IsStaticPlaceOf, content_at}
 use Rattle.gt_store.specs.Leaf.{IsNewLeaf, IsLeafWritten}
 use Rattle.gt_store.proofs.LeafStored.{leaf-stored, static-leaf-stored}
-use Rattle.gt_assign.proofs.Selves.{in-place, all-in-place}
+use Rattle.gt_fit.proofs.Selves.{in-place, all-in-place}
 use Rattle.gt_leaf.specs.HeldTypes.{IsOfPart, held_type}
 use Rattle.gt_leaf.specs.Unread.{structures_on, structures_in_statics, IsUnread, MayReplace}
 use Rattle.gt_leaf.specs.Writing.{StandsBeside, StaticsStandBeside, MayWrite, MayPut, MayPutStatic, IsWrittenInPlace, IsStaticWrittenInPlace}

@@ -24,7 +24,7 @@ ghost use Rattle.gt_value.specs.declared.places.Place.{Place};
 
 use crate::reads::Reads;
 use crate::types::held_type;
-use gt_assign::{has_room, may_name, number_fits};
+use gt_fit::{has_room, may_name, number_fits};
 use gt_layout::Layouts;
 use gt_space::Space;
 use gt_store::store_leaf;

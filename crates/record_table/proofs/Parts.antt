@@ -15,7 +15,7 @@ use Rattle.gt_value.specs.declared.names.BlockKind.TheVariants as told
 use Rattle.gt_value.specs.Names.{kind_of}
 use Rattle.gt_value.specs.Values.{trees, tree_of}
 use Rattle.gt_show.specs.BlockTexts.{ElementsFit}
-use Rattle.gt_assign.proofs.Values.{num-tree}
+use Rattle.gt_fit.proofs.Values.{num-tree}
 
 module _ {program : Program} {blocks : Blocks} {scope : Scope} where
   pub each-none : (type : Ty) (values : List Value) → values ≡ [] → EachFits program blocks 0 scope type (trees (map tree_of values))

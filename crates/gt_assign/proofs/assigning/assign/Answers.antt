@@ -1,6 +1,6 @@
 use Rattle.gt_value.specs.Values.{tree_of}
 use Rattle.gt_assign.proofs.Assigned.{checked-assigned, checked-misfit}
-use Rattle.gt_assign.proofs.Layers.{granted, refused}
+use Rattle.gt_fit.proofs.Layers.{granted, refused}
 use Rattle.gt_assign.proofs.assigning.assign.Goals as goal
 
 pub returns-in-Err-clause-shape : goal.returns-in-Err-clause-shape

@@ -3,7 +3,7 @@ use Rattle.std.proofs.lemmas.List.{take_all}
 use Rattle.gt_tree.specs.Trees.{without_pointers}
 use Rattle.gt_value.specs.declared.values.Value.{Value}
 use Rattle.gt_value.specs.Values.{trees, tree_of}
-use Rattle.gt_assign.proofs.Values.{all_without_trees}
+use Rattle.gt_fit.proofs.Values.{all_without_trees}
 use Rattle.gt_assign.proofs.copies.+bare.Goals as goal
 
 pub all_without_pointers-returns : goal.all_without_pointers-returns

@@ -8,9 +8,9 @@ use Rattle.gt_value.specs.declared.values.Value.{Value}
 use Rattle.gt_value.specs.Values.{trees, tree_of}
 use Rattle.gt_assign.specs.Pasts.{Whole, past_of, desc_was}
 use Rattle.gt_assign.specs.Turning.{made, layer_made, struct_made, row_made, tail_made, member_made}
-use Rattle.gt_assign.proofs.Values.{rec-tree, row-tree, alt-tree}
+use Rattle.gt_fit.proofs.Values.{rec-tree, row-tree, alt-tree}
 use Rattle.gt_assign.proofs.Depths.{made_at}
-use Rattle.gt_assign.proofs.Layers.{granted}
+use Rattle.gt_fit.proofs.Layers.{granted}
 use Rattle.gt_assign.proofs.Nodes.{node-union, node-struct}
 use Rattle.gt_assign.proofs.Kept.{fields-none, field-kept, fields-kept, elements-none, element-kept, elements-kept, member-kept}
 use Rattle.gt_assign.proofs.keeping.+keeping.Goals as goal

@@ -1,6 +1,6 @@
 use Rattle.std.proofs.Common.{sym, ap, ◌∙◌, map, option_copied}
 use Rattle.gt_value.specs.Values.{trees, tree_of}
-use Rattle.gt_assign.specs.Checks.{maybe_tree}
+use Rattle.gt_fit.specs.Values.{maybe_tree}
 use Rattle.gt_assign.proofs.PartPaths.{part-nowhere, part-there}
 use Rattle.gt_assign.proofs.parts.+parts.Goals as goal
 

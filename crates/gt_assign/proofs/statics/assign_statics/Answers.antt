@@ -1,4 +1,4 @@
-use Rattle.gt_assign.proofs.Layers.{refused}
+use Rattle.gt_fit.proofs.Layers.{refused}
 use Rattle.gt_assign.proofs.statics.assign_statics.Goals as goal
 
 pub returns-in-Err-clause-shape : goal.returns-in-Err-clause-shape

@@ -5,7 +5,7 @@ use Rattle.gt_value.specs.declared.values.Value.{Value}
 use Rattle.gt_value.specs.Values.{trees, tree_of}
 use Rattle.gt_assign.specs.Pasts.{Whole, past_outside}
 use Rattle.gt_assign.specs.Turning.{Gives, made, roots_made, record_made}
-use Rattle.gt_assign.proofs.Values.{rec-tree}
+use Rattle.gt_fit.proofs.Values.{rec-tree}
 use Rattle.gt_assign.proofs.statics.record_anew.Goals as goal
 
 pub returns-then-roots_kept : goal.returns-then-roots_kept

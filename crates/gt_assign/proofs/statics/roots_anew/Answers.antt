@@ -6,7 +6,7 @@ use Rattle.gt_tree.specs.Trees.{Trees, Rec}
 use Rattle.gt_value.specs.declared.values.Value.{Value}
 use Rattle.gt_assign.specs.Pasts.{was_of, past_of, maybe_was}
 use Rattle.gt_assign.specs.Turning.{Gives, made, fields_made, roots_made}
-use Rattle.gt_assign.proofs.Values.{rec-tree}
+use Rattle.gt_fit.proofs.Values.{rec-tree}
 use Rattle.gt_assign.proofs.Rows.{given-stop, FieldsSoFar, fields-more, fields-stop, fields-end}
 use Rattle.gt_assign.proofs.statics.roots_anew.Goals as goal
 

@@ -2,9 +2,9 @@ use Rattle.std.proofs.Common.{◌↔◌, IsTrue, sym, subst, arith}
 use Rattle.gt_types.specs.declared.program.Root.{Root}
 use Rattle.gt_tree.specs.Fits.{Fits}
 use Rattle.gt_value.specs.Values.{tree_of}
-use Rattle.gt_assign.specs.Scoping.{scope_of}
-use Rattle.gt_assign.proofs.Layers.{granted, refused}
-use Rattle.gt_assign.proofs.PartsFit.{fields-uneven, fields-more, fields-stop, fields-done}
+use Rattle.gt_fit.specs.Scoping.{scope_of}
+use Rattle.gt_fit.proofs.Layers.{granted, refused}
+use Rattle.gt_fit.proofs.PartsFit.{fields-uneven, fields-more, fields-stop, fields-done}
 use Rattle.gt_assign.proofs.statics.roots_fit.Goals as goal
 
 pub returns-then-parts-roots : goal.returns-then-parts-roots

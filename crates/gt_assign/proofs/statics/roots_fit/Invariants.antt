@@ -1,7 +1,7 @@
 use Rattle.std.proofs.Common.{◌↔◌, drop}
 use Rattle.gt_types.specs.declared.program.Root.{Root}
-use Rattle.gt_assign.specs.Scoping.{scope_of}
-use Rattle.gt_assign.proofs.PartsFit.{FieldsDo}
+use Rattle.gt_fit.specs.Scoping.{scope_of}
+use Rattle.gt_fit.proofs.PartsFit.{FieldsDo}
 use Rattle.gt_assign.proofs.statics.roots_fit.Given as goal
 
 abbrev pub invariant-loop-i : goal.invariant-loop-i

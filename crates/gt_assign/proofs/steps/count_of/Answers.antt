@@ -1,5 +1,5 @@
 use Rattle.std.proofs.Common.{sym}
-use Rattle.gt_assign.proofs.Values.{count-trees}
+use Rattle.gt_fit.proofs.Values.{count-trees}
 use Rattle.gt_assign.proofs.steps.count_of.Goals as goal
 
 pub returns : goal.returns

@@ -6,10 +6,10 @@ use Rattle.gt_value.specs.declared.values.Value.{Value}
 use Rattle.gt_types.specs.declared.types.Ty.{Ty, out-Ty}
 use Rattle.gt_types.specs.declared.types.Ty.TheVariants as ty
 use Rattle.gt_types.specs.declared.program.Field.{Field}
-use Rattle.gt_assign.specs.Checks.{maybe_tree}
+use Rattle.gt_fit.specs.Values.{maybe_tree}
 use Rattle.gt_assign.specs.Pasts.{was_of, past_of, maybe_was}
 use Rattle.gt_assign.specs.Turning.{Gives, made, layer_made, struct_made, row_made, tail_made, fields_made, elements_made}
-use Rattle.gt_assign.proofs.Values.{rec-tree, row-tree}
+use Rattle.gt_fit.proofs.Values.{rec-tree, row-tree}
 use Rattle.gt_assign.proofs.Depths.{made_at}
 use Rattle.gt_assign.proofs.Nodes.{node-union, node-struct}
 use Rattle.gt_assign.proofs.Rows.{FieldsSoFar, fields-more, fields-end, ElementsSoFar, elements-more, elements-end}

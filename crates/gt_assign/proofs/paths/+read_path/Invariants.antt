@@ -1,5 +1,0 @@
-use Rattle.std.proofs.Common.{length}
-use Rattle.gt_assign.proofs.paths.+read_path.Given as goal
-
-abbrev pub decreases-read_path : goal.decreases-read_path
-decreases-read_path l = length l.steps.now

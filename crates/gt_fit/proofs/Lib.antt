@@ -1,0 +1,10 @@
+pub mod Values
+pub mod PathSteps
+pub mod Depths
+pub mod Listing
+pub mod Plains
+pub mod CommonFound
+pub mod PartsFit
+pub mod Layers
+pub mod Endings
+pub mod Selves
