@@ -1,5 +1,8 @@
 // Steps from what a value was to what its parts were.
-ghost use Rattle.std.specs.Prelude.{◌≡◌, map, option_copied};
+ghost use Rattle.std.specs.Prelude.{◌≡◌, true, map, option_copied};
+ghost use Rattle.gt_types.specs.declared.types.TypeId.{TypeId};
+ghost use Rattle.gt_types.specs.Contains.{HasStructure};
+ghost use Rattle.gt_types.specs.Settled.{Settled};
 ghost use Rattle.gt_tree.specs.Trees.{count};
 ghost use Rattle.gt_value.specs.Values.{trees, tree_of};
 ghost use Rattle.gt_fit.specs.Values.{maybe_tree};
@@ -85,6 +88,9 @@ fn begun_by<'a>(
     member: Option<u32>,
     value: &'a Value,
 ) -> Option<Seen<'a>>
+    requires settled { Settled program.now }
+    requires there { (node : TypeId) × HasStructure program.now node structure.now }
+    requires union { structure.now.is_union ≡ true }
     ensures { maybe_was result ≡ begun_by program.now structure.now member (tree_of value.now) (common_of program.now structure.now) }
 {
     let Some(id) = common_of(program, structure) else {
@@ -106,6 +112,9 @@ pub fn member_of<'a>(
     place: u32,
     seen: Seen<'a>,
 ) -> Option<Seen<'a>>
+    requires settled { Settled program.now }
+    requires there { (node : TypeId) × HasStructure program.now node structure.now }
+    requires union { structure.now.is_union ≡ true }
     ensures { maybe_was result ≡ member_was program.now structure.now place (was_of seen.entry) }
 {
     match seen {

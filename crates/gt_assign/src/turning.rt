@@ -1,5 +1,7 @@
 // A value made anew, from the outside in.
-ghost use Rattle.std.specs.Prelude.{◌≡◌, ◌≤◌, Some, length};
+ghost use Rattle.std.specs.Prelude.{◌≡◌, ◌≤◌, true, Some, length};
+ghost use Rattle.gt_types.specs.declared.types.TypeId.{TypeId};
+ghost use Rattle.gt_types.specs.Contains.{HasStructure};
 ghost use Rattle.gt_types.specs.Settled.{Settled};
 ghost use Rattle.gt_types.specs.declared.limits.TheConstants.{MAX_FIELDS};
 ghost use Rattle.gt_types.specs.declared.types.Ty.{out-Ty};
@@ -191,6 +193,8 @@ fn union(
 ) -> Result<Value, ValueFail>
     requires settled { Settled on.now.program.now }
     requires few { length structure.now.fields ≤ MAX_FIELDS }
+    requires there { (node : TypeId) × HasStructure on.now.program.now node structure.now }
+    requires union { structure.now.is_union ≡ true }
     ensures { Gives result (member_made on.now.program.now (made on.now.program.now on.now.capacity depth) (past_of inner.now) structure.now (was_of seen.entry)
         (active_member (desc_was on.now.program.now (past_of inner.now) desc.now) structure.now.fields)) }
 {
@@ -220,6 +224,8 @@ fn member(
     depth: usize,
 ) -> Result<Value, ValueFail>
     requires settled { Settled on.now.program.now }
+    requires there { (node : TypeId) × HasStructure on.now.program.now node structure.now }
+    requires union { structure.now.is_union ≡ true }
     ensures { Gives result (member_made on.now.program.now (made on.now.program.now on.now.capacity depth) (past_of inner.now) structure.now (was_of seen.entry) (Some place)) }
 {
     let Some(field) = structure.fields.get(place as usize) else {
@@ -245,6 +251,8 @@ fn rest(
     depth: usize,
 ) -> Result<Value, ValueFail>
     requires settled { Settled on.now.program.now }
+    requires there { (node : TypeId) × HasStructure on.now.program.now node structure.now }
+    requires union { structure.now.is_union ≡ true }
     ensures { Gives result (rest_made on.now.program.now (made on.now.program.now on.now.capacity depth) (past_of inner.now) structure.now (was_of seen.entry)) }
 {
     match seen {
@@ -259,6 +267,9 @@ fn rest(
 
 // What stays of a union of which no member is active: its common structure without pointers.
 fn rest_of(on: &Making, structure: &Structure, value: &Value) -> Result<Value, ValueFail>
+    requires settled { Settled on.now.program.now }
+    requires there { (node : TypeId) × HasStructure on.now.program.now node structure.now }
+    requires union { structure.now.is_union ≡ true }
     ensures { Gives result (rest_whole on.now.program.now structure.now (tree_of value.now)) }
 {
     let Value::Alt {

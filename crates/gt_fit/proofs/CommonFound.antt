@@ -1,6 +1,6 @@
 -- The common structure that is found is the common structure of a union, and where none is found there is none.
 use Rattle.std.proofs.Common.{◌≡◌, ℕ, zero, suc, ◌<◌, ◌≤◌, Bool, true, false, not, ◌&&◌, ◌||◌, cond, IsTrue, List, [], ◌∷◌, refl, ap, sym, subst, ◌∙◌, arith, Option, Some, None}
-use Rattle.std.specs.Prelude.{All, Contains, is_some, slice_get}
+use Rattle.std.specs.Prelude.{All, Contains, MatchOption, is_some, slice_get}
 use Rattle.std.specs.List.{list_all}
 use Rattle.std.proofs.lemmas.List.Elements.{All-nil, All-cons, All-contains}
 use Rattle.std.proofs.lemmas.Option.{slice_get-get_or}
@@ -17,6 +17,7 @@ use Rattle.gt_types.specs.Unions.{may_be_active, BeginsWith, is_it, by_first, Is
 use Rattle.gt_types.specs.Settled.{Settled}
 use Rattle.gt_tree.specs.Scopes.{is_node}
 use Rattle.gt_tree.proofs.Types.{held-node}
+use Rattle.gt_tree.proofs.Commons.{one-common}
 use Rattle.gt_tree.proofs.PathBegins.{same-number}
 use Rattle.gt_tree.proofs.WriteReads.{node-type}
 use Rattle.gt_fit.specs.Commons.{held_is, is_plain_in, is_plain, first_is, struct_is, inside_is, begins_with, suits, is_common, common_by, or_else, common_among, common_of}
@@ -246,3 +247,15 @@ module _ (program : Program) (settled : Settled program) where
 
   pub common-is : (node : TypeId) (s : Structure) → HasStructure program node s → s.is_union ≡ true → CommonIs program s (common_of program s)
   common-is node s has union = answer s union (common_of program s) refl
+
+  is-one : (node : TypeId) (s : Structure) → HasStructure program node s → (a b : Option TypeId) → CommonIs program s a → CommonIs program s b → a ≡ b
+  is-one node s has (Some a) (Some b) x y = ap Some (one-common program node s a b settled has x y)
+  is-one node s has (Some a) None x y = absurd (y a x)
+  is-one node s has None (Some b) x y = absurd (x b y)
+  is-one node s has None None x y = refl
+
+  -- a search that answers which structure is common finds what the definition says
+  pub found-is-common : (node : TypeId) (s : Structure) → HasStructure program node s → s.is_union ≡ true → (o : Option TypeId)
+      → MatchOption o ((common : TypeId) → ¬ IsCommon program s common) (IsCommon program s) → o ≡ common_of program s
+  found-is-common node s has union (Some common) is = is-one node s has (Some common) (common_of program s) is (common-is node s has union)
+  found-is-common node s has union None none = is-one node s has None (common_of program s) none (common-is node s has union)

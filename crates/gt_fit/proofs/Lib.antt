@@ -1,8 +1,6 @@
 pub mod Values
 pub mod PathSteps
-pub mod Depths
 pub mod Listing
-pub mod Plains
 pub mod CommonFound
 pub mod PartsFit
 pub mod Layers

@@ -1,5 +1,7 @@
 // Whether a value fits its type.
-ghost use Rattle.std.specs.Prelude.{◌≡◌, ◌↔◌, ◌≤◌, IsTrue, length, map, pos, Some};
+ghost use Rattle.std.specs.Prelude.{◌≡◌, ◌↔◌, ◌≤◌, IsTrue, length, map, pos, true, Some};
+ghost use Rattle.gt_types.specs.declared.types.TypeId.{TypeId};
+ghost use Rattle.gt_types.specs.Contains.{HasStructure};
 ghost use Rattle.gt_types.specs.Settled.{Settled};
 ghost use Rattle.gt_types.specs.Shapes.{is_pointer};
 ghost use Rattle.gt_types.specs.declared.types.Ty.{out-Ty};
@@ -214,6 +216,8 @@ fn there_fits<N: BlockNames>(
     inner: &Within,
 ) -> bool
     requires settled { Settled on.now.program.now }
+    requires there { (node : TypeId) × HasStructure on.now.program.now node structure.now }
+    requires union { structure.now.is_union ≡ true }
     ensures { IsTrue result ↔ ThereFits on.now.program.now (N.blocks on.now.names.now) on.now.capacity (scope_of inner.now) structure.now member (tree_of there.now) }
 {
     let Some(place) = member else {
@@ -234,6 +238,8 @@ fn common_fits<N: BlockNames>(
     inner: &Within,
 ) -> bool
     requires settled { Settled on.now.program.now }
+    requires there { (node : TypeId) × HasStructure on.now.program.now node structure.now }
+    requires union { structure.now.is_union ≡ true }
     ensures { IsTrue result ↔ CommonFits on.now.program.now (N.blocks on.now.names.now) on.now.capacity (scope_of inner.now) (common_of on.now.program.now structure.now) (tree_of there.now) }
 {
     let Some(id) = common_of(on.program, structure) else {

@@ -76,4 +76,6 @@ layer-returns-in-Tail t c =
     (subst (λ (e : Ty). Gives c.tail.result (tail_made (made c.args.on.now.program.now c.args.on.now.capacity c.args.depth) (past_of c.args.around.now) e (was_of c.args.seen) c.tail_length.result)) c.get-in-Tail.ensures c.tail.ensures))
 
 pub node-union-requires : goal.node-union-requires
-node-union-requires t c = (omega arith, (c.requires.settled, (c.requires.settled.structures c.args.id c.in-Some-get.structure.now (sym c.get.ensures.item ∙ ap option_copied c.in-Some-get.is)).few_fields))
+node-union-requires t c =
+    let has = sym c.get.ensures.item ∙ ap option_copied c.in-Some-get.is in
+    (omega arith, (c.requires.settled, ((c.requires.settled.structures c.args.id c.in-Some-get.structure.now has).few_fields, ((c.args.id, has), c.if-structure.true))))
