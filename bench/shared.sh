@@ -75,17 +75,19 @@ C
 cc -O2 -o "$work/spent" "$work/spent.c"
 : >"$work/input"
 
-# Copies these crates into `work`, each with its line of crates.txt.
+# Copies these crates into `work`, each with its line of crates.txt, and with its library where that is built.
 copy_crates() {
-  local name
+  local name built
   mkdir -p "$work/crates"
   for name; do
     (cd "$root/crates" && tar -c --exclude=out --exclude=incremental --exclude=must-fail "$name") | tar -x -C "$work/crates"
+    built=$root/crates/$name/out/rlib
+    [ ! -d "$built" ] || { mkdir "$work/crates/$name/out" && cp -r "$built" "$work/crates/$name/out"; }
     grep "^$name:" "$root/crates.txt" >>"$work/crates.txt"
   done
 }
 
-# Proves and builds these copied crates, so that a program can use them.
+# Proves and builds these copied crates, so that a program can use them. Those that came with a library of the same sources are not proved again.
 build_copied() {
   local name
   for name; do (cd "$work/crates/$name" && quiet rt lib); done

@@ -1,0 +1,4 @@
+mod Adding
+mod Decimals
+mod Commands
+mod Nodes
