@@ -1,9 +1,10 @@
 //! The program as one call: arguments, files and a sink go in, and what comes out is a run of the typed-object machine.
-//! The layer above uses `top` alone.
+//! The layer above uses `top`, or `run_here`, which hands it what the machine has.
 #![tactic(auto)]
 
 mod built;
 mod ending;
+mod host;
 pub mod laws;
 mod opening;
 mod outcome;
@@ -12,6 +13,7 @@ mod running;
 
 pub use gt_front::{FileWhy, Refusal};
 pub use gt_next::{Answer, Why};
+pub use host::run_here;
 pub use laws::{numbers, one_refusal};
 pub use outcome::Outcome;
 pub use running::top;
