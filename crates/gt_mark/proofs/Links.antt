@@ -1,5 +1,5 @@
 -- Blocks of a chain that are walked alike.
-use Rattle.std.proofs.Common.{◌≡◌, ◌∙◌, ℕ, ◌+◌, ◌<◌, ◌^◌, ◌==◌, Bool, true, cond, nat_lt, List, Option, Some, None, refl, sym, ap, arith}
+use Rattle.std.proofs.Common.{◌≡◌, ◌∙◌, ℕ, ◌+◌, ◌<◌, ◌^◌, ◌==◌, true, cond, nat_lt, Some, None, refl, sym, ap, arith}
 use Rattle.std.specs.Prelude.{option_and_then}
 use Rattle.gt_space.specs.Range.{Range}
 use Rattle.gt_walk.specs.declared.tables.Tables.{Tables}

@@ -93,6 +93,7 @@ impl<'a> Marker<'a> {
     }
 
     /// Takes the edges of a block, and says which block its chain pointer names, where it was not marked.
+    #[inline(always)]
     fn walk_block(&mut self, tables: &Tables, space: &Space, block: Block) -> Option<Block>
         requires ready { (t : Task tables.now space.now) × (begun : List ℕ) × Holds t begun (Some block) (state_of self.old) }
         ensures same_reference { self.new.pages.ghost_name ≡ self.old.pages.ghost_name }
@@ -104,6 +105,18 @@ impl<'a> Marker<'a> {
         visit_with_rows(tables, rows, block.count, space, block.addr, self);
         self.chain = None;
         self.next.take()
+    }
+
+    /// The same for a block that begins after the space.
+    #[cold]
+    #[inline(never)]
+    fn walk_outside(&mut self, tables: &Tables, space: &Space, block: Block) -> Option<Block>
+        requires ready { (t : Task tables.now space.now) × (begun : List ℕ) × Holds t begun (Some block) (state_of self.old) }
+        ensures same_reference { self.new.pages.ghost_name ≡ self.old.pages.ghost_name }
+        ensures goes { (t : Task tables.now space.now) (begun : List ℕ) → Holds t begun (Some block) (state_of self.old) → Goes t begun result (state_of self.old) (state_of self.new) }
+        ensures wide { (t : Task tables.now space.now) (begun : List ℕ) → Holds t begun (Some block) (state_of self.old) → Wide t (state_of self.old) (Some block) → Wide t (state_of self.new) result }
+    {
+        self.walk_block(tables, space, block)
     }
 
     /// The same for a block of one element that has a chain pointer.
@@ -146,7 +159,7 @@ impl<'a> Marker<'a> {
         let mut block = block;
         'links: loop {
             if block.addr >= links.end {
-                return self.walk_block(tables, space, block);
+                return self.walk_outside(tables, space, block);
             }
             match self.walk_link(tables, space, links, block) {
                 None => return None,

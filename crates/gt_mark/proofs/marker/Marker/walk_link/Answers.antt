@@ -1,4 +1,4 @@
-use Rattle.std.proofs.Common.{None, refl, sym, subst, arith}
+use Rattle.std.proofs.Common.{None, refl, sym, subst}
 use Rattle.gt_mark.specs.Steps.{Goes, state_of}
 use Rattle.gt_mark.proofs.Blocks.{can_same, goes_block, same_block, took_same}
 use Rattle.gt_mark.proofs.Links.{link_edges, link_place}

@@ -6,10 +6,10 @@ use Rattle.gt_mark.proofs.marker.Marker.walk_links.Goals as goal
 
 pub returns-then-block-links-clause-goes : goal.returns-then-block-links-clause-goes
 returns-then-block-links-clause-goes c = λ t begun h.
-    went_last t begun c.links.block c.walk_block.result (state_of c.args.self.now) (state_of c.links.self) (state_of c.walk_block.new.self) (c.links.invariant.goes t begun h) (c.walk_block.ensures.goes t begun)
+    went_last t begun c.links.block c.walk_outside.result (state_of c.args.self.now) (state_of c.links.self) (state_of c.walk_outside.new.self) (c.links.invariant.goes t begun h) (c.walk_outside.ensures.goes t begun)
 
 pub returns-then-block-links-clause-wide : goal.returns-then-block-links-clause-wide
-returns-then-block-links-clause-wide c = λ t begun h w. c.walk_block.ensures.wide t begun (c.links.invariant.goes t begun h).holds (c.links.invariant.wide t begun h w)
+returns-then-block-links-clause-wide c = λ t begun h w. c.walk_outside.ensures.wide t begun (c.links.invariant.goes t begun h).holds (c.links.invariant.wide t begun h w)
 
 pub returns-in-None-clause-goes : goal.returns-in-None-clause-goes
 returns-in-None-clause-goes c = λ t begun h.
