@@ -4,6 +4,7 @@ pub mod Losing
 pub mod Going
 pub mod Further
 pub mod Blocks
+pub mod Links
 pub mod Steps
 pub mod Decide
 pub mod Final

@@ -70,6 +70,15 @@ module _ {tables : Tables} {space : Range} (t : Task tables space) (begun : List
         stands = g.stands ∙ w.stands;
       }
 
+  pub went_last : (b : Block) (hand : Option Block) (first old new : State) → WentOn t begun b first old → (Holds t begun (Some b) old → Goes t begun hand old new) → Goes t begun hand first new
+  went_last b hand first old new w goes =
+      let g = goes w.holds in
+      record {
+        holds = g.holds;
+        lessens = lessens_on first old new (one_if (is_some hand)) w.lessens g.lessens;
+        stands = g.stands ∙ w.stands;
+      }
+
   -- ---- the stack
 
   pub good_popped : (rest : List Block) (b : Block) (st : State) → st.stack ≡ rest ++ b ∷ [] → Holds t begun None st → Holds t begun (Some b) (record st { stack = rest })

@@ -1,10 +1,43 @@
 //! Chain pointers, by which lists are walked without the stack.
-ghost use Rattle.std.specs.Prelude.{◌≡◌, ◌+◌, ℕ, Some, MatchOption};
+ghost use Rattle.std.specs.Prelude.{◌≡◌, ◌+◌, ℕ, Some, MatchOption, IfSome};
 ghost use Rattle.gt_mark.specs.Rounds.{chain_in_note};
-ghost use Rattle.gt_mark.specs.Chains.{chain_from};
+ghost use Rattle.gt_mark.specs.Chains.{AreLinks, chain_from};
 
 use crate::stack::Block;
-use gt_walk::WalkRow;
+use gt_space::Space;
+use gt_walk::{Tables, WalkRow, after_note, end_of, rows_of, words_in};
+
+/// How the blocks of a chain are walked that have one element of the same walk: the rows after their note, the offset of the chain
+/// pointer, where the space ends, and how many words it has.
+#[derive(Clone, Copy)]
+pub struct Links<'a> {
+    pub walk: u32,
+    pub rows: &'a [WalkRow],
+    pub offset: u32,
+    pub end: u64,
+    pub words: u64,
+}
+
+impl<'a> Links<'a> {
+    /// How a block is walked, and those of its chain that are walked alike; none where it has no chain pointer.
+    #[inline(always)]
+    pub fn of(tables: &'a Tables, space: &Space, block: Block) -> Option<Links<'a>>
+        ensures { IfSome result (AreLinks tables.now space.now block) }
+    {
+        if block.count != 1 {
+            return None;
+        }
+        let rows = rows_of(tables, block.walk);
+        let offset = chain_in_note(rows)?;
+        Some(Links {
+            walk: block.walk,
+            rows: after_note(rows),
+            offset,
+            end: end_of(space),
+            words: words_in(space),
+        })
+    }
+}
 
 // The offset of the chain pointer that rows tell by the note with which they begin.
 #[inline(always)]

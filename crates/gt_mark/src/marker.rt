@@ -3,16 +3,17 @@ ghost use Rattle.std.specs.Prelude.{◌≡◌, ◌⊎◌, ◌≤◌, ◌<◌, �
 ghost use Rattle.gt_space.specs.Range.{Range};
 ghost use Rattle.gt_pages.specs.Slots.{StartsSome};
 ghost use Rattle.gt_walk.specs.declared.tables.Tables.{Tables};
+ghost use Rattle.gt_mark.specs.Chains.{AreLinks};
 ghost use Rattle.gt_mark.specs.Steps.{Task, Ends, Goes, Holds, Leaves, Lessens, PassesOver, ahead, begun_state, lost_in, place_of, postponed_pages, start_state, state_of};
 ghost use Rattle.gt_mark.specs.Wide.{Wide};
 
-use crate::chains::chain_place;
+use crate::chains::{Links, chain_place};
 use crate::spans::{Pass, Span};
 use crate::stack::{Block, Stack};
 use arrayvec::ArrayVec;
 use gt_pages::Pages;
 use gt_space::Space;
-use gt_walk::{EdgeSink, Tables, rows_of, visit_with_rows};
+use gt_walk::{EdgeSink, Tables, rows_of, visit_element, visit_with_rows};
 
 /// Marks the blocks that edges name. A block that is newly marked comes onto the stack, or it is the next of a chain. Where the stack has
 /// no room for it, its mark says that it is left to a pass: it lies ahead of the pass that runs, or in the span that the next one goes over.
@@ -92,6 +93,7 @@ impl<'a> Marker<'a> {
     }
 
     /// Takes the edges of a block, and says which block its chain pointer names, where it was not marked.
+    #[inline(always)]
     fn walk_block(&mut self, tables: &Tables, space: &Space, block: Block) -> Option<Block>
         requires ready { (t : Task tables.now space.now) × (begun : List ℕ) × Holds t begun (Some block) (state_of self.old) }
         ensures same_reference { self.new.pages.ghost_name ≡ self.old.pages.ghost_name }
@@ -105,6 +107,86 @@ impl<'a> Marker<'a> {
         self.next.take()
     }
 
+    /// The same for a block that begins after the space.
+    #[cold]
+    #[inline(never)]
+    fn walk_outside(&mut self, tables: &Tables, space: &Space, block: Block) -> Option<Block>
+        requires ready { (t : Task tables.now space.now) × (begun : List ℕ) × Holds t begun (Some block) (state_of self.old) }
+        ensures same_reference { self.new.pages.ghost_name ≡ self.old.pages.ghost_name }
+        ensures goes { (t : Task tables.now space.now) (begun : List ℕ) → Holds t begun (Some block) (state_of self.old) → Goes t begun result (state_of self.old) (state_of self.new) }
+        ensures wide { (t : Task tables.now space.now) (begun : List ℕ) → Holds t begun (Some block) (state_of self.old) → Wide t (state_of self.old) (Some block) → Wide t (state_of self.new) result }
+    {
+        self.walk_block(tables, space, block)
+    }
+
+    /// The same for a block of one element that has a chain pointer.
+    #[inline(always)]
+    fn walk_link(
+        &mut self,
+        tables: &Tables,
+        space: &Space,
+        links: Links<'_>,
+        block: Block,
+    ) -> Option<Block>
+        requires ready { (t : Task tables.now space.now) × (begun : List ℕ) × Holds t begun (Some block) (state_of self.old) }
+        requires links { AreLinks tables.now space.now block links }
+        requires inside { block.addr < links.end }
+        ensures same_reference { self.new.pages.ghost_name ≡ self.old.pages.ghost_name }
+        ensures goes { (t : Task tables.now space.now) (begun : List ℕ) → Holds t begun (Some block) (state_of self.old) → Goes t begun result (state_of self.old) (state_of self.new) }
+        ensures wide { (t : Task tables.now space.now) (begun : List ℕ) → Holds t begun (Some block) (state_of self.old) → Wide t (state_of self.old) (Some block) → Wide t (state_of self.new) result }
+    {
+        self.chain = Some(block.addr + links.offset as u64);
+        visit_element(tables, links.rows, space, links.words, block.addr, self);
+        self.chain = None;
+        self.next.take()
+    }
+
+    /// Walks such a block, and the blocks of its chain that were not marked, as long as they are walked alike. Says which comes after
+    /// them.
+    fn walk_links(
+        &mut self,
+        tables: &Tables,
+        space: &Space,
+        links: Links<'_>,
+        block: Block,
+    ) -> Option<Block>
+        requires ready { (t : Task tables.now space.now) × (begun : List ℕ) × Holds t begun (Some block) (state_of self.old) }
+        requires links { AreLinks tables.now space.now block links }
+        ensures same_reference { self.new.pages.ghost_name ≡ self.old.pages.ghost_name }
+        ensures goes { (t : Task tables.now space.now) (begun : List ℕ) → Holds t begun (Some block) (state_of self.old) → Goes t begun result (state_of self.old) (state_of self.new) }
+        ensures wide { (t : Task tables.now space.now) (begun : List ℕ) → Holds t begun (Some block) (state_of self.old) → Wide t (state_of self.old) (Some block) → Wide t (state_of self.new) result }
+    {
+        let mut block = block;
+        'links: loop {
+            if block.addr >= links.end {
+                return self.walk_outside(tables, space, block);
+            }
+            match self.walk_link(tables, space, links, block) {
+                None => return None,
+                Some(next) => {
+                    if next.walk != links.walk || next.count != 1 {
+                        return Some(next);
+                    }
+                    block = next;
+                }
+            }
+        }
+    }
+
+    /// Walks a block, and where it has a chain pointer the blocks of its chain that are walked alike. Says which comes after them.
+    #[inline(always)]
+    fn walk_alike(&mut self, tables: &Tables, space: &Space, block: Block) -> Option<Block>
+        requires ready { (t : Task tables.now space.now) × (begun : List ℕ) × Holds t begun (Some block) (state_of self.old) }
+        ensures same_reference { self.new.pages.ghost_name ≡ self.old.pages.ghost_name }
+        ensures goes { (t : Task tables.now space.now) (begun : List ℕ) → Holds t begun (Some block) (state_of self.old) → Goes t begun result (state_of self.old) (state_of self.new) }
+        ensures wide { (t : Task tables.now space.now) (begun : List ℕ) → Holds t begun (Some block) (state_of self.old) → Wide t (state_of self.old) (Some block) → Wide t (state_of self.new) result }
+    {
+        match Links::of(tables, space, block) {
+            None => self.walk_block(tables, space, block),
+            Some(links) => self.walk_links(tables, space, links, block),
+        }
+    }
+
     /// Walks a block, and the blocks of its chain that were not marked.
     fn walk_chain(&mut self, tables: &Tables, space: &Space, block: Block)
         requires ready { (t : Task tables.now space.now) × (begun : List ℕ) × Holds t begun (Some block) (state_of self.old) }
@@ -114,7 +196,7 @@ impl<'a> Marker<'a> {
     {
         let mut block = block;
         'chain: loop {
-            match self.walk_block(tables, space, block) {
+            match self.walk_alike(tables, space, block) {
                 None => return,
                 Some(next) => block = next,
             }

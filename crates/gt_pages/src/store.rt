@@ -239,7 +239,7 @@ impl Store {
         ensures unchanged { result ≡ false → contents_of (parts_of self.new) ≡ contents_of (parts_of self.old) }
     {
         match self.spot(addr) {
-            None => false,
+            None => unreachable!(),
             Some(spot) => self.mark_spot(spot, walk, count),
         }
     }

@@ -22,7 +22,7 @@ pointer-fixed range f place walk n (Some (suc target)) = refl
 
 layer-plain : (range : Range) (walks : ℕ → Gives) (x : WalkRow-F WalkRow Arm) (f : Frame) → is_plain x ≡ true
     → row_step range walks (map-WalkRow WalkRow Arm Gives (Active × Option Gives) (row_edges range walks) (arm_of range walks) x) f ≡ plain_edges range f.at x
-layer-plain range walks (part.Note size chain) f e = refl
+layer-plain range walks (part.Note size chain) f e = absurd (cc)
 layer-plain range walks (part.Ptr offset walk (Fixed n) reorder) f e = pointer-fixed range f (f.at + offset) walk n (word_at range (f.at + offset))
 layer-plain range walks (part.Ptr offset walk (Length len) reorder) f e = absurd (cc)
 layer-plain range walks (part.Sub offset walk) f e = absurd (cc)
@@ -37,21 +37,24 @@ row-plain range walks r f e = ap (λ g. g f) (row-layer range walks r (out-WalkR
 pub element-plain : (tables : Tables) (range : Range) (at : ℕ) (r : WalkRow) → is_plain (out-WalkRow r) ≡ true → element_row tables range at r ≡ plain_edges range at (out-WalkRow r)
 element-plain tables range at r e = row-plain range (walk_edges tables range 33) r (frame_at at) e ∙ ap (λ p. plain_edges range p (out-WalkRow r)) (at-place at)
 
-note-silent : {A B : Type 0} (range : Range) (at : ℕ) (x : WalkRow-F A B) → is_note x ≡ true → (is_plain x ≡ true) × (plain_edges range at x ≡ [])
-note-silent range at (part.Note size chain) e = (refl, refl)
-note-silent range at (part.Ptr offset walk count reorder) e = absurd (cc)
-note-silent range at (part.Sub offset walk) e = absurd (cc)
-note-silent range at (part.Rep offset n size elem) e = absurd (cc)
-note-silent range at (part.Tail offset len size elem) e = absurd (cc)
-note-silent range at (part.Switch desc arms) e = absurd (cc)
+layer-note : (range : Range) (walks : ℕ → Gives) (x : WalkRow-F WalkRow Arm) (f : Frame) → is_note x ≡ true
+    → row_step range walks (map-WalkRow WalkRow Arm Gives (Active × Option Gives) (row_edges range walks) (arm_of range walks) x) f ≡ []
+layer-note range walks (part.Note size chain) f e = refl
+layer-note range walks (part.Ptr offset walk count reorder) f e = absurd (cc)
+layer-note range walks (part.Sub offset walk) f e = absurd (cc)
+layer-note range walks (part.Rep offset n size elem) f e = absurd (cc)
+layer-note range walks (part.Tail offset len size elem) f e = absurd (cc)
+layer-note range walks (part.Switch desc arms) f e = absurd (cc)
+
+row-note : (range : Range) (walks : ℕ → Gives) (r : WalkRow) (f : Frame) → is_note (out-WalkRow r) ≡ true → row_edges range walks r f ≡ []
+row-note range walks r f e = ap (λ g. g f) (row-layer range walks r (out-WalkRow r) refl) ∙ layer-note range walks (out-WalkRow r) f e
 
 -- a note gives no edge
 pub after-note : (tables : Tables) (range : Range) (rows : List WalkRow) (at : ℕ) → element_edges tables range rows at ≡ element_edges tables range (after_note rows) at
 after-note tables range [] at = refl
 after-note tables range (row ∷ rows) at = elim (cases_Bool (is_note (out-WalkRow row))) [
   | inl note ↦
-      let silent = note-silent range at (out-WalkRow row) note in
-      ap (λ es. es ++ element_edges tables range rows at) (element-plain tables range at row silent.0 ∙ silent.1)
+      ap (λ es. es ++ element_edges tables range rows at) (row-note range (walk_edges tables range 33) row (frame_at at) note)
       ∙ ap (λ b. element_edges tables range (cond b rows (row ∷ rows)) at) (sym note)
   | inr other ↦ ap (λ b. element_edges tables range (cond b rows (row ∷ rows)) at) (sym other)
 ]

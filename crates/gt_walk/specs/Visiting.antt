@@ -61,9 +61,8 @@ abbrev pub is_fixed : Count → Bool
 is_fixed (Fixed n) = true
 is_fixed (Length e) = false
 
--- whether a row is a note, or a pointer to a block of a fixed count
+-- whether a row is a pointer to a block of a fixed count
 abbrev pub is_plain : {A B : Type 0} → WalkRow-F A B → Bool
-is_plain (Note size chain) = true
 is_plain (Ptr offset walk count reorder) = is_fixed count
 is_plain row = false
 

@@ -1,5 +1,5 @@
 // What rows read in the bytes of a space.
-ghost use Rattle.std.specs.Prelude.{◌≡◌, ◌≤◌, ◌<◌, ◌+◌, ◌^◌, length};
+ghost use Rattle.std.specs.Prelude.{◌≡◌, ◌≤◌, ◌<◌, ◌+◌, ◌-◌, ◌^◌, length};
 ghost use Rattle.gt_types.specs.Values.{within_i64};
 ghost use Rattle.gt_walk.specs.Rows.{word_at, has_bits, number_at, leaf_value, row_value, length_of, count_of};
 ghost use Rattle.gt_walk.specs.Frames.{frame_of};
@@ -10,7 +10,8 @@ use gt_space::Space;
 use gt_types::{Base, List, Reader, Word, eval};
 use gt_value::{Holder, LeafContent, LeafKind, Place, read_leaf};
 
-// The address after the last byte of a space.
+/// The address after the last byte of a space.
+#[inline(always)]
 pub fn end_of(space: &Space) -> u64
     ensures end { result ≡ space.now.start + length space.now.bytes }
     ensures small { result < 2 ^ 32 }
@@ -18,15 +19,33 @@ pub fn end_of(space: &Space) -> u64
     space.start() + space.len()
 }
 
-// The eight bytes at an address; none where they do not lie in the space.
+/// How many words of eight bytes a space has, from each of its bytes on.
+#[inline(always)]
+pub fn words_in(space: &Space) -> u64
+    ensures words { result ≡ length space.now.bytes - 7 }
+{
+    space.len().saturating_sub(7)
+}
+
+// The eight bytes at an address; none where they do not lie in the space, which has so many words.
+#[inline(always)]
+pub fn word_of(space: &Space, words: u64, address: u64) -> Option<u64>
+    requires words { words ≡ length space.now.bytes - 7 }
+    requires near { address < 2 ^ 63 }
+    ensures { result ≡ word_at space.now address }
+{
+    if address.wrapping_sub(space.start()) >= words {
+        return None;
+    }
+    Some(space.read_u64(address))
+}
+
+// The same, where it is not known how many words the space has.
 pub fn word_at(space: &Space, address: u64) -> Option<u64>
     requires near { address < 2 ^ 63 }
     ensures { result ≡ word_at space.now address }
 {
-    if address < space.start() || address + 8 > end_of(space) {
-        return None;
-    }
-    Some(space.read_u64(address))
+    word_of(space, words_in(space), address)
 }
 
 // Whether from 1 to 64 bits from a bit of the byte at an address on lie in the space.

@@ -9,7 +9,8 @@ mod sinks;
 mod tables;
 mod visiting;
 
+pub use lengths::{end_of, words_in};
 pub use rows::{Arm, Count, Origin, RowExpr, RowLeaf, WalkRow};
 pub use sinks::EdgeSink;
 pub use tables::{CacheWalks, Tables};
-pub use visiting::{rows_of, visit, visit_with_rows};
+pub use visiting::{after_note, rows_of, visit, visit_element, visit_with_rows};

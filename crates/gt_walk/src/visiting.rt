@@ -1,5 +1,5 @@
 // The edges of walks.
-ghost use Rattle.std.specs.Prelude.{◌≡◌, ◌+◌, ◌<◌, ◌^◌, find};
+ghost use Rattle.std.specs.Prelude.{◌≡◌, ◌+◌, ◌-◌, ◌<◌, ◌^◌, find, length};
 ghost use Rattle.gt_walk.specs.declared.rows.Arm.{out-Arm};
 ghost use Rattle.std.specs.List.{position_from};
 ghost use Rattle.std.specs.Option.{option_copied};
@@ -10,7 +10,7 @@ ghost use Rattle.gt_walk.specs.Frames.{frame_of};
 ghost use Rattle.gt_walk.specs.Visiting.{after_note, elements, row_at, rows_at, stood, run_edges, chosen_of, arm_at, element_edges, element_row};
 
 use crate::frames::Frame;
-use crate::lengths::{count_of, end_of, length_of, row_value, word_at};
+use crate::lengths::{count_of, end_of, length_of, row_value, word_at, words_in};
 use crate::plain::{is_plain, visit_plain_row};
 use crate::{Arm, Count, EdgeSink, Tables, WalkRow};
 use gt_space::Space;
@@ -274,8 +274,9 @@ fn size_in_note(rows: &[WalkRow]) -> u32
     }
 }
 
-// The rows after the note with which they begin, which gives no edge.
-fn after_note(rows: &[WalkRow]) -> &[WalkRow]
+/// The rows after the note with which they begin, which gives no edge.
+#[inline(always)]
+pub fn after_note(rows: &[WalkRow]) -> &[WalkRow]
     ensures { result.now ≡ after_note rows.now }
 {
     match rows {
@@ -285,39 +286,63 @@ fn after_note(rows: &[WalkRow]) -> &[WalkRow]
 }
 
 // The edges of a row that is not plain, at an element of a block.
+#[cold]
 #[inline(never)]
-fn visit_other_row<S: EdgeSink>(source: &Source<'_>, row: &WalkRow, at: u64, sink: &mut S)
+fn visit_other_row<S: EdgeSink>(
+    tables: &Tables,
+    space: &Space,
+    row: &WalkRow,
+    at: u64,
+    sink: &mut S,
+)
     requires near { at < 2 ^ 32 }
-    requires can { CanTake S.takes S.leaves sink.old (element_row source.now.tables.now source.now.space.now at row.now) }
-    ensures took { Took S.leaves sink.old (element_row source.now.tables.now source.now.space.now at row.now) sink.new }
+    requires can { CanTake S.takes S.leaves sink.old (element_row tables.now space.now at row.now) }
+    ensures took { Took S.leaves sink.old (element_row tables.now space.now at row.now) sink.new }
 {
+    let source = Source { tables, space };
     let frame = Frame::new(at);
-    visit_row(source, row, MOST_NESTED - 1, &frame, sink);
+    visit_row(&source, row, MOST_NESTED - 1, &frame, sink);
 }
 
 // The edges of a row at an element of a block.
 #[inline(always)]
-fn visit_element_row<S: EdgeSink>(source: &Source<'_>, row: &WalkRow, at: u64, sink: &mut S)
+fn visit_element_row<S: EdgeSink>(
+    tables: &Tables,
+    space: &Space,
+    words: u64,
+    row: &WalkRow,
+    at: u64,
+    sink: &mut S,
+)
+    requires words { words ≡ length space.now.bytes - 7 }
     requires near { at < 2 ^ 32 }
-    requires can { CanTake S.takes S.leaves sink.old (element_row source.now.tables.now source.now.space.now at row.now) }
-    ensures took { Took S.leaves sink.old (element_row source.now.tables.now source.now.space.now at row.now) sink.new }
+    requires can { CanTake S.takes S.leaves sink.old (element_row tables.now space.now at row.now) }
+    ensures took { Took S.leaves sink.old (element_row tables.now space.now at row.now) sink.new }
 {
     if is_plain(row) {
-        visit_plain_row(source.space, row, at, sink);
+        visit_plain_row(space, words, row, at, sink);
     } else {
-        visit_other_row(source, row, at, sink);
+        visit_other_row(tables, space, row, at, sink);
     }
 }
 
-// The edges of rows at an element of a block, one after another.
+/// What `visit_with_rows` does for one element, by the rows after their note, in a space that has so many words.
 #[inline(always)]
-fn visit_element<S: EdgeSink>(source: &Source<'_>, rows: &[WalkRow], at: u64, sink: &mut S)
-    requires near { at < 2 ^ 32 }
-    requires can { CanTake S.takes S.leaves sink.old (element_edges source.now.tables.now source.now.space.now rows.now at) }
-    ensures took { Took S.leaves sink.old (element_edges source.now.tables.now source.now.space.now rows.now at) sink.new }
+pub fn visit_element<S: EdgeSink>(
+    tables: &Tables,
+    rows: &[WalkRow],
+    space: &Space,
+    words: u64,
+    addr: u64,
+    sink: &mut S,
+)
+    requires words { words ≡ length space.now.bytes - 7 }
+    requires near { addr < 2 ^ 32 }
+    requires can { CanTake S.takes S.leaves sink.old (element_edges tables.now space.now rows.now addr) }
+    ensures took { Took S.leaves sink.old (element_edges tables.now space.now rows.now addr) sink.new }
 {
     for row in rows {
-        visit_element_row(source, row, at, sink);
+        visit_element_row(tables, space, words, row, addr, sink);
     }
 }
 
@@ -328,7 +353,8 @@ fn visit_single<S: EdgeSink>(source: &Source<'_>, rows: &[WalkRow], place: u64, 
     ensures took { Took S.leaves sink.old (element_edges source.now.tables.now source.now.space.now rows.now place) sink.new }
 {
     if place < end_of(source.space) {
-        visit_element(source, rows, place, sink);
+        let words = words_in(source.space);
+        visit_element(source.tables, rows, source.space, words, place, sink);
     }
 }
 
@@ -339,12 +365,13 @@ fn visit_block<S: EdgeSink>(source: &Source<'_>, rows: &[WalkRow], elements: Ele
     ensures took { Took S.leaves sink.old (run_edges (element_edges source.now.tables.now source.now.space.now rows.now) elements.place elements.size elements.n) sink.new }
 {
     let end = end_of(source.space);
+    let words = words_in(source.space);
     let mut place = elements.place;
     for _ in 0..elements.n {
         if place >= end {
             return;
         }
-        visit_element(source, rows, place, sink);
+        visit_element(source.tables, rows, source.space, words, place, sink);
         place += elements.size as u64;
     }
 }

@@ -9,8 +9,8 @@ use Rattle.gt_pages.proofs.MarkLemmas.{fresh_iff, mark_spot, start_nowhere, star
 use Rattle.gt_pages.proofs.SetLemmas.{contents_mark, kept_mark}
 use Rattle.gt_pages.proofs.store.Store.mark.Goals as goal
 
-pub returns-in-None : goal.returns-in-None
-returns-in-None c =
+pub unreachable-requires : goal.unreachable-requires
+unreachable-requires c =
     absurd (start_nowhere (parts_of c.args.self.now) c.args.addr c.requires.kept c.requires.start
     (subst (λ r. IfNone r (IsNowhere (parts_of c.args.self.now) c.args.addr)) c.in-None.is c.spot.ensures.none))
 
@@ -24,8 +24,8 @@ mark_spot-requires c =
       used = start_used p c.args.addr c.in-Some.spot (start_spot p c.args.addr c.requires.kept c.requires.start c.in-Some.spot is);
     }
 
-pub returns-in-Some : goal.returns-in-Some
-returns-in-Some c =
+pub returns : goal.returns
+returns c =
     let p = parts_of c.args.self.now in
     let is = subst (λ r. IfSome r (IsSpot (parts_of c.args.self.now) c.args.addr)) c.in-Some.is c.spot.ensures.some in
     let used = start_used p c.args.addr c.in-Some.spot (start_spot p c.args.addr c.requires.kept c.requires.start c.in-Some.spot is) in
