@@ -74,9 +74,10 @@ impl Named {
         ensures tails { IfOk result (λ named. AreTailTypesOf program.now named.tails) }
         ensures names { IfOk result (λ named. AreNamesOf program.now named.names) }
     {
-        let types = ElementTypes::of(alloc, program)?;
+        // The types come last, so that no return has to drop them: each place where they are dropped costs the proof a minute.
         let tails = TailTypes::of(alloc, program)?;
         let names = names_of(alloc, program)?;
+        let types = ElementTypes::of(alloc, program)?;
         Ok(Named {
             types,
             tails,
@@ -115,16 +116,16 @@ impl Schema {
         ensures program { IfOk result (λ schema. schema.program ≡ program) }
         ensures layouts { IfOk result (λ schema. schema.layouts ≡ layouts) }
     {
-        let Named {
-            types,
-            tails,
-            names,
-        } = Named::of(alloc, &program)?;
         let Fielded {
             fields,
             reads,
             tables,
         } = Fielded::of(alloc, &program, &layouts)?;
+        let Named {
+            types,
+            tails,
+            names,
+        } = Named::of(alloc, &program)?;
         Ok(Schema {
             program,
             layouts,

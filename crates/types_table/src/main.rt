@@ -7,6 +7,7 @@
 
 mod leaves;
 
+use gt_same::Same;
 use gt_types::{Bytes, Copied, Ty, Word, eval};
 use leaves::Leaves;
 use program_notation::{Refusal, expression_of, type_of};
@@ -116,18 +117,15 @@ fn value(alloc: Global, row: &str) -> Result<String, Refusal> {
     }
 }
 
-// Whether a type and its copy are shown as one text.
+// Whether a type and its copy are the same.
 fn copy(alloc: Global, row: &str) -> Result<String, Refusal> {
     let ty = type_of(alloc, row)?;
-    let copied = ty.copy(alloc)?;
-    let same = are_alike(alloc, &ty, &copied)?;
+    let same = is_same_as_its_copy(alloc, &ty)?;
     Ok(String::from_str(alloc, if same { "same" } else { "other" })?)
 }
 
-fn are_alike(alloc: Global, ty: &Ty, other: &Ty) -> Result<bool, AllocError> {
-    let shown = format!(in alloc; "{ty:?}")?;
-    let shown_other = format!(in alloc; "{other:?}")?;
-    Ok(shown.as_str() == shown_other.as_str())
+fn is_same_as_its_copy(alloc: Global, ty: &Ty) -> Result<bool, AllocError> {
+    Ok(ty.is_same(&ty.copy(alloc)?))
 }
 
 // How many characters a text has; of a copy of its bytes how many there are, and the last of them.
