@@ -1,16 +1,19 @@
 // Where the leaf at a path lies, and what it is.
 ghost use Rattle.std.specs.Prelude.{◌≡◌, ℕ};
+ghost use Rattle.gt_types.specs.Paths.{MayStand};
+ghost use Rattle.gt_tree.specs.Blocks.{Nodes, element_type};
 ghost use Rattle.gt_space.specs.Range.{IsInside};
 ghost use Rattle.gt_tree.specs.Trees.{Tree, Trees};
 ghost use Rattle.gt_value.specs.Values.{tree_of};
 ghost use Rattle.gt_value.specs.Bytes.{IsElement, IsRoomFor, StandsFor, StandForStatics, Takes};
 ghost use Rattle.gt_assign.specs.Results.{FitsBeside};
+ghost use Rattle.sample_program.specs.Sample.{pointer_to};
 ghost use Rattle.value_notation.specs.Blocks.{blocks};
 ghost use Rattle.value_notation.specs.Trials.{IsReady};
 
 use gt_space::Space;
 use gt_store::store;
-use gt_types::Ty;
+use gt_types::{Ty, TypeId};
 use gt_value::{
     Holder, LeafContent, LeafKind, Place, Value, leaf_at, leaf_in_statics, read_leaf, zero,
 };
@@ -85,31 +88,67 @@ pub fn try_leaf(on: &Sample, row: &Row, path: &[u32]) -> Result<Option<Seen>, St
 {
     let node = row.kind.id();
     let ty = element(on, node)?;
-    let value = last_value(on, row, &ty)?;
-    let size = size_of(on, node, &ty, row.capacity);
-    let mut space = fresh_space(on)?;
-    let Some(room) = room_in(&space, BEFORE, size) else {
-        return Err(Stop::TooLarge);
-    };
-    Ok(store_and_find(on, &ty, row.capacity, &value, &mut space, room, path))
+    try_value(on, node, &ty, row, path)
+}
+
+// The same, by the type of the row's structure.
+fn try_value(
+    on: &Sample,
+    id: TypeId,
+    ty: &Ty,
+    row: &Row,
+    path: &[u32],
+) -> Result<Option<Seen>, Stop>
+    requires ready { IsReady on.now.program on.now.layouts }
+    requires stands { MayStand on.now.program id }
+    requires element { ty.now ≡ element_type on.now.program (Nodes id) }
+{
+    let value = last_value(on, row, ty)?;
+    let size = size_of(on, id, ty, row.capacity);
+    find_stored(on, ty, row.capacity, &value, size, path)
 }
 
 /// The one leaf of an element of a block of pointers to items, after it was written.
 pub fn try_element(on: &Sample, leaf: Leaf) -> Result<Option<Seen>, Stop>
     requires ready { IsReady on.now.program on.now.layouts }
 {
-    let ty = pointer();
     let write = Write {
         path: Vec::new(on.alloc),
         leaf,
     };
-    let nothing = zero(on.alloc, &on.program, &ty, 0)?;
-    let value = write_one(on, &ty, 0, nothing, &write, true)?;
+    try_pointer(on, &pointer(), &write)
+}
+
+// The same, by the type of such an element.
+fn try_pointer(on: &Sample, ty: &Ty, write: &Write) -> Result<Option<Seen>, Stop>
+    requires ready { IsReady on.now.program on.now.layouts }
+    requires pointer { ty.now ≡ pointer_to 0 }
+{
+    let nothing = zero(on.alloc, &on.program, ty, 0)?;
+    let value = write_one(on, ty, 0, nothing, write, true)?;
+    find_stored(on, ty, 0, &value, POINTER_BYTES, write.path.as_slice())
+}
+
+// The leaf at a path where a value is stored in a new space.
+fn find_stored(
+    on: &Sample,
+    ty: &Ty,
+    capacity: u32,
+    value: &Value,
+    size: u64,
+    path: &[u32],
+) -> Result<Option<Seen>, Stop>
+    requires ready { IsReady on.now.program on.now.layouts }
+    requires element { IsElement on.now.program ty.now }
+    requires takes { Takes on.now.program on.now.layouts capacity ty.now size }
+    requires only { (s : ℕ) → Takes on.now.program on.now.layouts capacity ty.now s → s ≡ size }
+    requires fits { FitsBeside on.now.program blocks capacity ty.now (tree_of value.now) }
+{
     let mut space = fresh_space(on)?;
-    let Some(room) = room_in(&space, BEFORE, POINTER_BYTES) else {
+    let Some(room) = room_in(&space, BEFORE, size) else {
         return Err(Stop::TooLarge);
     };
-    Ok(store_and_find(on, &ty, 0, &value, &mut space, room, write.path.as_slice()))
+    Ok(store_and_find(on, ty, capacity, value, &mut space, room, path))
 }
 
 // The leaf at a path where a value was stored.
