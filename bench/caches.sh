@@ -242,8 +242,7 @@ done
 # The seconds of one time more of what is done to so many pairs: the mean of ten, after a first one.
 each() { awk -v a="$(seconds 5 "$ours" "$@" 11)" -v b="$(seconds 5 "$ours" "$@" 1)" 'BEGIN { printf "%.9f\n", (a - b) / 10 }'; }
 # The instructions of one time more.
-instructions() { valgrind --tool=callgrind --callgrind-out-file=/dev/null "$ours" "$@" 2>&1 >/dev/null | awk '/Collected/ { print $4 }'; }
-more_instructions() { awk -v a="$(instructions "$@" 2)" -v b="$(instructions "$@" 1)" 'BEGIN { printf "%d\n", a - b }'; }
+more_instructions() { awk -v a="$(instructions "$ours" "$@" 2)" -v b="$(instructions "$ours" "$@" 1)" 'BEGIN { printf "%d\n", a - b }'; }
 # A row: what is done to 1,000,000 pairs, and its name.
 done_to() {
   row "$1" 1000000 "$(each "$2" 1000000)" 'a tenth' "$(each "$2" 100000)"

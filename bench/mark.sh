@@ -2,8 +2,9 @@
 # Marks and sweeps a list, a tree, eight arrays that name 1,000,000 blocks, levels of 67 blocks of which each leads to the next by its
 # last pointer, and 2,000,000 links off the chain field; each beside a tenth of it. A collection is the mean of so many in one process, after a first
 # one. Each tests before that blocks can be marked; a second process makes these tests alone, and their time is taken off. The list is timed beside a
-# small allocator in C too, which walks by an explicit stack and keeps a bit for each place. All runs have a stack of 16 MiB. Run by hand, from any
-# folder; the program around gt_mark is written and built in a copy of the crates that it needs.
+# small allocator in C too, which walks by an explicit stack and keeps a bit for each place. A tenth of a heap may fit into the fast memory of a processor
+# where all of it does not, so what is held to a ratio of 12 is the instructions, which are the same each time and are counted where valgrind is there.
+# All runs have a stack of 16 MiB. Run by hand, from any folder; the program around gt_mark is written and built in a copy of the crates that it needs.
 . "$(dirname "$0")/shared.sh"
 crates="gt_types gt_layout gt_space gt_tree gt_unions gt_value gt_walk gt_links gt_bits gt_entries gt_pages gt_mark sample_heap"
 copy_crates $crates
@@ -206,11 +207,17 @@ ulimit -s 16384
 each() { awk -v a="$(seconds 7 "$@" 11)" -v b="$(seconds 7 "$@" 1)" 'BEGIN { printf "%.9f\n", (a - b) / 10 }'; }
 # The seconds of a collection of a shape.
 collects() { minus "$(each "$ours" collect "$@")" "$(each "$ours" check "$@")"; }
+# The instructions of one time more, and those of a collection of a shape.
+more_instructions() { awk -v a="$(instructions "$ours" "$@" 2)" -v b="$(instructions "$ours" "$@" 1)" 'BEGIN { printf "%d\n", a - b }'; }
+counted() { minus "$(more_instructions collect "$@")" "$(more_instructions check "$@")"; }
 for shape in list tree arrays levels links; do
   most=1000000
   [ $shape != links ] || most=2000000
   "$ours" collect $shape $most 1 | grep -q '^freed' || { echo "$shape: cannot be marked" >&2; exit 2; }
-  row "marked and swept: $shape" $most "$(collects $shape $most)" 'a tenth' "$(collects $shape $((most / 10)))" 12
+  row "marked and swept: $shape" $most "$(collects $shape $most)" 'a tenth' "$(collects $shape $((most / 10)))"
+  if command -v valgrind >/dev/null; then
+    amount "marked and swept: $shape" $most "$(counted $shape $most)" instr 'a tenth' "$(counted $shape $((most / 10)))" 12
+  fi
 done
 for n in 100000 1000000; do
   row 'marked and swept: list' $n "$(collects list $n)" 'in C' "$(each "$work/small" collect $n)" 3

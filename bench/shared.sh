@@ -37,6 +37,8 @@ seconds() {
 }
 # The KiB that a command has at the most.
 most_memory() { "$work/spent" "$work/input" "$@" 2>&1 >"$work/out" | awk '{ print $2 }'; }
+# The instructions of a command, which are the same each time, counted by valgrind.
+instructions() { valgrind --tool=callgrind --callgrind-out-file=/dev/null "$@" 2>&1 >/dev/null | awk '/Collected/ { print $4 }'; }
 # A number minus another one.
 minus() { awk -v a="$1" -v b="$2" 'BEGIN { printf "%.6f\n", a - b }'; }
 

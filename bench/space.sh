@@ -286,7 +286,6 @@ both() {
     echo "$(seconds 1 "$work/time_block" "$@") $(seconds 1 "$work/time_block" none 0 0) $(seconds 1 "$work/time_vector" "$@") $(seconds 1 "$work/time_vector" none 0 0)"
   done | awk '{ for (i = 1; i <= 4; i++) if (NR == 1 || $i < least[i]) least[i] = $i } END { printf "%.6f %.6f\n", least[1] - least[2], least[3] - least[4] }'
 }
-instructions() { valgrind --tool=callgrind --callgrind-out-file=/dev/null "$@" 2>&1 >/dev/null | awk '/Collected/ { print $4 }'; }
 for call in read_u64 write_u64 fill copy_in copy_out move_within; do
   read -r block vector < <(both $call 100000000 0)
   row "calls of $call" 100000000 "$block" 'on the vector' "$vector" 1.1
