@@ -109,7 +109,7 @@ module _ {tables : Tables} {space : Range} (t : Task tables space) where
     beside = λ small off unmarked. inl start;
   }
 
-  pub sides_block : (b : Block) → Fits t b → (e : Edge) → Contains (edges_of tables b.walk b.count space b.addr) e → Sides (chain_place tables b) e
+  pub sides_block : (b : Block) → Fits t b → (e : Edge) → Contains (edges_of tables b.walk b.count space b.addr) e → Sides (chain_place (rows_of tables b.walk) b) e
   sides_block b f e there =
       let on : Contains (block_edges tables space t.walks b.addr) e = subst (λ l. Contains l e) (same_edges t b f) there in
       record {

@@ -4,7 +4,7 @@ use Rattle.std.specs.Prelude.{option_and_then}
 use Rattle.gt_space.specs.Range.{Range}
 use Rattle.gt_walk.specs.declared.tables.Tables.{Tables}
 use Rattle.gt_walk.specs.Rows.{edges_of, rows_of, size_in_note}
-use Rattle.gt_walk.specs.Visiting.{after_note, element_edges}
+use Rattle.gt_walk.specs.ByRows.{after_note, element_edges}
 use Rattle.gt_walk.proofs.PlainRows.{after-note}
 use Rattle.gt_walk.proofs.Visits.{edges-rows, run-single}
 use Rattle.gt_mark.specs.declared.chains.Links.{Links}
@@ -24,7 +24,7 @@ module _ (tables : Tables) (space : Range) (b : Block) (l : Links) (are : AreLin
   lt_true m n lt = grind (arith, lt)
 
   -- where its chain pointer lies
-  pub link_place : b.addr < l.end → Some (b.addr + l.offset) ≡ chain_place tables b
+  pub link_place : b.addr < l.end → Some (b.addr + l.offset) ≡ chain_place (rows_of tables b.walk) b
   link_place inside =
       let near = are.near in
       let small = are.small in

@@ -9,7 +9,7 @@ use Rattle.gt_space.specs.Range.{Range}
 use Rattle.gt_pages.specs.Slots.{StartsSome, mark_at, new_mark}
 use Rattle.gt_pages.specs.Contents.{Contents}
 use Rattle.gt_walk.specs.declared.tables.Tables.{Tables}
-use Rattle.gt_walk.specs.Rows.{Edge, edges_of, word_at}
+use Rattle.gt_walk.specs.Rows.{Edge, edges_of, rows_of, word_at}
 use Rattle.gt_walk.specs.Sinks.{Took}
 use Rattle.gt_mark.specs.declared.stack.Block.{Block}
 use Rattle.gt_mark.specs.declared.marker.Marker.{Marker}
@@ -298,7 +298,7 @@ module _ {tables : Tables} {space : Range} (t : Task tables space) where
 -- ---- walking a block
 
 pub wide_block : {tables : Tables} {space : Range} (t : Task tables space) (begun : List ℕ) (b : Block) (m : Marker) (h : Holds t begun (Some b) (state_of m)) → Wide t (state_of m) (Some b)
-    → (n : Marker) (chain : Option ℕ) → state_of n ≡ record (state_of m) { chain = chain } → (o : Marker) → chain ≡ chain_place tables b → Took Leaves n (edges_of tables b.walk b.count space b.addr) o
+    → (n : Marker) (chain : Option ℕ) → state_of n ≡ record (state_of m) { chain = chain } → (o : Marker) → chain ≡ chain_place (rows_of tables b.walk) b → Took Leaves n (edges_of tables b.walk b.count space b.addr) o
     → Wide t (record (state_of o) { chain = None; next = None }) (state_of o).next
 wide_block {tables} {space} t begun b m h w n chain is o placed took =
     let es = edges_of tables b.walk b.count space b.addr in

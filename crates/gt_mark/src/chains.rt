@@ -1,14 +1,14 @@
 //! Chain pointers, by which lists are walked without the stack.
-ghost use Rattle.std.specs.Prelude.{◌≡◌, ◌+◌, ℕ, Some, MatchOption, IfSome};
+ghost use Rattle.std.specs.Prelude.{◌≡◌, IfSome};
 ghost use Rattle.gt_mark.specs.Rounds.{chain_in_note};
-ghost use Rattle.gt_mark.specs.Chains.{AreLinks, chain_from};
+ghost use Rattle.gt_mark.specs.Chains.{AreLinks, chain_place};
 
 use crate::stack::Block;
 use gt_space::Space;
 use gt_walk::{Tables, WalkRow, after_note, end_of, rows_of, words_in};
 
-/// How the blocks of a chain are walked that have one element of the same walk: the rows after their note, the offset of the chain
-/// pointer, where the space ends, and how many words it has.
+/// How the blocks of a chain are walked that have one element of the same walk: the rows of the walk after the note, the offset of the
+/// chain pointer, where the space ends, and at how many addresses eight bytes lie in it.
 #[derive(Clone, Copy)]
 pub struct Links<'a> {
     pub walk: u32,
@@ -53,7 +53,7 @@ fn chain_in_note(rows: &[WalkRow]) -> Option<u32>
 /// The address of the chain pointer of a block that is walked by these rows, where it has one element and they tell one.
 #[inline(always)]
 pub fn chain_place(rows: &[WalkRow], block: Block) -> Option<u64>
-    ensures { result ≡ chain_from rows.now block }
+    ensures { result ≡ chain_place rows.now block }
 {
     if block.count != 1 {
         return None;

@@ -13,7 +13,8 @@ use Rattle.gt_walk.specs.declared.rows.WalkRow.TheFolds.{fold-WalkRow, fold-Arm,
 use Rattle.gt_walk.specs.declared.rows.WalkRow.TheOpen.{WalkRow-F, Arm-F}
 use Rattle.gt_walk.specs.declared.rows.WalkRow.TheVariants as row
 use Rattle.gt_walk.specs.declared.rows.WalkRow.TheVariants.{outs-Note, outs-Ptr, outs-Sub, outs-Rep, outs-Tail, outs-Switch}
-use Rattle.gt_walk.specs.Nested.{is_note, has_note, note_at, note_in_arm, parts_in, part_at, in_arm, names_in, name_at}
+use Rattle.gt_walk.specs.ByRows.{is_note}
+use Rattle.gt_walk.specs.Nested.{has_note, note_at, note_in_arm, parts_in, part_at, in_arm, names_in, name_at}
 use Rattle.gt_tables.specs.Building.{parts_of}
 use Rattle.gt_tables.specs.Ordered.{in_count, exprs_at, exprs_in_arm, exprs_in}
 

@@ -1,5 +1,5 @@
 -- Rows of plain pointers.
-use Rattle.std.proofs.Common.{◌≡◌, ◌∙◌, ℕ, zero, suc, ◌+◌, ◌++◌, true, cond, List, [], ◌∷◌, refl, sym, ap, Option, Some, None, inl, inr}
+use Rattle.std.proofs.Common.{◌≡◌, ◌∙◌, ℕ, zero, suc, ◌+◌, ◌-◌, ◌++◌, true, cond, List, [], ◌∷◌, refl, sym, ap, Option, Some, None, inl, inr}
 use Rattle.std.proofs.lemmas.Bool.{cases_Bool}
 use Rattle.gt_space.specs.Range.{Range}
 use Rattle.gt_types.specs.declared.program.Active.{Active}
@@ -10,8 +10,9 @@ use Rattle.gt_walk.specs.declared.rows.WalkRow.TheFolds.{map-WalkRow}
 use Rattle.gt_walk.specs.declared.rows.WalkRow.TheOpen as part
 use Rattle.gt_walk.specs.declared.rows.WalkRow.TheOpen.{WalkRow-F}
 use Rattle.gt_walk.specs.declared.tables.Tables.{Tables}
-use Rattle.gt_walk.specs.Rows.{Frame, Gives, frame_at, row_step, row_edges, walk_edges, pointer_edges, word_at}
-use Rattle.gt_walk.specs.Visiting.{after_note, element_edges, element_row, is_note, is_plain, fixed_edges, plain_edges, run_edges}
+use Rattle.gt_walk.specs.Rows.{Frame, Gives, MOST_NESTED, frame_at, row_step, row_edges, walk_edges, pointer_edges, word_at}
+use Rattle.gt_walk.specs.ByRows.{after_note, element_edges, is_note, run_edges}
+use Rattle.gt_walk.specs.Visiting.{element_row, is_plain, fixed_edges, plain_edges}
 use Rattle.gt_walk.proofs.RowEdges.{arm_of, row-layer}
 use Rattle.gt_walk.proofs.Visits.{at-place}
 
@@ -35,7 +36,7 @@ row-plain range walks r f e = ap (λ g. g f) (row-layer range walks r (out-WalkR
 
 -- at an element of a block
 pub element-plain : (tables : Tables) (range : Range) (at : ℕ) (r : WalkRow) → is_plain (out-WalkRow r) ≡ true → element_row tables range at r ≡ plain_edges range at (out-WalkRow r)
-element-plain tables range at r e = row-plain range (walk_edges tables range 33) r (frame_at at) e ∙ ap (λ p. plain_edges range p (out-WalkRow r)) (at-place at)
+element-plain tables range at r e = row-plain range (walk_edges tables range (MOST_NESTED - 1)) r (frame_at at) e ∙ ap (λ p. plain_edges range p (out-WalkRow r)) (at-place at)
 
 layer-note : (range : Range) (walks : ℕ → Gives) (x : WalkRow-F WalkRow Arm) (f : Frame) → is_note x ≡ true
     → row_step range walks (map-WalkRow WalkRow Arm Gives (Active × Option Gives) (row_edges range walks) (arm_of range walks) x) f ≡ []
@@ -54,7 +55,7 @@ pub after-note : (tables : Tables) (range : Range) (rows : List WalkRow) (at : �
 after-note tables range [] at = refl
 after-note tables range (row ∷ rows) at = elim (cases_Bool (is_note (out-WalkRow row))) [
   | inl note ↦
-      ap (λ es. es ++ element_edges tables range rows at) (row-note range (walk_edges tables range 33) row (frame_at at) note)
+      ap (λ es. es ++ element_edges tables range rows at) (row-note range (walk_edges tables range (MOST_NESTED - 1)) row (frame_at at) note)
       ∙ ap (λ b. element_edges tables range (cond b rows (row ∷ rows)) at) (sym note)
   | inr other ↦ ap (λ b. element_edges tables range (cond b rows (row ∷ rows)) at) (sym other)
 ]

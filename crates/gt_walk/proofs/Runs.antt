@@ -3,7 +3,8 @@ use Rattle.std.proofs.Common.{suc, zero, ◌≡◌, ◌∙◌, ℕ, ◌+◌, ◌
 use Rattle.std.specs.Prelude.{flat_map}
 use Rattle.std.specs.List.{range_with_len}
 use Rattle.gt_walk.specs.Rows.{Edge, Frame, Gives, moved, each_edges}
-use Rattle.gt_walk.specs.Visiting.{run_edges, stood}
+use Rattle.gt_walk.specs.ByRows.{run_edges}
+use Rattle.gt_walk.specs.Visiting.{stood}
 
 next-place : (base k size : ℕ) → base + k * size + size ≡ base + (k + 1) * size
 next-place base k size = omega arith

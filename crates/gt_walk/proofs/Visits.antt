@@ -9,8 +9,9 @@ use Rattle.gt_walk.specs.declared.rows.RowExpr.{RowExpr}
 use Rattle.gt_walk.specs.declared.rows.WalkRow.{WalkRow}
 use Rattle.gt_walk.specs.declared.rows.WalkRow.TheVariants as row
 use Rattle.gt_walk.specs.declared.tables.Tables.{Tables}
-use Rattle.gt_walk.specs.Rows.{Frame, frame_at, row_edges, walk_edges, rows_of, row_value, length_of, size_in_note, edges_of}
-use Rattle.gt_walk.specs.Visiting.{row_at, rows_at, stood, run_edges, chosen_of, arm_at, arm_row, element_edges}
+use Rattle.gt_walk.specs.Rows.{Frame, MOST_NESTED, frame_at, row_edges, walk_edges, rows_of, row_value, length_of, size_in_note, edges_of}
+use Rattle.gt_walk.specs.ByRows.{run_edges, element_edges}
+use Rattle.gt_walk.specs.Visiting.{row_at, rows_at, stood, chosen_of, arm_at, arm_row}
 use Rattle.gt_walk.proofs.Runs.{each-run, run-from, run-silent}
 use Rattle.gt_walk.proofs.RowEdges.{rep-edges, tail-edges, switch-edges}
 use Rattle.gt_walk.proofs.Arms.{arm-chosen}
@@ -77,20 +78,20 @@ module _ (tables : Tables) (range : Range) where
   -- ---- blocks
 
   pub element-silent : (rows : List WalkRow) (place : ℕ) → range.start + length range.bytes ≤ place → element_edges tables range rows place ≡ []
-  element-silent rows place le = rows-silent tables range 33 rows (frame_at place) (subst (λ q. range.start + length range.bytes ≤ q) (sym (at-place place)) le)
+  element-silent rows place le = rows-silent tables range (MOST_NESTED - 1) rows (frame_at place) (subst (λ q. range.start + length range.bytes ≤ q) (sym (at-place place)) le)
 
   pub block-silent : (rows : List WalkRow) (place size n : ℕ) → range.start + length range.bytes ≤ place → run_edges (element_edges tables range rows) place size n ≡ []
   block-silent rows place size n le = run-silent (element_edges tables range rows) (range.start + length range.bytes) (element-silent rows) place size n le
 
   pub block-none : (walk count address : ℕ) → slice_get tables.walks walk ≡ None → edges_of tables walk count range address ≡ []
   block-none walk count address e =
-      flat-none (λ i. walk_edges tables range 34 walk (frame_at (address + i * size_in_note (rows_of tables walk)))) (λ i. walk-none 34 walk (frame_at (address + i * size_in_note (rows_of tables walk))) e) (range_with_len 0 count)
+      flat-none (λ i. walk_edges tables range MOST_NESTED walk (frame_at (address + i * size_in_note (rows_of tables walk)))) (λ i. walk-none MOST_NESTED walk (frame_at (address + i * size_in_note (rows_of tables walk))) e) (range_with_len 0 count)
 
   -- the elements of a walk, by its rows
   pub edges-run : (walk count address : ℕ) → edges_of tables walk count range address ≡ run_edges (element_edges tables range (rows_of tables walk)) address (size_in_note (rows_of tables walk)) count
   edges-run walk count address =
       let size = size_in_note (rows_of tables walk) in
-      run-from (λ i. walk_edges tables range 34 walk (frame_at (address + i * size))) (element_edges tables range (rows_of tables walk)) address size (λ i. refl) count
+      run-from (λ i. walk_edges tables range MOST_NESTED walk (frame_at (address + i * size))) (element_edges tables range (rows_of tables walk)) address size (λ i. refl) count
 
   pub edges-rows : (walk count address : ℕ) (rows : List WalkRow) → rows ≡ rows_of tables walk → edges_of tables walk count range address ≡ run_edges (element_edges tables range rows) address (size_in_note rows) count
   edges-rows walk count address rows same =

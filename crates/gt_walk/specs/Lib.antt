@@ -1,4 +1,5 @@
 pub mod Rows
+pub mod ByRows
 pub mod Sinks
 pub mod Frames
 pub mod Visiting

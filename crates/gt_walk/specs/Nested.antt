@@ -6,6 +6,7 @@ use Rattle.gt_walk.specs.declared.rows.WalkRow.TheOpen.{WalkRow-F, Arm-F, Note, 
 use Rattle.gt_walk.specs.declared.rows.WalkRow.TheFolds.{fold-WalkRow}
 use Rattle.gt_walk.specs.declared.tables.Tables.{Tables}
 use Rattle.gt_walk.specs.Rows.{MOST_NESTED, rows_of}
+use Rattle.gt_walk.specs.ByRows.{is_note}
 
 -- ---- notes
 
@@ -30,11 +31,6 @@ note_in_arm arm = if_row arm.row
 -- whether a row is a note, or has one in its elements or its arms
 abbrev pub has_note : WalkRow → Bool
 has_note = fold-WalkRow Bool Bool note_at note_in_arm
-
--- whether a row is a note itself
-abbrev pub is_note : {A B : Type 0} → WalkRow-F A B → Bool
-is_note (Note size chain) = true
-is_note row = false
 
 -- rows begin with a note and have no other
 abbrev pub HaveOneNote : List WalkRow → Type 0
@@ -86,7 +82,7 @@ NestsWithin tables zero walk = flat_map parts_in (rows_of tables walk) ≡ []
 NestsWithin tables (suc most) walk = All (NestsWithin tables most) (flat_map parts_in (rows_of tables walk))
 
 -- Each walk begins with its note and has no other; each walk that a row, a root or a cache names is one of the tables' walks; and at
--- most 33 parts lie one inside another.
+-- most 33 parts (`MOST_NESTED`, but for the walk itself) lie one inside another.
 pub record IsNested (tables : Tables) : Type 0 where
   pub notes : All HaveOneNote tables.walks
   pub rows : All (λ rows. All (IsWalk tables) (flat_map names_in rows)) tables.walks

@@ -27,6 +27,7 @@ pub record Edge : Type 0 where
   pub walk : ℕ
   pub count : ℕ
 
+-- the edge of these four numbers
 abbrev pub edge : (place target walk count : ℕ) → Edge
 edge place target walk count = record { place = place; target = target; walk = walk; count = count }
 
@@ -49,6 +50,7 @@ frame_at (suc address) = record { at = suc address; here = Some (suc address); o
 abbrev pub moved : Frame → ℕ → Frame
 moved f bytes = record f { at = f.at + bytes }
 
+-- the first address where there is one, else the other
 abbrev pub first_of : Option ℕ → ℕ → ℕ
 first_of (Some address) other = address
 first_of None other = other
@@ -79,6 +81,7 @@ number_at range address l =
 abbrev pub leaf_value : Range → Frame → RowLeaf → Option ℤ
 leaf_value range f l = origin_of f l.origin then λ from. number_at range (from + l.offset) l then within_i64
 
+-- the expressions of rows read no paths: a path has no value
 abbrev pub no_path : {A B : Type 0} → A → B → Option ℤ
 no_path base steps = None
 
@@ -92,6 +95,7 @@ length_of None = 0
 length_of (Some (negsuc n)) = 0
 length_of (Some (pos n)) = min n 4294967295
 
+-- how many elements the block has that a pointer names
 abbrev pub count_of : Range → Frame → Count → ℕ
 count_of range f (Fixed n) = n
 count_of range f (Length e) = length_of (row_value range f e)
@@ -116,10 +120,12 @@ each_edges elem f bytes size n = flat_map (λ i. elem (moved f (bytes + i * size
 abbrev pub Gives : Type 0
 Gives = Frame → List Edge
 
+-- an arm without a row gives no edge
 abbrev pub given_arm : Option Gives → Gives
 given_arm (Some gives) f = gives f
 given_arm None f = []
 
+-- the first where there is one, else the other
 abbrev pub first_some : {A : Type 0} → Option A → Option A → Option A
 first_some (Some a) other = Some a
 first_some None other = other
@@ -128,10 +134,12 @@ first_some None other = other
 abbrev pub chosen : Option ℤ → List (Active × Option Gives) → Option (Active × Option Gives)
 chosen value arms = first_some (find (λ arm. is_tag value arm.0) arms) (find (λ arm. is_default arm.0) arms)
 
+-- the edges of the arm that is chosen; where none is, there are none
 abbrev pub arm_edges : Option (Active × Option Gives) → Frame → List Edge
 arm_edges (Some arm) f = given_arm arm.1 f
 arm_edges None f = []
 
+-- the edges of a row, by its form
 abbrev pub row_step : Range → (ℕ → Gives) → WalkRow-F Gives (Active × Option Gives) → Gives
 row_step range walks (Note size chain) f = []
 row_step range walks (Ptr offset walk count reorder) f = pointer_edges range f (f.at + offset) walk count (word_at range (f.at + offset))
@@ -140,9 +148,11 @@ row_step range walks (Rep offset n size elem) f = each_edges elem f offset size 
 row_step range walks (Tail offset len size elem) f = each_edges elem f offset size (length_of (row_value range f len))
 row_step range walks (Switch desc arms) f = arm_edges (chosen (row_value range f desc) arms.items) f
 
+-- an arm is the member of the union that it is for, and what its row gives
 abbrev pub arm_step : Arm-F Gives (Active × Option Gives) → Active × Option Gives
 arm_step arm = (arm.active, arm.row)
 
+-- the edges of a row, by what the walks of parts give
 abbrev pub row_edges : Range → (ℕ → Gives) → WalkRow → Gives
 row_edges range walks = fold-WalkRow Gives (Active × Option Gives) (row_step range walks) arm_step
 
@@ -152,6 +162,7 @@ row_edges range walks = fold-WalkRow Gives (Active × Option Gives) (row_step ra
 abbrev pub MOST_NESTED : ℕ
 MOST_NESTED = 34
 
+-- the rows of a walk; none where there is no such walk
 abbrev pub rows_of : Tables → ℕ → List WalkRow
 rows_of tables walk = slice_index_or tables.walks walk []
 
@@ -160,6 +171,7 @@ abbrev pub walk_edges : Tables → Range → ℕ → ℕ → Gives
 walk_edges tables range zero walk f = []
 walk_edges tables range (suc depth) walk f = flat_map (λ row. row_edges range (walk_edges tables range depth) row f) (rows_of tables walk)
 
+-- the bytes that a note says; another row says none
 abbrev pub note_size : {A B : Type 0} → WalkRow-F A B → ℕ
 note_size (Note size chain) = size
 note_size row = 0

@@ -1,13 +1,13 @@
 -- No promise: what the proofs of visiting speak of.
-use Rattle.std.specs.Prelude.{ℕ, zero, suc, ◌+◌, Bool, true, false, if◌then◌else◌, List, [], ◌∷◌, ◌++◌, flat_map, Option, Some, None, find, ℤ}
+use Rattle.std.specs.Prelude.{ℕ, zero, suc, ◌+◌, ◌-◌, Bool, true, false, List, [], ◌∷◌, flat_map, Option, Some, None, find, ℤ}
 use Rattle.gt_space.specs.Range.{Range}
 use Rattle.gt_tree.specs.Fits.{is_tag, is_default}
-use Rattle.gt_walk.specs.Rows.{Edge, edge, Frame, frame_at, Gives, word_at, row_edges, walk_edges, first_some}
+use Rattle.gt_walk.specs.Rows.{Edge, edge, Frame, frame_at, Gives, MOST_NESTED, word_at, row_edges, walk_edges, first_some}
 use Rattle.gt_walk.specs.declared.rows.Arm.{Arm, out-Arm}
 use Rattle.gt_walk.specs.declared.rows.Count.{Count}
 use Rattle.gt_walk.specs.declared.rows.Count.TheVariants.{Fixed, Length}
-use Rattle.gt_walk.specs.declared.rows.WalkRow.{WalkRow, out-WalkRow}
-use Rattle.gt_walk.specs.declared.rows.WalkRow.TheOpen.{WalkRow-F, Note, Ptr}
+use Rattle.gt_walk.specs.declared.rows.WalkRow.{WalkRow}
+use Rattle.gt_walk.specs.declared.rows.WalkRow.TheOpen.{WalkRow-F, Ptr}
 use Rattle.gt_walk.specs.declared.tables.Tables.{Tables}
 use Rattle.gt_walk.specs.declared.visiting.Elements.{Elements}
 
@@ -27,11 +27,6 @@ stood f address = record f { at = address }
 abbrev pub elements : (place size n : ℕ) → Elements
 elements place size n = record { place = place; size = size; n = n }
 
--- what is given at so many addresses, each so many bytes after the one before it
-abbrev pub run_edges : (ℕ → List Edge) → (place size n : ℕ) → List Edge
-run_edges gives place size zero = []
-run_edges gives place size (suc n) = gives place ++ run_edges gives (place + size) size n
-
 -- the arm of a value, of arms as they are held
 abbrev pub chosen_of : Option ℤ → List Arm → Option Arm
 chosen_of value arms = first_some (find (λ a. is_tag value (out-Arm a).active) arms) (find (λ a. is_default (out-Arm a).active) arms)
@@ -46,13 +41,9 @@ abbrev pub arm_at : Tables → Range → ℕ → Option Arm → Gives
 arm_at tables range left (Some arm) f = arm_row tables range left (out-Arm arm).row f
 arm_at tables range left None f = []
 
--- the edges of rows at an element of a block
-abbrev pub element_edges : Tables → Range → List WalkRow → ℕ → List Edge
-element_edges tables range rows address = rows_at tables range 33 rows (frame_at address)
-
 -- the edges of one row at an element of a block
 abbrev pub element_row : Tables → Range → ℕ → WalkRow → List Edge
-element_row tables range address row = row_at tables range 33 row (frame_at address)
+element_row tables range address row = row_at tables range (MOST_NESTED - 1) row (frame_at address)
 
 -- ---- rows of plain pointers
 
@@ -65,16 +56,6 @@ is_fixed (Length e) = false
 abbrev pub is_plain : {A B : Type 0} → WalkRow-F A B → Bool
 is_plain (Ptr offset walk count reorder) = is_fixed count
 is_plain row = false
-
--- whether a row is a note
-abbrev pub is_note : {A B : Type 0} → WalkRow-F A B → Bool
-is_note (Note size chain) = true
-is_note row = false
-
--- the rows after the note with which they begin
-abbrev pub after_note : List WalkRow → List WalkRow
-after_note [] = []
-after_note (row ∷ rows) = if is_note (out-WalkRow row) then rows else row ∷ rows
 
 -- a pointer to a block of a fixed count is an edge where it is not null
 abbrev pub fixed_edges : (place walk count : ℕ) → Option ℕ → List Edge

@@ -1,5 +1,5 @@
 // What rows read in the bytes of a space.
-ghost use Rattle.std.specs.Prelude.{◌≡◌, ◌≤◌, ◌<◌, ◌+◌, ◌-◌, ◌^◌, length};
+ghost use Rattle.std.specs.Prelude.{◌≡◌, ◌<◌, ◌+◌, ◌-◌, ◌^◌, length};
 ghost use Rattle.gt_types.specs.Values.{within_i64};
 ghost use Rattle.gt_walk.specs.Rows.{word_at, has_bits, number_at, leaf_value, row_value, length_of, count_of};
 ghost use Rattle.gt_walk.specs.Frames.{frame_of};
@@ -19,7 +19,7 @@ pub fn end_of(space: &Space) -> u64
     space.start() + space.len()
 }
 
-/// How many words of eight bytes a space has, from each of its bytes on.
+/// The number of addresses at which eight bytes lie in the space: all of its addresses but the last seven.
 #[inline(always)]
 pub fn words_in(space: &Space) -> u64
     ensures words { result ≡ length space.now.bytes - 7 }
@@ -27,7 +27,7 @@ pub fn words_in(space: &Space) -> u64
     space.len().saturating_sub(7)
 }
 
-// The eight bytes at an address; none where they do not lie in the space, which has so many words.
+// The eight bytes at an address; none where they do not lie in the space, of which `words_in` says `words`.
 #[inline(always)]
 pub fn word_of(space: &Space, words: u64, address: u64) -> Option<u64>
     requires words { words ≡ length space.now.bytes - 7 }
@@ -40,7 +40,7 @@ pub fn word_of(space: &Space, words: u64, address: u64) -> Option<u64>
     Some(space.read_u64(address))
 }
 
-// The same, where it is not known how many words the space has.
+// The same, where `words_in` has not been called.
 pub fn word_at(space: &Space, address: u64) -> Option<u64>
     requires near { address < 2 ^ 63 }
     ensures { result ≡ word_at space.now address }

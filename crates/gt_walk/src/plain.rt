@@ -20,7 +20,7 @@ pub fn is_plain(row: &WalkRow) -> bool
     }
 }
 
-// A pointer that is not null is an edge; the space has so many words.
+// A pointer that is not null is an edge. `words` is what `words_in` says of the space.
 #[inline(always)]
 fn visit_fixed<S: EdgeSink>(
     space: &Space,
@@ -43,7 +43,7 @@ fn visit_fixed<S: EdgeSink>(
     }
 }
 
-// The edges of a row at an address of a space that has so many words.
+// The edges of a row at an address. `words` is what `words_in` says of the space.
 #[inline(always)]
 pub fn visit_plain_row<S: EdgeSink>(space: &Space, words: u64, row: &WalkRow, at: u64, sink: &mut S)
     requires words { words ≡ length space.now.bytes - 7 }

@@ -7,7 +7,8 @@ ghost use Rattle.gt_tree.specs.Fits.{is_tag, is_default};
 ghost use Rattle.gt_walk.specs.Rows.{edges_of, walk_edges, rows_of, size_in_note, pointer_edges, word_at};
 ghost use Rattle.gt_walk.specs.Sinks.{CanTake, Took};
 ghost use Rattle.gt_walk.specs.Frames.{frame_of};
-ghost use Rattle.gt_walk.specs.Visiting.{after_note, elements, row_at, rows_at, stood, run_edges, chosen_of, arm_at, element_edges, element_row};
+ghost use Rattle.gt_walk.specs.ByRows.{after_note, edges_of_rows, element_edges, run_edges};
+ghost use Rattle.gt_walk.specs.Visiting.{elements, row_at, rows_at, stood, chosen_of, arm_at, element_row};
 
 use crate::frames::Frame;
 use crate::lengths::{count_of, end_of, length_of, row_value, word_at, words_in};
@@ -326,7 +327,8 @@ fn visit_element_row<S: EdgeSink>(
     }
 }
 
-/// What `visit_with_rows` does for one element, by the rows after their note, in a space that has so many words.
+/// Calls the sink for the edges of one element, by the rows of its walk after their note. `words` is what `words_in` says of the space.
+/// These are the edges that `visit` gives for a count of 1 (`laws`).
 #[inline(always)]
 pub fn visit_element<S: EdgeSink>(
     tables: &Tables,
@@ -387,7 +389,7 @@ pub fn rows_of(tables: &Tables, walk: u32) -> &[WalkRow]
     rows.as_slice()
 }
 
-/// What `visit` does, for the rows of a walk.
+/// What `visit` does, where the rows of the walk are at hand. The edges are the same (`laws`).
 #[inline(always)]
 pub fn visit_with_rows<S: EdgeSink>(
     tables: &Tables,
@@ -397,8 +399,8 @@ pub fn visit_with_rows<S: EdgeSink>(
     addr: u64,
     sink: &mut S,
 )
-    requires can { CanTake S.takes S.leaves sink.old (run_edges (element_edges tables.now space.now rows.now) addr (size_in_note rows.now) count) }
-    ensures took { Took S.leaves sink.old (run_edges (element_edges tables.now space.now rows.now) addr (size_in_note rows.now) count) sink.new }
+    requires can { CanTake S.takes S.leaves sink.old (edges_of_rows tables.now rows.now count space.now addr) }
+    ensures took { Took S.leaves sink.old (edges_of_rows tables.now rows.now count space.now addr) sink.new }
 {
     let source = Source { tables, space };
     let bare = after_note(rows);

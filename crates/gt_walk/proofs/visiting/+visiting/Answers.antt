@@ -3,7 +3,8 @@ use Rattle.std.specs.Prelude.{slice_get}
 use Rattle.std.proofs.lemmas.List.{drop_all}
 use Rattle.gt_walk.specs.Rows.{walk_edges, length_of}
 use Rattle.gt_walk.specs.Frames.{frame_of}
-use Rattle.gt_walk.specs.Visiting.{row_at, rows_at, stood, run_edges, chosen_of}
+use Rattle.gt_walk.specs.ByRows.{run_edges}
+use Rattle.gt_walk.specs.Visiting.{row_at, rows_at, stood, chosen_of}
 use Rattle.gt_walk.proofs.Measures.{rep-falls, tail-falls, switch-falls, elements-fall, rows-fall, arm-falls, walk-falls}
 use Rattle.gt_walk.proofs.Runs.{run-first, run-none}
 use Rattle.gt_walk.proofs.Silence.{walk-silent}

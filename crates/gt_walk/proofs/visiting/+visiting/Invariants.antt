@@ -1,6 +1,7 @@
 use Rattle.std.proofs.Common.{ℕ, ◌-◌, ◌<◌, ◌^◌, drop}
 use Rattle.gt_walk.specs.Frames.{frame_of}
-use Rattle.gt_walk.specs.Visiting.{row_at, rows_at, stood, run_edges}
+use Rattle.gt_walk.specs.ByRows.{run_edges}
+use Rattle.gt_walk.specs.Visiting.{row_at, rows_at, stood}
 use Rattle.gt_walk.proofs.Measures.{walk_measure, row_measure, elements_measure, rows_measure, arms_measure}
 use Rattle.gt_walk.proofs.Taking.{Went}
 use Rattle.gt_walk.proofs.visiting.+visiting.Given as goal

@@ -1,5 +1,5 @@
 use Rattle.std.proofs.Common.{◌≡◌, ◌+◌, ◌-◌, ◌≤◌, length, ap, arith}
-use Rattle.gt_walk.specs.Visiting.{run_edges, element_edges}
+use Rattle.gt_walk.specs.ByRows.{run_edges, element_edges}
 use Rattle.gt_walk.proofs.Visits.{block-silent}
 use Rattle.gt_walk.proofs.Runs.{run-first, run-none}
 use Rattle.gt_walk.proofs.Taking.{went-start, went-front, went-on, went-as, went-end}

@@ -1,5 +1,5 @@
 use Rattle.std.proofs.Common.{◌-◌}
-use Rattle.gt_walk.specs.Visiting.{run_edges, element_edges}
+use Rattle.gt_walk.specs.ByRows.{run_edges, element_edges}
 use Rattle.gt_walk.proofs.Taking.{Went}
 use Rattle.gt_walk.proofs.visiting.visit_block.Given as goal
 

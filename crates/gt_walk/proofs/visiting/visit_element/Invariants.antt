@@ -1,5 +1,5 @@
 use Rattle.std.proofs.Common.{drop}
-use Rattle.gt_walk.specs.Visiting.{element_edges}
+use Rattle.gt_walk.specs.ByRows.{element_edges}
 use Rattle.gt_walk.proofs.Taking.{Went}
 use Rattle.gt_walk.proofs.visiting.visit_element.Given as goal
 

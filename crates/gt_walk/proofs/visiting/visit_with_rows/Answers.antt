@@ -1,6 +1,6 @@
 use Rattle.std.proofs.Common.{◌∙◌, ap, sym, arith, ◌≡◌}
 use Rattle.gt_walk.specs.Rows.{size_in_note}
-use Rattle.gt_walk.specs.Visiting.{run_edges, element_edges}
+use Rattle.gt_walk.specs.ByRows.{run_edges, element_edges}
 use Rattle.gt_walk.proofs.Taking.{can-as, took-as}
 use Rattle.gt_walk.proofs.Visits.{run-single}
 use Rattle.gt_walk.proofs.PlainRows.{after-note, run-after-note}

@@ -1,6 +1,6 @@
 use Rattle.std.proofs.Common.{None, ap, refl, sym, subst, ◌∙◌}
 use Rattle.gt_walk.proofs.Visits.{edges-rows}
-use Rattle.gt_mark.specs.Chains.{chain_from}
+use Rattle.gt_mark.specs.Chains.{chain_place}
 use Rattle.gt_mark.specs.Steps.{Goes, state_of}
 use Rattle.gt_mark.proofs.Blocks.{can_same, goes_block, same_block, took_same}
 use Rattle.gt_mark.specs.Wide.{Wide}
@@ -29,7 +29,7 @@ returns-clause-goes c = λ t begun h.
 pub returns-clause-wide : goal.returns-clause-wide
 returns-clause-wide c = λ t begun h w.
     let same = edges-rows c.args.tables.now c.args.space.now c.args.block.walk c.args.block.count c.args.block.addr c.rows_of-rows.result.now c.rows_of-rows.ensures in
-    let placed = c.chain_place-self.ensures ∙ ap (λ rows. chain_from rows c.args.block) c.rows_of-rows.ensures in
+    let placed = c.chain_place-self.ensures ∙ ap (λ rows. chain_place rows c.args.block) c.rows_of-rows.ensures in
     let wide = wide_block t begun c.args.block c.args.self.now h w _ c.chain_place-self.result refl c.visit_with_rows.new.sink placed (took_same _ c.visit_with_rows.new.sink _ _ same c.visit_with_rows.ensures.took) in
     subst (λ x. Wide t (record (state_of c.visit_with_rows.new.sink) { chain = None; next = x }) c.take.result) (sym c.take.ensures.after)
     (subst (λ x. Wide t (record (state_of c.visit_with_rows.new.sink) { chain = None; next = None }) x) (sym c.take.ensures.value) wide)
