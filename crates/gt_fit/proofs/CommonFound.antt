@@ -248,6 +248,14 @@ module _ (program : Program) (settled : Settled program) where
   pub common-is : (node : TypeId) (s : Structure) → HasStructure program node s → s.is_union ≡ true → CommonIs program s (common_of program s)
   common-is node s has union = answer s union (common_of program s) refl
 
+  as-match : (s : Structure) (o : Option TypeId) → CommonIs program s o → MatchOption o ((common : TypeId) → ¬ IsCommon program s common) (IsCommon program s)
+  as-match s (Some common) is = is
+  as-match s None none = none
+
+  -- the same, as the law says it
+  pub common-found : (node : TypeId) (s : Structure) → HasStructure program node s → s.is_union ≡ true → MatchOption (common_of program s) ((common : TypeId) → ¬ IsCommon program s common) (IsCommon program s)
+  common-found node s has union = as-match s (common_of program s) (common-is node s has union)
+
   is-one : (node : TypeId) (s : Structure) → HasStructure program node s → (a b : Option TypeId) → CommonIs program s a → CommonIs program s b → a ≡ b
   is-one node s has (Some a) (Some b) x y = ap Some (one-common program node s a b settled has x y)
   is-one node s has (Some a) None x y = absurd (y a x)
