@@ -56,18 +56,44 @@ still_summed words summary new i k word is set gone some =
     (some.0, some.1, sym (set.others some.0 (λ same. false≢true (sym gone ∙ ap (has new) (sym same) ∙ some.2))) ∙ some.2) in
     IsSummary-changed words summary new summary i k word is set (record { len = refl; others = λ j apart. refl }) (λ held. some, λ held. kept)
 
--- the search: nothing of the set stands from `from` to the end of word k
-module _ (words summary : List ℕ) (is : IsSummary words summary) (from k : ℕ) (here : HoldsNone words from (64 * (k + 1))) where
-  none_before : (later : ℕ) → HoldsNone summary (k + 1) later → HoldsNone words from (64 * later)
-  none_before later none j low high = elim (cases_lt j (64 * (k + 1))) [
-    | inl inside ↦ here j low inside
-    | inr after ↦ elim (cases_Bool (has words j)) [
-      | inl held ↦ absurd (false≢true (sym (none (j / 64) (omega arith) (omega arith)) ∙ (is.each (j / 64)).1 (j, refl, held)))
-      | inr gone ↦ gone
-    ]
+-- a search within the word of a number finds nothing
+pub none_in_word : (words : List ℕ) (from k b word : ℕ) → from / 64 ≡ k → from % 64 ≡ b → get_or words k 0 ≡ word → ((j : ℕ) → b ≤ j → bit_at word j ≡ 0)
+    → HoldsNone words from (64 * (k + 1))
+none_in_word words from k b word here bit is clear j low high =
+    has_at words j k (j % 64) 0 (omega arith) refl (ap (λ x. bit_at x (j % 64)) is ∙ clear (j % 64) (omega arith))
+
+-- a search from `from` on may begin at `middle` where the set has nothing between them
+pub next_from : (words : List ℕ) (from middle : ℕ) (result : Option ℕ) → from ≤ middle → HoldsNone words from middle → IsNext words middle result → IsNext words from result
+next_from words from middle None reached none next = record {
+  held = tt;
+  reached = tt;
+  within = tt;
+  least = tt;
+  none = λ j low. elim (cases_lt j middle) [
+    | inl before ↦ none j low before
+    | inr after ↦ next.none j after
+  ];
+}
+next_from words from middle (Some i) reached none next = record {
+  held = next.held;
+  reached = let above : middle ≤ i = next.reached in omega (arith, reached, above);
+  within = next.within;
+  least = λ j low high. elim (cases_lt j middle) [
+    | inl before ↦ none j low before
+    | inr after ↦ next.least j after high
+  ];
+  none = tt;
+}
+
+-- the search in the words after word k
+module _ (words summary : List ℕ) (is : IsSummary words summary) (k : ℕ) where
+  none_before : (later : ℕ) → HoldsNone summary (k + 1) later → HoldsNone words (64 * (k + 1)) (64 * later)
+  none_before later none j low high = elim (cases_Bool (has words j)) [
+    | inl held ↦ absurd (false≢true (sym (none (j / 64) (omega arith) (omega arith)) ∙ (is.each (j / 64)).1 (j, refl, held)))
+    | inr gone ↦ gone
   ]
 
-  pub next_nowhere : IsNext summary (k + 1) None → IsNext words from None
+  pub next_nowhere : IsNext summary (k + 1) None → IsNext words (64 * (k + 1)) None
   next_nowhere next = record {
     held = tt;
     reached = tt;
@@ -76,24 +102,7 @@ module _ (words summary : List ℕ) (is : IsSummary words summary) (from k : ℕ
     none = λ j low. none_before (j / 64 + 1) (λ other high before. next.none other high) j low (omega arith);
   }
 
-  pub next_later : from ≤ 64 * (k + 1) → (later : ℕ) (result : Option ℕ) → IsNext summary (k + 1) (Some later) → IsNext words (64 * later) result → IsNext words from result
-  next_later reached later None next found = record {
-    held = tt;
-    reached = tt;
-    within = tt;
-    least = tt;
-    none = λ j low. elim (cases_lt j (64 * later)) [
-      | inl before ↦ none_before later next.least j low before
-      | inr after ↦ found.none j after
-    ];
-  }
-  next_later reached later (Some i) next found = record {
-    held = found.held;
-    reached = let high : k + 1 ≤ later = next.reached in let above : 64 * later ≤ i = found.reached in omega (arith, reached, high, above);
-    within = found.within;
-    least = λ j low high. elim (cases_lt j (64 * later)) [
-      | inl before ↦ none_before later next.least j low before
-      | inr after ↦ found.least j after high
-    ];
-    none = tt;
-  }
+  pub next_later : (later : ℕ) (result : Option ℕ) → IsNext summary (k + 1) (Some later) → IsNext words (64 * later) result → IsNext words (64 * (k + 1)) result
+  next_later later result next found =
+      let high : k + 1 ≤ later = next.reached in
+      next_from words (64 * (k + 1)) (64 * later) result (omega (arith, high)) (none_before later next.least) found

@@ -3,7 +3,7 @@
 ghost use Rattle.std.specs.Prelude.{◌≡◌, ◌≢◌, ℕ, ◌+◌, ◌*◌, ◌/◌, ◌<◌, true, false, length, IfOk};
 ghost use Rattle.gt_bits.specs.Sets.{has, Fits, IsNext};
 
-use crate::places::word_of;
+use crate::places::{bit_of, next_bit, word_of};
 use crate::sets;
 use std::alloc::{AllocError, Global};
 use std::marker::Model;
@@ -72,14 +72,23 @@ impl SparseSet {
         ensures { IsNext self.now from result }
     {
         let word = word_of(from);
+        let bit = bit_of(from);
         if word >= self.words.len() {
             return None;
         }
-        let end = 64 * (word as u32 + 1);
-        if let Some(found) = sets::next_below(&self.words, from, end) {
-            return Some(found);
+        match next_bit(self.words[word], bit) {
+            Some(found) => Some(from - bit + found),
+            None => self.next_after(word as u32),
         }
-        let later = sets::next(&self.summary, word as u32 + 1)?;
+    }
+
+    // The least number of the set in the words after this one, or `None` where there is none.
+    fn next_after(&self, word: u32) -> Option<u32>
+        requires within { word < length self.now }
+        requires fits { Fits self.now }
+        ensures { IsNext self.now (64 * (word + 1)) result }
+    {
+        let later = sets::next(&self.summary, word + 1)?;
         sets::next(&self.words, 64 * later)
     }
 }

@@ -1,20 +1,14 @@
-use Rattle.std.proofs.Common.{◌≡◌, ◌+◌, ◌*◌, Some, None, sym, subst, rules, arith}
-use Rattle.gt_bits.specs.Sets.{HoldsNone, IsNext}
-use Rattle.gt_bits.proofs.SummaryLemmas.{next_nowhere, next_later}
+use Rattle.std.proofs.Common.{◌+◌, ◌*◌, sym, subst, ◌∙◌, rules, arith}
+use Rattle.std.proofs.lemmas.List.{get_or_default}
+use Rattle.gt_bits.specs.Sets.{HoldsNone}
+use Rattle.gt_bits.proofs.SummaryLemmas.{next_from, none_in_word}
 use Rattle.gt_bits.proofs.sparse.SparseSet.next.Goals as goal
 
-pub returns-in_err-later : goal.returns-in_err-later
-returns-in_err-later c =
-    let here : HoldsNone c.self.inside.words.items c.args.from (64 * (c.word_of-word.result + 1)) = search rules in
-    let next : IsNext c.self.inside.summary.items (c.word_of-word.result + 1) None = search rules in
-    let nowhere = next_nowhere c.self.inside.words.items c.self.inside.summary.items c.self.invariant c.args.from c.word_of-word.result here next in
-    let none : c.from_residual.result ≡ None = search rules in
-    subst (λ r. IsNext c.args.self.now c.args.from r) (sym none) (subst (λ w. IsNext w c.args.from None) c.self.view_is nowhere)
-
-pub returns : goal.returns
-returns c =
-    let here : HoldsNone c.self.inside.words.items c.args.from (64 * (c.word_of-word.result + 1)) = search rules in
-    let next : IsNext c.self.inside.summary.items (c.word_of-word.result + 1) (Some c.in_ok-later.later) = search rules in
-    let found = subst (λ w. IsNext w (64 * c.in_ok-later.later) c.next-2.result) c.deref-3.ensures.value c.next-2.ensures in
-    let is = next_later c.self.inside.words.items c.self.inside.summary.items c.self.invariant c.args.from c.word_of-word.result here (omega (arith, c.word_of-word.ensures)) c.in_ok-later.later c.next-2.result next found in
-    subst (λ w. IsNext w c.args.from c.next-2.result) c.self.view_is is
+pub returns-in-None : goal.returns-in-None
+returns-in-None c =
+    let words = c.self.inside.words.items in
+    let k = c.word_of-word.result in
+    let read = c.index.ensures ∙ get_or_default words k c.index.result.now 0 (search rules) in
+    let here = none_in_word words c.args.from k c.bit_of-bit.result c.index.result.now (sym c.word_of-word.ensures) (sym c.bit_of-bit.ensures.value) (sym read) c.in-None.ensures.none in
+    next_from c.args.self.now c.args.from (64 * (k + 1)) c.next_after.result (omega (arith, c.word_of-word.ensures))
+    (subst (λ w. HoldsNone w c.args.from (64 * (k + 1))) c.self.view_is here) c.next_after.ensures
