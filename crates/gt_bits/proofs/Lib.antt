@@ -4,3 +4,4 @@ pub mod SetLemmas
 pub mod CountLemmas
 pub mod RunLemmas
 pub mod LowestLemmas
+pub mod SummaryLemmas

@@ -1,3 +1,4 @@
 pub mod Sets
 pub mod Places
 pub mod Runs
+pub mod Summaries

@@ -1,5 +1,7 @@
-//! The first and the last bit of a word, runs within a word and across words, and numbers after the last word.
-use crate::{clear, count, first_run, has, insert, longest_run, next, next_gap, remove};
+//! The first and the last bit of a word, runs within a word and across words, numbers after the last word, and words that
+//! are far apart.
+use crate::{SparseSet, clear, count, first_run, has, insert, longest_run, next, next_gap, remove};
+use std::alloc::AllocError;
 use std::process::Abort;
 use std::test::Fail;
 
@@ -48,4 +50,20 @@ fn runs_over_words(rt: HostRuntime) {
         (first_run(&sparse, 4, 103), first_run(&sparse, 5, 128)),
         (None, None)
     );
+}
+
+#[test]
+fn words_far_apart(rt: HostRuntime) -> Result<(), AllocError> {
+    let mut set = SparseSet::new(rt.alloc(), 10000)?;
+    set.insert(8191);
+    set.insert(5);
+    set.insert(63);
+    set.insert(9999);
+    assert_eq!(rt; (set.next(5), set.next(6)), (Some(5), Some(63)));
+    assert_eq!(rt; (set.next(64), set.next(8192)), (Some(8191), Some(9999)));
+    set.remove(63);
+    assert_eq!(rt; (set.next(5), set.next(6)), (Some(5), Some(8191)));
+    set.remove(8191);
+    assert_eq!(rt; (set.next(6), set.next(10000)), (Some(9999), None));
+    Ok(())
 }

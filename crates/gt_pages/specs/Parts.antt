@@ -43,7 +43,7 @@ parts_of p = record {
   pages = p.pages;
   image = record { first = p.image_first; count = p.image_count };
   entries = p.entries.items;
-  starts = p.starts.items;
+  starts = p.starts;
   free = p.free.items;
   table = p.table;
   lists = p.lists;

@@ -64,7 +64,7 @@ pub(crate) fn empty_entries(alloc: Global, count: u32) -> Result<Vec<Entry>, All
 }
 
 /// A set of no pages, with room for so many.
-pub(crate) fn no_pages(alloc: Global, count: u32) -> Result<Vec<u64>, AllocError>
+fn no_pages(alloc: Global, count: u32) -> Result<Vec<u64>, AllocError>
     ensures len { IfOk result (λ pages. length pages.items ≡ (count + 63) / 64) }
     ensures none { IfOk result (λ pages. (i : ℕ) → has pages.items i ≡ false) }
 {

@@ -19,13 +19,13 @@ ghost use Rattle.gt_links.specs.Lists.{Holds, IsFree, IsInList, nodes_of, with_n
 
 use crate::pages::{CACHED, LISTS, Run, SlotFail};
 use crate::parts::{
-    Spot, empty_entries, first_pages, insert_range, no_pages, page_address, pages_of,
-    place_address, places_of, remove_range,
+    Spot, empty_entries, first_pages, insert_range, page_address, pages_of, place_address,
+    places_of, remove_range,
 };
 use crate::sizes::{BlockSize, list_of};
 use crate::tables::PageTable;
 use crate::totals::MarkedTotals;
-use gt_bits::{first_run, insert, longest_run, next, next_gap, remove};
+use gt_bits::{SparseSet, first_run, longest_run, next_gap};
 use gt_entries::{MAX_PLACES, Mark, Places};
 use gt_links::Links;
 use gt_space::{HEAP_START, PAGE_BYTES};
@@ -50,7 +50,7 @@ pub(crate) struct Store {
     // The entries, each under the number of its first page.
     pub(crate) entries: Vec<Entry>,
     // The first pages of the entries in use.
-    pub(crate) starts: Vec<u64>,
+    pub(crate) starts: SparseSet,
     // The pages that are in no entry and outside the image.
     pub(crate) free: Vec<u64>,
     // For each page the first page of its entry.
@@ -98,7 +98,7 @@ impl Store {
         ensures fresh { IfOk result (λ s. IsNew (parts_of s)) }
     {
         let entries = empty_entries(alloc, pages)?;
-        let starts = no_pages(alloc, pages)?;
+        let starts = SparseSet::new(alloc, pages)?;
         let free = first_pages(alloc, pages)?;
         let table = PageTable::new(alloc, pages)?;
         let lists = Links::new(alloc, LISTS, pages)?;
@@ -209,7 +209,7 @@ impl Store {
     {
         let mut from = 0;
         'entries: loop {
-            match next(&self.starts, from) {
+            match self.starts.next(from) {
                 None => return,
                 Some(page) => {
                     self.clear_entry(page);
@@ -421,7 +421,7 @@ impl Store {
         let mut totals = MarkedTotals::none();
         let mut from = 0;
         'entries: loop {
-            match next(&self.starts, from) {
+            match self.starts.next(from) {
                 None => return totals,
                 Some(page) => {
                     let (size, count) = self.marked_in(page);
@@ -453,7 +453,7 @@ impl Store {
         let mut freed = 0;
         let mut from = 0;
         'entries: loop {
-            match next(&self.starts, from) {
+            match self.starts.next(from) {
                 None => return freed,
                 Some(page) => {
                     freed += self.sweep_entry(page);
@@ -564,7 +564,7 @@ impl Store {
         requires { IsKept (parts_of self.now) }
         ensures { IsNextSpot (parts_of self.now) page result }
     {
-        let page = next(&self.starts, page)?;
+        let page = self.starts.next(page)?;
         Some(Spot { page, place: 0 })
     }
 
@@ -692,7 +692,7 @@ impl Store {
     {
         let count = entry.page_count();
         self.table.set(page, count, page);
-        insert(&mut self.starts, page);
+        self.starts.insert(page);
         remove_range(&mut self.free, page, count);
         self.entries[page as usize] = entry;
     }
@@ -880,7 +880,7 @@ impl Store {
     {
         let count = self.entries[page as usize].page_count();
         self.table.clear(page, count);
-        remove(&mut self.starts, page);
+        self.starts.remove(page);
         insert_range(&mut self.free, page, count);
         self.lists.unlink(page);
         self.lists.push_front(CACHED, page);

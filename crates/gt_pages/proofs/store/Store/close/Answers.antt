@@ -32,21 +32,20 @@ returns c =
     let low = c.requires.kept.starts c.args.page c.requires.starts in
     let read : c.index.result.now ≡ entry_at c.args.self.now.entries.items c.args.page =
     entry_read c.args.self.now.entries.items c.args.page c.index.result.now (omega (arith, low, c.requires.kept.entries)) c.index.ensures in
-    let starts = with_items_is c.args.self.now.starts c.remove.new.words (search rules) in
     let free = with_items_is c.args.self.now.free c.insert_range.new.words (search rules) in
     let count : c.page_count-count.result ≡ entry_pages (entry_at c.args.self.now.entries.items c.args.page) = c.page_count-count.ensures ∙ ap entry_pages read in
     record {
       rest = refl;
-      start_words = ap (λ w. length w) starts ∙ c.remove.ensures.len ∙ ap (λ w. length w) c.deref_mut.ensures.value;
-      gone = ap (λ w. has w c.args.page) starts ∙ c.remove.ensures.gone;
-      starts = λ j apart. ap (λ w. has w j) starts ∙ c.remove.ensures.others j apart ∙ ap (λ w. has w j) c.deref_mut.ensures.value;
+      start_words = c.remove.ensures.len;
+      gone = c.remove.ensures.gone;
+      starts = c.remove.ensures.others;
       table = subst (λ n. Leads c.args.self.now.table c.args.page n None c.clear.new.self) count c.clear.ensures;
-      free_words = ap (λ w. length w) free ∙ c.insert_range.ensures.len ∙ ap (λ w. length w) c.deref_mut-2.ensures.value;
+      free_words = ap (λ w. length w) free ∙ c.insert_range.ensures.len ∙ ap (λ w. length w) c.deref_mut.ensures.value;
       freed = λ j high low. ap (λ w. has w j) free ∙ c.insert_range.ensures.range j high (omega (arith, low, count));
       free = λ j out.
           ap (λ w. has w j) free
           ∙ c.insert_range.ensures.others j (elim out [ inl low ↦ inl low | inr high ↦ inr (omega (arith, high, count)) ])
-          ∙ ap (λ w. has w j) c.deref_mut-2.ensures.value;
+          ∙ ap (λ w. has w j) c.deref_mut.ensures.value;
       lists = λ i held.
           c.push_front.ensures.front
           ∙ ap (λ s. with_nodes s CACHED (c.args.page ∷ nodes_of s CACHED)) (c.unlink.ensures.taken i held);
