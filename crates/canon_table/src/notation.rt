@@ -1,6 +1,6 @@
 // A program, as it is written in the table: a line for each structure, field, chain, root and cache.
 use crate::parts::{optional, ty};
-use crate::words::{Refusal, Words};
+use crate::words::{Refusal, Words, both};
 use gt_types::{Active, Cache, Chain, ChainKind, Field, List, Program, Root, Structure, TypeId};
 use std::alloc::Global;
 
@@ -33,15 +33,8 @@ pub fn program(alloc: Global, lines: &[String]) -> Result<Program, Refusal> {
 impl Draft {
     fn add(&mut self, alloc: Global, line: &str) -> Result<(), Refusal> {
         let mut words = Words::of(alloc, line)?;
-        match words.next()?.as_str() {
-            "struct" => self.structures.push(structure(alloc, &mut words, false)?)?,
-            "union" => self.structures.push(structure(alloc, &mut words, true)?)?,
-            "field" => self.add_field(alloc, &mut words)?,
-            "chain" => self.add_chain(alloc, &mut words)?,
-            "root" => self.roots.push(root(alloc, &mut words)?)?,
-            "cache" => self.caches.push(cache(&mut words)?)?,
-            _ => return Err(Refusal::Malformed),
-        }
+        let keyword = words.next()?;
+        self.add_by(alloc, keyword.as_str(), &mut words)?;
         if words.is_empty() {
             Ok(())
         } else {
@@ -49,16 +42,43 @@ impl Draft {
         }
     }
 
-    fn add_field(&mut self, alloc: Global, words: &mut Words) -> Result<(), Refusal> {
-        let field = Field {
-            name: words.next()?,
-            ty: ty(alloc, words)?,
-            active: active(words)?,
-        };
-        match self.structures.last_mut() {
-            Some(s) => Ok(s.fields.push(field)?),
-            None => Err(Refusal::Malformed),
+    // Adds what a line says after its first word.
+    fn add_by(&mut self, alloc: Global, keyword: &str, words: &mut Words) -> Result<(), Refusal> {
+        match keyword {
+            "struct" => self.add_structure(alloc, words, false),
+            "union" => self.add_structure(alloc, words, true),
+            "field" => self.add_field(alloc, words),
+            "chain" => self.add_chain(alloc, words),
+            "root" => self.add_root(alloc, words),
+            "cache" => self.add_cache(words),
+            _ => Err(Refusal::Malformed),
         }
+    }
+
+    fn add_structure(
+        &mut self,
+        alloc: Global,
+        words: &mut Words,
+        is_union: bool,
+    ) -> Result<(), Refusal> {
+        Ok(self.structures.push(structure(alloc, words, is_union)?)?)
+    }
+
+    fn add_root(&mut self, alloc: Global, words: &mut Words) -> Result<(), Refusal> {
+        Ok(self.roots.push(root(alloc, words)?)?)
+    }
+
+    fn add_cache(&mut self, words: &mut Words) -> Result<(), Refusal> {
+        Ok(self.caches.push(cache(words)?)?)
+    }
+
+    fn add_field(&mut self, alloc: Global, words: &mut Words) -> Result<(), Refusal> {
+        let field = field(alloc, words)?;
+        let fields = match self.structures.last_mut() {
+            Some(s) => Some(&mut s.fields),
+            None => None,
+        };
+        add_to(fields, field)
     }
 
     fn add_chain(&mut self, alloc: Global, words: &mut Words) -> Result<(), Refusal> {
@@ -67,6 +87,14 @@ impl Draft {
             Some(s) => Ok(s.chains.push(chain)?),
             None => Err(Refusal::Malformed),
         }
+    }
+}
+
+// Adds an item to the list of the last structure, if there is one.
+fn add_to<X: Drop>(list: Option<&mut List<X>>, item: X) -> Result<(), Refusal> {
+    match list {
+        Some(list) => Ok(list.push(item)?),
+        None => Err(Refusal::Malformed),
     }
 }
 
@@ -80,8 +108,20 @@ fn structure(alloc: Global, words: &mut Words, is_union: bool) -> Result<Structu
     })
 }
 
+fn field(alloc: Global, words: &mut Words) -> Result<Field, Refusal> {
+    let name = words.next()?;
+    let ty = ty(alloc, words)?;
+    let (ty, active) = both(ty, active(words))?;
+    Ok(Field { name, ty, active })
+}
+
 fn active(words: &mut Words) -> Result<Active, Refusal> {
-    match words.next()?.as_str() {
+    let keyword = words.next()?;
+    active_by(keyword.as_str(), words)
+}
+
+fn active_by(keyword: &str, words: &mut Words) -> Result<Active, Refusal> {
+    match keyword {
         "always" => Ok(Active::Always),
         "tag" => Ok(Active::Tag(words.integer()?)),
         "other" => Ok(Active::Other),
@@ -106,10 +146,13 @@ fn chain(alloc: Global, words: &mut Words) -> Result<Chain, Refusal> {
 }
 
 fn root(alloc: Global, words: &mut Words) -> Result<Root, Refusal> {
+    let name = words.next()?;
+    let ty = ty(alloc, words)?;
+    let (ty, deletable) = both(ty, words.truth())?;
     Ok(Root {
-        name: words.next()?,
-        ty: ty(alloc, words)?,
-        deletable: words.truth()?,
+        name,
+        ty,
+        deletable,
     })
 }
 

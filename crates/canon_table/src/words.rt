@@ -31,6 +31,11 @@ impl<T: Drop> From<AllocFailed<T>> for Refusal {
     }
 }
 
+/// A part of a line, and the one that was read after it.
+pub fn both<A: Drop, B: Drop>(first: A, next: Result<B, Refusal>) -> Result<(A, B), Refusal> {
+    Ok((first, next?))
+}
+
 /// The words of a line that were not read yet, the next one last.
 #[derive(Drop)]
 pub struct Words {

@@ -1,4 +1,6 @@
 // Copies of commands.
+ghost use Rattle.std.specs.Prelude.{◌≡◌, IfOk};
+
 use crate::{Command, Given, Hop, Line, Route, TypeName};
 use gt_types::Copied;
 use std::alloc::{AllocError, Global};
@@ -53,47 +55,45 @@ impl Copied for Given {
 impl Copied for Command {
     fn copy(&self, alloc: Global) -> Result<Command, AllocError> {
         match self {
-            Command::New { var, ty, n } => Ok(Command::New {
-                var: var.copy(alloc)?,
-                ty: ty.copy(alloc)?,
-                n: *n,
-            }),
-            Command::Array { var, ty, n } => Ok(Command::Array {
-                var: var.copy(alloc)?,
-                ty: ty.copy(alloc)?,
-                n: *n,
-            }),
-            Command::Text { var, text } => Ok(Command::Text {
-                var: var.copy(alloc)?,
-                text: text.copy(alloc)?,
-            }),
+            Command::New { var, ty, n } => {
+                let (var, ty) = copy_both(alloc, var, ty)?;
+                Ok(Command::New { var, ty, n: *n })
+            }
+            Command::Array { var, ty, n } => {
+                let (var, ty) = copy_both(alloc, var, ty)?;
+                Ok(Command::Array { var, ty, n: *n })
+            }
+            Command::Text { var, text } => {
+                let (var, text) = copy_both(alloc, var, text)?;
+                Ok(Command::Text { var, text })
+            }
             Command::Block { var, n } => Ok(Command::Block {
                 var: var.copy(alloc)?,
                 n: *n,
             }),
-            Command::Set { path, value } => Ok(Command::Set {
-                path: path.copy(alloc)?,
-                value: value.copy(alloc)?,
-            }),
-            Command::Get { var, path } => Ok(Command::Get {
-                var: var.copy(alloc)?,
-                path: path.copy(alloc)?,
-            }),
+            Command::Set { path, value } => {
+                let (path, value) = copy_both(alloc, path, value)?;
+                Ok(Command::Set { path, value })
+            }
+            Command::Get { var, path } => {
+                let (var, path) = copy_both(alloc, var, path)?;
+                Ok(Command::Get { var, path })
+            }
             Command::Drop { var } => Ok(Command::Drop {
                 var: var.copy(alloc)?,
             }),
             Command::Print { path } => Ok(Command::Print {
                 path: path.copy(alloc)?,
             }),
-            Command::Put { cache, key, value } => Ok(Command::Put {
-                cache: cache.copy(alloc)?,
-                key: key.copy(alloc)?,
-                value: value.copy(alloc)?,
-            }),
-            Command::Find { cache, key } => Ok(Command::Find {
-                cache: cache.copy(alloc)?,
-                key: key.copy(alloc)?,
-            }),
+            Command::Put { cache, key, value } => {
+                let cache = cache.copy(alloc)?;
+                let (key, value) = copy_both(alloc, key, value)?;
+                Ok(Command::Put { cache, key, value })
+            }
+            Command::Find { cache, key } => {
+                let (cache, key) = copy_both(alloc, cache, key)?;
+                Ok(Command::Find { cache, key })
+            }
             Command::Collect => Ok(Command::Collect),
             Command::CollectForce => Ok(Command::CollectForce),
             Command::Save { file, page } => Ok(Command::Save {
@@ -108,4 +108,18 @@ impl Copied for Command {
             Command::Stats => Ok(Command::Stats),
         }
     }
+}
+
+// Copies of two values of any types.
+fn copy_both<A: Copied + Drop, B: Copied + Drop>(
+    alloc: Global,
+    a: &A,
+    b: &B,
+) -> Result<(A, B), AllocError>
+    ensures first { IfOk result (λ made. made.0 ≡ a.now) }
+    ensures second { IfOk result (λ made. made.1 ≡ b.now) }
+{
+    let a = a.copy(alloc)?;
+    let b = b.copy(alloc)?;
+    Ok((a, b))
 }

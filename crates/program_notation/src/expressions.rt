@@ -44,26 +44,38 @@ pub fn expression(alloc: Global, known: &Names, line: &mut Line) -> Result<Expr,
     part(alloc, known, line, MAX_NESTING)
 }
 
+#[cycle(reading)]
 fn part(alloc: Global, known: &Names, line: &mut Line, nesting: usize) -> Result<Expr, Refusal> {
     if nesting == 0 {
         return Err(Refusal::TooDeep);
     }
     let word = line.next()?;
-    if word.as_str() != "(" {
-        return leaf(alloc, known, word.as_str());
+    match word.as_str() {
+        "(" => operation(alloc, known, line, nesting - 1),
+        text => leaf(alloc, known, text),
     }
+}
+
+// An operator and its operands, after the bracket.
+#[cycle(reading)]
+fn operation(
+    alloc: Global,
+    known: &Names,
+    line: &mut Line,
+    nesting: usize,
+) -> Result<Expr, Refusal> {
     let symbol = line.next()?;
-    let a = Boxed::new(alloc, part(alloc, known, line, nesting - 1)?)?;
+    let a = operand(alloc, known, line, nesting)?;
     if line.takes(")") {
         let op = operator(symbol.as_str(), 1)?;
         return Ok(Expr::One { op, a });
     }
-    let b = Boxed::new(alloc, part(alloc, known, line, nesting - 1)?)?;
+    let b = operand(alloc, known, line, nesting)?;
     if line.takes(")") {
         let op = operator(symbol.as_str(), 2)?;
         return Ok(Expr::Two { op, a, b });
     }
-    let no = Boxed::new(alloc, part(alloc, known, line, nesting - 1)?)?;
+    let no = operand(alloc, known, line, nesting)?;
     if symbol.as_str() == "?" && line.takes(")") {
         return Ok(Expr::Cond {
             test: a,
@@ -72,6 +84,16 @@ fn part(alloc: Global, known: &Names, line: &mut Line, nesting: usize) -> Result
         });
     }
     Err(Refusal::UnknownWord)
+}
+
+#[cycle(reading)]
+fn operand(
+    alloc: Global,
+    known: &Names,
+    line: &mut Line,
+    nesting: usize,
+) -> Result<Boxed<Expr>, Refusal> {
+    Ok(Boxed::new(alloc, part(alloc, known, line, nesting)?)?)
 }
 
 // An operator by its symbol and its number of operands, of which only `-` has two meanings.

@@ -77,16 +77,35 @@ pub fn names(alloc: Global, text: &str) -> Result<List<Word>, AllocError> {
 fn cut(alloc: Global, text: &str, words: &mut Vec<Word>) -> Result<(), AllocError> {
     let mut word = String::new(alloc);
     for c in text.chars() {
-        match c {
-            '(' | ')' => {
-                add(alloc, word.as_str(), words)?;
-                word.clear();
-                words.push(Word::of(alloc, if c == '(' { "(" } else { ")" })?)?;
-            }
-            _ => word.push(c)?,
-        }
+        take(alloc, c, &mut word, words)?;
     }
     add(alloc, word.as_str(), words)
+}
+
+// Takes a character of such a text. A bracket ends the word that was read so far.
+fn take(
+    alloc: Global,
+    c: char,
+    word: &mut String,
+    words: &mut Vec<Word>,
+) -> Result<(), AllocError> {
+    match c {
+        '(' => end_by(alloc, "(", word, words),
+        ')' => end_by(alloc, ")", word, words),
+        _ => word.push(c),
+    }
+}
+
+// Adds the word that was read so far, and the bracket after it.
+fn end_by(
+    alloc: Global,
+    bracket: &str,
+    word: &mut String,
+    words: &mut Vec<Word>,
+) -> Result<(), AllocError> {
+    add(alloc, word.as_str(), words)?;
+    word.clear();
+    add(alloc, bracket, words)
 }
 
 // Adds a word, where it has a character.

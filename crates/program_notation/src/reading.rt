@@ -47,16 +47,20 @@ pub fn program(alloc: Global, lines: &[String]) -> Result<Program, Refusal> {
 pub fn expression_of(alloc: Global, text: &str) -> Result<Expr, Refusal> {
     let mut line = Line::of(alloc, text)?;
     let expression = expression(alloc, &no_names(alloc), &mut line)?;
-    line.end()?;
-    Ok(expression)
+    whole(expression, &line)
 }
 
 /// The type of a text, in which a structure of any name is the one at place 0.
 pub fn type_of(alloc: Global, text: &str) -> Result<Ty, Refusal> {
     let mut line = Line::of(alloc, text)?;
     let ty = ty(alloc, &no_names(alloc), &mut line)?;
+    whole(ty, &line)
+}
+
+// What was read of a line, where it ends there.
+fn whole<T: Drop>(part: T, line: &Line) -> Result<T, Refusal> {
     line.end()?;
-    Ok(ty)
+    Ok(part)
 }
 
 fn no_names(alloc: Global) -> Names {
@@ -73,30 +77,51 @@ fn names(alloc: Global, lines: &[String]) -> Result<Names, Refusal> {
         roots: Vec::new(alloc),
     };
     for text in lines {
-        let mut line = Line::of(alloc, text.as_str())?;
-        match line.next()?.as_str() {
-            "struct" | "union" => names.structures.push(line.next()?)?,
-            "root" => names.roots.push(line.next()?)?,
-            _ => {}
-        }
+        add_name(alloc, text.as_str(), &mut names)?;
     }
     Ok(names)
+}
+
+// Adds the name of the structure or root that a line declares.
+fn add_name(alloc: Global, text: &str, names: &mut Names) -> Result<(), Refusal> {
+    let mut line = Line::of(alloc, text)?;
+    match line.next()?.as_str() {
+        "struct" | "union" => add_next(&mut line, &mut names.structures),
+        "root" => add_next(&mut line, &mut names.roots),
+        _ => Ok(()),
+    }
+}
+
+fn add_next(line: &mut Line, words: &mut Vec<Word>) -> Result<(), Refusal> {
+    Ok(words.push(line.next()?)?)
 }
 
 impl Draft {
     fn add(&mut self, alloc: Global, names: &Names, text: &str) -> Result<(), Refusal> {
         let mut line = Line::of(alloc, text)?;
-        match line.next()?.as_str() {
-            "struct" => self.add_structure(alloc, names, &mut line, false)?,
-            "union" => self.add_structure(alloc, names, &mut line, true)?,
-            "field" => self.add_field(alloc, names, &mut line)?,
-            "chain" => self.add_chain(alloc, &mut line)?,
-            "root" => self.add_root(alloc, names, &mut line)?,
-            "cache" => self.add_cache(names, &mut line)?,
-            "word" => self.add_word(names, &mut line)?,
-            _ => return Err(Refusal::UnknownWord),
-        }
+        let keyword = line.next()?;
+        self.add_by(alloc, names, keyword.as_str(), &mut line)?;
         line.end()
+    }
+
+    // Adds what a line says after its first word.
+    fn add_by(
+        &mut self,
+        alloc: Global,
+        names: &Names,
+        keyword: &str,
+        line: &mut Line,
+    ) -> Result<(), Refusal> {
+        match keyword {
+            "struct" => self.add_structure(alloc, names, line, false),
+            "union" => self.add_structure(alloc, names, line, true),
+            "field" => self.add_field(alloc, names, line),
+            "chain" => self.add_chain(alloc, line),
+            "root" => self.add_root(alloc, names, line),
+            "cache" => self.add_cache(names, line),
+            "word" => self.add_word(names, line),
+            _ => Err(Refusal::UnknownWord),
+        }
     }
 
     fn add_structure(
@@ -119,13 +144,12 @@ impl Draft {
     }
 
     fn add_field(&mut self, alloc: Global, names: &Names, line: &mut Line) -> Result<(), Refusal> {
-        let name = line.next()?;
-        let ty = ty(alloc, names, line)?;
-        let active = active(line)?;
-        match self.structures.last_mut() {
-            None => Err(Refusal::NoStructure),
-            Some(s) => Ok(s.fields.push(Field { name, ty, active })?),
-        }
+        let field = field(alloc, names, line)?;
+        let fields = match self.structures.last_mut() {
+            None => None,
+            Some(s) => Some(&mut s.fields),
+        };
+        add_to(fields, field)
     }
 
     fn add_chain(&mut self, alloc: Global, line: &mut Line) -> Result<(), Refusal> {
@@ -200,6 +224,27 @@ impl Draft {
             caches,
             words,
         })
+    }
+}
+
+fn field(alloc: Global, names: &Names, line: &mut Line) -> Result<Field, Refusal> {
+    let name = line.next()?;
+    let ty = ty(alloc, names, line)?;
+    let (ty, active) = with_active(ty, line)?;
+    Ok(Field { name, ty, active })
+}
+
+// The same, and when the field of this type is a part of the value.
+fn with_active<T: Drop>(ty: T, line: &mut Line) -> Result<(T, Active), Refusal> {
+    let active = active(line)?;
+    Ok((ty, active))
+}
+
+// Adds an item to the list of the last structure, if there is one.
+fn add_to<X: Drop>(list: Option<&mut List<X>>, item: X) -> Result<(), Refusal> {
+    match list {
+        None => Err(Refusal::NoStructure),
+        Some(list) => Ok(list.push(item)?),
     }
 }
 

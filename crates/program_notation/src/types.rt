@@ -10,18 +10,19 @@ pub fn ty(alloc: Global, known: &Names, line: &mut Line) -> Result<Ty, Refusal> 
     part(alloc, known, line, MAX_NESTING)
 }
 
+#[cycle(reading)]
 fn part(alloc: Global, known: &Names, line: &mut Line, nesting: usize) -> Result<Ty, Refusal> {
     if nesting == 0 {
         return Err(Refusal::TooDeep);
     }
     if line.takes("arr") {
         let n = size(line)?;
-        let elem = Boxed::new(alloc, part(alloc, known, line, nesting - 1)?)?;
+        let elem = element(alloc, known, line, nesting - 1)?;
         return Ok(Ty::Arr { n, elem });
     }
     if line.takes("tail") {
         let len = expression(alloc, known, line)?;
-        let elem = Boxed::new(alloc, part(alloc, known, line, nesting - 1)?)?;
+        let elem = element(alloc, known, line, nesting - 1)?;
         return Ok(Ty::Tail { len, elem });
     }
     if line.takes("node") {
@@ -36,6 +37,16 @@ fn part(alloc: Global, known: &Names, line: &mut Line, nesting: usize) -> Result
         return Ok(Ty::Str(Some(expression(alloc, known, line)?)));
     }
     unscanned_or_pointer(alloc, known, line)
+}
+
+#[cycle(reading)]
+fn element(
+    alloc: Global,
+    known: &Names,
+    line: &mut Line,
+    nesting: usize,
+) -> Result<Boxed<Ty>, Refusal> {
+    Ok(Boxed::new(alloc, part(alloc, known, line, nesting)?)?)
 }
 
 /// The `desc` that stands next, or `-` where there is none.
@@ -74,8 +85,7 @@ fn pointer(alloc: Global, known: &Names, line: &mut Line, reorder: bool) -> Resu
     let (target, kind) = if line.takes("ptr") {
         (Some(Target::Node(known.structure(line)?)), PtrKind::Plain)
     } else if line.takes("len") {
-        let count = expression(alloc, known, line)?;
-        (Some(target(known, line)?), PtrKind::Length(count))
+        return counted_pointer(alloc, known, line, reorder);
     } else if line.takes("atomic") {
         (None, PtrKind::Atomic)
     } else if line.takes("undef") {
@@ -86,6 +96,22 @@ fn pointer(alloc: Global, known: &Names, line: &mut Line, reorder: bool) -> Resu
     Ok(Ty::Ptr {
         target,
         kind,
+        reorder,
+    })
+}
+
+// A pointer with a length.
+fn counted_pointer(
+    alloc: Global,
+    known: &Names,
+    line: &mut Line,
+    reorder: bool,
+) -> Result<Ty, Refusal> {
+    let count = expression(alloc, known, line)?;
+    let target = target(known, line)?;
+    Ok(Ty::Ptr {
+        target: Some(target),
+        kind: PtrKind::Length(count),
         reorder,
     })
 }

@@ -1,4 +1,0 @@
-use Rattle.program_notation.proofs.types.+part.Given as goal
-
-abbrev pub decreases-part : goal.decreases-part
-decreases-part l = l.nesting
