@@ -1,3 +1,4 @@
 pub mod NameTests
 pub mod NameLists
 pub mod TableLemmas
+pub mod BucketLemmas

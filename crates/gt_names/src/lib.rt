@@ -1,6 +1,7 @@
 //! Names by their place, and values by name, found in constant time. A name keeps its place, and the first value that it was given.
 #![tactic(auto)]
 
+mod buckets;
 mod names;
 mod tables;
 

@@ -1,27 +1,33 @@
 // Distinct names, each with its place.
-ghost use Rattle.std.specs.Prelude.{◌≡◌, ◌<◌, [], length, position, IfOk, IfSome, OnOk, OnErr, Some};
+ghost use Rattle.std.specs.Prelude.{◌≡◌, ◌<◌, [], ◌∷◌, ◌++◌, length, position, IfOk, IfSome, OnOk, OnErr, Some, None};
 ghost use Rattle.std.specs.Str.{bytes_eq};
 ghost use Rattle.gt_names.specs.Lists.{with_name};
 
-use gt_types::Word;
-use indexmap::IndexSet;
+use crate::buckets::{Buckets, number_of};
+use gt_types::{Copied, Word};
 use std::alloc::{AllocError, Global};
 use std::marker::Model;
 
-/// Distinct names in the order in which they were added. A place is found in constant time. Contracts see their list.
+/// Distinct names in the order in which they were added. A place is found in constant time, or in the logarithm of the number of names
+/// where many have one hash. Contracts see their list.
 #[derive(Drop)]
 pub struct NameIndex {
-    names: IndexSet<String>,
+    alloc: Global,
+    names: Vec<Word>,
+    buckets: Buckets,
 }
 
 impl Model for NameIndex {
-    ghost use Rattle.std.specs.Prelude.{ℕ, List, map};
-    ghost use Rattle.std.specs.Str.{chars};
-    ghost use Rattle.std.specs.String.{string_bytes};
+    ghost use Rattle.std.specs.Prelude.{◌≡◌, ℕ, List, position};
+    ghost use Rattle.std.specs.Str.{bytes_eq};
 
     ghost Value = { List (List ℕ) };
 
-    ghost view = { λ n. map (λ name. chars (string_bytes name)) n.names.keys };
+    ghost use Rattle.gt_names.specs.Buckets.{number_in};
+
+    ghost view = { λ n. n.names.items };
+
+    ghost invariant = { λ n. (word : List ℕ) → number_in n.buckets.maps.items word ≡ position (λ other. bytes_eq other word) n.names.items };
 }
 
 impl NameIndex {
@@ -30,7 +36,9 @@ impl NameIndex {
         ensures empty { result ≡ [] }
     {
         NameIndex {
-            names: IndexSet::new(alloc),
+            alloc,
+            names: Vec::new(alloc),
+            buckets: Buckets::new(alloc),
         }
     }
 
@@ -39,7 +47,10 @@ impl NameIndex {
         ensures place { result ≡ position (λ other. bytes_eq other name.now) self.now }
         ensures within { IfSome result (λ i. i < length self.now) }
     {
-        self.names.get_index_of(name.as_str())
+        match self.buckets.get(name) {
+            Some(number) => Some(number as usize),
+            None => None,
+        }
     }
 
     /// Adds a name at the end where it is new, and gives its place. Out of memory, the names are as before.
@@ -52,8 +63,7 @@ impl NameIndex {
             return Ok(place);
         }
         let place = self.names.len();
-        let text = String::from_str(*self.names.allocator(), name.as_str())?;
-        self.names.insert(text)?;
+        self.push(name)?;
         Ok(place)
     }
 
@@ -62,5 +72,21 @@ impl NameIndex {
         ensures names { result ≡ length self.now }
     {
         self.names.len()
+    }
+
+    // Adds a new name at the end. Out of memory, the names are as before.
+    fn push(&mut self, name: &Word) -> Result<(), AllocError>
+        requires new { position (λ other. bytes_eq other name.now) self.old ≡ None }
+        ensures added { OnOk result (self.new ≡ self.old ++ name.now ∷ []) }
+        ensures unchanged { OnErr result (self.new ≡ self.old) }
+    {
+        let number = number_of(self.names.len())?;
+        let key = name.copy(self.alloc)?;
+        let name = name.copy(self.alloc)?;
+        self.names.reserve(1)?;
+        self.buckets.make_room(self.alloc, &self.names)?;
+        self.buckets.put(key, number)?;
+        self.names.push_reserved(name);
+        Ok(())
     }
 }
