@@ -1,38 +1,36 @@
--- The numbers of names in buckets: in empty ones, after one more name, and of all names from a place on.
+-- The numbers of hashes in buckets: in empty ones, after one more, and of all names from a place on.
 use Rattle.std.proofs.Common.{◌≡◌, ◌≢◌, ◌∙◌, ℕ, zero, suc, ◌+◌, Bool, true, false, cond, not, nat_lt, List, [], ◌∷◌, ◌++◌, length, Option, Some, None, position, refl, sym, ap, ap₂, arith, ⊎_elim}
-use Rattle.std.specs.Prelude.{slice_get, slice_set}
+use Rattle.std.specs.Prelude.{◌==◌, slice_get, slice_set}
 use Rattle.std.specs.List.{position_or_len}
 use Rattle.std.specs.Option.{option_or}
 use Rattle.std.specs.Ordering.{nat_cmp}
-use Rattle.std.specs.Str.{bytes_eq}
 use Rattle.std.specs.Map.{lookup}
 use Rattle.std.specs.BTreeMap.{BTreeMap, get, is_at}
-use Rattle.std.specs.Cmp.Lexicographic.{slice_cmp, texts_ties}
-use Rattle.std.proofs.lemmas.Bool.{cases_eq}
+use Rattle.std.specs.Cmp.{unsigned_ties}
+use Rattle.std.proofs.lemmas.Bool.{cases_eq, eqb-true}
 use Rattle.std.proofs.lemmas.Bool.Decides.{nat_tests}
-use Rattle.std.proofs.lemmas.Slice.Eq.{bytes_eq-Decides}
 use Rattle.gt_names.specs.Buckets.{bucket_number, number_of, number_in, first_from}
 
 -- ---- empty buckets
 
-abbrev pub AreEmpty : List (BTreeMap (List ℕ) ℕ) → Type 0
+abbrev pub AreEmpty : List (BTreeMap ℕ ℕ) → Type 0
 AreEmpty [] = Unit {0}
 AreEmpty (map ∷ maps) = (map.entries ≡ []) × AreEmpty maps
 
-pub AreEmpty-push : (maps : List (BTreeMap (List ℕ) ℕ)) (map : BTreeMap (List ℕ) ℕ) → AreEmpty maps → map.entries ≡ [] → AreEmpty (maps ++ map ∷ [])
+pub AreEmpty-push : (maps : List (BTreeMap ℕ ℕ)) (map : BTreeMap ℕ ℕ) → AreEmpty maps → map.entries ≡ [] → AreEmpty (maps ++ map ∷ [])
 AreEmpty-push [] map empty h = (h, tt)
 AreEmpty-push (m ∷ maps) map empty h = (empty.0, AreEmpty-push maps map empty.1 h)
 
-none_at : (maps : List (BTreeMap (List ℕ) ℕ)) (bucket : ℕ) (word : List ℕ) → AreEmpty maps → number_of (slice_get maps bucket) word ≡ None
-none_at [] bucket word empty = refl
-none_at (map ∷ maps) zero word empty = ap (lookup (is_at (slice_cmp nat_cmp word))) empty.0
-none_at (map ∷ maps) (suc bucket) word empty = none_at maps bucket word empty.1
+none_at : (maps : List (BTreeMap ℕ ℕ)) (bucket hash : ℕ) → AreEmpty maps → number_of (slice_get maps bucket) hash ≡ None
+none_at [] bucket hash empty = refl
+none_at (map ∷ maps) zero hash empty = ap (lookup (is_at (nat_cmp hash))) empty.0
+none_at (map ∷ maps) (suc bucket) hash empty = none_at maps bucket hash empty.1
 
--- no name has a number there
-pub none_in : (maps : List (BTreeMap (List ℕ) ℕ)) (word : List ℕ) → AreEmpty maps → number_in maps word ≡ None
-none_in maps word empty = none_at maps (bucket_number word (length maps)) word empty
+-- no hash has a number there
+pub none_in : (maps : List (BTreeMap ℕ ℕ)) (hash : ℕ) → AreEmpty maps → number_in maps hash ≡ None
+none_in maps hash empty = none_at maps (bucket_number hash (length maps)) hash empty
 
--- ---- one more name
+-- ---- one more hash
 
 get-set_same : {X : Type 0} (xs : List X) (i : ℕ) (x y : X) → slice_get xs i ≡ Some x → slice_get (slice_set xs i y) i ≡ Some y
 get-set_same [] i x y h = cc
@@ -51,30 +49,30 @@ length-set [] i y = refl
 length-set (x ∷ xs) zero y = refl
 length-set (x ∷ xs) (suc i) y = ap suc (length-set xs i y)
 
-different : (name word : List ℕ) → name ≢ word → bytes_eq name word ≡ false
-different name word h = not_true (bytes_eq name word) (λ e. h ((bytes_eq-Decides name word).0 e))
-  where
-    not_true : (b : Bool) → (b ≡ true → ⊥) → b ≡ false
-    not_true true h = absurd (h refl)
-    not_true false h = refl
+pub not_true : (b : Bool) → (b ≡ true → ⊥) → b ≡ false
+not_true true h = absurd (h refl)
+not_true false h = refl
 
--- the bucket of a name gives it a number
-pub put_in : (maps : List (BTreeMap (List ℕ) ℕ)) (m n : BTreeMap (List ℕ) ℕ) (bucket number : ℕ) (name : List ℕ)
-    → bucket ≡ bucket_number name (length maps) → slice_get maps bucket ≡ Some m
-    → ((q : List ℕ) → get (slice_cmp nat_cmp) n q ≡ cond (is_at (slice_cmp nat_cmp name) q) (Some number) (get (slice_cmp nat_cmp) m q))
-    → (word : List ℕ) → number_in (slice_set maps bucket n) word ≡ cond (bytes_eq name word) (Some number) (number_in maps word)
-put_in maps m n bucket number name at has puts word =
-    ap (λ count. number_of (slice_get (slice_set maps bucket n) (bucket_number word count)) word) (length-set maps bucket n)
+different : (hash other : ℕ) → hash ≢ other → (hash == other) ≡ false
+different hash other h = not_true (hash == other) (λ e. h (eqb-true hash other e))
+
+-- the bucket of a hash gives it a number
+pub put_in : (maps : List (BTreeMap ℕ ℕ)) (m n : BTreeMap ℕ ℕ) (bucket number hash : ℕ)
+    → bucket ≡ bucket_number hash (length maps) → slice_get maps bucket ≡ Some m
+    → ((q : ℕ) → get nat_cmp n q ≡ cond (is_at (nat_cmp hash) q) (Some number) (get nat_cmp m q))
+    → (other : ℕ) → number_in (slice_set maps bucket n) other ≡ cond (hash == other) (Some number) (number_in maps other)
+put_in maps m n bucket number hash at has puts other =
+    ap (λ count. number_of (slice_get (slice_set maps bucket n) (bucket_number other count)) other) (length-set maps bucket n)
     ∙ ⊎_elim
-    (λ (same : bucket ≡ bucket_number word (length maps)).
-    ap (λ i. number_of (slice_get (slice_set maps bucket n) i) word) (sym same)
-    ∙ ap (λ o. number_of o word) (get-set_same maps bucket m n has)
-    ∙ puts word
-    ∙ ap₂ (λ b o. cond b (Some number) o) (sym (texts_ties name word)) (ap (λ o. number_of o word) (sym has) ∙ ap (λ i. number_of (slice_get maps i) word) same))
-    (λ (other : bucket ≢ bucket_number word (length maps)).
-    ap (λ o. number_of o word) (get-set_other maps bucket (bucket_number word (length maps)) n other)
-    ∙ ap (λ b. cond b (Some number) (number_in maps word)) (sym (different name word (λ e. other (at ∙ ap (λ w. bucket_number w (length maps)) e)))))
-    (cases_eq bucket (bucket_number word (length maps)))
+    (λ (same : bucket ≡ bucket_number other (length maps)).
+    ap (λ i. number_of (slice_get (slice_set maps bucket n) i) other) (sym same)
+    ∙ ap (λ o. number_of o other) (get-set_same maps bucket m n has)
+    ∙ puts other
+    ∙ ap₂ (λ b o. cond b (Some number) o) (sym (unsigned_ties hash other)) (ap (λ o. number_of o other) (sym has) ∙ ap (λ i. number_of (slice_get maps i) other) same))
+    (λ (apart : bucket ≢ bucket_number other (length maps)).
+    ap (λ o. number_of o other) (get-set_other maps bucket (bucket_number other (length maps)) n apart)
+    ∙ ap (λ b. cond b (Some number) (number_in maps other)) (sym (different hash other (λ e. apart (at ∙ ap (λ h. bucket_number h (length maps)) e)))))
+    (cases_eq bucket (bucket_number other (length maps)))
 
 -- ---- names from a place on
 
@@ -94,12 +92,9 @@ first_at p (x ∷ xs) k = first_found (p x) k (position_or_len p xs) (length xs)
 
 -- from the first place on
 pub first_of_all : {X : Type 0} (p : X → Bool) (xs : List X) → first_from p xs 0 ≡ position p xs
-first_of_all p xs = let same : 0 + position_or_len p xs ≡ position_or_len p xs = omega arith in
+first_of_all p xs =
+    let same : 0 + position_or_len p xs ≡ position_or_len p xs = omega arith in
     first_at p xs 0 ∙ ap (λ i. cond (nat_lt (position_or_len p xs) (length xs)) (Some i) None) same
-
--- from the place before
-pub first_before : {X : Type 0} (p : X → Bool) (xs ys : List X) (x : X) (k : ℕ) → xs ≡ x ∷ ys → cond (p x) (Some k) (first_from p ys (suc k)) ≡ first_from p xs k
-first_before p xs ys x k h = ap (λ zs. first_from p zs k) (sym h)
 
 first_push_step : (b : Bool) (k : ℕ) (o o' e : Option ℕ) → o' ≡ option_or o e → cond b (Some k) o' ≡ option_or (cond b (Some k) o) e
 first_push_step true k o o' e h = refl
@@ -112,20 +107,9 @@ first_push p (x ∷ xs) y k n h =
     let next : n ≡ suc k + length xs = omega arith in
     first_push_step (p x) k (first_from p xs (suc k)) (first_from p (xs ++ y ∷ []) (suc k)) (cond (p y) (Some n) None) (first_push p xs y (suc k) n next)
 
-pushed_case : (b : Bool) (n : ℕ) (o : Option ℕ) → (b ≡ true → o ≡ None) → cond b (Some n) o ≡ option_or o (cond b (Some n) None)
-pushed_case true n o h = sym (ap (λ o. option_or o (Some n)) (h refl))
-pushed_case false n None h = refl
-pushed_case false n (Some i) h = refl
-
--- a new name at the end has the next number
-pub pushed_in : (names : List (List ℕ)) (name word : List ℕ) (n : ℕ) (o : Option ℕ) → n ≡ length names → position (λ other. bytes_eq other name) names ≡ None
-    → o ≡ position (λ other. bytes_eq other word) names
-    → cond (bytes_eq name word) (Some n) o ≡ position (λ other. bytes_eq other word) (names ++ name ∷ [])
-pushed_in names name word n o h new is =
-    let count : n ≡ 0 + length names = omega arith in
-    ap (cond (bytes_eq name word) (Some n)) is
-    ∙ pushed_case (bytes_eq name word) n (position (λ other. bytes_eq other word) names)
-    (λ e. ap (λ w. position (λ other. bytes_eq other w) names) (sym ((bytes_eq-Decides name word).0 e)) ∙ new)
-    ∙ ap (λ o. option_or o (cond (bytes_eq name word) (Some n) None)) (sym (first_of_all (λ other. bytes_eq other word) names))
-    ∙ sym (first_push (λ other. bytes_eq other word) names name 0 n count)
-    ∙ first_of_all (λ other. bytes_eq other word) (names ++ name ∷ [])
+-- the first of items with one more
+pub position_push : {X : Type 0} (p : X → Bool) (xs : List X) (y : X) (n : ℕ) → n ≡ length xs
+    → position p (xs ++ y ∷ []) ≡ option_or (position p xs) (cond (p y) (Some n) None)
+position_push p xs y n h =
+    let count : n ≡ 0 + length xs = omega arith in
+    sym (first_of_all p (xs ++ y ∷ [])) ∙ first_push p xs y 0 n count ∙ ap (λ o. option_or o (cond (p y) (Some n) None)) (first_of_all p xs)

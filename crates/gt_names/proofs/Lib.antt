@@ -2,3 +2,4 @@ pub mod NameTests
 pub mod NameLists
 pub mod TableLemmas
 pub mod BucketLemmas
+pub mod IndexLemmas

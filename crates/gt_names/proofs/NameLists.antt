@@ -20,7 +20,7 @@ any-or : (a b : Bool) (i n : ℕ) → b ≡ nat_lt i n → (a || b) ≡ nat_lt (
 any-or true b i n e = grind (arith, nat_tests)
 any-or false b i n e = e ∙ next_below i n
 
-any-position : {X : Type 0} (p : X → Bool) (xs : List X) → list_any p xs ≡ nat_lt (position_or_len p xs) (length xs)
+pub any-position : {X : Type 0} (p : X → Bool) (xs : List X) → list_any p xs ≡ nat_lt (position_or_len p xs) (length xs)
 any-position p [] = refl
 any-position p (x ∷ xs) = any-or (p x) (list_any p xs) (position_or_len p xs) (length xs) (any-position p xs)
 
@@ -42,10 +42,10 @@ found-any : {X : Type 0} (p : X → Bool) (i : ℕ) (xs : List X) → position p
 found-any p i xs e = any-position p xs ∙ some-true _ _ i e
 
 -- what is not found is not there
-absent-any : {X : Type 0} (p : X → Bool) (xs : List X) → position p xs ≡ None → list_any p xs ≡ false
+pub absent-any : {X : Type 0} (p : X → Bool) (xs : List X) → position p xs ≡ None → list_any p xs ≡ false
 absent-any p xs e = any-position p xs ∙ none-false _ _ e
 
-neither : (a b : Bool) → (a || b) ≡ false → (a ≡ false) × (b ≡ false)
+pub neither : (a b : Bool) → (a || b) ≡ false → (a ≡ false) × (b ≡ false)
 neither true b e = absurd (cc)
 neither false b e = (refl, e)
 
@@ -56,7 +56,7 @@ prefix_len-added p y h (x ∷ xs) e =
     let both = neither (p x) (list_any p xs) e in
     ap₂ (λ b n. cond (not b) (1 + n) 0) both.0 (prefix_len-added p y h xs both.1) ∙ one-more (length xs)
 
-length-added : {X : Type 0} (xs : List X) (y : X) → length (xs ++ y ∷ []) ≡ suc (length xs)
+pub length-added : {X : Type 0} (xs : List X) (y : X) → length (xs ++ y ∷ []) ≡ suc (length xs)
 length-added [] y = refl
 length-added (x ∷ xs) y = ap suc (length-added xs y)
 

@@ -1,6 +1,8 @@
--- No promise: in which bucket of a table a name stands, and with which number.
-use Rattle.std.specs.Prelude.{ℕ, suc, ◌-◌, Bool, cond, List, [], ◌∷◌, length, Option, Some, None, slice_get, bit_and, encode_utf8_all}
+-- No promise: how the place of a name is found by its hash.
+use Rattle.std.specs.Prelude.{◌≡◌, ℕ, suc, ◌-◌, ◌==◌, Bool, cond, List, [], ◌∷◌, length, position, Option, Some, None, slice_get, bit_and, encode_utf8_all}
+use Rattle.std.specs.Option.{option_or}
 use Rattle.std.specs.Ordering.{nat_cmp}
+use Rattle.std.specs.Str.{bytes_eq}
 use Rattle.std.specs.Cmp.Lexicographic.{slice_cmp}
 use Rattle.std.specs.BTreeMap.{BTreeMap, get}
 use Rattle.std.specs.Hash.FoldHasher.{initial, write, finish}
@@ -9,20 +11,38 @@ use Rattle.std.specs.Hash.FoldHasher.{initial, write, finish}
 unfoldable pub hash_number : List ℕ → ℕ
 hash_number word = finish (write initial (encode_utf8_all word))
 
--- the bucket of a name among so many
-abbrev pub bucket_number : List ℕ → ℕ → ℕ
-bucket_number word count = bit_and (hash_number word) (count - 1)
+-- the bucket of a hash among so many
+abbrev pub bucket_number : ℕ → ℕ → ℕ
+bucket_number hash count = bit_and hash (count - 1)
 
--- the number of a name in one bucket
-abbrev pub number_of : Option (BTreeMap (List ℕ) ℕ) → List ℕ → Option ℕ
-number_of None word = None
-number_of (Some map) word = get (slice_cmp nat_cmp) map word
+-- the number of a hash in one bucket
+abbrev pub number_of : Option (BTreeMap ℕ ℕ) → ℕ → Option ℕ
+number_of None hash = None
+number_of (Some map) hash = get nat_cmp map hash
 
--- the number of a name in buckets
-abbrev pub number_in : List (BTreeMap (List ℕ) ℕ) → List ℕ → Option ℕ
-number_in maps word = number_of (slice_get maps (bucket_number word (length maps))) word
+-- the number of a hash in buckets
+abbrev pub number_in : List (BTreeMap ℕ ℕ) → ℕ → Option ℕ
+number_in maps hash = number_of (slice_get maps (bucket_number hash (length maps))) hash
+
+-- the place of the first name with a hash
+abbrev pub first_with : List (List ℕ) → ℕ → Option ℕ
+first_with names hash = position (λ name. hash_number name == hash) names
+
+-- the place of a name, where it is the name that stands there
+abbrev pub place_of : Option (List ℕ) → List ℕ → ℕ → Option ℕ
+place_of None word place = None
+place_of (Some name) word place = cond (bytes_eq name word) (Some place) None
+
+abbrev pub place_at : List (List ℕ) → List ℕ → Option ℕ → Option ℕ
+place_at names word None = None
+place_at names word (Some place) = place_of (slice_get names place) word place
 
 -- the place of the first item that passes a test, where the first of them has this place
 abbrev pub first_from : {X : Type 0} → (X → Bool) → List X → ℕ → Option ℕ
 first_from p [] place = None
 first_from p (x ∷ xs) place = cond (p x) (Some place) (first_from p xs (suc place))
+
+-- buckets have of each hash the first name with it, and a map has the other names
+pub record AreIndexed (maps : List (BTreeMap ℕ ℕ)) (crowded : BTreeMap (List ℕ) ℕ) (names : List (List ℕ)) : Type 0 where
+  pub first : (hash : ℕ) → number_in maps hash ≡ first_with names hash
+  pub found : (word : List ℕ) → option_or (get (slice_cmp nat_cmp) crowded word) (place_at names word (first_with names (hash_number word))) ≡ position (λ name. bytes_eq name word) names

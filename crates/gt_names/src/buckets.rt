@@ -1,20 +1,19 @@
-// A hash table of names. Each of its buckets is an ordered map, so that no choice of names makes a look-up a walk.
-ghost use Rattle.std.specs.Prelude.{◌≡◌, ◌<◌, ℕ, List, [], None, Some, cond, position, IfOk, OnOk, OnErr, vec_len};
-ghost use Rattle.std.specs.Str.{bytes_eq};
-ghost use Rattle.gt_names.specs.Buckets.{hash_number, bucket_number, number_in};
+// A hash table of numbers. Each of its buckets is an ordered map, so that no choice of hashes makes a look-up a walk.
+ghost use Rattle.std.specs.Prelude.{◌≡◌, ◌<◌, ◌==◌, ℕ, [], None, Some, cond, IfOk, OnOk, OnErr, vec_len};
+ghost use Rattle.gt_names.specs.Buckets.{hash_number, bucket_number, number_in, first_with};
 
-use gt_types::{Copied, Word};
+use gt_types::Word;
 use std::alloc::{AllocError, Global};
 use std::collections::BTreeMap;
 use std::hash::{FoldHasher, Hasher};
 
-/// How many names a bucket has on the average, at most.
+/// How many hashes a bucket has on the average, at most.
 const LOAD: usize = 4;
 
-/// Numbers of names. A name stands in the bucket of its hash.
+/// The number of each hash. A hash stands in the bucket that its last bits name.
 #[derive(Drop)]
 pub struct Buckets {
-    maps: Vec<BTreeMap<Word, u32>>,
+    maps: Vec<BTreeMap<u64, u32>>,
 }
 
 impl Buckets {
@@ -27,20 +26,20 @@ impl Buckets {
         }
     }
 
-    /// The number of a name.
-    pub fn get(&self, name: &Word) -> Option<u32>
-        ensures number { result ≡ number_in self.now.maps.items name.now }
+    /// The number of a hash.
+    pub fn get(&self, hash: u64) -> Option<u32>
+        ensures number { result ≡ number_in self.now.maps.items hash }
     {
         if self.maps.is_empty() {
             return None;
         }
-        self.maps[self.bucket(name)].get(name).copied()
+        self.maps[self.bucket(hash)].get(&hash).copied()
     }
 
-    /// Makes room for a name after those that are there, each of which has its place among them as its number.
+    /// Makes room for a name after those that are there. The number of a hash is the place of the first name with it.
     pub fn make_room(&mut self, alloc: Global, names: &[Word]) -> Result<(), AllocError>
-        requires numbers { (word : List ℕ) → number_in self.old.maps.items word ≡ position (λ other. bytes_eq other word) names.now }
-        ensures numbers { (word : List ℕ) → number_in self.new.maps.items word ≡ position (λ other. bytes_eq other word) names.now }
+        requires first { (hash : ℕ) → number_in self.old.maps.items hash ≡ first_with names.now hash }
+        ensures first { (hash : ℕ) → number_in self.new.maps.items hash ≡ first_with names.now hash }
         ensures some { OnOk result (0 < vec_len self.new.maps) }
     {
         let count = self.maps.len();
@@ -51,36 +50,36 @@ impl Buckets {
         Ok(())
     }
 
-    /// Gives a name a number.
-    pub fn put(&mut self, name: Word, number: u32) -> Result<(), AllocError>
+    /// Gives a hash a number.
+    pub fn put(&mut self, hash: u64, number: u32) -> Result<(), AllocError>
         requires some { 0 < vec_len self.old.maps }
-        ensures put { OnOk result ((word : List ℕ) → number_in self.new.maps.items word ≡ cond (bytes_eq name word) (Some number) (number_in self.old.maps.items word)) }
-        ensures unchanged { OnErr result ((word : List ℕ) → number_in self.new.maps.items word ≡ number_in self.old.maps.items word) }
+        ensures put { OnOk result ((other : ℕ) → number_in self.new.maps.items other ≡ cond (hash == other) (Some number) (number_in self.old.maps.items other)) }
+        ensures unchanged { OnErr result ((other : ℕ) → number_in self.new.maps.items other ≡ number_in self.old.maps.items other) }
         ensures count { vec_len self.new.maps ≡ vec_len self.old.maps }
     {
-        let bucket = self.bucket(&name);
-        self.maps[bucket].insert(name, number)?;
+        let bucket = self.bucket(hash);
+        self.maps[bucket].insert(hash, number)?;
         Ok(())
     }
 
-    // The names in so many buckets. The first place of a name is its number.
+    // The hashes of names in so many buckets.
     fn of_names(alloc: Global, names: &[Word], count: usize) -> Result<Buckets, AllocError>
         requires some { 0 < count }
-        ensures numbers { IfOk result (λ made. (word : List ℕ) → number_in made.maps.items word ≡ position (λ other. bytes_eq other word) names.now) }
+        ensures first { IfOk result (λ made. (hash : ℕ) → number_in made.maps.items hash ≡ first_with names.now hash) }
         ensures count { IfOk result (λ made. vec_len made.maps ≡ count) }
     {
         let mut buckets = Buckets::of_count(alloc, count)?;
         let mut place = names.len();
         while place > 0 {
             place -= 1;
-            buckets.put(names[place].copy(alloc)?, number_of(place)?)?;
+            buckets.put(hash_of(&names[place]), number_of(place)?)?;
         }
         Ok(buckets)
     }
 
-    // So many buckets without a name.
+    // So many empty buckets.
     fn of_count(alloc: Global, count: usize) -> Result<Buckets, AllocError>
-        ensures none { IfOk result (λ made. (word : List ℕ) → number_in made.maps.items word ≡ None) }
+        ensures none { IfOk result (λ made. (hash : ℕ) → number_in made.maps.items hash ≡ None) }
         ensures count { IfOk result (λ made. vec_len made.maps ≡ count) }
     {
         let mut maps = Vec::new(alloc);
@@ -90,13 +89,13 @@ impl Buckets {
         Ok(Buckets { maps })
     }
 
-    // The bucket of a name. Their count is a power of two.
-    fn bucket(&self, name: &Word) -> usize
+    // The bucket of a hash. Their count is a power of two.
+    fn bucket(&self, hash: u64) -> usize
         requires some { 0 < vec_len self.now.maps }
-        ensures bucket { result ≡ bucket_number name.now (vec_len self.now.maps) }
+        ensures bucket { result ≡ bucket_number hash (vec_len self.now.maps) }
         ensures within { result < vec_len self.now.maps }
     {
-        hash_of(name) as usize & (self.maps.len() - 1)
+        hash as usize & (self.maps.len() - 1)
     }
 }
 
@@ -110,9 +109,9 @@ pub fn number_of(place: usize) -> Result<u32, AllocError>
     }
 }
 
-// The hash of a name, for which others can have the same.
+/// The hash of a name, for which others can have the same.
 #[tactic(auto, unfolding(crate::specs::Buckets::hash_number))]
-fn hash_of(name: &Word) -> u64
+pub fn hash_of(name: &Word) -> u64
     ensures hash { result ≡ hash_number name.now }
 {
     let mut hasher = FoldHasher::default();

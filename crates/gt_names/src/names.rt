@@ -2,32 +2,36 @@
 ghost use Rattle.std.specs.Prelude.{◌≡◌, ◌<◌, [], ◌∷◌, ◌++◌, length, position, IfOk, IfSome, OnOk, OnErr, Some, None};
 ghost use Rattle.std.specs.Str.{bytes_eq};
 ghost use Rattle.gt_names.specs.Lists.{with_name};
+ghost use Rattle.gt_names.specs.Buckets.{hash_number, number_in, place_at};
 
-use crate::buckets::{Buckets, number_of};
+use crate::buckets::{Buckets, hash_of, number_of};
 use gt_types::{Copied, Word};
 use std::alloc::{AllocError, Global};
+use std::collections::BTreeMap;
 use std::marker::Model;
 
 /// Distinct names in the order in which they were added. A place is found in constant time, or in the logarithm of the number of names
-/// where many have one hash. Contracts see their list.
+/// where many have like hashes. Contracts see their list.
 #[derive(Drop)]
 pub struct NameIndex {
     alloc: Global,
     names: Vec<Word>,
+    // Of each hash the first name with it.
     buckets: Buckets,
+    // The names whose hash another name had before.
+    crowded: BTreeMap<Word, u32>,
 }
 
 impl Model for NameIndex {
-    ghost use Rattle.std.specs.Prelude.{◌≡◌, ℕ, List, position};
-    ghost use Rattle.std.specs.Str.{bytes_eq};
+    ghost use Rattle.std.specs.Prelude.{ℕ, List};
 
     ghost Value = { List (List ℕ) };
 
-    ghost use Rattle.gt_names.specs.Buckets.{number_in};
+    ghost use Rattle.gt_names.specs.Buckets.{AreIndexed};
 
     ghost view = { λ n. n.names.items };
 
-    ghost invariant = { λ n. (word : List ℕ) → number_in n.buckets.maps.items word ≡ position (λ other. bytes_eq other word) n.names.items };
+    ghost invariant = { λ n. AreIndexed n.buckets.maps.items n.crowded n.names.items };
 }
 
 impl NameIndex {
@@ -39,6 +43,7 @@ impl NameIndex {
             alloc,
             names: Vec::new(alloc),
             buckets: Buckets::new(alloc),
+            crowded: BTreeMap::new(alloc),
         }
     }
 
@@ -47,10 +52,10 @@ impl NameIndex {
         ensures place { result ≡ position (λ other. bytes_eq other name.now) self.now }
         ensures within { IfSome result (λ i. i < length self.now) }
     {
-        match self.buckets.get(name) {
-            Some(number) => Some(number as usize),
-            None => None,
+        if let Some(number) = self.crowded.get(name) {
+            return Some(*number as usize);
         }
+        place_by_hash(&self.buckets, &self.names, name)
     }
 
     /// Adds a name at the end where it is new, and gives its place. Out of memory, the names are as before.
@@ -81,12 +86,31 @@ impl NameIndex {
         ensures unchanged { OnErr result (self.new ≡ self.old) }
     {
         let number = number_of(self.names.len())?;
-        let key = name.copy(self.alloc)?;
-        let name = name.copy(self.alloc)?;
+        let text = name.copy(self.alloc)?;
         self.names.reserve(1)?;
         self.buckets.make_room(self.alloc, &self.names)?;
-        self.buckets.put(key, number)?;
-        self.names.push_reserved(name);
+        let hash = hash_of(name);
+        if self.buckets.get(hash).is_some() {
+            self.crowded.insert(name.copy(self.alloc)?, number)?;
+            self.names.push_reserved(text);
+            return Ok(());
+        }
+        self.buckets.put(hash, number)?;
+        self.names.push_reserved(text);
         Ok(())
+    }
+}
+
+// The place of a name, where it is the first one with its hash.
+fn place_by_hash(buckets: &Buckets, names: &[Word], name: &Word) -> Option<usize>
+    ensures place { result ≡ place_at names.now name.now (number_in buckets.now.maps.items (hash_number name.now)) }
+{
+    let place = match buckets.get(hash_of(name)) {
+        Some(number) => number as usize,
+        None => return None,
+    };
+    match names.get(place) {
+        Some(other) if other == name => Some(place),
+        _ => None,
     }
 }

@@ -12,4 +12,4 @@ loop-bucket-preserved c =
     }
 
 pub returns-clause-none : goal.returns-clause-none
-returns-clause-none c = λ word. none_in c.loop-bucket.maps.items word c.loop-bucket.invariant.empty
+returns-clause-none c = λ hash. none_in c.loop-bucket.maps.items hash c.loop-bucket.invariant.empty

@@ -1,12 +1,12 @@
 use Rattle.std.proofs.Common.{◌≡◌, ◌∙◌, drop, ap, arith}
-use Rattle.std.specs.Str.{bytes_eq}
-use Rattle.gt_names.specs.Buckets.{first_from}
+use Rattle.std.specs.Prelude.{◌==◌}
+use Rattle.gt_names.specs.Buckets.{hash_number, first_from}
 use Rattle.gt_names.proofs.BucketLemmas.{first_of_all}
 use Rattle.gt_names.proofs.buckets.Buckets.of_names.Goals as goal
 
-pub returns-clause-numbers : goal.returns-clause-numbers
-returns-clause-numbers c = λ word.
+pub returns-clause-first : goal.returns-clause-first
+returns-clause-first c = λ hash.
     let first : c.loop-place.place ≡ 0 = omega arith in
-    c.loop-place.invariant.numbers word
-    ∙ ap (λ place. first_from (λ other. bytes_eq other word) (drop place c.args.names.now) place) first
-    ∙ first_of_all (λ other. bytes_eq other word) c.args.names.now
+    c.loop-place.invariant.first hash
+    ∙ ap (λ place. first_from (λ name. hash_number name == hash) (drop place c.args.names.now) place) first
+    ∙ first_of_all (λ name. hash_number name == hash) c.args.names.now
