@@ -10,8 +10,9 @@ use Rattle.std.proofs.lemmas.Bool.{eqb-true}
 use Rattle.std.proofs.lemmas.Bool.Decides.{nat_tests}
 use Rattle.std.proofs.lemmas.List.Quantifiers.{position-Some}
 use Rattle.std.proofs.lemmas.Slice.Eq.{bytes_eq-Decides}
-use Rattle.gt_names.specs.Buckets.{hash_number, number_in, first_with, place_of, place_at, AreIndexed}
-use Rattle.gt_names.proofs.BucketLemmas.{position_push}
+use Rattle.gt_names.specs.declared.places.Numbered.{Numbered}
+use Rattle.gt_names.specs.Places.{hash_number, number_in, AreTaken, first_with, place_of, place_at, AreIndexed}
+use Rattle.gt_names.proofs.PlaceLemmas.{position_push}
 
 same_word : (word : List ℕ) → bytes_eq word word ≡ true
 same_word word = (bytes_eq-Decides word word).1 refl
@@ -79,10 +80,10 @@ new_position names name n count new =
 
 -- ---- a name whose hash is new
 
-pub first_of_new : (maps : List (BTreeMap ℕ ℕ)) (names : List (List ℕ)) (name : List ℕ) (hash n : ℕ) (o : Option ℕ) → n ≡ length names
+pub first_of_new : (names : List (List ℕ)) (name : List ℕ) (hash n : ℕ) (o : Option ℕ) → n ≡ length names
     → first_with names (hash_number name) ≡ None → o ≡ first_with names hash
     → cond (hash_number name == hash) (Some n) o ≡ first_with (names ++ name ∷ []) hash
-first_of_new maps names name hash n o count new is = first_case (hash_number name == hash) refl
+first_of_new names name hash n o count new is = first_case (hash_number name == hash) refl
   where
     first_case : (b : Bool) → (hash_number name == hash) ≡ b → cond (hash_number name == hash) (Some n) o ≡ first_with (names ++ name ∷ []) hash
     first_case true e =
@@ -106,12 +107,13 @@ found_new names name n count new =
     ∙ ap (λ b. cond b (Some n) None) (same_word name)
 
 -- names with one more, whose hash is new
-pub indexed_new : (maps more : List (BTreeMap ℕ ℕ)) (crowded : BTreeMap (List ℕ) ℕ) (names : List (List ℕ)) (name : List ℕ) (n : ℕ)
-    → AreIndexed maps crowded names → n ≡ length names → position (λ other. bytes_eq other name) names ≡ None → number_in maps (hash_number name) ≡ None
-    → ((other : ℕ) → number_in more other ≡ cond (hash_number name == other) (Some n) (number_in maps other))
-    → AreIndexed more crowded (names ++ name ∷ [])
-indexed_new maps more crowded names name n are count new free puts = record {
-  first = λ hash. puts hash ∙ first_of_new maps names name hash n (number_in maps hash) count none (are.first hash);
+pub indexed_new : (places more : List (Option Numbered)) (others more_others : BTreeMap ℕ ℕ) (crowded : BTreeMap (List ℕ) ℕ) (names : List (List ℕ)) (name : List ℕ) (n : ℕ)
+    → AreIndexed places others crowded names → n ≡ length names → position (λ other. bytes_eq other name) names ≡ None → number_in places others (hash_number name) ≡ None
+    → ((other : ℕ) → number_in more more_others other ≡ cond (hash_number name == other) (Some n) (number_in places others other))
+    → AreTaken more more_others → AreIndexed more more_others crowded (names ++ name ∷ [])
+indexed_new places more others more_others crowded names name n are count new free puts taken = record {
+  taken = taken;
+  first = λ hash. puts hash ∙ first_of_new names name hash n (number_in places others hash) count none (are.first hash);
   found = λ word. found_case word (bytes_eq name word) refl;
 }
   where
@@ -147,12 +149,13 @@ first_of_taken names name hash n j count taken = first_case (hash_number name ==
         sym (with_more names name hash n count ∙ ap (λ b. option_or (first_with names hash) (cond b (Some n) None)) e ∙ or_none (first_with names hash))
 
 -- names with one more, whose hash another has
-pub indexed_crowded : (maps : List (BTreeMap ℕ ℕ)) (crowded more : BTreeMap (List ℕ) ℕ) (names : List (List ℕ)) (name : List ℕ) (n j : ℕ)
-    → AreIndexed maps crowded names → n ≡ length names → position (λ other. bytes_eq other name) names ≡ None → number_in maps (hash_number name) ≡ Some j
+pub indexed_crowded : (places : List (Option Numbered)) (others : BTreeMap ℕ ℕ) (crowded more : BTreeMap (List ℕ) ℕ) (names : List (List ℕ)) (name : List ℕ) (n j : ℕ)
+    → AreIndexed places others crowded names → n ≡ length names → position (λ other. bytes_eq other name) names ≡ None → number_in places others (hash_number name) ≡ Some j
     → ((q : List ℕ) → get (slice_cmp nat_cmp) more q ≡ cond (is_at (slice_cmp nat_cmp name) q) (Some n) (get (slice_cmp nat_cmp) crowded q))
-    → AreIndexed maps more (names ++ name ∷ [])
-indexed_crowded maps crowded more names name n j are count new taken puts = record {
-  first = λ hash. are.first hash ∙ first_of_taken names name hash n j count (sym (are.first (hash_number name)) ∙ taken);
+    → AreIndexed places others more (names ++ name ∷ [])
+indexed_crowded places others crowded more names name n j are count new has puts = record {
+  taken = are.taken;
+  first = λ hash. are.first hash ∙ first_of_taken names name hash n j count (sym (are.first (hash_number name)) ∙ has);
   found = λ word. found_case word (bytes_eq name word) refl;
 }
   where

@@ -1,3 +1,3 @@
 pub mod Lists
 pub mod Entries
-pub mod Buckets
+pub mod Places

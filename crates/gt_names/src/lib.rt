@@ -1,8 +1,8 @@
 //! Names by their place, and values by name, found in constant time. A name keeps its place, and the first value that it was given.
 #![tactic(auto)]
 
-mod buckets;
 mod names;
+mod places;
 mod tables;
 
 pub use names::NameIndex;

@@ -2,9 +2,9 @@
 ghost use Rattle.std.specs.Prelude.{◌≡◌, ◌<◌, [], ◌∷◌, ◌++◌, length, position, IfOk, IfSome, OnOk, OnErr, Some, None};
 ghost use Rattle.std.specs.Str.{bytes_eq};
 ghost use Rattle.gt_names.specs.Lists.{with_name};
-ghost use Rattle.gt_names.specs.Buckets.{hash_number, number_in, place_at};
+ghost use Rattle.gt_names.specs.Places.{hash_number, number_in, place_at};
 
-use crate::buckets::{Buckets, hash_of, number_of};
+use crate::places::{Places, hash_of, number_of};
 use gt_types::{Copied, Word};
 use std::alloc::{AllocError, Global};
 use std::collections::BTreeMap;
@@ -16,8 +16,8 @@ use std::marker::Model;
 pub struct NameIndex {
     alloc: Global,
     names: Vec<Word>,
-    // Of each hash the first name with it.
-    buckets: Buckets,
+    // Of each hash the place of the first name with it.
+    places: Places,
     // The names whose hash another name had before.
     crowded: BTreeMap<Word, u32>,
 }
@@ -27,11 +27,11 @@ impl Model for NameIndex {
 
     ghost Value = { List (List ℕ) };
 
-    ghost use Rattle.gt_names.specs.Buckets.{AreIndexed};
+    ghost use Rattle.gt_names.specs.Places.{AreIndexed};
 
     ghost view = { λ n. n.names.items };
 
-    ghost invariant = { λ n. AreIndexed n.buckets.maps.items n.crowded n.names.items };
+    ghost invariant = { λ n. AreIndexed n.places.places.items n.places.others n.crowded n.names.items };
 }
 
 impl NameIndex {
@@ -42,7 +42,7 @@ impl NameIndex {
         NameIndex {
             alloc,
             names: Vec::new(alloc),
-            buckets: Buckets::new(alloc),
+            places: Places::new(alloc),
             crowded: BTreeMap::new(alloc),
         }
     }
@@ -55,7 +55,7 @@ impl NameIndex {
         if let Some(number) = self.crowded.get(name) {
             return Some(*number as usize);
         }
-        place_by_hash(&self.buckets, &self.names, name)
+        place_by_hash(&self.places, &self.names, name)
     }
 
     /// Adds a name at the end where it is new, and gives its place. Out of memory, the names are as before.
@@ -88,24 +88,24 @@ impl NameIndex {
         let number = number_of(self.names.len())?;
         let text = name.copy(self.alloc)?;
         self.names.reserve(1)?;
-        self.buckets.make_room(self.alloc, &self.names)?;
+        self.places.make_room(self.alloc, &self.names)?;
         let hash = hash_of(name);
-        if self.buckets.get(hash).is_some() {
+        if self.places.get(hash).is_some() {
             self.crowded.insert(name.copy(self.alloc)?, number)?;
             self.names.push_reserved(text);
             return Ok(());
         }
-        self.buckets.put(hash, number)?;
+        self.places.put(hash, number)?;
         self.names.push_reserved(text);
         Ok(())
     }
 }
 
 // The place of a name, where it is the first one with its hash.
-fn place_by_hash(buckets: &Buckets, names: &[Word], name: &Word) -> Option<usize>
-    ensures place { result ≡ place_at names.now name.now (number_in buckets.now.maps.items (hash_number name.now)) }
+fn place_by_hash(places: &Places, names: &[Word], name: &Word) -> Option<usize>
+    ensures place { result ≡ place_at names.now name.now (number_in places.now.places.items places.now.others (hash_number name.now)) }
 {
-    let place = match buckets.get(hash_of(name)) {
+    let place = match places.get(hash_of(name)) {
         Some(number) => number as usize,
         None => return None,
     };

@@ -1,7 +1,7 @@
 use Rattle.std.proofs.Common.{◌≡◌, ◌≢◌, ◌∙◌, ℕ, Option, Some, None, Bor, ap, ap₂, sym, refl, position}
 use Rattle.std.specs.Option.{option_copied, option_or}
 use Rattle.std.specs.Str.{bytes_eq}
-use Rattle.gt_names.specs.Buckets.{hash_number, first_with, place_at}
+use Rattle.gt_names.specs.Places.{hash_number, first_with, place_at}
 use Rattle.gt_names.proofs.names.NameIndex.get.Goals as goal
 
 none_lent : (o : Option (Bor ℕ)) → ((x : Bor ℕ) → o ≢ Some x) → option_copied o ≡ None
