@@ -1,47 +1,10 @@
--- Names in a list: the same places over texts and over their characters, and one more name.
-use Rattle.std.proofs.Common.{◌≡◌, ◌≢◌, ℕ, suc, ◌+◌, Bool, true, false, not, ◌||◌, nat_lt, cond, List, [], ◌∷◌, ◌++◌, map, length, position, Option, Some, None, arith, sym, ap, ap₂, ◌∙◌, refl, if◌then◌else◌}
+-- Distinct names with one more.
+use Rattle.std.proofs.Common.{◌≡◌, ◌≢◌, ℕ, suc, ◌+◌, Bool, true, false, not, ◌||◌, nat_lt, cond, List, [], ◌∷◌, ◌++◌, length, position, Option, Some, None, arith, sym, ap, ap₂, ◌∙◌, refl, if◌then◌else◌}
 use Rattle.std.specs.List.{list_any, prefix_len, position_or_len}
-use Rattle.std.specs.Str.{IsUtf8, chars, bytes_eq}
-use Rattle.std.specs.Prelude.{encode_utf8_all, string_bytes, String}
-use Rattle.std.specs.String.{string_eq}
-use Rattle.std.proofs.lemmas.Str.{encodes-chars, chars_from_encodes, IsUtf8-string_bytes}
+use Rattle.std.specs.Str.{bytes_eq}
 use Rattle.std.proofs.lemmas.Slice.Eq.{bytes_eq-Decides}
 use Rattle.std.proofs.lemmas.Bool.Decides.{nat_tests}
-use Rattle.indexmap.specs.IndexSet.{insert_key}
 use Rattle.gt_names.specs.Lists.{with_name}
-
--- two tests that mean the same have the same answer
-same_answer : (a b : Bool) → (a ≡ true → b ≡ true) → (b ≡ true → a ≡ true) → a ≡ b
-same_answer true b f g = sym (f refl)
-same_answer false true f g = g refl
-same_answer false false f g = refl
-
--- two texts are equal where the characters of one are those of the other
-pub bytes_eq-characters : (a b name : List ℕ) → IsUtf8 a → IsUtf8 b → name ≡ chars a → bytes_eq a b ≡ bytes_eq (chars b) name
-bytes_eq-characters a b name u v e =
-    same_answer _ _
-    (λ y. (bytes_eq-Decides (chars b) name).1 (sym (ap chars ((bytes_eq-Decides a b).0 y)) ∙ sym e))
-    (λ y. (bytes_eq-Decides a b).1 (sym (encodes-chars a u) ∙ ap encode_utf8_all (sym e ∙ sym ((bytes_eq-Decides (chars b) name).0 y)) ∙ encodes-chars b v))
-
-prefix_len-map : {X Y : Type 0} (f : X → Y) (p : X → Bool) (q : Y → Bool) → ((x : X) → p x ≡ q (f x)) → (xs : List X) → prefix_len p xs ≡ prefix_len q (map f xs)
-prefix_len-map f p q same [] = refl
-prefix_len-map f p q same (x ∷ xs) = ap₂ (λ b n. cond b (1 + n) 0) (same x) (prefix_len-map f p q same xs)
-
-length-mapped : {X Y : Type 0} (f : X → Y) (xs : List X) → length xs ≡ length (map f xs)
-length-mapped f [] = refl
-length-mapped f (x ∷ xs) = ap suc (length-mapped f xs)
-
-position-map : {X Y : Type 0} (f : X → Y) (p : X → Bool) (q : Y → Bool) → ((x : X) → p x ≡ q (f x)) → (xs : List X) → position p xs ≡ position q (map f xs)
-position-map f p q same xs =
-    ap₂ (λ i n. cond (nat_lt i n) (Some i) None) (prefix_len-map f (λ x. not (p x)) (λ y. not (q y)) (λ x. ap not (same x)) xs) (length-mapped f xs)
-
-list_any-map : {X Y : Type 0} (f : X → Y) (p : X → Bool) (q : Y → Bool) → ((x : X) → p x ≡ q (f x)) → (xs : List X) → list_any p xs ≡ list_any q (map f xs)
-list_any-map f p q same [] = refl
-list_any-map f p q same (x ∷ xs) = ap₂ (λ a b. a || b) (same x) (list_any-map f p q same xs)
-
-map-added : {X Y : Type 0} (f : X → Y) (xs : List X) (x : X) → map f (xs ++ x ∷ []) ≡ map f xs ++ f x ∷ []
-map-added f [] x = refl
-map-added f (y ∷ xs) x = ap (λ ys. f y ∷ ys) (map-added f xs x)
 
 -- an item passes where the first that passes stands before the end
 next_below : (i n : ℕ) → nat_lt i n ≡ nat_lt (1 + i) (suc n)
@@ -106,42 +69,9 @@ pub with_name-found : (names : List (List ℕ)) (word : List ℕ) (i : ℕ) → 
 with_name-found names word i e = ap (λ b. if b then names else names ++ word ∷ []) (sym (found-any _ i names e))
 
 -- one that is not found is added at the end
-with_name-new : (names : List (List ℕ)) (word : List ℕ) → position (λ other. bytes_eq other word) names ≡ None → Some (length names) ≡ position (λ other. bytes_eq other word) (with_name names word)
-with_name-new names word none =
-    position-added (λ other. bytes_eq other word) word ((bytes_eq-Decides word word).1 refl) names (absent-any _ names none)
-    ∙ ap (λ b. position (λ other. bytes_eq other word) (if b then names else names ++ word ∷ [])) (sym (absent-any _ names none))
+pub with_name-pushed : (names : List (List ℕ)) (word : List ℕ) → position (λ other. bytes_eq other word) names ≡ None → names ++ word ∷ [] ≡ with_name names word
+with_name-pushed names word none = ap (λ b. if b then names else names ++ word ∷ []) (sym (absent-any _ names none))
 
-map-chosen : {X Y : Type 0} (f : X → Y) (b : Bool) (xs ys : List X) → map f (if b then xs else ys) ≡ (if b then map f xs else map f ys)
-map-chosen f true xs ys = refl
-map-chosen f false xs ys = refl
-
-module _ {Z : Type 0} where
-  -- the characters of a text
-  abbrev pub characters : String Z → List ℕ
-  characters text = chars (string_bytes text)
-
-  -- the place of a text is that of its characters
-  pub position-characters : (text name : List ℕ) (texts : List (String Z)) → IsUtf8 text → text ≡ encode_utf8_all name → position (λ k. bytes_eq text (string_bytes k)) texts ≡ position (λ other. bytes_eq other name) (map characters texts)
-  position-characters text name texts u e =
-      position-map characters (λ k. bytes_eq text (string_bytes k)) (λ other. bytes_eq other name)
-      (λ k. bytes_eq-characters text (string_bytes k) name u (IsUtf8-string_bytes k) (chars_from_encodes name text u (sym e))) texts
-
-  -- a text that is inserted is a name that is added
-  pub with_name-inserted : (text : String Z) (name : List ℕ) (texts : List (String Z)) → string_bytes text ≡ encode_utf8_all name
-      → map characters (insert_key string_eq texts text) ≡ with_name (map characters texts) name
-  with_name-inserted text name texts e =
-      let is : name ≡ characters text = chars_from_encodes name (string_bytes text) (IsUtf8-string_bytes text) (sym e) in
-      map-chosen characters (list_any (string_eq text) texts) texts (texts ++ text ∷ [])
-      ∙ ap₂ (λ b names. if b then map characters texts else names)
-      (list_any-map characters (string_eq text) (λ other. bytes_eq other name)
-      (λ k. bytes_eq-characters (string_bytes text) (string_bytes k) name (IsUtf8-string_bytes text) (IsUtf8-string_bytes k) is) texts)
-      (map-added characters texts text ∙ ap (λ word. map characters texts ++ word ∷ []) (sym is))
-
-  -- and one that was not found stands at the end
-  pub position-inserted : (text : String Z) (name : List ℕ) (texts : List (String Z)) → string_bytes text ≡ encode_utf8_all name
-      → position (λ other. bytes_eq other name) (map characters texts) ≡ None
-      → Some (length texts) ≡ position (λ other. bytes_eq other name) (map characters (insert_key string_eq texts text))
-  position-inserted text name texts e none =
-      ap Some (length-mapped characters texts)
-      ∙ with_name-new (map characters texts) name none
-      ∙ ap (λ names. position (λ other. bytes_eq other name) names) (sym (with_name-inserted text name texts e))
+-- and stands there
+pub position-pushed : (names : List (List ℕ)) (word : List ℕ) → position (λ other. bytes_eq other word) names ≡ None → Some (length names) ≡ position (λ other. bytes_eq other word) (names ++ word ∷ [])
+position-pushed names word none = position-added (λ other. bytes_eq other word) word ((bytes_eq-Decides word word).1 refl) names (absent-any _ names none)

@@ -2,6 +2,7 @@
 #![tactic(auto)]
 
 mod names;
+mod places;
 mod tables;
 
 pub use names::NameIndex;
