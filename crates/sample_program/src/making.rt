@@ -561,15 +561,15 @@ fn root(alloc: Global, name: &str, ty: Ty) -> Result<Root, AllocError>
 fn roots(alloc: Global) -> Result<Vec<Root>, AllocError>
     ensures { IfOk result (λ made. made.items ≡ sample.roots) }
 {
-    let n = root(alloc, "n", Ty::Num(INT))?;
+    let mut roots = Vec::new(alloc);
+    roots.push(root(alloc, "n", Ty::Num(INT))?)?;
     let many = Ty::Ptr {
         target: Some(Target::Pointers(TypeId(0))),
         kind: PtrKind::Length(Expr::Root(0)),
         reorder: false,
     };
-    let all = root(alloc, "all", many)?;
-    let one = root(alloc, "one", held(5, None))?;
-    let roots = vec![in alloc; n, all, one]?;
+    roots.push(root(alloc, "all", many)?)?;
+    roots.push(root(alloc, "one", held(5, None))?)?;
     Ok(roots)
 }
 
