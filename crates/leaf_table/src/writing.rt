@@ -1,5 +1,7 @@
 // A leaf that is written in place, and the bytes that then stand.
 ghost use Rattle.std.specs.Prelude.{◌≡◌, ℕ};
+ghost use Rattle.gt_types.specs.Paths.{MayStand};
+ghost use Rattle.gt_tree.specs.Blocks.{Nodes, element_type};
 ghost use Rattle.gt_space.specs.Range.{IsInside, KeepsAddresses};
 ghost use Rattle.gt_tree.specs.Trees.{Tree, Trees};
 ghost use Rattle.gt_value.specs.Values.{tree_of};
@@ -13,7 +15,7 @@ ghost use Rattle.value_notation.specs.Trials.{IsReady};
 use gt_leaf::{LeafWrite, Reads, write_leaf, write_static_leaf};
 use gt_space::Space;
 use gt_store::store;
-use gt_types::Ty;
+use gt_types::{Ty, TypeId};
 use gt_value::{LeafContent, Value};
 use std::alloc::{AllocError, Global};
 use value_notation::{
@@ -61,13 +63,50 @@ pub fn try_write(
     };
     let node = row.kind.id();
     let ty = element(on, node)?;
-    let value = last_value(on, row, &ty)?;
-    let size = size_of(on, node, &ty, row.capacity);
+    try_value(on, reads, node, &ty, row, at)
+}
+
+// The same, by the type of the row's structure.
+fn try_value(
+    on: &Sample,
+    reads: &Reads,
+    id: TypeId,
+    ty: &Ty,
+    row: &Row,
+    at: At<'_>,
+) -> Result<Outcome, Stop>
+    requires ready { IsReady on.now.program on.now.layouts }
+    requires table { IsTableOf on.now.program reads.now }
+    requires stands { MayStand on.now.program id }
+    requires element { ty.now ≡ element_type on.now.program (Nodes id) }
+{
+    let value = last_value(on, row, ty)?;
+    let size = size_of(on, id, ty, row.capacity);
+    write_stored(on, reads, ty, row.capacity, &value, size, at)
+}
+
+// The bytes of a value that is stored in a new space, after the leaf was written there.
+fn write_stored(
+    on: &Sample,
+    reads: &Reads,
+    ty: &Ty,
+    capacity: u32,
+    value: &Value,
+    size: u64,
+    at: At<'_>,
+) -> Result<Outcome, Stop>
+    requires ready { IsReady on.now.program on.now.layouts }
+    requires table { IsTableOf on.now.program reads.now }
+    requires element { IsElement on.now.program ty.now }
+    requires takes { Takes on.now.program on.now.layouts capacity ty.now size }
+    requires only { (s : ℕ) → Takes on.now.program on.now.layouts capacity ty.now s → s ≡ size }
+    requires fits { FitsBeside on.now.program blocks capacity ty.now (tree_of value.now) }
+{
     let mut space = fresh_space(on)?;
     let Some(room) = room_in(&space, BEFORE, size) else {
         return Err(Stop::TooLarge);
     };
-    match store_and_write(on, reads, &ty, row.capacity, &value, &mut space, room, at) {
+    match store_and_write(on, reads, ty, capacity, value, &mut space, room, at) {
         LeafWrite::NotInPlace => Ok(Outcome::NotInPlace),
         LeafWrite::Misfit => Ok(Outcome::Misfit),
         LeafWrite::Written => Ok(Outcome::Bytes(bytes_in(on.alloc, &space, room)?)),

@@ -125,15 +125,21 @@ fn read_row(alloc: Global, line: &mut Line) -> Result<Option<WalkRow>, Refusal> 
     let offset = line.number()?;
     let n = line.number()?;
     let size = line.number()?;
-    let Some(elem) = read_plain(alloc, line)? else {
-        return Err(Refusal::Malformed);
-    };
+    let elem = element(alloc, line)?;
     Ok(Some(WalkRow::Rep {
         offset,
         n,
         size,
-        elem: Boxed::new(alloc, elem)?,
+        elem,
     }))
+}
+
+// The row of an element.
+fn element(alloc: Global, line: &mut Line) -> Result<Boxed<WalkRow>, Refusal> {
+    match read_plain(alloc, line)? {
+        Some(row) => Ok(Boxed::new(alloc, row)?),
+        None => Err(Refusal::Malformed),
+    }
 }
 
 // A pointer, or a part.
@@ -160,10 +166,11 @@ fn count(alloc: Global, line: &mut Line) -> Result<Count, Refusal> {
     if !line.takes("at") {
         return Ok(Count::Fixed(line.number()?));
     }
+    let offset = line.number()?;
     let mut leaves = List::new(alloc);
     leaves.push(RowLeaf {
         origin: Origin::Zero,
-        offset: line.number()?,
+        offset,
         bit: 0,
         signed: false,
         width: 32,

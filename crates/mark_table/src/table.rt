@@ -112,16 +112,21 @@ impl Table {
         if self.heap.is_none() {
             self.heap = Some(SampleHeap::new(self.alloc, self.walks.tables()?, PAGES)?);
         }
+        self.use_heap(&mut line)
+    }
+
+    // Reads such a line where the walks have ended.
+    fn use_heap(&mut self, line: &mut Line) -> Result<bool, Refusal> {
         let Some(heap) = &mut self.heap else {
             return Ok(false);
         };
         if line.takes("make") {
-            return make(self.alloc, heap, &mut self.blocks, &mut line);
+            return make(self.alloc, heap, &mut self.blocks, line);
         }
         if line.takes("stale") {
-            return make_stale(self.alloc, heap, &mut self.blocks, &mut line);
+            return make_stale(self.alloc, heap, &mut self.blocks, line);
         }
-        change(self.alloc, heap, &self.blocks, &mut line)
+        change(self.alloc, heap, &self.blocks, line)
     }
 }
 

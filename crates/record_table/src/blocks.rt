@@ -32,7 +32,16 @@ pub fn try_block(on: &Sample, words: &str) -> Result<Bytes, Stop>
         return Err(Stop::Malformed);
     };
     let ty = type_of(on, kind)?;
-    let elements = elements_of(on, kind, &ty, elements)?;
+    text_by(on, kind, &ty, elements)
+}
+
+// The text of a block by the type of its elements, which a text says.
+fn text_by(on: &Sample, kind: BlockKind, ty: &Ty, elements: Option<&str>) -> Result<Bytes, Stop>
+    requires ready { IsReady on.now.program on.now.layouts }
+    requires holds { MayHold on.now.program (kind_of kind) }
+    requires element { ty.now ≡ element_type on.now.program (kind_of kind) }
+{
+    let elements = elements_of(on, kind, ty, elements)?;
     Ok(text_of(on, kind, elements)?)
 }
 

@@ -76,7 +76,12 @@ fn is_refused(on: &Sample, before: &[RootWrite], write: &Write) -> Result<bool, 
     requires ready { IsReady on.now.program on.now.layouts }
 {
     let values = last_record(on, before)?;
-    match write_root(on, values, write) {
+    is_misfit(write_root(on, values, write))
+}
+
+// Whether what was written fits nowhere.
+fn is_misfit<T: Drop>(written: Result<T, Stop>) -> Result<bool, Stop> {
+    match written {
         Ok(_) => Ok(false),
         Err(Stop::Misfit) => Ok(true),
         Err(stop) => Err(stop),

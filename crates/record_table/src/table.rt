@@ -1,10 +1,16 @@
 // The rows of the table, one line after another.
+ghost use Rattle.std.specs.Prelude.{◌≡◌};
+ghost use Rattle.gt_tree.specs.Trees.{Trees, Rec};
+ghost use Rattle.gt_tree.specs.Fits.{StaticsFit};
+ghost use Rattle.gt_value.specs.Values.{tree_of};
+ghost use Rattle.value_notation.specs.Blocks.{blocks};
 ghost use Rattle.value_notation.specs.Trials.{IsReady};
 
 use crate::blocks::try_block;
 use crate::records::{last_record, record_bytes, refuses};
 use crate::texts::{push_ascii, record_text};
 use crate::writes::{RootWrite, read_writes};
+use gt_value::Value;
 use std::alloc::AllocError;
 use value_notation::{
     MALFORMED, Refusal, Sample, Stop, hexadecimal, stopped, text_difference, told, word_difference,
@@ -65,11 +71,19 @@ fn seen_record(on: &Sample, writes: &[RootWrite], in_bytes: bool) -> Result<Stri
     requires ready { IsReady on.now.program on.now.layouts }
 {
     let values = last_record(on, writes)?;
+    shown_record(on, &values, in_bytes)
+}
+
+// A static record in bytes or as a text.
+fn shown_record(on: &Sample, values: &Value, in_bytes: bool) -> Result<String, Stop>
+    requires ready { IsReady on.now.program on.now.layouts }
+    requires fits { (parts : Trees) × (tree_of values.now ≡ Rec parts) × StaticsFit on.now.program blocks parts }
+{
     if in_bytes {
-        let bytes = record_bytes(on, &values)?;
+        let bytes = record_bytes(on, values)?;
         Ok(hexadecimal(on.alloc, &bytes)?)
     } else {
-        Ok(record_text(on, &values)?)
+        Ok(record_text(on, values)?)
     }
 }
 

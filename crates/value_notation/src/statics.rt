@@ -19,11 +19,11 @@ pub fn zero_space(on: &Sample) -> Result<Space, Stop>
     ensures stands { IfOk result (λ space. (values : Trees) × StaticsStandBeside on.now.program on.now.layouts blocks space values) }
 {
     let size = on.layouts.statics.size as u64;
-    let values = zero_statics(on.alloc, &on.program)?;
     let mut space = fresh_space(on)?;
     let Some(room) = room_in(&space, 0, size) else {
         return Err(Stop::TooLarge);
     };
+    let values = zero_statics(on.alloc, &on.program)?;
     space.fill(room.addr, size, FILLED);
     store_statics(&on.program, &on.layouts, &mut space, &values);
     Ok(space)

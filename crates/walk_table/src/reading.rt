@@ -22,21 +22,32 @@ pub fn read_row(alloc: Global, line: &mut Line, nesting: usize) -> Result<WalkRo
             offset: line.number()?,
             n: line.number()?,
             size: line.number()?,
-            elem: Boxed::new(alloc, read_row(alloc, line, nesting - 1)?)?,
+            elem: element(alloc, line, nesting - 1)?,
         });
     }
     if line.takes("tail") {
-        return Ok(WalkRow::Tail {
-            offset: line.number()?,
-            len: expression(alloc, line)?,
-            size: line.number()?,
-            elem: Boxed::new(alloc, read_row(alloc, line, nesting - 1)?)?,
-        });
+        return read_tail(alloc, line, nesting - 1);
     }
     if line.takes("switch") {
         return read_switch(alloc, line, nesting - 1);
     }
     read_plain(alloc, line)
+}
+
+#[cycle(reading)]
+fn element(alloc: Global, line: &mut Line, nesting: usize) -> Result<Boxed<WalkRow>, Refusal> {
+    Ok(Boxed::new(alloc, read_row(alloc, line, nesting)?)?)
+}
+
+// So many elements as an expression says.
+#[cycle(reading)]
+fn read_tail(alloc: Global, line: &mut Line, nesting: usize) -> Result<WalkRow, Refusal> {
+    Ok(WalkRow::Tail {
+        offset: line.number()?,
+        len: expression(alloc, line)?,
+        size: line.number()?,
+        elem: element(alloc, line, nesting)?,
+    })
 }
 
 // A pointer or a part.
@@ -62,20 +73,32 @@ fn read_plain(alloc: Global, line: &mut Line) -> Result<WalkRow, Refusal> {
 #[cycle(reading)]
 fn read_switch(alloc: Global, line: &mut Line, nesting: usize) -> Result<WalkRow, Refusal> {
     let desc = expression(alloc, line)?;
+    let arms = read_arms(alloc, line, nesting)?;
+    Ok(WalkRow::Switch { desc, arms })
+}
+
+// The arms of a switch.
+#[cycle(reading)]
+fn read_arms(alloc: Global, line: &mut Line, nesting: usize) -> Result<Vec<Arm>, Refusal> {
     let mut arms = Vec::new(alloc);
     for _ in 0..MAX_ARMS {
         if !line.takes("|") {
             break;
         }
-        let active = read_active(line)?;
-        let row = if line.ends_at("|") {
-            None
-        } else {
-            Some(Boxed::new(alloc, read_row(alloc, line, nesting)?)?)
-        };
-        arms.push(Arm { active, row })?;
+        arms.push(read_arm(alloc, line, nesting)?)?;
     }
-    Ok(WalkRow::Switch { desc, arms })
+    Ok(arms)
+}
+
+#[cycle(reading)]
+fn read_arm(alloc: Global, line: &mut Line, nesting: usize) -> Result<Arm, Refusal> {
+    let active = read_active(line)?;
+    let row = if line.ends_at("|") {
+        None
+    } else {
+        Some(element(alloc, line, nesting)?)
+    };
+    Ok(Arm { active, row })
 }
 
 // When an arm is chosen.
