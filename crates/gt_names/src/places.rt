@@ -7,7 +7,7 @@ use std::alloc::{AllocError, Global};
 use std::collections::BTreeMap;
 use std::hash::{FoldHasher, Hasher};
 
-/// How many places there are at first. They are a power of two, and at most half as many hashes have numbers.
+/// How many places there are at first. They are a power of two, and at least four times as many as names.
 const FIRST_PLACES: usize = 8;
 
 /// A hash and its number.
@@ -59,7 +59,7 @@ impl Places {
         ensures some { OnOk result (0 < vec_len self.new.places) }
     {
         let count = self.places.len();
-        if names.len() < count / 2 {
+        if names.len() < count / 4 {
             return Ok(());
         }
         *self = Places::of_names(alloc, names, count.saturating_mul(2).max(FIRST_PLACES))?;
