@@ -63,16 +63,23 @@ fn word(alloc: Global, text: &str) -> Result<Word, AllocError>
     Word::of(alloc, text)
 }
 
+// The word of such a text, and what it is to name.
+fn named<T: Drop>(alloc: Global, text: &str, part: T) -> Result<(Word, T), AllocError>
+    requires ascii { IsTrue (list_all (λ b. nat_lt b 128) text.now) }
+    ensures name { IfOk result (λ made. made.0 ≡ text.now) }
+    ensures same { IfOk result (λ made. made.1 ≡ part) }
+{
+    let name = word(alloc, text)?;
+    Ok((name, part))
+}
+
 // A field or a member of this name.
 fn field(alloc: Global, name: &str, ty: Ty, active: Active) -> Result<Field, AllocError>
     requires ascii { IsTrue (list_all (λ b. nat_lt b 128) name.now) }
     ensures { IfOk result (λ f. f ≡ record { name = name.now; ty = ty; active = active }) }
 {
-    Ok(Field {
-        name: word(alloc, name)?,
-        ty,
-        active,
-    })
+    let (name, ty) = named(alloc, name, ty)?;
+    Ok(Field { name, ty, active })
 }
 
 // Adds a field or a member of this name.
@@ -551,8 +558,9 @@ fn root(alloc: Global, name: &str, ty: Ty) -> Result<Root, AllocError>
     requires ascii { IsTrue (list_all (λ b. nat_lt b 128) name.now) }
     ensures { IfOk result (λ r. r ≡ sample.root name.now ty) }
 {
+    let (name, ty) = named(alloc, name, ty)?;
     Ok(Root {
-        name: word(alloc, name)?,
+        name,
         ty,
         deletable: false,
     })
