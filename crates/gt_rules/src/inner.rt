@@ -1,0 +1,88 @@
+// Which structures headers declare as inner.
+ghost use Rattle.std.specs.Prelude.{◌≡◌, ◌&&◌, not, IfOk};
+ghost use Rattle.std.specs.Bool.{Decides};
+ghost use Rattle.gt_types.specs.declared.types.TypeId.{TypeId};
+ghost use Rattle.gt_paths.specs.Numbers.{mark_at};
+ghost use Rattle.gt_rules.specs.Inner.{IsDeclaredInner, has_outer_option, is_declared_inner, is_desc, is_outer, names_container, parameter_names_container};
+
+use gt_drafts::{Draft, DraftField, DraftStructure};
+use gt_expr::RawExpr;
+use gt_items::{Parameter, RawOption};
+use gt_markers::has_skip;
+use gt_types::{Base, List};
+use std::alloc::{AllocError, Global};
+
+fn is_outer(base: Base) -> bool
+    ensures { result ≡ is_outer base }
+{
+    matches!(base, Base::Outer)
+}
+
+// Whether an expression has a path that begins at the structure that contains its own.
+fn names_container(e: &RawExpr) -> bool
+    ensures { result ≡ names_container e.now }
+{
+    match e {
+        RawExpr::Int(_) | RawExpr::Named(_) => false,
+        RawExpr::Path { base, .. } => is_outer(*base),
+        RawExpr::One { a, .. } => names_container(a.get()),
+        RawExpr::Two { a, b, .. } => names_container(a.get()) || names_container(b.get()),
+        RawExpr::Cond { test, yes, no } => {
+            names_container(test.get()) || names_container(yes.get()) || names_container(no.get())
+        }
+    }
+}
+
+// Whether the parameter of an option is such an expression.
+fn parameter_names_container(parameter: &Parameter) -> bool
+    ensures { result ≡ parameter_names_container parameter.now }
+{
+    match parameter {
+        Parameter::Expression(e) => names_container(e),
+        Parameter::Absent | Parameter::Text(_) => false,
+    }
+}
+
+fn is_desc(option: &RawOption) -> bool
+    ensures { result ≡ is_desc option.now }
+{
+    option.name.word.as_str() == "desc"
+}
+
+fn is_outer_option(option: &RawOption) -> bool
+    ensures { result ≡ not (is_desc option.now) && parameter_names_container option.now.parameter }
+{
+    !is_desc(option) && parameter_names_container(&option.parameter)
+}
+
+fn is_outer_desc(option: &RawOption) -> bool
+    ensures { result ≡ is_desc option.now && parameter_names_container option.now.parameter }
+{
+    is_desc(option) && parameter_names_container(&option.parameter)
+}
+
+// Whether a field without `skip` has an option other than `desc` that names the structure that contains its own.
+fn has_outer_option(field: &DraftField) -> bool
+    ensures { result ≡ has_outer_option field.now }
+{
+    !has_skip(field.options.as_slice()) && field.options.as_slice().iter().any(is_outer_option)
+}
+
+// Whether a structure is declared inner.
+fn is_declared_inner(structure: &DraftStructure) -> bool
+    ensures { result ≡ is_declared_inner structure.now }
+{
+    structure.options.as_slice().iter().any(is_outer_desc)
+        || structure.fields.as_slice().iter().any(has_outer_option)
+}
+
+/// For each structure, whether headers declare it inner. Its only error is out of memory.
+pub fn declared_inner(alloc: Global, draft: &Draft) -> Result<List<bool>, AllocError>
+    ensures inner { IfOk result (λ marks. (id : TypeId) → Decides (mark_at marks id.0) (IsDeclaredInner draft.now id)) }
+{
+    let mut marks = Vec::new(alloc);
+    for structure in draft.structures.as_slice() {
+        marks.push(is_declared_inner(structure))?;
+    }
+    Ok(List::of(marks))
+}
