@@ -40,13 +40,25 @@ parameter_names_container parameter = false
 abbrev pub is_desc : RawOption → Bool
 is_desc o = bytes_eq o.name.word (codes "desc")
 
--- whether a field without `skip` has an option other than `desc` that names the structure that contains its own
+abbrev pub is_reorder : RawOption → Bool
+is_reorder o = bytes_eq o.name.word (codes "reorder")
+
+-- Whether an option of a field names the structure that contains the field's own. In a `desc` that name is one of the field's own
+-- structure, and the text of `reorder` is no expression.
+abbrev pub is_outer_option : RawOption → Bool
+is_outer_option o = not (is_desc o || is_reorder o) && parameter_names_container o.parameter
+
+-- whether a field without `skip` has such an option
 abbrev pub has_outer_option : DraftField → Bool
-has_outer_option df = not (has_skip df.options) && list_any (λ o. not (is_desc o) && parameter_names_container o.parameter) df.options
+has_outer_option df = not (has_skip df.options) && list_any is_outer_option df.options
+
+-- whether an option is a `desc` that names the structure that contains its own
+abbrev pub is_outer_desc : RawOption → Bool
+is_outer_desc o = is_desc o && parameter_names_container o.parameter
 
 -- whether the own `desc` of a structure, or such a field, names the structure that contains it
 abbrev pub is_declared_inner : DraftStructure → Bool
-is_declared_inner ds = list_any (λ o. is_desc o && parameter_names_container o.parameter) ds.options || list_any has_outer_option ds.fields
+is_declared_inner ds = list_any is_outer_desc ds.options || list_any has_outer_option ds.fields
 
 -- a structure is declared inner
 abbrev pub IsDeclaredInner : Draft → Inner

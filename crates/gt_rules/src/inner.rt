@@ -1,9 +1,9 @@
 // Which structures headers declare as inner.
-ghost use Rattle.std.specs.Prelude.{◌≡◌, ◌&&◌, not, IfOk};
+ghost use Rattle.std.specs.Prelude.{◌≡◌, IfOk};
 ghost use Rattle.std.specs.Bool.{Decides};
 ghost use Rattle.gt_types.specs.declared.types.TypeId.{TypeId};
 ghost use Rattle.gt_paths.specs.Numbers.{mark_at};
-ghost use Rattle.gt_rules.specs.Inner.{IsDeclaredInner, has_outer_option, is_declared_inner, is_desc, is_outer, names_container, parameter_names_container};
+ghost use Rattle.gt_rules.specs.Inner.{IsDeclaredInner, has_outer_option, is_declared_inner, is_desc, is_outer, is_outer_desc, is_outer_option, is_reorder, names_container, parameter_names_container};
 
 use gt_drafts::{Draft, DraftField, DraftStructure};
 use gt_expr::RawExpr;
@@ -49,19 +49,27 @@ fn is_desc(option: &RawOption) -> bool
     option.name.word.as_str() == "desc"
 }
 
-fn is_outer_option(option: &RawOption) -> bool
-    ensures { result ≡ not (is_desc option.now) && parameter_names_container option.now.parameter }
+fn is_reorder(option: &RawOption) -> bool
+    ensures { result ≡ is_reorder option.now }
 {
-    !is_desc(option) && parameter_names_container(&option.parameter)
+    option.name.word.as_str() == "reorder"
 }
 
+// Whether an option of a field names the structure that contains the field's own.
+fn is_outer_option(option: &RawOption) -> bool
+    ensures { result ≡ is_outer_option option.now }
+{
+    !(is_desc(option) || is_reorder(option)) && parameter_names_container(&option.parameter)
+}
+
+// Whether an option is a `desc` that names the structure that contains its own.
 fn is_outer_desc(option: &RawOption) -> bool
-    ensures { result ≡ is_desc option.now && parameter_names_container option.now.parameter }
+    ensures { result ≡ is_outer_desc option.now }
 {
     is_desc(option) && parameter_names_container(&option.parameter)
 }
 
-// Whether a field without `skip` has an option other than `desc` that names the structure that contains its own.
+// Whether a field without `skip` has such an option.
 fn has_outer_option(field: &DraftField) -> bool
     ensures { result ≡ has_outer_option field.now }
 {

@@ -85,7 +85,7 @@ is_chain name c e =
     record { kind = by.0; known = by.1; gives = sym (ap chain_kind by.1) ∙ e; not_tag = by.2 }
 
 -- the name of an option
-abbrev name_of : OptionKind → List ℕ
+abbrev pub name_of : OptionKind → List ℕ
 name_of Skip = codes "skip"
 name_of Length = codes "length"
 name_of Desc = codes "desc"
@@ -117,7 +117,7 @@ find_agree : (name : List ℕ) (k : OptionKind) (table : List (List ℕ × Optio
 find_agree name k [] agree e = absurd (none-some k e)
 find_agree name k (p ∷ ps) agree e = agree_by name k p ps (bytes_eq name p.0) refl agree.0 e (find_agree name k ps agree.1)
 
-kind_name : (name : List ℕ) (k : OptionKind) → kind_of name ≡ Some k → name ≡ name_of k
+pub kind_name : (name : List ℕ) (k : OptionKind) → kind_of name ≡ Some k → name ≡ name_of k
 kind_name name k e =
     find_agree name k known_options
     (refl, (refl, (refl, (refl, (refl, (refl, (refl, (refl, (refl, (refl, (refl, (refl, (refl, (refl, (refl, (refl, tt)))))))))))))))) e
