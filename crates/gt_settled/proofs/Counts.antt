@@ -64,8 +64,8 @@ module _ (draft : Draft) (o : TypeOptions) (t : DeclaredType) (e : Expr) (scanne
   single_string l one (undefined {keyword = keyword} {tag = tag} b star m) = let never : false ≡ true = characters_at (base.Undefined keyword tag) One b star one in absurd (cc)
 
   bounded : (in_union last : Bool) → is_last_array in_union last t ≡ true → ¬ (t.bounds ≡ [])
-  bounded in_union last array none =
-      let some = and_second (not in_union && last) (not (is_nil t.bounds)) (and_first (not in_union && last && not (is_nil t.bounds)) (not t.is_function) array) in
+  bounded in_union last at_end none =
+      let some = and_second (not in_union && last) (not (is_nil t.bounds)) (and_first (not in_union && last && not (is_nil t.bounds)) (not t.is_function) at_end) in
       let never : false ≡ true = sym (not_true (is_nil t.bounds) some) ∙ ap is_nil none in cc
 
   module _ (bits_good : IfSome t.bits (IsBitCount t)) where
@@ -77,15 +77,15 @@ module _ (draft : Draft) (o : TypeOptions) (t : DeclaredType) (e : Expr) (scanne
     walked_counted in_union last stands l (bits {count = count} has some most) =
         let plain = bit_field count has in
         elim (or_cases (is_last_array in_union last t) (is_counted t) stands) [
-          | inl array ↦ absurd (bounded in_union last array plain.0)
-          | inr counted ↦
-              let many = many_at t.resolved.base Zero refl plain.1 (and_second (is_single t) (points_to_many t.resolved.base t.resolved.stars) counted) in
-              let never : false ≡ true = sym (many_zero t.resolved.base) ∙ many in absurd (cc)
+          | inl at_end ↦ absurd (bounded in_union last at_end plain.0)
+          | inr many ↦
+              let some_many = many_at t.resolved.base Zero refl plain.1 (and_second (is_single t) (points_to_many t.resolved.base t.resolved.stars) many) in
+              let never : false ≡ true = sym (many_zero t.resolved.base) ∙ some_many in absurd (cc)
         ]
     walked_counted in_union last stands l (single f none is) =
         elim (or_cases (is_last_array in_union last t) (is_counted t) stands) [
-          | inl array ↦ absurd (bounded in_union last array none)
-          | inr counted ↦ single_counted l (and_second (is_single t) (points_to_many t.resolved.base t.resolved.stars) counted) is
+          | inl at_end ↦ absurd (bounded in_union last at_end none)
+          | inr many ↦ single_counted l (and_second (is_single t) (points_to_many t.resolved.base t.resolved.stars) many) is
         ]
     walked_counted in_union last stands l (array f b none is) = absurd (none-some e (sym none ∙ l))
     walked_counted in_union last stands l (tail f b has is) = sym has ∙ l
