@@ -1,9 +1,11 @@
 // The faults of caches.
 ghost use Rattle.std.specs.Bool.{Decides};
+ghost use Rattle.gt_types.specs.Paths.{MayStandBeside};
 ghost use Rattle.gt_markers.specs.Sound.{IsSound};
 ghost use Rattle.gt_typing.specs.SmallTypes.{HasSmallId};
 ghost use Rattle.gt_declare.specs.Programs.{key_type};
 ghost use Rattle.gt_rules.specs.Faults.{StandsAlone};
+ghost use Rattle.gt_rules.specs.Inner.{IsDeclaredInner};
 ghost use Rattle.gt_rules.specs.Parts.{IsIndexFor, IsFirstWith, CacheFault, CachesFaults};
 
 use crate::known::Known;
@@ -11,7 +13,15 @@ use gt_declare::key_type;
 use gt_drafts::{DraftCache, Resolved};
 use gt_markers::{CACHE_SHAPE, with_fault};
 use gt_paths::may_stand_beside;
-use gt_types::Fault;
+use gt_types::{Fault, TypeId};
+
+// Whether a structure may stand alone.
+fn may_stand(known: Known, id: TypeId) -> bool
+    requires index { IsIndexFor known.draft.now known.program.now known.index.now }
+    ensures decides { Decides result (MayStandBeside (IsDeclaredInner known.entry.draft.now) known.entry.program.now id) }
+{
+    may_stand_beside(known.program, known.index, id)
+}
 
 // Whether a key or a value points to a structure that may stand alone.
 fn stands_alone(known: Known, resolved: &Resolved) -> bool
@@ -21,7 +31,7 @@ fn stands_alone(known: Known, resolved: &Resolved) -> bool
 {
     match key_type(resolved) {
         None => false,
-        Some(id) => may_stand_beside(known.program, known.index, id),
+        Some(id) => may_stand(known, id),
     }
 }
 

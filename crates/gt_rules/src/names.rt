@@ -91,6 +91,14 @@ pub fn is_bare(program: &Program, named: Option<TypeId>) -> bool
     }
 }
 
+// Whether a structure is declared inner.
+fn is_declared_inner(known: Known, id: TypeId) -> bool
+    requires index { IsIndexFor known.draft.now known.program.now known.index.now }
+    ensures decides { Decides result (IsDeclaredInner known.entry.draft.now id) }
+{
+    is_inner(known.index, id)
+}
+
 /// Whether what is named is an inner structure.
 pub fn is_named_inner(known: Known, named: Option<TypeId>) -> bool
     requires index { IsIndexFor known.draft.now known.program.now known.index.now }
@@ -98,6 +106,6 @@ pub fn is_named_inner(known: Known, named: Option<TypeId>) -> bool
 {
     match named {
         None => false,
-        Some(id) => is_inner(known.index, id),
+        Some(id) => is_declared_inner(known, id),
     }
 }
