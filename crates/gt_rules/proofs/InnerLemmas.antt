@@ -60,30 +60,30 @@ agrees draft program index is id = ((is.inner id).0, (is.inner id).1)
 decided : (b : Bool) (P Q : Type 0) → (P → Q) → (Q → P) → Decides b P → Decides b Q
 decided b P Q to from decides = ((λ e. to (decides.0 e)), (λ q. decides.1 (from q)))
 
-pub option_ok : {E : Type 0} {draft : Draft} {program : Program} {index : PathIndex} {node : TypeId} {e : Expr} {r : Result Bool E} → IsIndexFor draft program index
+pub option_ok : {E : Type 0} (draft : Draft) (program : Program) (index : PathIndex) (node : TypeId) (e : Expr) (r : Result Bool E) → IsIndexFor draft program index
     → IfOk r (λ v. Decides v (IsOptionBeside (inner_in index) program node e)) → IfOk r (λ v. Decides v (IsOptionBeside (IsDeclaredInner draft) program node e))
-option_ok {E} {draft} {program} {index} {node} {e} {r} is ok =
+option_ok {E} draft program index node e r is ok =
     let to = agrees draft program index is in
     let from = turned (inner_in index) (IsDeclaredInner draft) to in
     IfOk-weaker r (λ v. Decides v (IsOptionBeside (inner_in index) program node e)) (λ v. Decides v (IsOptionBeside (IsDeclaredInner draft) program node e))
     (λ v. decided v (IsOptionBeside (inner_in index) program node e) (IsOptionBeside (IsDeclaredInner draft) program node e)
     (option_same (inner_in index) (IsDeclaredInner draft) to program node e) (option_same (IsDeclaredInner draft) (inner_in index) from program node e)) ok
 
-pub desc_ok : {E : Type 0} {draft : Draft} {program : Program} {index : PathIndex} {node union : TypeId} {e : Expr} {r : Result Bool E} → IsIndexFor draft program index
+pub desc_ok : {E : Type 0} (draft : Draft) (program : Program) (index : PathIndex) (node union : TypeId) (e : Expr) (r : Result Bool E) → IsIndexFor draft program index
     → IfOk r (λ v. Decides v (IsFieldDescBeside (inner_in index) program node union e)) → IfOk r (λ v. Decides v (IsFieldDescBeside (IsDeclaredInner draft) program node union e))
-desc_ok {E} {draft} {program} {index} {node} {union} {e} {r} is ok =
+desc_ok {E} draft program index node union e r is ok =
     let to = agrees draft program index is in
     let from = turned (inner_in index) (IsDeclaredInner draft) to in
     IfOk-weaker r (λ v. Decides v (IsFieldDescBeside (inner_in index) program node union e)) (λ v. Decides v (IsFieldDescBeside (IsDeclaredInner draft) program node union e))
     (λ v. decided v (IsFieldDescBeside (inner_in index) program node union e) (IsFieldDescBeside (IsDeclaredInner draft) program node union e)
     (desc_same (inner_in index) (IsDeclaredInner draft) to program node union e) (desc_same (IsDeclaredInner draft) (inner_in index) from program node union e)) ok
 
-pub named_ok : {draft : Draft} {program : Program} {index : PathIndex} {id : TypeId} {b : Bool} → IsIndexFor draft program index → Decides b (inner_in index id) → Decides b (IsDeclaredInner draft id)
-named_ok {draft} {program} {index} {id} {b} is decides = decided b (inner_in index id) (IsDeclaredInner draft id) (is.inner id).0 (is.inner id).1 decides
+pub named_ok : (draft : Draft) (program : Program) (index : PathIndex) (id : TypeId) (b : Bool) → IsIndexFor draft program index → Decides b (inner_in index id) → Decides b (IsDeclaredInner draft id)
+named_ok draft program index id b is decides = decided b (inner_in index id) (IsDeclaredInner draft id) (is.inner id).0 (is.inner id).1 decides
 
-pub stands_ok : {draft : Draft} {program : Program} {index : PathIndex} {id : TypeId} {b : Bool} → IsIndexFor draft program index → Decides b (MayStandBeside (inner_in index) program id)
+pub stands_ok : (draft : Draft) (program : Program) (index : PathIndex) (id : TypeId) (b : Bool) → IsIndexFor draft program index → Decides b (MayStandBeside (inner_in index) program id)
     → Decides b (MayStandBeside (IsDeclaredInner draft) program id)
-stands_ok {draft} {program} {index} {id} {b} is decides =
+stands_ok draft program index id b is decides =
     let to = agrees draft program index is in
     let from = turned (inner_in index) (IsDeclaredInner draft) to in
     decided b (MayStandBeside (inner_in index) program id) (MayStandBeside (IsDeclaredInner draft) program id) (stand_same (inner_in index) (IsDeclaredInner draft) to program id)

@@ -1,7 +1,6 @@
 -- Which structures headers declare as inner. It is told by what their markers say, also where an option stands at a wrong place.
-use Rattle.std.specs.Prelude.{◌≡◌, ◌&&◌, ◌||◌, not, Bool, true, false, codes, IsTrue, Some, slice_get}
+use Rattle.std.specs.Prelude.{◌≡◌, ◌&&◌, ◌||◌, not, Bool, true, false, IsTrue, Option, Some, slice_get}
 use Rattle.std.specs.List.{list_any}
-use Rattle.std.specs.Str.{bytes_eq}
 use Rattle.gt_types.specs.declared.expressions.Base.{Base}
 use Rattle.gt_types.specs.declared.expressions.Base.TheVariants.{Outer}
 use Rattle.gt_types.specs.Paths.{Inner}
@@ -15,6 +14,9 @@ use Rattle.gt_drafts.specs.declared.draft.Draft.{Draft}
 use Rattle.gt_drafts.specs.declared.draft.DraftField.{DraftField}
 use Rattle.gt_drafts.specs.declared.draft.DraftStructure.{DraftStructure}
 use Rattle.gt_drafts.specs.Options.{has_skip}
+use Rattle.gt_markers.specs.declared.kinds.OptionKind.{OptionKind}
+use Rattle.gt_markers.specs.declared.kinds.OptionKind.TheVariants.{Desc, Reorder}
+use Rattle.gt_markers.specs.Options.{kind_of}
 
 abbrev pub is_outer : Base → Bool
 is_outer Outer = true
@@ -37,16 +39,22 @@ abbrev pub parameter_names_container : Parameter → Bool
 parameter_names_container (Expression e) = names_container e
 parameter_names_container parameter = false
 
-abbrev pub is_desc : RawOption → Bool
-is_desc o = bytes_eq o.name.word (codes "desc")
+abbrev pub is_desc_kind : Option OptionKind → Bool
+is_desc_kind (Some Desc) = true
+is_desc_kind kind = false
 
-abbrev pub is_reorder : RawOption → Bool
-is_reorder o = bytes_eq o.name.word (codes "reorder")
+abbrev pub is_desc : RawOption → Bool
+is_desc o = is_desc_kind (kind_of o.name.word)
+
+abbrev pub is_outer_kind : Option OptionKind → Bool
+is_outer_kind (Some Desc) = false
+is_outer_kind (Some Reorder) = false
+is_outer_kind kind = true
 
 -- Whether an option of a field names the structure that contains the field's own. In a `desc` that name is one of the field's own
 -- structure, and the text of `reorder` is no expression.
 abbrev pub is_outer_option : RawOption → Bool
-is_outer_option o = not (is_desc o || is_reorder o) && parameter_names_container o.parameter
+is_outer_option o = is_outer_kind (kind_of o.name.word) && parameter_names_container o.parameter
 
 -- whether a field without `skip` has such an option
 abbrev pub has_outer_option : DraftField → Bool

@@ -1,14 +1,15 @@
 // Which structures headers declare as inner.
 ghost use Rattle.std.specs.Prelude.{◌≡◌, IfOk};
+ghost use Rattle.std.specs.List.{list_any};
 ghost use Rattle.std.specs.Bool.{Decides};
 ghost use Rattle.gt_types.specs.declared.types.TypeId.{TypeId};
 ghost use Rattle.gt_paths.specs.Numbers.{mark_at};
-ghost use Rattle.gt_rules.specs.Inner.{IsDeclaredInner, has_outer_option, is_declared_inner, is_desc, is_outer, is_outer_desc, is_outer_option, is_reorder, names_container, parameter_names_container};
+ghost use Rattle.gt_rules.specs.Inner.{IsDeclaredInner, has_outer_option, is_declared_inner, is_desc_kind, is_outer, is_outer_desc, is_outer_kind, is_outer_option, names_container, parameter_names_container};
 
 use gt_drafts::{Draft, DraftField, DraftStructure};
 use gt_expr::RawExpr;
 use gt_items::{Parameter, RawOption};
-use gt_markers::has_skip;
+use gt_markers::{OptionKind, has_skip};
 use gt_types::{Base, List};
 use std::alloc::{AllocError, Global};
 
@@ -43,45 +44,66 @@ fn parameter_names_container(parameter: &Parameter) -> bool
     }
 }
 
-fn is_desc(option: &RawOption) -> bool
-    ensures { result ≡ is_desc option.now }
+fn is_desc_kind(kind: Option<OptionKind>) -> bool
+    ensures { result ≡ is_desc_kind kind }
 {
-    option.name.word.as_str() == "desc"
+    matches!(kind, Some(OptionKind::Desc))
 }
 
-fn is_reorder(option: &RawOption) -> bool
-    ensures { result ≡ is_reorder option.now }
+fn is_outer_kind(kind: Option<OptionKind>) -> bool
+    ensures { result ≡ is_outer_kind kind }
 {
-    option.name.word.as_str() == "reorder"
+    !matches!(kind, Some(OptionKind::Desc | OptionKind::Reorder))
 }
 
 // Whether an option of a field names the structure that contains the field's own.
 fn is_outer_option(option: &RawOption) -> bool
     ensures { result ≡ is_outer_option option.now }
 {
-    !(is_desc(option) || is_reorder(option)) && parameter_names_container(&option.parameter)
+    is_outer_kind(OptionKind::of(&option.name.word)) && parameter_names_container(&option.parameter)
 }
 
-// Whether an option is a `desc` that names the structure that contains its own.
-fn is_outer_desc(option: &RawOption) -> bool
-    ensures { result ≡ is_outer_desc option.now }
+// Whether one of some options of a field does.
+fn is_some_outer(options: &[RawOption]) -> bool
+    ensures { result ≡ list_any is_outer_option options.now }
 {
-    is_desc(option) && parameter_names_container(&option.parameter)
+    options.iter().any(|option| is_outer_option(option))
 }
 
 // Whether a field without `skip` has such an option.
 fn has_outer_option(field: &DraftField) -> bool
     ensures { result ≡ has_outer_option field.now }
 {
-    !has_skip(field.options.as_slice()) && field.options.as_slice().iter().any(is_outer_option)
+    !has_skip(field.options.as_slice()) && is_some_outer(field.options.as_slice())
+}
+
+// Whether one of some fields has such an option.
+fn is_some_field_outer(fields: &[DraftField]) -> bool
+    ensures { result ≡ list_any has_outer_option fields.now }
+{
+    fields.iter().any(|field| has_outer_option(field))
+}
+
+// Whether an option is a `desc` that names the structure that contains its own.
+fn is_outer_desc(option: &RawOption) -> bool
+    ensures { result ≡ is_outer_desc option.now }
+{
+    is_desc_kind(OptionKind::of(&option.name.word)) && parameter_names_container(&option.parameter)
+}
+
+// Whether one of the options of a structure is such a `desc`.
+fn is_some_desc_outer(options: &[RawOption]) -> bool
+    ensures { result ≡ list_any is_outer_desc options.now }
+{
+    options.iter().any(|option| is_outer_desc(option))
 }
 
 // Whether a structure is declared inner.
 fn is_declared_inner(structure: &DraftStructure) -> bool
     ensures { result ≡ is_declared_inner structure.now }
 {
-    structure.options.as_slice().iter().any(is_outer_desc)
-        || structure.fields.as_slice().iter().any(has_outer_option)
+    is_some_desc_outer(structure.options.as_slice())
+        || is_some_field_outer(structure.fields.as_slice())
 }
 
 /// For each structure, whether headers declare it inner. Its only error is out of memory.

@@ -10,14 +10,14 @@ pub returns-in-Own : goal.returns-in-Own
 returns-in-Own c = record {
   decides =
       subst (λ (p : Purpose). IfOk c.is_option.result (λ r. Decides r (Fits c.args.known.draft.now c.args.known.program.now p c.args.e.now))) (sym c.in-Own.is)
-      (option_ok c.requires.index c.is_option.ensures.decides);
+      (option_ok c.args.known.draft.now c.args.known.program.now c.args.known.index.now c.in-Own.structure c.args.e.now c.is_option.result c.requires.index c.is_option.ensures.decides);
 }
 
 pub returns-in-FieldDesc : goal.returns-in-FieldDesc
 returns-in-FieldDesc c = record {
   decides =
       subst (λ (p : Purpose). IfOk c.is_field_desc.result (λ r. Decides r (Fits c.args.known.draft.now c.args.known.program.now p c.args.e.now))) (sym c.in-FieldDesc.is)
-      (desc_ok c.requires.index c.is_field_desc.ensures.decides);
+      (desc_ok c.args.known.draft.now c.args.known.program.now c.args.known.index.now c.in-FieldDesc.structure c.in-FieldDesc.held c.args.e.now c.is_field_desc.result c.requires.index c.is_field_desc.ensures.decides);
 }
 
 pub returns-in-RootCount : goal.returns-in-RootCount
