@@ -3,11 +3,9 @@ use Rattle.std.proofs.Common.{◌≡◌, ◌≢◌, ◌∙◌, inl, inr, ℕ, ze
 use Rattle.std.specs.Prelude.{All, AllPairs, Any, Contains, IfSome, codes, filter_map, if◌then◌else◌, is_none, is_some, option_map, option_to_list, slice_get}
 use Rattle.std.specs.List.{list_any}
 use Rattle.std.specs.Option.{option_map_or}
-use Rattle.std.specs.Str.{bytes_eq}
 use Rattle.std.proofs.lemmas.List.Elements.{All-contains}
 use Rattle.std.proofs.lemmas.List.Folds.{Any-from_list_any, list_any-from_Any}
 use Rattle.std.proofs.lemmas.Option.{none-some, same_Some, slice_get-get_or}
-use Rattle.std.proofs.lemmas.Slice.Eq.{bytes_eq-Decides}
 use Rattle.gt_types.specs.declared.expressions.Expr.{Expr}
 use Rattle.gt_types.specs.declared.types.TypeId.{TypeId}
 use Rattle.gt_types.specs.declared.types.Ty.{Ty}
@@ -37,7 +35,7 @@ use Rattle.gt_markers.specs.Typing.{expression_named, own_desc, says}
 use Rattle.gt_declare.specs.Programs.{field_of, field_type, program_by}
 use Rattle.gt_paths.specs.Results.{HasResult}
 use Rattle.gt_paths.proofs.Walks.{any_joins, result_in, result_of}
-use Rattle.gt_rules.specs.Inner.{IsDeclaredInner, has_outer_option, is_declared_inner, is_desc, is_outer_desc, is_outer_option, is_reorder, parameter_names_container}
+use Rattle.gt_rules.specs.Inner.{IsDeclaredInner, has_outer_option, is_declared_inner, is_desc, is_desc_kind, is_outer_desc, is_outer_kind, is_outer_option, parameter_names_container}
 use Rattle.gt_rules.proofs.InnerLemmas.{Agree}
 use Rattle.gt_settled.proofs.Chains.{kind_name, name_of}
 use Rattle.gt_settled.proofs.Counts.{or_cases, walked_counted, walked_string}
@@ -46,7 +44,7 @@ use Rattle.gt_settled.proofs.Fits.{counted}
 use Rattle.gt_settled.proofs.Inside.{field_sound}
 use Rattle.gt_settled.proofs.Lists.{in_list}
 use Rattle.gt_settled.proofs.Made.{IsMade, field_drafted, structure_at, structure_drafted}
-use Rattle.gt_settled.proofs.Markers.{AreBeside, AreTwo, IsFine, found, has_is, marker_besides, marker_fine, marker_pairs, never_both, only_one, or_first, or_second}
+use Rattle.gt_settled.proofs.Markers.{AreBeside, AreTwo, IsFine, found, has_is, marker_besides, marker_fine, marker_pairs, never_both, only_one}
 use Rattle.gt_settled.proofs.Outer.{outer_no_constant, outer_same}
 use Rattle.gt_settled.proofs.Shape.{and_first, and_second, and_true, not_true}
 use Rattle.gt_settled.proofs.Types.{OfField, Walked, field_view, opaque, skipped_bits, skipped_number, walked}
@@ -90,6 +88,10 @@ names_by draft name options e is outer = by (option_named name options) refl is
         let at = found name options o named in
         (o, at.0, at.1, (outer_same draft o.parameter).1 (subst NamesOuter (sym (same_Some (expression_of (constants draft) o.parameter) e is)) outer))
 
+desc_kind : (kind : Option OptionKind) → is_desc_kind kind ≡ true → kind ≡ Some Desc
+desc_kind (Some Desc) e = refl
+desc_kind other e = absurd (cc)
+
 -- options of which each stands once
 named_once : (site : Site) (options : List RawOption) (o : RawOption) (kind : OptionKind) (name : List ℕ) → AllPairs (AreTwo site options) options → Contains options o → o.name.word ≡ name
     → kind_of name ≡ Some kind → is_passed_over site options kind ≡ false → is_tag kind ≡ false → option_named name options ≡ Some o
@@ -110,14 +112,13 @@ module _ (draft : Draft) (planes : List Plane) (program : Program) (is : program
 
       -- ---- from the program to the draft
 
-      declared_by_name : (name : List ℕ) → not (bytes_eq name (codes "desc") || bytes_eq name (codes "reorder")) ≡ true → has_skip df.options ≡ false → (e : Expr)
+      declared_by_name : (name : List ℕ) → is_outer_kind (kind_of name) ≡ true → has_skip df.options ≡ false → (e : Expr)
           → expression_named (constants draft) name df.options ≡ Some e → NamesOuter e → has_outer_option df ≡ true
       declared_by_name name plain skip e said outer =
           let o = names_by draft name df.options e said outer in
           and_true (not (has_skip df.options)) (list_any is_outer_option df.options) (ap not skip)
           (any_of is_outer_option df.options o.0 o.1
-          (and_true (not (is_desc o.0 || is_reorder o.0)) (parameter_names_container o.0.parameter)
-          (ap (λ (word : List ℕ). not (bytes_eq word (codes "desc") || bytes_eq word (codes "reorder"))) o.2 ∙ plain) o.3))
+          (and_true (is_outer_kind (kind_of o.0.name.word)) (parameter_names_container o.0.parameter) (ap (λ (word : List ℕ). is_outer_kind (kind_of word)) o.2 ∙ plain) o.3))
 
       declared_by_view : {type : Ty} → OfField draft planes (constants draft) df.options df.ty type → IfSome (count_of type) (λ e. NamesOuter e → has_outer_option df ≡ true)
       declared_by_view (walked skip w) =
@@ -137,10 +138,10 @@ module _ (draft : Draft) (planes : List Plane) (program : Program) (is : program
         site = at_field ds.is_union fine.0 df.ty
 
         container : parameter_names_container o.parameter ≡ true
-        container = and_second (not (is_desc o || is_reorder o)) (parameter_names_container o.parameter) outer
+        container = and_second (is_outer_kind (kind_of o.name.word)) (parameter_names_container o.parameter) outer
 
-        plain : (is_desc o || is_reorder o) ≡ false
-        plain = not_true (is_desc o || is_reorder o) (and_first (not (is_desc o || is_reorder o)) (parameter_names_container o.parameter) outer)
+        plain : is_outer_kind (kind_of o.name.word) ≡ true
+        plain = and_first (is_outer_kind (kind_of o.name.word)) (parameter_names_container o.parameter) outer
 
         good : IsFine draft site df.options o
         good = All-contains (IsFine draft site df.options) df.options o (marker_fine draft site df.options ds.file fine.1.marker) there
@@ -196,9 +197,9 @@ module _ (draft : Draft) (planes : List Plane) (program : Program) (is : program
         counts StringLength known =
             walked_string draft (says (constants draft) df.options) df.ty e (scanned StringLength known refl refl) one.type.bits (good.stands StringLength known (passed StringLength)) (read StringLength known refl refl) (of_view view)
         counts Desc known =
-            let never : false ≡ true = sym (or_first (is_desc o) (is_reorder o) plain) ∙ (bytes_eq-Decides o.name.word (codes "desc")).1 (kind_name o.name.word Desc known) in absurd (cc)
+            let never : false ≡ true = sym (ap is_outer_kind known) ∙ plain in absurd (cc)
         counts Reorder known =
-            let never : false ≡ true = sym (or_second (is_desc o) (is_reorder o) plain) ∙ (bytes_eq-Decides o.name.word (codes "reorder")).1 (kind_name o.name.word Reorder known) in absurd (cc)
+            let never : false ≡ true = sym (ap is_outer_kind known) ∙ plain in absurd (cc)
         counts Tag known = let never : false ≡ true = sym (good.valued Tag known (passed Tag) refl) ∙ outer_no_constant draft o.parameter container in absurd (cc)
         counts ChainNext known = absurd (misplaced ChainNext known refl)
         counts ChainPrev known = absurd (misplaced ChainPrev known refl)
@@ -234,7 +235,7 @@ module _ (draft : Draft) (planes : List Plane) (program : Program) (is : program
     pub declared_desc : (e : Expr) → own_desc draft ds ≡ Some e → NamesOuter e → list_any is_outer_desc ds.options ≡ true
     declared_desc e said outer =
         let o = names_by draft (codes "desc") ds.options e (own_said ds.is_union refl e said) outer in
-        any_of is_outer_desc ds.options o.0 o.1 (and_true (is_desc o.0) (parameter_names_container o.0.parameter) ((bytes_eq-Decides o.0.name.word (codes "desc")).1 o.2) o.3)
+        any_of is_outer_desc ds.options o.0 o.1 (and_true (is_desc o.0) (parameter_names_container o.0.parameter) (ap (λ (word : List ℕ). is_desc_kind (kind_of word)) o.2) o.3)
 
     pub inner_desc : list_any is_outer_desc ds.options ≡ true → (e : Expr) × (own_desc draft ds ≡ Some e) × NamesOuter e
     inner_desc has =
@@ -242,7 +243,7 @@ module _ (draft : Draft) (planes : List Plane) (program : Program) (is : program
         let o = any.1 in
         let there : Contains ds.options o = (any.0, any.2, any.3) in
         let marker = structure_marker draft none place ds drafted in
-        let name = (bytes_eq-Decides o.name.word (codes "desc")).0 (and_first (is_desc o) (parameter_names_container o.parameter) any.4) in
+        let name : o.name.word ≡ codes "desc" = kind_name o.name.word Desc (desc_kind (kind_of o.name.word) (and_first (is_desc o) (parameter_names_container o.parameter) any.4)) in
         let union : ds.is_union ≡ true =
         (All-contains (IsFine draft (at_structure ds.is_union) ds.options) ds.options o (marker_fine draft (at_structure ds.is_union) ds.options ds.file marker) there).stands Desc (ap kind_of name) refl in
         let named = named_once (at_structure ds.is_union) ds.options o Desc (codes "desc") (marker_pairs draft (at_structure ds.is_union) ds.options ds.file marker) there name refl refl refl in (
