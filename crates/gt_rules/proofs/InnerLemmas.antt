@@ -1,6 +1,6 @@
 -- Expressions of options, and structures that may stand alone, where two ways to tell which structures are inner agree.
-use Rattle.std.proofs.Common.{◌≡◌, ℕ, Bool, List, Option, Some, None, get_or, subst}
-use Rattle.std.specs.Prelude.{◌↔◌, All, IfOk, Result}
+use Rattle.std.proofs.Common.{ℕ, Bool, List, get_or}
+use Rattle.std.specs.Prelude.{◌↔◌, IfOk, Result}
 use Rattle.std.specs.Bool.{Decides}
 use Rattle.std.proofs.lemmas.Result.{IfOk-weaker}
 use Rattle.gt_types.specs.declared.expressions.Base.{Base}
@@ -8,7 +8,7 @@ use Rattle.gt_types.specs.declared.expressions.Base.TheVariants.{Here, Outer, Ou
 use Rattle.gt_types.specs.declared.expressions.Expr.{Expr}
 use Rattle.gt_types.specs.declared.types.TypeId.{TypeId}
 use Rattle.gt_types.specs.declared.program.Program.{Program}
-use Rattle.gt_types.specs.Paths.{Inner, IsFieldDescBeside, IsOptionBeside, MayStandBeside, PathFitsBeside, DescPathFitsBeside, Way, paths_of}
+use Rattle.gt_types.specs.Paths.{Inner, IsFieldDescBeside, IsOptionBeside, MayStandBeside, PathFitsBeside, DescPathFitsBeside, paths_of}
 use Rattle.gt_drafts.specs.declared.draft.Draft.{Draft}
 use Rattle.gt_paths.specs.declared.indexes.PathIndex.{PathIndex}
 use Rattle.gt_paths.specs.Indexes.{inner_in}

@@ -6,8 +6,8 @@ ghost use Rattle.gt_declare.specs.Programs.{IsMadeOf};
 ghost use Rattle.gt_rules.specs.Firsts.{IsFirstProgramFault};
 
 use crate::caches::of_caches;
-use crate::known::Known;
 use crate::inner::declared_inner;
+use crate::known::Known;
 use crate::roots::of_roots;
 use crate::structures::of_structures;
 use gt_drafts::Draft;

@@ -24,7 +24,6 @@ use Rattle.gt_markers.specs.declared.kinds.OptionKind.{OptionKind}
 use Rattle.gt_markers.specs.declared.kinds.OptionKind.TheVariants.{Skip, Length, Desc, Tag, Default, Cache, Deletable, MaybeUndef, ChainNext, ChainPrev, ChainCircular, Atomic, StringLength, VariableSize, ForUser, Reorder}
 use Rattle.gt_markers.specs.Options.{kind_of, known_options}
 use Rattle.gt_markers.specs.Sites.{at_structure, is_tag}
-use Rattle.gt_markers.specs.Typing.{node}
 use Rattle.gt_declare.specs.Programs.{all_unchained, chain_kind, chain_of, own_path, path_places, places_on, program_by, structure_in, unchained}
 use Rattle.gt_rules.specs.Faults.{HasProgramFault, chain, fault}
 use Rattle.gt_settled.proofs.Stable.{Stable}

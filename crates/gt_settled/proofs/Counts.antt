@@ -1,5 +1,5 @@
 -- Where a length stands on a field, the type of the field has it.
-use Rattle.std.proofs.Common.{◌≡◌, ◌∙◌, ◌⊎◌, inl, inr, ℕ, Bool, true, false, not, ◌&&◌, ◌||◌, List, [], ◌∷◌, Option, Some, None, IfSome, refl, sym, ap, subst}
+use Rattle.std.proofs.Common.{◌≡◌, ◌∙◌, ◌⊎◌, inl, inr, Bool, true, false, not, ◌&&◌, ◌||◌, List, [], ◌∷◌, Option, Some, IfSome, refl, sym, ap, subst}
 use Rattle.std.proofs.lemmas.Option.{none-some}
 use Rattle.gt_types.specs.declared.expressions.Expr.{Expr}
 use Rattle.gt_types.specs.declared.types.Target.TheVariants as target
@@ -7,7 +7,7 @@ use Rattle.gt_types.specs.declared.types.Ty.{Ty}
 use Rattle.gt_types.specs.declared.types.Ty.TheVariants as ty
 use Rattle.gt_types.specs.Shapes.{count_of}
 use Rattle.gt_items.specs.declared.items.Stars.{Stars}
-use Rattle.gt_items.specs.declared.items.Stars.TheVariants.{Zero, One, Two, More}
+use Rattle.gt_items.specs.declared.items.Stars.TheVariants.{Zero, One, Two}
 use Rattle.gt_drafts.specs.declared.types.Amount.{Amount}
 use Rattle.gt_drafts.specs.declared.types.BaseType.{BaseType}
 use Rattle.gt_drafts.specs.declared.types.BaseType.TheVariants as base

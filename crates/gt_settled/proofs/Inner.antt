@@ -1,6 +1,6 @@
 -- The structures that a draft without faults declares inner are those of its program.
-use Rattle.std.proofs.Common.{◌≡◌, ◌≢◌, ◌∙◌, inl, inr, ℕ, zero, suc, Bool, true, false, not, ◌&&◌, ◌||◌, List, [], ◌∷◌, ◌<◌, length, map, get_or, Option, Some, None, refl, sym, ap, subst, arith}
-use Rattle.std.specs.Prelude.{All, AllPairs, Any, Contains, IfSome, codes, filter_map, if◌then◌else◌, is_none, is_some, option_map, option_to_list, slice_get}
+use Rattle.std.proofs.Common.{◌≡◌, ◌∙◌, inl, inr, ℕ, zero, suc, Bool, true, false, not, ◌&&◌, ◌||◌, List, [], ◌∷◌, ◌<◌, length, map, get_or, Option, Some, None, refl, sym, ap, subst, arith}
+use Rattle.std.specs.Prelude.{AllPairs, Any, Contains, IfSome, codes, filter_map, if◌then◌else◌, is_some, option_map, option_to_list, slice_get}
 use Rattle.std.specs.List.{list_any}
 use Rattle.std.specs.Option.{option_map_or}
 use Rattle.std.proofs.lemmas.List.Elements.{All-contains}
@@ -12,7 +12,6 @@ use Rattle.gt_types.specs.declared.types.Ty.{Ty}
 use Rattle.gt_types.specs.declared.program.Field.{Field}
 use Rattle.gt_types.specs.declared.program.Structure.{Structure}
 use Rattle.gt_types.specs.declared.program.Program.{Program}
-use Rattle.gt_types.specs.Contains.{HasStructure}
 use Rattle.gt_types.specs.Paths.{IsInner, NamesOuter, own_expressions}
 use Rattle.gt_types.specs.Shapes.{count_of}
 use Rattle.gt_items.specs.declared.items.Parameter.{Parameter}
@@ -26,7 +25,7 @@ use Rattle.gt_drafts.specs.Options.{has_option, has_skip}
 use Rattle.gt_drafts.specs.Sameness.{same_bool}
 use Rattle.gt_markers.specs.declared.kinds.OptionKind.{OptionKind}
 use Rattle.gt_markers.specs.declared.kinds.OptionKind.TheVariants.{Skip, Length, Desc, Tag, Default, Cache, Deletable, MaybeUndef, ChainNext, ChainPrev, ChainCircular, Atomic, StringLength, VariableSize, ForUser, Reorder}
-use Rattle.gt_markers.specs.Expressions.{constant_value, constants, expression_of}
+use Rattle.gt_markers.specs.Expressions.{constants, expression_of}
 use Rattle.gt_markers.specs.MarkerFaults.{draft_faults}
 use Rattle.gt_markers.specs.Options.{exclude, has_parameter, kind_of, needs_parameter, option_named, stands_beside_skip}
 use Rattle.gt_markers.specs.Sites.{Site, at_field, at_structure, is_passed_over, is_tag, may_stand}
@@ -150,12 +149,12 @@ module _ (draft : Draft) (planes : List Plane) (program : Program) (is : program
         passed kind = ap (λ (b : Bool). b && not (stands_beside_skip kind)) skip
 
         unneeded : (kind : OptionKind) → kind_of o.name.word ≡ Some kind → needs_parameter kind ≡ false → ⊥
-        unneeded kind known no =
+        unneeded kind known none =
             let never : false ≡ true =
-            sym (ap (λ (b : Bool). same_bool b (has_parameter o.parameter)) no ∙ ap not (has_one o.parameter container)) ∙ good.formed kind known (passed kind) in cc
+            sym (ap (λ (b : Bool). same_bool b (has_parameter o.parameter)) none ∙ ap not (has_one o.parameter container)) ∙ good.formed kind known (passed kind) in cc
 
         misplaced : (kind : OptionKind) → kind_of o.name.word ≡ Some kind → may_stand draft.structures site df.options kind ≡ false → ⊥
-        misplaced kind known no = let never : false ≡ true = sym no ∙ good.stands kind known (passed kind) in cc
+        misplaced kind known none = let never : false ≡ true = sym none ∙ good.stands kind known (passed kind) in cc
 
         -- no `atomic` stands beside an option that it excludes
         module _ (kind : OptionKind) (known : kind_of o.name.word ≡ Some kind) (one_way : exclude kind Atomic ≡ true) (other_way : exclude Atomic kind ≡ true) where
@@ -249,7 +248,7 @@ module _ (draft : Draft) (planes : List Plane) (program : Program) (is : program
         let named = named_once (at_structure ds.is_union) ds.options o Desc (codes "desc") (marker_pairs draft (at_structure ds.is_union) ds.options ds.file marker) there name refl refl refl in (
           expression_of (constants draft) o.parameter,
           ap (λ (b : Bool). if b then expression_named (constants draft) (codes "desc") ds.options else None) union
-          ∙ ap (λ (x : Option RawOption). option_map (λ (r : RawOption). expression_of (constants draft) r.parameter) x) named,
+              ∙ ap (λ (x : Option RawOption). option_map (λ (r : RawOption). expression_of (constants draft) r.parameter) x) named,
           (outer_same draft o.parameter).0 (and_second (is_desc o) (parameter_names_container o.parameter) any.4),
         )
 

@@ -5,7 +5,6 @@ use Rattle.std.specs.Bool.{Decides}
 use Rattle.gt_types.specs.declared.expressions.Base.{Base}
 use Rattle.gt_types.specs.declared.expressions.Base.TheVariants.{Here, Outer, Outermost}
 use Rattle.gt_types.specs.declared.expressions.Op.{Op}
-use Rattle.gt_types.specs.declared.expressions.Expr.{Expr}
 use Rattle.gt_types.specs.declared.expressions.Expr.TheFolds.{fold-roll-Expr}
 use Rattle.gt_types.specs.declared.expressions.Expr.TheOpen as part
 use Rattle.gt_types.specs.declared.expressions.Expr.TheVariants as expr
