@@ -1,16 +1,13 @@
 -- The outermost structures, as those above that are not inner.
 use Rattle.std.proofs.Common.{◌≡◌, ◌⊎◌, inl, inr, ℕ, Bool, true, false, not, cond, List, [], ◌∷◌, refl, sym, ap, subst, ◌∙◌, arith}
-use Rattle.std.specs.Prelude.{Contains, filter, IfOk, Result, Ok, Err}
-use Rattle.std.specs.Bool.{Decides}
-use Rattle.std.proofs.lemmas.Bool.Decides.{not_from_Decides}
+use Rattle.std.specs.Prelude.{Contains, filter, IfOk, IsTrue, Result, Ok, Err}
 use Rattle.std.proofs.lemmas.List.Elements.{Contains-append_right, Contains-append_cases}
 use Rattle.gt_types.specs.declared.types.TypeId.{TypeId}
 use Rattle.gt_types.specs.declared.program.Program.{Program}
 use Rattle.gt_types.specs.Contains.{ContainsAtDepth}
-use Rattle.gt_types.specs.Paths.{IsInner}
 use Rattle.gt_paths.specs.declared.indexes.PathIndex.{PathIndex}
 use Rattle.gt_paths.specs.Climbs.{AreAbove}
-use Rattle.gt_paths.specs.Indexes.{IsIndexOf}
+use Rattle.gt_paths.specs.Indexes.{inner_in}
 use Rattle.gt_paths.specs.Numbers.{mark_at, numbered}
 use Rattle.gt_paths.specs.Places.{AreStarts}
 use Rattle.gt_paths.proofs.Ascents.{is_one}
@@ -46,24 +43,24 @@ was_there : (p : ℕ → Bool) (xs : List ℕ) (x : ℕ) → Contains (filter p 
 was_there p [] x there = absurd (omega (arith, there.1))
 was_there p (y ∷ ys) x there = was_by p y ys x (p y) refl (was_there p ys x) there
 
-free : (b : Bool) (P : Type 0) → Decides b P → ¬ P → not b ≡ true
-free true P decides never = absurd (never (decides.0 refl))
-free false P decides never = refl
+free : (b : Bool) → ¬ IsTrue b → not b ≡ true
+free true never = absurd (never refl)
+free false never = refl
 
-inner_no : (b : Bool) (P : Type 0) → Decides b P → not b ≡ true → ¬ P
-inner_no true P decides e p = absurd (cc)
-inner_no false P decides e p = absurd (not_from_Decides false decides refl p)
+inner_no : (b : Bool) → not b ≡ true → ¬ IsTrue b
+inner_no true e p = absurd (cc)
+inner_no false e p = absurd (cc)
 
-pub are_starts : (program : Program) (index : PathIndex) (node : TypeId) (above starts : List ℕ) → IsIndexOf program index → AreAbove program (node.0 ∷ []) above
-    → starts ≡ filter (λ id. not (mark_at index.inner id)) above → AreStarts program node starts
-are_starts program index node above starts is found same = record {
+pub are_starts : (program : Program) (index : PathIndex) (node : TypeId) (above starts : List ℕ) → AreAbove program (node.0 ∷ []) above
+    → starts ≡ filter (λ id. not (mark_at index.inner id)) above → AreStarts (inner_in index) program node starts
+are_starts program index node above starts found same = record {
   all = λ outer (free_one, at).
       subst (λ (xs : List ℕ). Contains xs outer.0) (sym same)
       (chosen (λ id. not (mark_at index.inner id)) above outer.0 (found.all outer.0 (node.0, (0, omega arith, refl), from outer at))
-      (free (mark_at index.inner outer.0) (IsInner program outer) (is.inner outer) free_one));
+      (free (mark_at index.inner outer.0) free_one));
   only = λ start there.
       let was = was_there (λ id. not (mark_at index.inner id)) above start (subst (λ (xs : List ℕ). Contains xs start) same there) in
-      (inner_no (mark_at index.inner start) (IsInner program (numbered start)) (is.inner (numbered start)) was.1, to start (found.only start was.0));
+      (inner_no (mark_at index.inner start) was.1, to start (found.only start was.0));
 }
   where
     from : (outer : TypeId) → (outer ≡ node) ⊎ ContainsAtDepth program outer node → (outer.0 ≡ node.0) ⊎ ContainsAtDepth program (numbered outer.0) (numbered node.0)
@@ -74,8 +71,8 @@ are_starts program index node above starts is found same = record {
     to start (x, at, inl e) = inl (ap numbered (e ∙ is_one node.0 x at))
     to start (x, at, inr contains) = inr (subst (λ (z : ℕ). ContainsAtDepth program (numbered start) (numbered z)) (is_one node.0 x at) contains)
 
-pub starts_chosen : {V E : Type 0} (program : Program) (index : PathIndex) (node : TypeId) (above seen : List ℕ) (r : Result V E) (items : V → List ℕ) → IsIndexOf program index
-    → AreAbove program (node.0 ∷ []) above → seen ≡ above → IfOk r (λ v. items v ≡ filter (λ id. not (mark_at index.inner id)) seen) → IfOk r (λ v. AreStarts program node (items v))
-starts_chosen program index node above seen (Ok v) items is found same chosen =
-    are_starts program index node above (items v) is found (chosen ∙ ap (filter (λ id. not (mark_at index.inner id))) same)
-starts_chosen program index node above seen (Err e) items is found same chosen = chosen
+pub starts_chosen : {V E : Type 0} (program : Program) (index : PathIndex) (node : TypeId) (above seen : List ℕ) (r : Result V E) (items : V → List ℕ)
+    → AreAbove program (node.0 ∷ []) above → seen ≡ above → IfOk r (λ v. items v ≡ filter (λ id. not (mark_at index.inner id)) seen) → IfOk r (λ v. AreStarts (inner_in index) program node (items v))
+starts_chosen program index node above seen (Ok v) items found same chosen =
+    are_starts program index node above (items v) found (chosen ∙ ap (filter (λ id. not (mark_at index.inner id))) same)
+starts_chosen program index node above seen (Err e) items found same chosen = chosen

@@ -4,7 +4,8 @@ use Rattle.gt_types.specs.declared.expressions.Base.{Base}
 use Rattle.gt_types.specs.declared.expressions.Base.TheVariants.{Here, Outer, Outermost}
 use Rattle.gt_types.specs.declared.types.TypeId.{TypeId}
 use Rattle.gt_types.specs.declared.program.Program.{Program}
-use Rattle.gt_types.specs.Paths.{AreSteps, PathFits, LeadsToNumber, IsOutermost}
+use Rattle.gt_types.specs.Contains.{ContainsStructure}
+use Rattle.gt_types.specs.Paths.{AreSteps, Inner, LeadsToNumber, IsOutermostBeside}
 use Rattle.gt_paths.specs.declared.options.Place.{Place}
 use Rattle.gt_paths.specs.declared.options.Place.TheVariants.{Own, Field, Root}
 use Rattle.gt_paths.specs.Numbers.{numbered}
@@ -14,14 +15,14 @@ abbrev pub AllLead : Program → List ℕ → List (List ℕ) → Type 0
 AllLead program starts steps = All (λ start. LeadsToNumber program (numbered start) steps) starts
 
 -- the structures that are outermost for one, and no others
-pub record AreStarts (program : Program) (node : TypeId) (starts : List ℕ) : Type 0 where
-  pub all : (outer : TypeId) → IsOutermost program node outer → Contains starts outer.0
-  pub only : (start : ℕ) → Contains starts start → IsOutermost program node (numbered start)
+pub record AreStarts (inner : Inner) (program : Program) (node : TypeId) (starts : List ℕ) : Type 0 where
+  pub all : (outer : TypeId) → IsOutermostBeside inner program node outer → Contains starts outer.0
+  pub only : (start : ℕ) → Contains starts start → IsOutermostBeside inner program node (numbered start)
 
 -- a path in an option of a structure
 abbrev pub OwnFits : Program → TypeId → List ℕ → Base → List (List ℕ) → Type 0
 OwnFits program node outermost Here steps = LeadsToNumber program node steps
-OwnFits program node outermost Outer steps = PathFits program node Outer steps
+OwnFits program node outermost Outer steps = (outer : TypeId) → ContainsStructure program outer node → LeadsToNumber program outer steps
 OwnFits program node outermost Outermost steps = AllLead program outermost steps
 
 -- a path in the `desc` of a field

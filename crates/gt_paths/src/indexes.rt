@@ -4,7 +4,7 @@ ghost use Rattle.gt_types.specs.declared.limits.TheConstants.{MAX_STRUCTURES, MA
 ghost use Rattle.gt_types.specs.declared.program.Structure.{Structure};
 ghost use Rattle.gt_fields.specs.FieldNames.{AreNamesOf};
 ghost use Rattle.gt_fields.specs.Places.{bind, place_in};
-ghost use Rattle.gt_paths.specs.Indexes.{IsIndexOf};
+ghost use Rattle.gt_paths.specs.Indexes.{IsIndexOf, IsIndexOn};
 ghost use Rattle.gt_paths.specs.Numbers.{mark_at, mark_in};
 
 use crate::commons::step_rows;
@@ -37,10 +37,24 @@ impl PathIndex {
         requires fields { All (λ s. length s.fields ≤ MAX_FIELDS) program.now.structures }
         ensures index { IfOk result (IsIndexOf program.now) }
     {
+        let inner = inner_marks(alloc, program)?;
+        PathIndex::with_inner(alloc, program, inner)
+    }
+
+    /// The index of a program, where these structures are inner. Its only error is out of memory.
+    pub fn with_inner(
+        alloc: Global,
+        program: &Program,
+        inner: List<bool>,
+    ) -> Result<PathIndex, AllocError>
+        requires few { length program.now.structures ≤ MAX_STRUCTURES }
+        requires fields { All (λ s. length s.fields ≤ MAX_FIELDS) program.now.structures }
+        ensures index { IfOk result (IsIndexOn program.now) }
+        ensures inner { IfOk result (λ index. index.inner ≡ inner) }
+    {
         let names = FieldNames::of(alloc, program.structures.as_slice())?;
         let distinct = are_distinct(program, &names);
         let containers = Containers::of_program(alloc, program)?;
-        let inner = inner_marks(alloc, program)?;
         let plain = plain_marks(alloc, program, &containers)?;
         let steps = step_rows(alloc, program, &plain)?;
         Ok(PathIndex {

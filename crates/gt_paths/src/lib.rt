@@ -19,5 +19,5 @@ mod structures;
 
 pub use indexes::PathIndex;
 pub use options::{is_field_desc, is_option, is_root_count, is_root_desc};
-pub use standing::{is_bare_union, is_inner, may_stand, names_sortable};
+pub use standing::{is_bare_union, is_inner, may_stand, may_stand_beside, names_sortable};
 pub use steps::leads_to_own_pointer;

@@ -2,9 +2,9 @@
 ghost use Rattle.std.specs.Prelude.{◌≡◌, IfOk, All, filter, not};
 ghost use Rattle.std.specs.Bool.{Decides};
 ghost use Rattle.gt_types.specs.declared.expressions.Base.TheVariants.{Here, Outermost};
-ghost use Rattle.gt_types.specs.Paths.{AreSteps, IsFieldDesc, IsOption, IsRootCount, IsRootDesc, LeadsToNumber, Way, paths_of};
+ghost use Rattle.gt_types.specs.Paths.{AreSteps, IsFieldDescBeside, IsOptionBeside, IsRootCount, IsRootDesc, LeadsToNumber, Way, paths_of};
 ghost use Rattle.gt_paths.specs.Numbers.{mark_at};
-ghost use Rattle.gt_paths.specs.Indexes.{IsIndexOf};
+ghost use Rattle.gt_paths.specs.Indexes.{IsIndexOn, inner_in};
 ghost use Rattle.gt_paths.specs.Places.{AllLead, AreStarts, DescFits, OwnFits, PathAt};
 ghost use Rattle.gt_paths.specs.Steps.{NamesBase};
 
@@ -27,7 +27,7 @@ fn are_steps(steps: &[Word]) -> bool
 
 // Whether a path leads to a number from each of these structures.
 fn all_lead(program: &Program, index: &PathIndex, starts: &[u32], steps: &[Word]) -> bool
-    requires index { IsIndexOf program.now index.now }
+    requires index { IsIndexOn program.now index.now }
     ensures { Decides result (AllLead program.now starts.now steps.now) }
 {
     for start in starts {
@@ -47,8 +47,8 @@ fn outermost_of(
     index: &PathIndex,
     node: TypeId,
 ) -> Result<Vec<u32>, AllocError>
-    requires index { IsIndexOf program.now index.now }
-    ensures starts { IfOk result (λ starts. AreStarts program.now node starts.items) }
+    requires index { IsIndexOn program.now index.now }
+    ensures starts { IfOk result (λ starts. AreStarts (inner_in index.now) program.now node starts.items) }
 {
     let mut from = IndexSet::new(alloc);
     from.insert(node.0)?;
@@ -77,8 +77,8 @@ fn starts_for(
     node: TypeId,
     e: &Expr,
 ) -> Result<Vec<u32>, AllocError>
-    requires index { IsIndexOf program.now index.now }
-    ensures starts { IfOk result (λ starts. NamesBase Outermost e.now → AreStarts program.now node starts.items) }
+    requires index { IsIndexOn program.now index.now }
+    ensures starts { IfOk result (λ starts. NamesBase Outermost e.now → AreStarts (inner_in index.now) program.now node starts.items) }
 {
     if names_base(e, Base::Outermost) {
         outermost_of(alloc, program, index, node)
@@ -108,7 +108,7 @@ fn own_path_fits(
     base: Base,
     steps: &[Word],
 ) -> bool
-    requires index { IsIndexOf program.now index.now }
+    requires index { IsIndexOn program.now index.now }
     ensures { Decides result (OwnFits program.now node outermost.now base steps.now) }
 {
     match base {
@@ -127,7 +127,7 @@ fn desc_path_fits(
     base: Base,
     steps: &[Word],
 ) -> bool
-    requires index { IsIndexOf program.now index.now }
+    requires index { IsIndexOn program.now index.now }
     ensures { Decides result (DescFits program.now node union outermost.now base steps.now) }
 {
     match base {
@@ -144,7 +144,7 @@ fn root_path_fits(
     base: Base,
     steps: &[Word],
 ) -> bool
-    requires index { IsIndexOf program.now index.now }
+    requires index { IsIndexOn program.now index.now }
     ensures { Decides result ((base ≡ Here) × LeadsToNumber program.now union steps.now) }
 {
     if base != Base::Here {
@@ -161,7 +161,7 @@ fn fits(
     base: Base,
     steps: &[Word],
 ) -> bool
-    requires index { IsIndexOf program.now index.now }
+    requires index { IsIndexOn program.now index.now }
     ensures { Decides result (PathAt program.now place outermost.now base steps.now) }
 {
     match place {
@@ -188,7 +188,7 @@ fn all_paths_fit(
     outermost: &[u32],
     e: &Expr,
 ) -> bool
-    requires index { IsIndexOf program.now index.now }
+    requires index { IsIndexOn program.now index.now }
     ensures { Decides result (All (λ (path : Way). PathAt program.now place outermost.now path.0 path.1) (paths_of e.now)) }
 {
     match e {
@@ -217,8 +217,8 @@ fn all_paths_fit(
 
 // ---- the expressions of options
 
-/// Whether an expression is good as the length of a field of a structure, or as the `desc` of a union itself. Its only
-/// error is out of memory.
+/// Whether an expression is good as the length of a field of a structure, or as the `desc` of a union itself, where the
+/// structures are inner that the index has marked. Its only error is out of memory.
 pub fn is_option(
     alloc: Global,
     program: &Program,
@@ -226,8 +226,8 @@ pub fn is_option(
     node: TypeId,
     e: &Expr,
 ) -> Result<bool, AllocError>
-    requires index { IsIndexOf program.now index.now }
-    ensures decides { IfOk result (λ r. Decides r (IsOption program.now node e.now)) }
+    requires index { IsIndexOn program.now index.now }
+    ensures decides { IfOk result (λ r. Decides r (IsOptionBeside (inner_in index.now) program.now node e.now)) }
 {
     if !has_operators(e) {
         return Ok(false);
@@ -239,8 +239,8 @@ pub fn is_option(
     Ok(all_paths_fit(program, index, Place::Own(node), &outermost, e))
 }
 
-/// Whether an expression is good as the `desc` of a field of a structure that holds a union. Its only error is out
-/// of memory.
+/// Whether an expression is good as the `desc` of a field of a structure that holds a union, where the structures are inner
+/// that the index has marked. Its only error is out of memory.
 pub fn is_field_desc(
     alloc: Global,
     program: &Program,
@@ -249,8 +249,8 @@ pub fn is_field_desc(
     union: TypeId,
     e: &Expr,
 ) -> Result<bool, AllocError>
-    requires index { IsIndexOf program.now index.now }
-    ensures decides { IfOk result (λ r. Decides r (IsFieldDesc program.now node union e.now)) }
+    requires index { IsIndexOn program.now index.now }
+    ensures decides { IfOk result (λ r. Decides r (IsFieldDescBeside (inner_in index.now) program.now node union e.now)) }
 {
     if !has_operators(e) {
         return Ok(false);
@@ -277,7 +277,7 @@ pub fn is_root_count(program: &Program, e: &Expr) -> bool
 
 /// Whether an expression is good as the `desc` of a root that holds a union.
 pub fn is_root_desc(program: &Program, index: &PathIndex, union: TypeId, e: &Expr) -> bool
-    requires index { IsIndexOf program.now index.now }
+    requires index { IsIndexOn program.now index.now }
     ensures decides { Decides result (IsRootDesc program.now union e.now) }
 {
     if !has_operators(e) {

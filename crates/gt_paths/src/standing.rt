@@ -3,21 +3,20 @@ ghost use Rattle.std.specs.Prelude.{◌≡◌, true, None, Some, IsTrue, IsSome}
 ghost use Rattle.std.specs.Bool.{Decides};
 ghost use Rattle.gt_types.specs.declared.program.Structure.{Structure};
 ghost use Rattle.gt_types.specs.Contains.{HasStructure};
-ghost use Rattle.gt_types.specs.Paths.{IsInner, MayStand};
+ghost use Rattle.gt_types.specs.Paths.{MayStand, MayStandBeside};
 ghost use Rattle.gt_types.specs.Settled.{EndsInPointers, NamesSortable};
 ghost use Rattle.gt_types.specs.Shapes.{is_plain_pointer};
 ghost use Rattle.gt_types.specs.Tails.{tail_of};
 ghost use Rattle.gt_types.specs.declared.types.Ty.{Ty};
-ghost use Rattle.gt_paths.specs.Indexes.{IsIndexOf};
+ghost use Rattle.gt_paths.specs.Indexes.{IsIndexOf, IsIndexOn, inner_in};
 
 use crate::indexes::PathIndex;
 use crate::structures::{is_plain_pointer, structure_of, tail_of};
 use gt_types::{Program, PtrKind, Structure, Target, Ty, TypeId};
 
-/// Whether an expression of a structure names the structure that contains it.
-pub fn is_inner(program: &Program, index: &PathIndex, node: TypeId) -> bool
-    requires index { IsIndexOf program.now index.now }
-    ensures decides { Decides result (IsInner program.now node) }
+/// Whether the index has marked a structure as inner.
+pub fn is_inner(index: &PathIndex, node: TypeId) -> bool
+    ensures decides { Decides result (inner_in index.now node) }
 {
     index.is_inner(node)
 }
@@ -34,9 +33,16 @@ pub fn may_stand(program: &Program, index: &PathIndex, node: TypeId) -> bool
     requires index { IsIndexOf program.now index.now }
     ensures decides { Decides result (MayStand program.now node) }
 {
+    may_stand_beside(program, index, node)
+}
+
+/// The same, where the structures are inner that the index has marked.
+pub fn may_stand_beside(program: &Program, index: &PathIndex, node: TypeId) -> bool
+    ensures decides { Decides result (MayStandBeside (inner_in index.now) program.now node) }
+{
     match structure_of(program, node) {
         Some(s) => {
-            if is_inner(program, index, node) {
+            if is_inner(index, node) {
                 return false;
             }
             is_described(s)

@@ -3,7 +3,7 @@ ghost use Rattle.std.specs.Prelude.{◌≡◌, MatchOption};
 ghost use Rattle.std.specs.Bool.{Decides};
 ghost use Rattle.gt_types.specs.declared.types.Ty.{Ty};
 ghost use Rattle.gt_types.specs.Paths.{LeadsToNumber, LeadsToOwnPointer};
-ghost use Rattle.gt_paths.specs.Indexes.{IsIndexOf};
+ghost use Rattle.gt_paths.specs.Indexes.{IsIndexOn};
 ghost use Rattle.gt_paths.specs.Steps.{GoesOn, GoesOnNamed, LeadsToPointer, NamedGoesOn, PlaceGoesOn, PointerGoesOn, PointsTo, StepsAt};
 
 use crate::indexes::PathIndex;
@@ -17,7 +17,7 @@ fn field_to<'a>(
     node: TypeId,
     place: usize,
 ) -> Option<&'a Ty>
-    requires index { IsIndexOf program.now index.now }
+    requires index { IsIndexOn program.now index.now }
     ensures step { MatchOption result ((type : Ty) → ¬ StepsAt program.now node place type) (λ ty. StepsAt program.now node place ty.now) }
 {
     let s = structure_of(program, node)?;
@@ -34,7 +34,7 @@ fn field_to<'a>(
 /// Whether a path leads from a structure to a number or a bit-field.
 #[cycle(leads)]
 pub fn leads_to_number(program: &Program, index: &PathIndex, node: TypeId, steps: &[Word]) -> bool
-    requires index { IsIndexOf program.now index.now }
+    requires index { IsIndexOn program.now index.now }
     ensures decides { Decides result (LeadsToNumber program.now node steps.now) }
 {
     match steps {
@@ -60,7 +60,7 @@ fn some_field_leads(
     step: &Word,
     rest: &[Word],
 ) -> bool
-    requires index { IsIndexOf program.now index.now }
+    requires index { IsIndexOn program.now index.now }
     ensures decides { Decides result (NamedGoesOn program.now node step.now rest.now) }
 {
     let Some(s) = structure_of(program, node) else {
@@ -85,7 +85,7 @@ fn field_leads(
     place: usize,
     f: &Field,
 ) -> bool
-    requires index { IsIndexOf program.now index.now }
+    requires index { IsIndexOn program.now index.now }
     ensures decides { Decides result (GoesOnNamed program.now node step.now rest.now place f.now) }
 {
     if !is_named(f, step) {
@@ -109,7 +109,7 @@ fn place_leads(
     rest: &[Word],
     place: usize,
 ) -> bool
-    requires index { IsIndexOf program.now index.now }
+    requires index { IsIndexOn program.now index.now }
     ensures decides { Decides result (PlaceGoesOn program.now node rest.now place) }
 {
     match field_to(program, index, node, place) {
@@ -121,7 +121,7 @@ fn place_leads(
 // Whether the rest of a path leads to a number from a field of this type.
 #[cycle(leads)]
 fn goes_on(program: &Program, index: &PathIndex, ty: &Ty, rest: &[Word]) -> bool
-    requires index { IsIndexOf program.now index.now }
+    requires index { IsIndexOn program.now index.now }
     ensures decides { Decides result (GoesOn program.now rest.now ty.now) }
 {
     if rest.is_empty() {
@@ -142,7 +142,7 @@ pub fn leads_to_own_pointer(
     node: TypeId,
     places: &[u32],
 ) -> bool
-    requires index { IsIndexOf program.now index.now }
+    requires index { IsIndexOn program.now index.now }
     ensures decides { Decides result (LeadsToOwnPointer program.now node places.now) }
 {
     leads_to_pointer(program, index, node, node, places)
@@ -157,7 +157,7 @@ fn leads_to_pointer(
     node: TypeId,
     places: &[u32],
 ) -> bool
-    requires index { IsIndexOf program.now index.now }
+    requires index { IsIndexOn program.now index.now }
     ensures decides { Decides result (LeadsToPointer program.now own node places.now) }
 {
     match places {
@@ -172,7 +172,7 @@ fn leads_to_pointer(
 // Whether the rest of a path leads from a field of this type to such a pointer.
 #[cycle(chain)]
 fn pointer_goes_on(program: &Program, index: &PathIndex, own: TypeId, ty: &Ty, rest: &[u32]) -> bool
-    requires index { IsIndexOf program.now index.now }
+    requires index { IsIndexOn program.now index.now }
     ensures decides { Decides result (PointerGoesOn program.now own rest.now ty.now) }
 {
     if rest.is_empty() {

@@ -1,3 +1,4 @@
+pub mod InnerLemmas
 pub mod FirstLemmas
 pub mod PartLemmas
 pub mod MadeLemmas

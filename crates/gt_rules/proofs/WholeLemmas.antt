@@ -52,7 +52,7 @@ said draft program g f has is = subst (HasProgramFault draft program) (sym is) h
 
 module _ (draft : Draft) (program : Program) where
   field_type : (id : TypeId) (ds : DraftStructure) (df : DraftField) (f : Field) (g : Fault) → IsFieldAt draft program id ds df f
-      → TypeFaults program df.options df.ty f.ty ds.file df.name.at g → HasProgramFault draft program g
+      → TypeFaults draft program df.options df.ty f.ty ds.file df.name.at g → HasProgramFault draft program g
   field_type id ds df f g at (inl (inl lacks, is)) = said draft program g _ (field_without_desc at lacks) is
   field_type id ds df f g at (inl (inr bare, is)) = said draft program g _ (field_to_bare_union at bare) is
   field_type id ds df f g at (inr (inner, is)) = said draft program g _ (field_to_inner at inner) is
@@ -74,7 +74,7 @@ module _ (draft : Draft) (program : Program) where
   structure_has id ds s g drafted made (inr (inr (place, df, drafted_field, (f, made_field, faults)))) =
       field_has id ds df f g (record { structure = drafted; s = s; there = made; place = place; drafted = drafted_field; made = made_field }) faults
 
-  root_type : (dr : DraftRoot) (r : Root) (g : Fault) → IsRootAt draft program dr r → TypeFaults program dr.options dr.ty r.ty dr.file dr.name.at g → HasProgramFault draft program g
+  root_type : (dr : DraftRoot) (r : Root) (g : Fault) → IsRootAt draft program dr r → TypeFaults draft program dr.options dr.ty r.ty dr.file dr.name.at g → HasProgramFault draft program g
   root_type dr r g at (inl (inl lacks, is)) = said draft program g _ (root_without_desc at lacks) is
   root_type dr r g at (inl (inr bare, is)) = said draft program g _ (root_to_bare_union at bare) is
   root_type dr r g at (inr (inner, is)) = said draft program g _ (root_to_inner at inner) is

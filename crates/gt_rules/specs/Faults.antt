@@ -11,7 +11,7 @@ use Rattle.gt_types.specs.declared.program.Root.{Root}
 use Rattle.gt_types.specs.declared.program.Program.{Program}
 use Rattle.gt_types.specs.Shapes.{innermost}
 use Rattle.gt_types.specs.Contains.{HasStructure, held_by}
-use Rattle.gt_types.specs.Paths.{IsInner, MayStand, LeadsToOwnPointer, IsOption, IsFieldDesc, IsRootCount, IsRootDesc}
+use Rattle.gt_types.specs.Paths.{MayStandBeside, LeadsToOwnPointer, IsOptionBeside, IsFieldDescBeside, IsRootCount, IsRootDesc}
 use Rattle.gt_types.specs.Settled.{EndsInPointers, NamesSortable}
 use Rattle.gt_expr.specs.declared.raw.RawExpr.{RawExpr}
 use Rattle.gt_items.specs.declared.items.Parameter.{Parameter}
@@ -36,6 +36,7 @@ use Rattle.gt_markers.specs.Expressions.{Names, constants, constants_and_roots, 
 use Rattle.gt_declare.specs.Programs.{IsMadeOf, chain_kind, path_places, key_type, pointed}
 use Rattle.gt_markers.specs.MarkerFaults.{draft_faults}
 use Rattle.gt_markers.specs.Typing.{node}
+use Rattle.gt_rules.specs.Inner.{IsDeclaredInner}
 
 -- ---- by the program
 
@@ -63,8 +64,8 @@ abbrev pub NamesBareUnion : Program → List RawOption → DeclaredType → Type
 NamesBareUnion program options t = (id : ℕ) × (names_node options t ≡ Some id) × IsBareUnion program (node id)
 
 -- what is named is an inner structure, which may not stand alone
-abbrev pub NamesInner : Program → List RawOption → DeclaredType → Type 0
-NamesInner program options t = (id : ℕ) × (names_node options t ≡ Some id) × IsInner program (node id)
+abbrev pub NamesInner : Draft → List RawOption → DeclaredType → Type 0
+NamesInner draft options t = (id : ℕ) × (names_node options t ≡ Some id) × IsDeclaredInner draft (node id)
 
 -- the parameter is an expression whose names all stand for something, and with what they stand for it is good
 pub record IsGood (names : Names) (good : Expr → Type 0) (parameter : Parameter) : Type 0 where
@@ -109,9 +110,9 @@ abbrev pub plain_node : List RawOption → DeclaredType → Option TypeId
 plain_node options t = if is_plain options t then pointed t.resolved.base t.resolved.stars else None
 
 -- a key or a value points to a structure that may stand alone
-abbrev pub StandsAlone : Program → Option TypeId → Type 0
-StandsAlone program (Some id) = MayStand program id
-StandsAlone program None = ⊥
+abbrev pub StandsAlone : Draft → Program → Option TypeId → Type 0
+StandsAlone draft program (Some id) = MayStandBeside (IsDeclaredInner draft) program id
+StandsAlone draft program None = ⊥
 
 abbrev pub fault : (number file at : ℕ) → Fault
 fault number file at = record { number = number; file = file; at = at }
@@ -124,26 +125,26 @@ pub data HasProgramFault (draft : Draft) (program : Program) : Fault → Type 0 
   field_to_bare_union : {id : TypeId} {ds : DraftStructure} {df : DraftField} {f : Field} → IsFieldAt draft program id ds df f
       → NamesBareUnion program df.options df.ty → HasProgramFault draft program (fault MISSING_DESC ds.file df.name.at)
   field_to_inner : {id : TypeId} {ds : DraftStructure} {df : DraftField} {f : Field} → IsFieldAt draft program id ds df f
-      → NamesInner program df.options df.ty → HasProgramFault draft program (fault BAD_PATH ds.file df.name.at)
+      → NamesInner draft df.options df.ty → HasProgramFault draft program (fault BAD_PATH ds.file df.name.at)
   root_without_desc : {dr : DraftRoot} {r : Root} → IsRootAt draft program dr r
       → LacksDesc program (innermost r.ty) → HasProgramFault draft program (fault MISSING_DESC dr.file dr.name.at)
   root_to_bare_union : {dr : DraftRoot} {r : Root} → IsRootAt draft program dr r
       → NamesBareUnion program dr.options dr.ty → HasProgramFault draft program (fault MISSING_DESC dr.file dr.name.at)
   root_to_inner : {dr : DraftRoot} {r : Root} → IsRootAt draft program dr r
-      → NamesInner program dr.options dr.ty → HasProgramFault draft program (fault BAD_PATH dr.file dr.name.at)
-  root_of_inner : {dr : DraftRoot} {r : Root} {id : TypeId} → IsRootAt draft program dr r → held_by r.ty ≡ Some id → IsInner program id
+      → NamesInner draft dr.options dr.ty → HasProgramFault draft program (fault BAD_PATH dr.file dr.name.at)
+  root_of_inner : {dr : DraftRoot} {r : Root} {id : TypeId} → IsRootAt draft program dr r → held_by r.ty ≡ Some id → IsDeclaredInner draft id
       → HasProgramFault draft program (fault BAD_PATH dr.file dr.name.at)
   -- At the option: an expression that leads to nothing. On a root `skip` passes over nothing, so what stands beside it counts by the
   -- declaration.
   field_length : {id : TypeId} {ds : DraftStructure} {df : DraftField} {f : Field} {o : RawOption} → IsFieldAt draft program id ds df f
-      → IsLengthOption df.options o → ¬ IsGood (constants draft) (IsOption program id) o.parameter
+      → IsLengthOption df.options o → ¬ IsGood (constants draft) (IsOptionBeside (IsDeclaredInner draft) program id) o.parameter
       → HasProgramFault draft program (fault BAD_PATH ds.file o.name.at)
   field_desc : {id union : TypeId} {ds : DraftStructure} {df : DraftField} {f : Field} {o : RawOption} → IsFieldAt draft program id ds df f
       → IsReadOption df.options (codes "desc") o → held_by f.ty ≡ Some union
-      → ¬ IsGood (constants draft) (IsFieldDesc program id union) o.parameter
+      → ¬ IsGood (constants draft) (IsFieldDescBeside (IsDeclaredInner draft) program id union) o.parameter
       → HasProgramFault draft program (fault BAD_PATH ds.file o.name.at)
   union_desc : {id : TypeId} {ds : DraftStructure} {o : RawOption} → slice_get draft.structures id.0 ≡ Some ds → ds.is_union ≡ true
-      → option_named (codes "desc") ds.options ≡ Some o → ¬ IsGood (constants draft) (IsOption program id) o.parameter
+      → option_named (codes "desc") ds.options ≡ Some o → ¬ IsGood (constants draft) (IsOptionBeside (IsDeclaredInner draft) program id) o.parameter
       → HasProgramFault draft program (fault BAD_PATH ds.file o.name.at)
   root_length : {dr : DraftRoot} {r : Root} {o : RawOption} → IsRootAt draft program dr r → option_named (codes "length") dr.options ≡ Some o
       → ¬ IsGood (constants_and_roots draft) (IsRootCount program) o.parameter → HasProgramFault draft program (fault BAD_PATH dr.file o.name.at)
@@ -161,7 +162,7 @@ pub data HasProgramFault (draft : Draft) (program : Program) : Fault → Type 0 
       → ((path : List ℕ) → path_places program.structures id o.parameter ≡ Some path → ¬ LeadsToOwnPointer program id path)
       → HasProgramFault draft program (fault CHAIN_NOT_OWN_POINTER ds.file o.name.at)
   -- at the cache's name: a key or a value that may not stand alone
-  cache_shape : {c : DraftCache} → Contains draft.caches c → ¬ (StandsAlone program (key_type c.key) × StandsAlone program (key_type c.value))
+  cache_shape : {c : DraftCache} → Contains draft.caches c → ¬ (StandsAlone draft program (key_type c.key) × StandsAlone draft program (key_type c.value))
       → HasProgramFault draft program (fault CACHE_SHAPE c.file c.name.at)
 
 -- the faults of a draft of which this program is made

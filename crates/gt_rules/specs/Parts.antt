@@ -1,5 +1,6 @@
 -- No promise: the faults that only the program tells, part by part, and the first of them so far.
 use Rattle.std.specs.Prelude.{◌≡◌, ◌⊎◌, ◌&&◌, ℕ, Bool, true, false, if◌then◌else◌, codes, IsTrue, List, Option, Some, None, IsSome, slice_get}
+use Rattle.std.specs.Bool.{Decides}
 use Rattle.gt_types.specs.declared.expressions.Expr.{Expr}
 use Rattle.gt_types.specs.declared.faults.Fault.{Fault}
 use Rattle.gt_types.specs.declared.types.Ty.{Ty}
@@ -10,7 +11,7 @@ use Rattle.gt_types.specs.declared.program.Root.{Root}
 use Rattle.gt_types.specs.declared.program.Program.{Program}
 use Rattle.gt_types.specs.Shapes.{innermost}
 use Rattle.gt_types.specs.Contains.{held_by}
-use Rattle.gt_types.specs.Paths.{IsInner, LeadsToOwnPointer, IsOption, IsFieldDesc, IsRootCount, IsRootDesc}
+use Rattle.gt_types.specs.Paths.{LeadsToOwnPointer, IsOptionBeside, IsFieldDescBeside, IsRootCount, IsRootDesc}
 use Rattle.gt_types.specs.Settled.{EndsInPointers, NamesSortable}
 use Rattle.gt_items.specs.declared.items.Parameter.{Parameter}
 use Rattle.gt_items.specs.declared.items.RawOption.{RawOption}
@@ -29,9 +30,20 @@ use Rattle.gt_markers.specs.NameScopes.{names_of}
 use Rattle.gt_markers.specs.Options.{kind_of, option_named}
 use Rattle.gt_markers.specs.Typing.{node}
 use Rattle.gt_declare.specs.Programs.{chain_kind, path_places, key_type}
+use Rattle.gt_paths.specs.declared.indexes.PathIndex.{PathIndex}
+use Rattle.gt_paths.specs.Indexes.{IsIndexOn}
+use Rattle.gt_paths.specs.Numbers.{mark_at}
 use Rattle.gt_rules.specs.declared.purposes.Purpose.{Purpose}
 use Rattle.gt_rules.specs.declared.purposes.Purpose.TheVariants.{Own, FieldDesc, RootCount, RootDesc}
+use Rattle.gt_rules.specs.Inner.{IsDeclaredInner}
 use Rattle.gt_rules.specs.Faults.{IsBareUnion, IsGood, LacksDesc, NamesBareUnion, NamesInner, StandsAlone, fault, held_node, plain_node}
+
+-- ---- what is looked up
+
+-- an index of a program in which those structures are inner that a draft declares so
+pub record IsIndexFor (draft : Draft) (program : Program) (index : PathIndex) : Type 0 where
+  pub on : IsIndexOn program index
+  pub inner : (id : TypeId) → Decides (mark_at index.inner id.0) (IsDeclaredInner draft id)
 
 -- ---- the first so far
 
@@ -75,15 +87,15 @@ scope_of RootCount = Roots
 scope_of (RootDesc held) = Roots
 
 -- which expressions are good
-abbrev pub Fits : Program → Purpose → Expr → Type 0
-Fits program (Own structure) = IsOption program structure
-Fits program (FieldDesc structure held) = IsFieldDesc program structure held
-Fits program RootCount = IsRootCount program
-Fits program (RootDesc held) = IsRootDesc program held
+abbrev pub Fits : Draft → Program → Purpose → Expr → Type 0
+Fits draft program (Own structure) = IsOptionBeside (IsDeclaredInner draft) program structure
+Fits draft program (FieldDesc structure held) = IsFieldDescBeside (IsDeclaredInner draft) program structure held
+Fits draft program RootCount = IsRootCount program
+Fits draft program (RootDesc held) = IsRootDesc program held
 
 -- a parameter is good for a purpose
 abbrev pub Serves : Draft → Program → Purpose → Parameter → Type 0
-Serves draft program purpose parameter = IsGood (names_of (scope_of purpose) draft) (Fits program purpose) parameter
+Serves draft program purpose parameter = IsGood (names_of (scope_of purpose) draft) (Fits draft program purpose) parameter
 
 -- the option of a name that is read, where it is not good for a purpose
 abbrev pub ExpressionFault : Draft → Program → Purpose → (of_field : Bool) → List RawOption → List ℕ → ℕ → Fault → Type 0
@@ -107,10 +119,10 @@ abbrev pub LacksItsDesc : Program → Option TypeId → Ty → Type 0
 LacksItsDesc program named type = LacksDesc program (innermost type) ⊎ Names named (IsBareUnion program)
 
 -- at a name: a union without `desc`, a pointer to an inner structure
-abbrev pub TypeFaults : Program → List RawOption → DeclaredType → Ty → (file at : ℕ) → Fault → Type 0
-TypeFaults program options t type file at =
+abbrev pub TypeFaults : Draft → Program → List RawOption → DeclaredType → Ty → (file at : ℕ) → Fault → Type 0
+TypeFaults draft program options t type file at =
     Either (FaultIf (LacksDesc program (innermost type) ⊎ NamesBareUnion program options t) MISSING_DESC file at)
-    (FaultIf (NamesInner program options t) BAD_PATH file at)
+    (FaultIf (NamesInner draft options t) BAD_PATH file at)
 
 -- the faults of what a type holds by value, where it holds a structure
 abbrev pub OfHeld : Option TypeId → (TypeId → Fault → Type 0) → Fault → Type 0
@@ -133,7 +145,7 @@ RootReorderFault program options t file = OfHeld (plain_node options t) (RootReo
 -- the faults of a field of these options and this type, at its name or at an option
 abbrev pub FieldFaultsBy : Draft → Program → TypeId → (file at : ℕ) → DeclaredType → Ty → List RawOption → Fault → Type 0
 FieldFaultsBy draft program structure file at t type options =
-    Either (TypeFaults program options t type file at)
+    Either (TypeFaults draft program options t type file at)
     (Either (ExpressionFault draft program (Own structure) true options (codes "length") file)
     (Either (ExpressionFault draft program (Own structure) true options (codes "string_length") file)
     (Either (FieldDescFault draft program structure true options type file) (ReorderFault program options type file))))
@@ -178,14 +190,14 @@ abbrev pub StructuresFaults : Draft → Program → Fault → Type 0
 StructuresFaults draft program = Each draft.structures (λ k ds. AtPlace program.structures k (λ s. StructureFaults draft program (node k) ds s))
 
 -- a root of an inner type
-abbrev pub HoldsInner : Program → Ty → Type 0
-HoldsInner program type = Names (held_by type) (IsInner program)
+abbrev pub HoldsInner : Draft → Ty → Type 0
+HoldsInner draft type = Names (held_by type) (IsDeclaredInner draft)
 
 -- the faults of a root of these options and this type, at its name or at an option
 abbrev pub RootFaultsBy : Draft → Program → (file at : ℕ) → DeclaredType → Ty → List RawOption → Fault → Type 0
 RootFaultsBy draft program file at t type options =
-    Either (TypeFaults program options t type file at)
-    (Either (FaultIf (HoldsInner program type) BAD_PATH file at)
+    Either (TypeFaults draft program options t type file at)
+    (Either (FaultIf (HoldsInner draft type) BAD_PATH file at)
     (Either (ExpressionFault draft program RootCount false options (codes "length") file)
     (Either (RootDescFault draft program false options t file) (RootReorderFault program options t file))))
 
@@ -198,12 +210,12 @@ abbrev pub RootsFaults : Draft → Program → Fault → Type 0
 RootsFaults draft program = Each draft.roots (λ k dr. AtPlace program.roots k (λ r. RootFaults draft program dr r))
 
 -- a cache with a key or a value that may not stand alone
-abbrev pub CacheFault : Program → DraftCache → Fault → Type 0
-CacheFault program c = FaultIf (¬ (StandsAlone program (key_type c.key) × StandsAlone program (key_type c.value))) CACHE_SHAPE c.file c.name.at
+abbrev pub CacheFault : Draft → Program → DraftCache → Fault → Type 0
+CacheFault draft program c = FaultIf (¬ (StandsAlone draft program (key_type c.key) × StandsAlone draft program (key_type c.value))) CACHE_SHAPE c.file c.name.at
 
 -- the faults of all caches
 abbrev pub CachesFaults : Draft → Program → Fault → Type 0
-CachesFaults draft program = Each draft.caches (λ k c. CacheFault program c)
+CachesFaults draft program = Each draft.caches (λ k c. CacheFault draft program c)
 
 -- all of them
 abbrev pub ProgramFaults : Draft → Program → Fault → Type 0

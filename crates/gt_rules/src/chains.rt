@@ -4,8 +4,7 @@ ghost use Rattle.std.specs.Bool.{Decides};
 ghost use Rattle.gt_fields.specs.FieldNames.{AreNamesOf};
 ghost use Rattle.gt_markers.specs.Options.{kind_of};
 ghost use Rattle.gt_declare.specs.Programs.{chain_kind};
-ghost use Rattle.gt_paths.specs.Indexes.{IsIndexOf};
-ghost use Rattle.gt_rules.specs.Parts.{IsFirstWith, ChainFault, ChainsFaults, LeadsBack};
+ghost use Rattle.gt_rules.specs.Parts.{IsIndexFor, IsFirstWith, ChainFault, ChainsFaults, LeadsBack};
 
 use crate::known::Known;
 use gt_declare::path_places;
@@ -27,7 +26,7 @@ fn is_chain(name: &Word) -> bool
 
 // Whether the path of a chain leads to a plain pointer to its own structure.
 fn leads_back(known: Known, structure: TypeId, parameter: &Parameter) -> Result<bool, AllocError>
-    requires index { IsIndexOf known.program.now known.index.now }
+    requires index { IsIndexFor known.draft.now known.program.now known.index.now }
     requires names { AreNamesOf known.program.now.structures known.names.now }
     ensures decides { IfOk result (λ r. Decides r (LeadsBack known.entry.program.now structure parameter.now)) }
 {
@@ -49,7 +48,7 @@ fn of_chain(
     file: u32,
     option: &RawOption,
 ) -> Result<Option<Fault>, AllocError>
-    requires index { IsIndexOf known.program.now known.index.now }
+    requires index { IsIndexFor known.draft.now known.program.now known.index.now }
     requires names { AreNamesOf known.program.now.structures known.names.now }
     ensures first { IfOk result (IsFirstWith earliest (ChainFault known.entry.program.now structure file option.now)) }
 {
@@ -74,7 +73,7 @@ pub fn of_chains(
     file: u32,
     options: &[RawOption],
 ) -> Result<Option<Fault>, AllocError>
-    requires index { IsIndexOf known.program.now known.index.now }
+    requires index { IsIndexFor known.draft.now known.program.now known.index.now }
     requires names { AreNamesOf known.program.now.structures known.names.now }
     ensures first { IfOk result (IsFirstWith earliest (ChainsFaults known.entry.program.now structure file options.now)) }
 {

@@ -2,9 +2,8 @@
 ghost use Rattle.std.specs.Prelude.{◌≡◌, IfOk, All, length};
 ghost use Rattle.std.specs.Bool.{Decides};
 ghost use Rattle.gt_markers.specs.Lookups.{IsLookupOf};
-ghost use Rattle.gt_paths.specs.Indexes.{IsIndexOf};
 ghost use Rattle.gt_typing.specs.SmallTypes.{HasSmallId};
-ghost use Rattle.gt_rules.specs.Parts.{IsFirstWith, FieldDescFault, FieldFaults, FieldsFaults, LacksItsDesc, TypeFaults};
+ghost use Rattle.gt_rules.specs.Parts.{IsIndexFor, IsFirstWith, FieldDescFault, FieldFaults, FieldsFaults, LacksItsDesc, TypeFaults};
 
 use crate::known::{Known, Options};
 use crate::names::{is_bare, is_named_inner, names_node};
@@ -35,9 +34,9 @@ pub fn of_type(
     declared: &DeclaredType,
     ty: &Ty,
 ) -> Option<Fault>
-    requires index { IsIndexOf known.program.now known.index.now }
+    requires index { IsIndexFor known.draft.now known.program.now known.index.now }
     requires small { HasSmallId declared.now.resolved.base }
-    ensures first { IsFirstWith earliest (TypeFaults known.entry.program.now options.entry.options.now declared.now ty.now options.entry.file at) result }
+    ensures first { IsFirstWith earliest (TypeFaults known.entry.draft.now known.entry.program.now options.entry.options.now declared.now ty.now options.entry.file at) result }
 {
     let named = names_node(options.options, declared);
     let undescribed = lacks_its_desc(known.program, named, ty);
@@ -55,7 +54,7 @@ fn of_desc(
     ty: &Ty,
 ) -> Result<Option<Fault>, AllocError>
     requires lookup { IsLookupOf known.draft.now known.lookup.now }
-    requires index { IsIndexOf known.program.now known.index.now }
+    requires index { IsIndexFor known.draft.now known.program.now known.index.now }
     ensures first { IfOk result (IsFirstWith earliest (FieldDescFault known.entry.draft.now known.entry.program.now structure options.entry.of_field options.entry.options.now ty.now options.entry.file)) }
 {
     match held_by(ty) {
@@ -77,7 +76,7 @@ fn of_field(
     made: &Field,
 ) -> Result<Option<Fault>, AllocError>
     requires lookup { IsLookupOf known.draft.now known.lookup.now }
-    requires index { IsIndexOf known.program.now known.index.now }
+    requires index { IsIndexFor known.draft.now known.program.now known.index.now }
     requires small { HasSmallId field.now.ty.resolved.base }
     ensures first { IfOk result (IsFirstWith earliest (FieldFaults known.entry.draft.now known.entry.program.now structure file field.now made.now)) }
 {
@@ -105,7 +104,7 @@ pub fn of_fields(
     made: &[Field],
 ) -> Result<Option<Fault>, AllocError>
     requires lookup { IsLookupOf known.draft.now known.lookup.now }
-    requires index { IsIndexOf known.program.now known.index.now }
+    requires index { IsIndexFor known.draft.now known.program.now known.index.now }
     requires small { All (λ f. HasSmallId f.ty.resolved.base) fields.now }
     requires same { length fields.now ≡ length made.now }
     ensures first { IfOk result (IsFirstWith earliest (FieldsFaults known.entry.draft.now known.entry.program.now structure file fields.now made.now)) }

@@ -5,6 +5,7 @@
 mod caches;
 mod chains;
 mod fields;
+mod inner;
 mod known;
 mod names;
 mod options;

@@ -1,13 +1,12 @@
 // What pointers name by their declarations.
 ghost use Rattle.std.specs.Prelude.{◌≡◌, option_map};
 ghost use Rattle.std.specs.Bool.{Decides};
-ghost use Rattle.gt_types.specs.Paths.{IsInner};
 ghost use Rattle.gt_markers.specs.Typing.{node};
 ghost use Rattle.gt_typing.specs.SmallTypes.{HasSmallId};
-ghost use Rattle.gt_paths.specs.Indexes.{IsIndexOf};
 ghost use Rattle.gt_declare.specs.Programs.{pointed};
+ghost use Rattle.gt_rules.specs.Inner.{IsDeclaredInner};
 ghost use Rattle.gt_rules.specs.Faults.{IsBareUnion, held_node, is_plain, named_by, names_node, plain_node};
-ghost use Rattle.gt_rules.specs.Parts.{Names};
+ghost use Rattle.gt_rules.specs.Parts.{IsIndexFor, Names};
 
 use crate::known::Known;
 use gt_drafts::{BaseType, DeclaredType};
@@ -92,13 +91,21 @@ pub fn is_bare(program: &Program, named: Option<TypeId>) -> bool
     }
 }
 
+// Whether a structure is declared inner.
+fn is_declared_inner(known: Known, id: TypeId) -> bool
+    requires index { IsIndexFor known.draft.now known.program.now known.index.now }
+    ensures decides { Decides result (IsDeclaredInner known.entry.draft.now id) }
+{
+    is_inner(known.index, id)
+}
+
 /// Whether what is named is an inner structure.
 pub fn is_named_inner(known: Known, named: Option<TypeId>) -> bool
-    requires index { IsIndexOf known.program.now known.index.now }
-    ensures decides { Decides result (Names named (IsInner known.entry.program.now)) }
+    requires index { IsIndexFor known.draft.now known.program.now known.index.now }
+    ensures decides { Decides result (Names named (IsDeclaredInner known.entry.draft.now)) }
 {
     match named {
         None => false,
-        Some(id) => is_inner(known.program, known.index, id),
+        Some(id) => is_declared_inner(known, id),
     }
 }

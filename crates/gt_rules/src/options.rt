@@ -6,8 +6,7 @@ ghost use Rattle.std.specs.Char.{is_ascii};
 ghost use Rattle.std.specs.Bool.{Decides};
 ghost use Rattle.gt_types.specs.Settled.{EndsInPointers};
 ghost use Rattle.gt_markers.specs.Lookups.{IsLookupOf};
-ghost use Rattle.gt_paths.specs.Indexes.{IsIndexOf};
-ghost use Rattle.gt_rules.specs.Parts.{IsFirstWith, ExpressionFault, ReorderFault, RootReorderFaultOf, read_option};
+ghost use Rattle.gt_rules.specs.Parts.{IsIndexFor, IsFirstWith, ExpressionFault, ReorderFault, RootReorderFaultOf, read_option};
 
 use crate::known::{Known, Options};
 use crate::purposes::{Purpose, serves};
@@ -38,7 +37,7 @@ pub fn of_expression(
 ) -> Result<Option<Fault>, AllocError>
     requires ascii { IsTrue (list_all is_ascii name.now) }
     requires lookup { IsLookupOf known.draft.now known.lookup.now }
-    requires index { IsIndexOf known.program.now known.index.now }
+    requires index { IsIndexFor known.draft.now known.program.now known.index.now }
     ensures first { IfOk result (IsFirstWith earliest (ExpressionFault known.entry.draft.now known.entry.program.now purpose options.entry.of_field options.entry.options.now name.now options.entry.file)) }
 {
     let Some(option) = read_option(options.of_field, options.options, name) else {

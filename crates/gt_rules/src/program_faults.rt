@@ -6,6 +6,7 @@ ghost use Rattle.gt_declare.specs.Programs.{IsMadeOf};
 ghost use Rattle.gt_rules.specs.Firsts.{IsFirstProgramFault};
 
 use crate::caches::of_caches;
+use crate::inner::declared_inner;
 use crate::known::Known;
 use crate::roots::of_roots;
 use crate::structures::of_structures;
@@ -30,7 +31,8 @@ pub fn first_program_fault(
     requires made { IsMadeOf draft.now program.now }
     ensures first { IfOk result (IsFirstProgramFault draft.now program.now) }
 {
-    let index = PathIndex::new(alloc, program)?;
+    let inner = declared_inner(alloc, draft)?;
+    let index = PathIndex::with_inner(alloc, program, inner)?;
     let names = FieldNames::of(alloc, program.structures.as_slice())?;
     let known = Known {
         alloc,

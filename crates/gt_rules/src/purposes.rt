@@ -2,8 +2,7 @@
 ghost use Rattle.std.specs.Prelude.{◌≡◌, IfOk};
 ghost use Rattle.std.specs.Bool.{Decides};
 ghost use Rattle.gt_markers.specs.Lookups.{IsLookupOf};
-ghost use Rattle.gt_paths.specs.Indexes.{IsIndexOf};
-ghost use Rattle.gt_rules.specs.Parts.{scope_of, Fits, Serves};
+ghost use Rattle.gt_rules.specs.Parts.{IsIndexFor, scope_of, Fits, Serves};
 
 use crate::known::Known;
 use gt_items::Parameter;
@@ -39,8 +38,8 @@ impl Purpose {
 
 // Whether an expression is good for a purpose.
 fn fits(known: Known, purpose: Purpose, e: &Expr) -> Result<bool, AllocError>
-    requires index { IsIndexOf known.program.now known.index.now }
-    ensures decides { IfOk result (λ r. Decides r (Fits known.entry.program.now purpose e.now)) }
+    requires index { IsIndexFor known.draft.now known.program.now known.index.now }
+    ensures decides { IfOk result (λ r. Decides r (Fits known.entry.draft.now known.entry.program.now purpose e.now)) }
 {
     match purpose {
         Purpose::Own(structure) => {
@@ -58,7 +57,7 @@ fn fits(known: Known, purpose: Purpose, e: &Expr) -> Result<bool, AllocError>
 /// memory alone.
 pub fn serves(known: Known, purpose: Purpose, parameter: &Parameter) -> Result<bool, AllocError>
     requires lookup { IsLookupOf known.draft.now known.lookup.now }
-    requires index { IsIndexOf known.program.now known.index.now }
+    requires index { IsIndexFor known.draft.now known.program.now known.index.now }
     ensures decides { IfOk result (λ r. Decides r (Serves known.entry.draft.now known.entry.program.now purpose parameter.now)) }
 {
     let Parameter::Expression(raw) = parameter else {

@@ -5,8 +5,7 @@ ghost use Rattle.gt_markers.specs.Lookups.{IsLookupOf};
 ghost use Rattle.gt_markers.specs.Sound.{IsSound};
 ghost use Rattle.gt_declare.specs.Programs.{IsMadeOf};
 ghost use Rattle.gt_typing.specs.SmallTypes.{HasSmallId};
-ghost use Rattle.gt_paths.specs.Indexes.{IsIndexOf};
-ghost use Rattle.gt_rules.specs.Parts.{IsFirstWith, HoldsInner, RootDescFault, RootFaults, RootReorderFault, RootsFaults};
+ghost use Rattle.gt_rules.specs.Parts.{IsIndexFor, IsFirstWith, HoldsInner, RootDescFault, RootFaults, RootReorderFault, RootsFaults};
 
 use crate::fields::of_type;
 use crate::known::{Known, Options};
@@ -21,8 +20,8 @@ use std::alloc::AllocError;
 
 // Whether a type holds an inner structure by value.
 fn holds_inner(known: Known, ty: &Ty) -> bool
-    requires index { IsIndexOf known.program.now known.index.now }
-    ensures decides { Decides result (HoldsInner known.entry.program.now ty.now) }
+    requires index { IsIndexFor known.draft.now known.program.now known.index.now }
+    ensures decides { Decides result (HoldsInner known.entry.draft.now ty.now) }
 {
     is_named_inner(known, held_by(ty))
 }
@@ -35,7 +34,7 @@ fn of_desc(
     declared: &DeclaredType,
 ) -> Result<Option<Fault>, AllocError>
     requires lookup { IsLookupOf known.draft.now known.lookup.now }
-    requires index { IsIndexOf known.program.now known.index.now }
+    requires index { IsIndexFor known.draft.now known.program.now known.index.now }
     requires small { HasSmallId declared.now.resolved.base }
     ensures first { IfOk result (IsFirstWith earliest (RootDescFault known.entry.draft.now known.entry.program.now options.entry.of_field options.entry.options.now declared.now options.entry.file)) }
 {
@@ -69,7 +68,7 @@ fn of_root(
     made: &Root,
 ) -> Result<Option<Fault>, AllocError>
     requires lookup { IsLookupOf known.draft.now known.lookup.now }
-    requires index { IsIndexOf known.program.now known.index.now }
+    requires index { IsIndexFor known.draft.now known.program.now known.index.now }
     requires small { HasSmallId root.now.ty.resolved.base }
     ensures first { IfOk result (IsFirstWith earliest (RootFaults known.entry.draft.now known.entry.program.now root.now made.now)) }
 {
@@ -93,7 +92,7 @@ pub fn of_roots(earliest: Option<Fault>, known: Known) -> Result<Option<Fault>, 
     requires sound { IsSound known.draft.now }
     requires made { IsMadeOf known.draft.now known.program.now }
     requires lookup { IsLookupOf known.draft.now known.lookup.now }
-    requires index { IsIndexOf known.program.now known.index.now }
+    requires index { IsIndexFor known.draft.now known.program.now known.index.now }
     ensures first { IfOk result (IsFirstWith earliest (RootsFaults known.entry.draft.now known.entry.program.now)) }
 {
     let roots = known.draft.roots.as_slice();

@@ -5,8 +5,7 @@ ghost use Rattle.gt_markers.specs.Lookups.{IsLookupOf};
 ghost use Rattle.gt_markers.specs.Sound.{IsSound};
 ghost use Rattle.gt_declare.specs.Programs.{IsMadeOf};
 ghost use Rattle.gt_typing.specs.SmallTypes.{HasSmallId};
-ghost use Rattle.gt_paths.specs.Indexes.{IsIndexOf};
-ghost use Rattle.gt_rules.specs.Parts.{IsFirstWith, StructureFaults, StructuresFaults, UnionDescFault};
+ghost use Rattle.gt_rules.specs.Parts.{IsIndexFor, IsFirstWith, StructureFaults, StructuresFaults, UnionDescFault};
 
 use crate::chains::of_chains;
 use crate::fields::of_fields;
@@ -25,7 +24,7 @@ fn of_union_desc(
     drafted: &DraftStructure,
 ) -> Result<Option<Fault>, AllocError>
     requires lookup { IsLookupOf known.draft.now known.lookup.now }
-    requires index { IsIndexOf known.program.now known.index.now }
+    requires index { IsIndexFor known.draft.now known.program.now known.index.now }
     ensures first { IfOk result (IsFirstWith earliest (UnionDescFault known.entry.draft.now known.entry.program.now structure drafted.now)) }
 {
     if !drafted.is_union {
@@ -47,7 +46,7 @@ fn of_structure(
     made: &Structure,
 ) -> Result<Option<Fault>, AllocError>
     requires lookup { IsLookupOf known.draft.now known.lookup.now }
-    requires index { IsIndexOf known.program.now known.index.now }
+    requires index { IsIndexFor known.draft.now known.program.now known.index.now }
     requires names { AreNamesOf known.program.now.structures known.names.now }
     requires small { All (λ f. HasSmallId f.ty.resolved.base) drafted.now.fields }
     requires same { length drafted.now.fields ≡ length made.now.fields }
@@ -73,7 +72,7 @@ pub fn of_structures(earliest: Option<Fault>, known: Known) -> Result<Option<Fau
     requires sound { IsSound known.draft.now }
     requires made { IsMadeOf known.draft.now known.program.now }
     requires lookup { IsLookupOf known.draft.now known.lookup.now }
-    requires index { IsIndexOf known.program.now known.index.now }
+    requires index { IsIndexFor known.draft.now known.program.now known.index.now }
     requires names { AreNamesOf known.program.now.structures known.names.now }
     ensures first { IfOk result (IsFirstWith earliest (StructuresFaults known.entry.draft.now known.entry.program.now)) }
 {

@@ -24,7 +24,6 @@ use Rattle.gt_markers.specs.declared.kinds.OptionKind.{OptionKind}
 use Rattle.gt_markers.specs.declared.kinds.OptionKind.TheVariants.{Skip, Length, Desc, Tag, Default, Cache, Deletable, MaybeUndef, ChainNext, ChainPrev, ChainCircular, Atomic, StringLength, VariableSize, ForUser, Reorder}
 use Rattle.gt_markers.specs.Options.{kind_of, known_options}
 use Rattle.gt_markers.specs.Sites.{at_structure, is_tag}
-use Rattle.gt_markers.specs.Typing.{node}
 use Rattle.gt_declare.specs.Programs.{all_unchained, chain_kind, chain_of, own_path, path_places, places_on, program_by, structure_in, unchained}
 use Rattle.gt_rules.specs.Faults.{HasProgramFault, chain, fault}
 use Rattle.gt_settled.proofs.Stable.{Stable}
@@ -85,7 +84,7 @@ is_chain name c e =
     record { kind = by.0; known = by.1; gives = sym (ap chain_kind by.1) ∙ e; not_tag = by.2 }
 
 -- the name of an option
-abbrev name_of : OptionKind → List ℕ
+abbrev pub name_of : OptionKind → List ℕ
 name_of Skip = codes "skip"
 name_of Length = codes "length"
 name_of Desc = codes "desc"
@@ -117,7 +116,7 @@ find_agree : (name : List ℕ) (k : OptionKind) (table : List (List ℕ × Optio
 find_agree name k [] agree e = absurd (none-some k e)
 find_agree name k (p ∷ ps) agree e = agree_by name k p ps (bytes_eq name p.0) refl agree.0 e (find_agree name k ps agree.1)
 
-kind_name : (name : List ℕ) (k : OptionKind) → kind_of name ≡ Some k → name ≡ name_of k
+pub kind_name : (name : List ℕ) (k : OptionKind) → kind_of name ≡ Some k → name ≡ name_of k
 kind_name name k e =
     find_agree name k known_options
     (refl, (refl, (refl, (refl, (refl, (refl, (refl, (refl, (refl, (refl, (refl, (refl, (refl, (refl, (refl, (refl, tt)))))))))))))))) e

@@ -17,7 +17,7 @@ use Rattle.gt_types.specs.Names.{IsName}
 use Rattle.gt_types.specs.Shapes.{is_number, is_plain_pointer}
 use Rattle.gt_types.specs.Contains.{HasStructure}
 use Rattle.gt_types.specs.Tails.{tail_of}
-use Rattle.gt_types.specs.Paths.{Way, paths_of, roots_of, IsInner, MayStand, LeadsToNumber, PathFits, DescPathFits, AreSteps, IsScalarRoot, IsOption, IsFieldDesc, IsRootCount, IsRootDesc}
+use Rattle.gt_types.specs.Paths.{Way, paths_of, roots_of, Inner, MayStandBeside, LeadsToNumber, PathFitsBeside, DescPathFitsBeside, AreSteps, IsScalarRoot, IsOptionBeside, IsFieldDescBeside, IsRootCount, IsRootDesc}
 use Rattle.gt_types.specs.Settled.{EndsInPointers, NamesSortable}
 use Rattle.gt_settled.proofs.Stable.{Stable, same_bool, is_true, not_stable, there, some_stable, all, no_items}
 
@@ -36,30 +36,30 @@ base_stable Outermost nn = absurd (nn (λ e. cc))
 
 -- where paths are stable
 module _ (program : Program) (number : (node : TypeId) (steps : List (List ℕ)) → Stable (LeadsToNumber program node steps)) where
-  path_stable : (node : TypeId) (base : Base) (steps : List (List ℕ)) → Stable (PathFits program node base steps)
-  path_stable node Here steps nn = number node steps nn
-  path_stable node Outer steps nn = λ outer contains. number outer steps (λ no. nn (λ fits. no (fits outer contains)))
-  path_stable node Outermost steps nn = λ outer is. number outer steps (λ no. nn (λ fits. no (fits outer is)))
+  path_stable : (inner : Inner) (node : TypeId) (base : Base) (steps : List (List ℕ)) → Stable (PathFitsBeside inner program node base steps)
+  path_stable inner node Here steps nn = number node steps nn
+  path_stable inner node Outer steps nn = λ outer contains. number outer steps (λ no. nn (λ fits. no (fits outer contains)))
+  path_stable inner node Outermost steps nn = λ outer is. number outer steps (λ no. nn (λ fits. no (fits outer is)))
 
-  desc_path_stable : (node union : TypeId) (base : Base) (steps : List (List ℕ)) → Stable (DescPathFits program node union base steps)
-  desc_path_stable node union Here steps nn = number union steps nn
-  desc_path_stable node union Outer steps nn = number node steps nn
-  desc_path_stable node union Outermost steps nn = path_stable node Outermost steps nn
+  desc_path_stable : (inner : Inner) (node union : TypeId) (base : Base) (steps : List (List ℕ)) → Stable (DescPathFitsBeside inner program node union base steps)
+  desc_path_stable inner node union Here steps nn = number union steps nn
+  desc_path_stable inner node union Outer steps nn = number node steps nn
+  desc_path_stable inner node union Outermost steps nn = path_stable inner node Outermost steps nn
 
-  pub option_stable : (node : TypeId) (e : Expr) → Stable (IsOption program node e)
-  option_stable node e nn = record {
+  pub option_stable : (inner : Inner) (node : TypeId) (e : Expr) → Stable (IsOptionBeside inner program node e)
+  option_stable inner node e nn = record {
     operators = is_true _ (λ no. nn (λ is. no is.operators));
     no_roots = no_items (roots_of e) (λ no. nn (λ is. no is.no_roots));
     steps = all (λ (path : Way). AreSteps path.1) (paths_of e) (λ path. steps_stable path.1) (λ no. nn (λ is. no is.steps));
-    paths = all (λ (path : Way). PathFits program node path.0 path.1) (paths_of e) (λ path. path_stable node path.0 path.1) (λ no. nn (λ is. no is.paths));
+    paths = all (λ (path : Way). PathFitsBeside inner program node path.0 path.1) (paths_of e) (λ path. path_stable inner node path.0 path.1) (λ no. nn (λ is. no is.paths));
   }
 
-  pub field_desc_stable : (node union : TypeId) (e : Expr) → Stable (IsFieldDesc program node union e)
-  field_desc_stable node union e nn = record {
+  pub field_desc_stable : (inner : Inner) (node union : TypeId) (e : Expr) → Stable (IsFieldDescBeside inner program node union e)
+  field_desc_stable inner node union e nn = record {
     operators = is_true _ (λ no. nn (λ is. no is.operators));
     no_roots = no_items (roots_of e) (λ no. nn (λ is. no is.no_roots));
     steps = all (λ (path : Way). AreSteps path.1) (paths_of e) (λ path. steps_stable path.1) (λ no. nn (λ is. no is.steps));
-    paths = all (λ (path : Way). DescPathFits program node union path.0 path.1) (paths_of e) (λ path. desc_path_stable node union path.0 path.1) (λ no. nn (λ is. no is.paths));
+    paths = all (λ (path : Way). DescPathFitsBeside inner program node union path.0 path.1) (paths_of e) (λ path. desc_path_stable inner node union path.0 path.1) (λ no. nn (λ is. no is.paths));
   }
 
   scalar_stable : (i : ℕ) → Stable (IsScalarRoot program i)
@@ -82,17 +82,17 @@ module _ (program : Program) (number : (node : TypeId) (steps : List (List ℕ))
 
 -- ---- structures
 
-stand_by : (program : Program) (node : TypeId) (o : Option Structure) → slice_get program.structures node.0 ≡ o → Stable (MayStand program node)
-stand_by program node None e nn = absurd (nn (λ (s, there, outer, desc). none-some s (sym e ∙ there)))
-stand_by program node (Some t) e nn = (
+stand_by : (inner : Inner) (program : Program) (node : TypeId) (o : Option Structure) → slice_get program.structures node.0 ≡ o → Stable (MayStandBeside inner program node)
+stand_by inner program node None e nn = absurd (nn (λ (s, there, outer, desc). none-some s (sym e ∙ there)))
+stand_by inner program node (Some t) e nn = (
   t,
   e,
-  not_stable (IsInner program node) (λ no. nn (λ (s, there, outer, desc). no outer)),
+  not_stable (inner node) (λ no. nn (λ (s, there, outer, desc). no outer)),
   λ union. some_stable t.desc (λ no. nn (λ (s, there, outer, desc). no (subst (λ (u : Structure). u.is_union ≡ true → IsSome u.desc) (same_Some s t (sym there ∙ e)) desc union))),
 )
 
-pub stand_stable : (program : Program) (node : TypeId) → Stable (MayStand program node)
-stand_stable program node = stand_by program node (slice_get program.structures node.0) refl
+pub stand_stable : (inner : Inner) (program : Program) (node : TypeId) → Stable (MayStandBeside inner program node)
+stand_stable inner program node = stand_by inner program node (slice_get program.structures node.0) refl
 
 -- ---- what is sorted in an image
 

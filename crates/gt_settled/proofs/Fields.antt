@@ -11,7 +11,7 @@ use Rattle.gt_types.specs.declared.program.Structure.{Structure}
 use Rattle.gt_types.specs.declared.program.Program.{Program}
 use Rattle.gt_types.specs.Shapes.{count_of, field_type_at, innermost, is_field_type}
 use Rattle.gt_types.specs.Contains.{HasStructure, ContainsStructure, held_by, itself}
-use Rattle.gt_types.specs.Paths.{LeadsToNumber, IsOption, IsFieldDesc}
+use Rattle.gt_types.specs.Paths.{IsInner, LeadsToNumber, IsOption, IsOptionBeside, IsFieldDesc, IsFieldDescBeside}
 use Rattle.gt_types.specs.Settled.{NamesFit, NamesStanding, NamesSortable, NamesDescribed}
 use Rattle.gt_items.specs.declared.items.RawOption.{RawOption}
 use Rattle.gt_layout.specs.declared.planes.Plane.{Plane}
@@ -30,6 +30,8 @@ use Rattle.gt_markers.specs.Sound.{IsSoundField, NamesStructure}
 use Rattle.gt_markers.specs.Typing.{desc_at, expression_named, node, of_elements, opaque_type, own_desc, says}
 use Rattle.gt_declare.specs.Programs.{field_of, program_by}
 use Rattle.gt_rules.specs.Faults.{HasProgramFault, IsFieldAt, LacksDesc, NamesBareUnion, NamesInner, fault, field_without_desc, field_to_bare_union, field_to_inner, field_length, field_desc, field_reorder, union_desc}
+use Rattle.gt_rules.specs.Inner.{IsDeclaredInner}
+use Rattle.gt_rules.proofs.InnerLemmas.{Agree, desc_same, option_same}
 use Rattle.gt_settled.proofs.Stable.{Stable}
 use Rattle.gt_settled.proofs.Drafts.{FieldFine}
 use Rattle.gt_settled.proofs.Expressions.{option_stable, field_desc_stable, sortable_stable}
@@ -42,15 +44,16 @@ use Rattle.gt_settled.proofs.Shape.{bits_shape, walked_field}
 use Rattle.gt_settled.proofs.Types.{OfField, field_view, opaque, skipped_bits, skipped_number, walked}
 
 -- a union's own `desc` is good
-pub own_good : (draft : Draft) (program : Program) → ((f : Fault) → ¬ HasProgramFault draft program f) → ((node : TypeId) (steps : List (List ℕ)) → Stable (LeadsToNumber program node steps))
+pub own_good : (draft : Draft) (program : Program) → Agree (IsDeclaredInner draft) (IsInner program) → ((f : Fault) → ¬ HasProgramFault draft program f) → ((node : TypeId) (steps : List (List ℕ)) → Stable (LeadsToNumber program node steps))
     → (id : TypeId) (ds : DraftStructure) (e : Expr) → slice_get draft.structures id.0 ≡ Some ds → ds.is_union ≡ true → own_desc draft ds ≡ Some e → IsOption program id e
-own_good draft program faultless number id ds e at union is =
-    good_named (constants draft) (IsOption program id) (option_stable program number id) (codes "desc") ds.options
+own_good draft program agree faultless number id ds e at union is =
+    option_same (IsDeclaredInner draft) (IsInner program) agree program id e
+    (good_named (constants draft) (IsOptionBeside (IsDeclaredInner draft) program id) (option_stable program number (IsDeclaredInner draft) id) (codes "desc") ds.options
     (λ o named bad. faultless (fault BAD_PATH ds.file o.name.at) (union_desc at union named bad)) e
-    (subst (λ (b : Bool). (if b then expression_named (constants draft) (codes "desc") ds.options else None) ≡ Some e) union is)
+    (subst (λ (b : Bool). (if b then expression_named (constants draft) (codes "desc") ds.options else None) ≡ Some e) union is))
 
-module _ (draft : Draft) (planes : List Plane) (program : Program) (is : program ≡ program_by draft planes) (faultless : (f : Fault) → ¬ HasProgramFault draft program f)
-    (number : (node : TypeId) (steps : List (List ℕ)) → Stable (LeadsToNumber program node steps)) where
+module _ (draft : Draft) (planes : List Plane) (program : Program) (is : program ≡ program_by draft planes) (agree : Agree (IsDeclaredInner draft) (IsInner program))
+    (faultless : (f : Fault) → ¬ HasProgramFault draft program f) (number : (node : TypeId) (steps : List (List ℕ)) → Stable (LeadsToNumber program node steps)) where
   module _ (id : TypeId) (ds : DraftStructure) (s : Structure) (k : ℕ) (df : DraftField) (last : Bool) (drafted : slice_get draft.structures id.0 ≡ Some ds) (there : HasStructure program id s)
       (at : slice_get ds.fields k ≡ Some df) (made : slice_get s.fields k ≡ Some (field_of draft planes ds.is_union df)) (sound : IsSoundField draft ds.is_union df)
       (fine : FieldFine draft ds last df) where
@@ -77,23 +80,26 @@ module _ (draft : Draft) (planes : List Plane) (program : Program) (is : program
     bare : ¬ NamesBareUnion program df.options df.ty
     bare names = faultless (fault MISSING_DESC ds.file df.name.at) (field_to_bare_union field_at names)
 
-    inner : ¬ NamesInner program df.options df.ty
+    inner : ¬ NamesInner draft df.options df.ty
     inner names = faultless (fault BAD_PATH ds.file df.name.at) (field_to_inner field_at names)
 
     lacks : ¬ LacksDesc program (innermost f.ty)
     lacks lack = faultless (fault MISSING_DESC ds.file df.name.at) (field_without_desc field_at lack)
 
     good_length : has_skip df.options ≡ false → (e : Expr) → o.length ≡ Some e → IsOption program id e
-    good_length skip = good_named (constants draft) (IsOption program id) (option_stable program number id) (codes "length") df.options
-        (λ o named bad. faultless (fault BAD_PATH ds.file o.name.at) (field_length field_at (inl (skip, named)) bad))
+    good_length skip e said = option_same (IsDeclaredInner draft) (IsInner program) agree program id e
+        (good_named (constants draft) (IsOptionBeside (IsDeclaredInner draft) program id) (option_stable program number (IsDeclaredInner draft) id) (codes "length") df.options
+        (λ o named bad. faultless (fault BAD_PATH ds.file o.name.at) (field_length field_at (inl (skip, named)) bad)) e said)
 
     good_string : has_skip df.options ≡ false → (e : Expr) → o.string_length ≡ Some e → IsOption program id e
-    good_string skip = good_named (constants draft) (IsOption program id) (option_stable program number id) (codes "string_length") df.options
-        (λ o named bad. faultless (fault BAD_PATH ds.file o.name.at) (field_length field_at (inr (skip, named)) bad))
+    good_string skip e said = option_same (IsDeclaredInner draft) (IsInner program) agree program id e
+        (good_named (constants draft) (IsOptionBeside (IsDeclaredInner draft) program id) (option_stable program number (IsDeclaredInner draft) id) (codes "string_length") df.options
+        (λ o named bad. faultless (fault BAD_PATH ds.file o.name.at) (field_length field_at (inr (skip, named)) bad)) e said)
 
     good_desc : has_skip df.options ≡ false → (union : TypeId) → held_by f.ty ≡ Some union → (e : Expr) → o.desc ≡ Some e → IsFieldDesc program id union e
-    good_desc skip union held = good_named (constants draft) (IsFieldDesc program id union) (field_desc_stable program number id union) (codes "desc") df.options
-        (λ o named bad. faultless (fault BAD_PATH ds.file o.name.at) (field_desc field_at (skip, named) held bad))
+    good_desc skip union held e said = desc_same (IsDeclaredInner draft) (IsInner program) agree program id union e
+        (good_named (constants draft) (IsFieldDescBeside (IsDeclaredInner draft) program id union) (field_desc_stable program number (IsDeclaredInner draft) id union) (codes "desc") df.options
+        (λ o named bad. faultless (fault BAD_PATH ds.file o.name.at) (field_desc field_at (skip, named) held bad)) e said)
 
     good_reorder : has_skip df.options ≡ false → (b : Option RawOption) → option_named (codes "reorder") df.options ≡ b → has_option (codes "reorder") df.options ≡ true → NamesSortable program f.ty
     good_reorder skip None named has = let never : true ≡ false = sym has ∙ has_is (codes "reorder") df.options ∙ ap is_some named in absurd (cc)
@@ -114,8 +120,8 @@ module _ (draft : Draft) (planes : List Plane) (program : Program) (is : program
 
     standing_by : (type : Ty) → OfField draft planes (constants draft) df.options df.ty type → NamesStanding program (innermost type)
     standing_by type (walked skip w) = of_inner draft o df.ty (NamesStanding program) type w (λ s n. tt)
-        (λ elem e function single. standing draft o df.ty program (stands draft planes program is df.options df.ty skip function sound.type.there bare inner) single)
-        (λ elem e function single. standing draft (of_elements o) df.ty program (stands draft planes program is df.options df.ty skip function sound.type.there bare inner) single)
+        (λ elem e function single. standing draft o df.ty program (stands draft planes program is df.options df.ty skip function sound.type.there agree bare inner) single)
+        (λ elem e function single. standing draft (of_elements o) df.ty program (stands draft planes program is df.options df.ty skip function sound.type.there agree bare inner) single)
     standing_by type (skipped_number {s = s} skip) = subst (NamesStanding program) (sym (inner-num s)) tt
     standing_by type (skipped_bits {s = s} {n = n} skip some most) = subst (NamesStanding program) (sym (inner-bits s n)) tt
     standing_by type (opaque skip) = subst (NamesStanding program) (sym (inner-opaque _ _)) tt
@@ -138,7 +144,7 @@ module _ (draft : Draft) (planes : List Plane) (program : Program) (is : program
     own_desc_good union u e held at_union kind desc =
         let from = structure_drafted draft planes program is union.0 u at_union in
         desc_of_field program id union e (contains union held)
-        (own_good draft program faultless number union from.0 e from.1.drafted (sym (ap (λ (t : Structure). t.is_union) from.1.same) ∙ kind) (sym (ap (λ (t : Structure). t.desc) from.1.same) ∙ desc))
+        (own_good draft program agree faultless number union from.0 e from.1.drafted (sym (ap (λ (t : Structure). t.is_union) from.1.same) ∙ kind) (sym (ap (λ (t : Structure). t.desc) from.1.same) ∙ desc))
 
     described_of : has_skip df.options ≡ false → (given : Option Expr) → given ≡ o.desc → (id' : ℕ) → df.ty.resolved.base ≡ base.Structure id' → innermost f.ty ≡ ty.Node (node id') (desc_at draft id' given)
         → NamesDescribed program Good (ty.Node (node id') (desc_at draft id' given))

@@ -11,7 +11,7 @@ use Rattle.gt_types.specs.declared.types.Ty.TheVariants as ty
 use Rattle.gt_types.specs.declared.program.Structure.{Structure}
 use Rattle.gt_types.specs.declared.program.Program.{Program}
 use Rattle.gt_types.specs.Contains.{HasStructure, ContainsStructure, Nests, once, deeper}
-use Rattle.gt_types.specs.Paths.{MayStand, IsOutermost, PathFits, DescPathFits, IsOption, IsFieldDesc}
+use Rattle.gt_types.specs.Paths.{IsInner, MayStand, IsOutermost, PathFits, DescPathFits, IsOption, IsFieldDesc}
 use Rattle.gt_types.specs.Settled.{HasDesc, NamesDescribed}
 use Rattle.gt_expr.specs.declared.raw.RawExpr.{RawExpr}
 use Rattle.gt_items.specs.declared.items.Parameter.{Parameter}
@@ -33,6 +33,8 @@ use Rattle.gt_markers.specs.Sound.{NamesStructure}
 use Rattle.gt_markers.specs.Typing.{desc_at, expression_named, first_some, node, own_desc, used_desc}
 use Rattle.gt_declare.specs.Programs.{program_by}
 use Rattle.gt_rules.specs.Faults.{IsGood, LacksDesc, NamesBareUnion, NamesInner, named_by, names_node}
+use Rattle.gt_rules.specs.Inner.{IsDeclaredInner}
+use Rattle.gt_rules.proofs.InnerLemmas.{Agree}
 use Rattle.gt_settled.proofs.Stable.{Stable}
 use Rattle.gt_settled.proofs.Made.{structure_at}
 
@@ -90,7 +92,7 @@ present (x ∷ xs) k within = (get_or (x ∷ xs) k x, slice_get-get_or (x ∷ xs
 module _ (draft : Draft) (planes : List Plane) (program : Program) (is : program ≡ program_by draft planes) where
   -- where a pointer names neither a union without `desc` nor an inner structure
   module _ (options : List RawOption) (t : DeclaredType) (skip : has_skip options ≡ false) (function : t.is_function ≡ false) (there : NamesStructure draft t.resolved.base)
-      (bare : ¬ NamesBareUnion program options t) (inner : ¬ NamesInner program options t) where
+      (agree : Agree (IsDeclaredInner draft) (IsInner program)) (bare : ¬ NamesBareUnion program options t) (inner : ¬ NamesInner draft options t) where
     named : (id : ℕ) (stars : Stars) → t.resolved.base ≡ base.Structure id → t.resolved.stars ≡ stars → is_zero stars ≡ false → ¬ (stars ≡ More) → names_node options t ≡ Some id
     named id stars b s some few = names_by ∙ by_stars stars some few
       where
@@ -113,7 +115,7 @@ module _ (draft : Draft) (planes : List Plane) (program : Program) (is : program
         let name = named id stars b s some few in (
           made.0,
           made.1,
-          λ is_inner. inner (id, name, is_inner),
+          λ is_inner. inner (id, name, (agree (node id)).1 is_inner),
           λ union. has_desc made.0.desc (λ none. bare (id, name, (made.0, made.1, union, none))),
         )
       where

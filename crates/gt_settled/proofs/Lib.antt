@@ -7,6 +7,9 @@ mod Lists
 mod Markers
 mod Shape
 mod Fits
+mod Counts
+mod Outer
+mod Inner
 mod Drafts
 mod Made
 mod Inside

@@ -1,5 +1,5 @@
 -- What holds of the options of a marker that has no fault.
-use Rattle.std.proofs.Common.{◌≡◌, ◌≢◌, ◌∙◌, ℕ, Bool, true, false, not, ◌||◌, ◌&&◌, cond, List, [], ◌∷◌, ◌++◌, Option, Some, None, refl, sym, ap, subst, get_or}
+use Rattle.std.proofs.Common.{◌≡◌, ◌≢◌, ◌∙◌, ℕ, zero, suc, Bool, true, false, not, ◌||◌, ◌&&◌, cond, List, [], ◌∷◌, ◌++◌, Option, Some, None, refl, sym, ap, subst, get_or, arith}
 use Rattle.std.specs.Prelude.{All, AllPairs, Contains, if◌then◌else◌, is_some, is_none}
 use Rattle.std.specs.Option.{option_map_or}
 use Rattle.std.specs.List.{list_any}
@@ -16,9 +16,9 @@ use Rattle.gt_drafts.specs.Sameness.{same_bool}
 use Rattle.gt_markers.specs.declared.TheConstants.{UNKNOWN_OPTION}
 use Rattle.gt_markers.specs.declared.kinds.OptionKind.{OptionKind}
 use Rattle.gt_markers.specs.Expressions.{constant_value}
-use Rattle.gt_markers.specs.Options.{kind_of, needs_parameter, has_parameter, option_named}
+use Rattle.gt_markers.specs.Options.{kind_of, needs_parameter, has_parameter, exclude, option_named}
 use Rattle.gt_markers.specs.Sites.{Site, is_passed_over, is_tag, is_ill_formed, is_excluded, stands_among, may_stand, known_faults, option_faults, faults_after, marker_faults}
-use Rattle.gt_settled.proofs.Lists.{nil_front, nil_back, no_fault, is_not, in_head, in_tail, pairs_nil}
+use Rattle.gt_settled.proofs.Lists.{nil_front, nil_back, no_fault, is_not, in_head, in_tail, pairs_nil, pairs_head, pairs_tail}
 
 -- ---- options by name
 
@@ -44,8 +44,10 @@ has_is name (x ∷ xs) = has_by name x xs (bytes_eq x.name.word name) (has_is na
 
 -- ---- no faults
 
--- an option stands where it may, and a tag has a value
+-- an option is known, has a parameter where it needs one and no other, and stands where it may, and a tag has a value
 pub record IsFine (draft : Draft) (site : Site) (options : List RawOption) (o : RawOption) : Type 0 where
+  pub known : is_some (kind_of o.name.word) ≡ true
+  pub formed : (kind : OptionKind) → kind_of o.name.word ≡ Some kind → is_passed_over site options kind ≡ false → same_bool (needs_parameter kind) (has_parameter o.parameter) ≡ true
   pub stands : (kind : OptionKind) → kind_of o.name.word ≡ Some kind → is_passed_over site options kind ≡ false → may_stand draft.structures site options kind ≡ true
   pub valued : (kind : OptionKind) → kind_of o.name.word ≡ Some kind → is_passed_over site options kind ≡ false → is_tag kind ≡ true → is_none (constant_value draft o.parameter) ≡ false
 
@@ -53,6 +55,11 @@ pub record IsFine (draft : Draft) (site : Site) (options : List RawOption) (o : 
 abbrev pub AreTwo : Site → List RawOption → RawOption → RawOption → Type 0
 AreTwo site options a o =
     (kind : OptionKind) → kind_of o.name.word ≡ Some kind → is_passed_over site options kind ≡ false → is_tag kind ≡ false → a.name.word ≢ o.name.word
+
+-- an option may stand beside one before
+abbrev pub AreBeside : Site → List RawOption → RawOption → RawOption → Type 0
+AreBeside site options a o =
+    (kind : OptionKind) → kind_of o.name.word ≡ Some kind → is_passed_over site options kind ≡ false → option_map_or (exclude kind) (kind_of a.name.word) false ≡ false
 
 if_false : {X : Type 0} (b : Bool) (x y z : X) → b ≡ false → (if b then x else y) ≡ z → y ≡ z
 if_false true x y z e is = absurd (cc)
@@ -108,8 +115,15 @@ module _ (draft : Draft) (site : Site) (options : List RawOption) (file : ℕ) (
   by_kind kind e is passed =
       known kind (subst (λ (k : Option OptionKind). option_map_or (known_faults draft site options file before o) k (fault_if true UNKNOWN_OPTION file o.name.at) ≡ []) is e) passed
 
+  known_by : (kind : Option OptionKind) → option_map_or (known_faults draft site options file before o) kind (fault_if true UNKNOWN_OPTION file o.name.at) ≡ [] → is_some kind ≡ true
+  known_by None e = let never : true ≡ false = no_fault true UNKNOWN_OPTION file o.name.at e in absurd (cc)
+  known_by (Some kind) e = refl
+
   fine_one : option_faults draft site options file before o ≡ [] → IsFine draft site options o
   fine_one e = record {
+    known = known_by (kind_of o.name.word) e;
+    formed = λ kind is passed.
+        is_not _ (or_first _ _ (or_first (not (same_bool (needs_parameter kind) (has_parameter o.parameter)) || (not (is_tag kind) && stands_among before o)) (is_excluded before kind) (by_kind kind e is passed).formed));
     stands = λ kind is passed. (by_kind kind e is passed).stands;
     valued = λ kind is passed tag. both_true (is_tag kind) (is_none (constant_value draft o.parameter)) tag (by_kind kind e is passed).valued;
   }
@@ -122,6 +136,13 @@ module _ (draft : Draft) (site : Site) (options : List RawOption) (file : ℕ) (
       let never : false ≡ true = sym (any_none (λ (b : RawOption). bytes_eq b.name.word o.name.word) before among k d within) ∙ (bytes_eq-Decides _ o.name.word).1 same in
       cc
 
+  -- the options before exclude it not
+  besides : option_faults draft site options file before o ≡ [] → All (λ b. AreBeside site options b o) before
+  besides e k d within kind is passed =
+      let formed = (by_kind kind e is passed).formed in
+      let free = or_second (not (same_bool (needs_parameter kind) (has_parameter o.parameter)) || (not (is_tag kind) && stands_among before o)) (is_excluded before kind) formed in
+      any_none (λ (b : RawOption). option_map_or (exclude kind) (kind_of b.name.word) false) before free k d within
+
 module _ (draft : Draft) (site : Site) (options : List RawOption) (file : ℕ) where
   after_fine : (before os : List RawOption) → faults_after draft site options file before os ≡ [] → All (IsFine draft site options) os
   unfolding faults_after
@@ -131,24 +152,56 @@ module _ (draft : Draft) (site : Site) (options : List RawOption) (file : ℕ) w
       (fine_one draft site options file before o (nil_front (option_faults draft site options file before o) (faults_after draft site options file (before ++ o ∷ []) os) e))
       (after_fine (before ++ o ∷ []) os (nil_back (option_faults draft site options file before o) (faults_after draft site options file (before ++ o ∷ []) os) e))
 
-  abbrev R : RawOption → RawOption → Type 0
-  R = AreTwo site options
-
-  after_pairs : (before os : List RawOption) → faults_after draft site options file before os ≡ [] → AllPairs R os × All (λ b. All (R b) os) before
-  unfolding faults_after
-  after_pairs before [] e = (pairs_nil R, λ k d within. All-nil (R (get_or before k d)))
-  after_pairs before (o ∷ os) e =
-      let here = others draft site options file before o (nil_front (option_faults draft site options file before o) (faults_after draft site options file (before ++ o ∷ []) os) e) in
-      let rest = after_pairs (before ++ o ∷ []) os (nil_back (option_faults draft site options file before o) (faults_after draft site options file (before ++ o ∷ []) os) e) in (
-        AllPairs-cons R o os (all_last (λ b. All (R b) os) before o rest.1) rest.0,
-        λ k d within. All-cons (R (get_or before k d)) o os (here k d within) (all_front (λ b. All (R b) os) before o rest.1 k d within),
-      )
+  -- what holds of an option and each before it holds of each pair
+  module _ (R : RawOption → RawOption → Type 0) (each : (before : List RawOption) (o : RawOption) → option_faults draft site options file before o ≡ [] → All (λ b. R b o) before) where
+    after_pairs : (before os : List RawOption) → faults_after draft site options file before os ≡ [] → AllPairs R os × All (λ b. All (R b) os) before
+    unfolding faults_after
+    after_pairs before [] e = (pairs_nil R, λ k d within. All-nil (R (get_or before k d)))
+    after_pairs before (o ∷ os) e =
+        let here = each before o (nil_front (option_faults draft site options file before o) (faults_after draft site options file (before ++ o ∷ []) os) e) in
+        let rest = after_pairs (before ++ o ∷ []) os (nil_back (option_faults draft site options file before o) (faults_after draft site options file (before ++ o ∷ []) os) e) in (
+          AllPairs-cons R o os (all_last (λ b. All (R b) os) before o rest.1) rest.0,
+          λ k d within. All-cons (R (get_or before k d)) o os (here k d within) (all_front (λ b. All (R b) os) before o rest.1 k d within),
+        )
 
   pub marker_fine : marker_faults draft site file options ≡ [] → All (IsFine draft site options) options
   marker_fine e = after_fine [] options e
 
-  pub marker_pairs : marker_faults draft site file options ≡ [] → AllPairs R options
-  marker_pairs e = (after_pairs [] options e).0
+  pub marker_pairs : marker_faults draft site file options ≡ [] → AllPairs (AreTwo site options) options
+  marker_pairs e = (after_pairs (AreTwo site options) (others draft site options file) [] options e).0
+
+  pub marker_besides : marker_faults draft site file options ≡ [] → AllPairs (AreBeside site options) options
+  marker_besides e = (after_pairs (AreBeside site options) (besides draft site options file) [] options e).0
+
+-- ---- an option that stands once, and two that exclude each other
+
+-- of options that stand once, the one of a name is the one that is read
+pub only_one : (name : List ℕ) (xs : List RawOption) (x : RawOption) → AllPairs (λ a b. b.name.word ≡ name → a.name.word ≢ b.name.word) xs → Contains xs x → x.name.word ≡ name
+    → option_named name xs ≡ Some x
+only_one name [] x pairs (k, within, is) same = absurd (omega (arith, within))
+only_one name (y ∷ ys) x pairs (zero, within, is) same =
+    let here : bytes_eq y.name.word name ≡ true = (bytes_eq-Decides y.name.word name).1 (ap (λ (z : RawOption). z.name.word) is ∙ same) in
+    ap (λ (b : Bool). cond b (Some y) (option_named name ys)) here ∙ ap (λ (z : RawOption). Some z) is
+only_one name (y ∷ ys) x pairs (suc k, within, is) same =
+    let there : Contains ys x = (k, omega (arith, within), is) in
+    let other = All-contains (λ (b : RawOption). b.name.word ≡ name → y.name.word ≢ b.name.word) ys x (pairs_head (λ a b. b.name.word ≡ name → a.name.word ≢ b.name.word) y ys pairs) there in
+    let passed : bytes_eq y.name.word name ≡ false = is_no (bytes_eq y.name.word name) (λ e. other same ((bytes_eq-Decides y.name.word name).0 e ∙ sym same)) in
+    ap (λ (b : Bool). cond b (Some y) (option_named name ys)) passed ∙ only_one name ys x (pairs_tail (λ a b. b.name.word ≡ name → a.name.word ≢ b.name.word) y ys pairs) there same
+  where
+    is_no : (b : Bool) → ¬ (b ≡ true) → b ≡ false
+    is_no true never = absurd (never refl)
+    is_no false never = refl
+
+-- two options that are apart are not both among some of which each two are
+pub never_both : (P : RawOption → RawOption → Type 0) (xs : List RawOption) (a b : RawOption) → AllPairs P xs → ¬ P a b → ¬ P b a → a.name.word ≢ b.name.word → Contains xs a → Contains xs b → ⊥
+never_both P [] a b pairs one two other (k, within, is) there = omega (arith, within)
+never_both P (y ∷ ys) a b pairs one two other (zero, within, is) (zero, inside, at) = other (ap (λ (z : RawOption). z.name.word) (sym is ∙ at))
+never_both P (y ∷ ys) a b pairs one two other (zero, within, is) (suc j, inside, at) =
+    one (subst (λ (z : RawOption). P z b) is (All-contains (P y) ys b (pairs_head P y ys pairs) (j, omega (arith, inside), at)))
+never_both P (y ∷ ys) a b pairs one two other (suc k, within, is) (zero, inside, at) =
+    two (subst (λ (z : RawOption). P z a) at (All-contains (P y) ys a (pairs_head P y ys pairs) (k, omega (arith, within), is)))
+never_both P (y ∷ ys) a b pairs one two other (suc k, within, is) (suc j, inside, at) =
+    never_both P ys a b (pairs_tail P y ys pairs) one two other (k, omega (arith, within), is) (j, omega (arith, inside), at)
 
 -- an option that stands there, and is not passed over, may stand there
 pub stands_if : (draft : Draft) (site : Site) (options : List RawOption) (name : List ℕ) (kind : OptionKind) → All (IsFine draft site options) options → kind_of name ≡ Some kind

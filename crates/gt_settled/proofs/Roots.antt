@@ -11,7 +11,7 @@ use Rattle.gt_types.specs.declared.program.Root.{Root}
 use Rattle.gt_types.specs.declared.program.Program.{Program}
 use Rattle.gt_types.specs.Shapes.{innermost, is_pointer}
 use Rattle.gt_types.specs.Contains.{held_by, itself}
-use Rattle.gt_types.specs.Paths.{LeadsToNumber, IsRootCount, IsRootDesc}
+use Rattle.gt_types.specs.Paths.{IsInner, LeadsToNumber, IsRootCount, IsRootDesc}
 use Rattle.gt_types.specs.Settled.{EndsInPointers, NamesFit, NamesStanding, NamesSortable, NamesDescribed, IsDescOfRoot, IsRoot}
 use Rattle.gt_types.specs.Tails.{IsTailType}
 use Rattle.gt_items.specs.declared.items.RawOption.{RawOption}
@@ -38,6 +38,8 @@ use Rattle.gt_markers.specs.Typing.{desc_at, node, of_elements, says}
 use Rattle.gt_declare.specs.Programs.{pointed, program_by, root_of}
 use Rattle.gt_declare.proofs.FieldTypes.{field_part}
 use Rattle.gt_rules.specs.Faults.{HasProgramFault, IsRootAt, LacksDesc, NamesBareUnion, NamesInner, fault, is_plain, plain_node, root_without_desc, root_to_bare_union, root_to_inner, root_of_inner, root_length, root_desc, root_reorder}
+use Rattle.gt_rules.specs.Inner.{IsDeclaredInner}
+use Rattle.gt_rules.proofs.InnerLemmas.{Agree}
 use Rattle.gt_settled.proofs.Stable.{Stable}
 use Rattle.gt_settled.proofs.Drafts.{FieldsFine, root_marker, root_typed}
 use Rattle.gt_settled.proofs.Expressions.{ends_stable, root_count_stable, root_desc_stable}
@@ -59,7 +61,7 @@ neither false true p q = absurd (cc)
 neither true b p q = absurd (cc)
 
 module _ (draft : Draft) (planes : List Plane) (program : Program) (is : program ≡ program_by draft planes) (sound : IsSound draft) (none : draft_faults draft ≡ [])
-    (faultless : (f : Fault) → ¬ HasProgramFault draft program f) (number : (node : TypeId) (steps : List (List ℕ)) → Stable (LeadsToNumber program node steps))
+    (agree : Agree (IsDeclaredInner draft) (IsInner program)) (faultless : (f : Fault) → ¬ HasProgramFault draft program f) (number : (node : TypeId) (steps : List (List ℕ)) → Stable (LeadsToNumber program node steps))
     (fines : (place : ℕ) (ds : DraftStructure) → slice_get draft.structures place ≡ Some ds → FieldsFine draft ds ds.fields) where
   module _ (k : ℕ) (dr : DraftRoot) (drafted : slice_get draft.roots k ≡ Some dr) (made : slice_get program.roots k ≡ Some (root_of draft planes dr)) where
     abbrev r : Root
@@ -118,7 +120,7 @@ module _ (draft : Draft) (planes : List Plane) (program : Program) (is : program
     bare : ¬ NamesBareUnion program dr.options dr.ty
     bare names = faultless (fault MISSING_DESC dr.file dr.name.at) (root_to_bare_union root_at names)
 
-    inner : ¬ NamesInner program dr.options dr.ty
+    inner : ¬ NamesInner draft dr.options dr.ty
     inner names = faultless (fault BAD_PATH dr.file dr.name.at) (root_to_inner root_at names)
 
     lacks : ¬ LacksDesc program (innermost r.ty)
@@ -180,8 +182,8 @@ module _ (draft : Draft) (planes : List Plane) (program : Program) (is : program
     names : NamesFit program (IsDescOfRoot program) r.ty
     names = record {
       standing = of_inner draft o dr.ty (NamesStanding program) r.ty walks (λ s n. tt)
-          (λ elem e function single. standing draft o dr.ty program (stands draft planes program is dr.options dr.ty skip function one.type.there bare inner) single)
-          (λ elem e function single. standing draft (of_elements o) dr.ty program (stands draft planes program is dr.options dr.ty skip function one.type.there bare inner) single);
+          (λ elem e function single. standing draft o dr.ty program (stands draft planes program is dr.options dr.ty skip function one.type.there agree bare inner) single)
+          (λ elem e function single. standing draft (of_elements o) dr.ty program (stands draft planes program is dr.options dr.ty skip function one.type.there agree bare inner) single);
       sortable = of_inner draft o dr.ty (NamesSortable program) r.ty walks (λ s n. tt)
           (λ elem e function is_so. pointer_sortable draft o dr.ty program ends is_so)
           (λ elem e function is_so. pointer_sortable draft (of_elements o) dr.ty program (λ id b one none has. absurd (cc)) is_so);
@@ -206,6 +208,6 @@ module _ (draft : Draft) (planes : List Plane) (program : Program) (is : program
       shape = walked_root draft (constants_and_roots draft) dr.options dr.ty reorders skip one.type.bounds one.type.few one.no_bits string_none (no_undefined (has_option (codes "maybe_undef") dr.options) refl) one_count walks;
       names = names;
       count = counted draft o dr.ty (IsRootCount program) good_length good_string walks;
-      whole = λ id held. (λ is_inner. faultless (fault BAD_PATH dr.file dr.name.at) (root_of_inner root_at held is_inner), no_tail id held);
+      whole = λ id held. (λ is_inner. faultless (fault BAD_PATH dr.file dr.name.at) (root_of_inner root_at held ((agree id).1 is_inner)), no_tail id held);
       deletable = deletes;
     }

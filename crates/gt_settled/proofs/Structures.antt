@@ -13,7 +13,7 @@ use Rattle.gt_types.specs.declared.program.Program.{Program}
 use Rattle.gt_types.specs.Names.{IsName}
 use Rattle.gt_types.specs.Shapes.{is_field_type, is_unscanned}
 use Rattle.gt_types.specs.Contains.{HasStructure}
-use Rattle.gt_types.specs.Paths.{IsOption, LeadsToNumber}
+use Rattle.gt_types.specs.Paths.{IsInner, IsOption, LeadsToNumber}
 use Rattle.gt_types.specs.Settled.{IsField, IsStruct, IsUnion, IsOfItsKind, IsStructure}
 use Rattle.gt_types.specs.Tails.{only_last_is_tail, no_tails}
 use Rattle.gt_types.specs.Unions.{AreApart, IsMember}
@@ -30,9 +30,12 @@ use Rattle.gt_markers.specs.Sound.{IsSound}
 use Rattle.gt_markers.specs.Typing.{expression_named, opaque_type, own_desc}
 use Rattle.gt_declare.specs.Programs.{field_of, field_type, program_by}
 use Rattle.gt_rules.specs.Faults.{HasProgramFault}
+use Rattle.gt_rules.specs.Inner.{IsDeclaredInner}
+use Rattle.gt_rules.proofs.InnerLemmas.{Agree}
 use Rattle.gt_settled.proofs.Chains.{chains_lead, kinds_differ}
 use Rattle.gt_settled.proofs.Drafts.{FieldsFine, fields_fine, fine_at, structure_fields, structure_marker}
 use Rattle.gt_settled.proofs.Fields as field
+use Rattle.gt_settled.proofs.Inner.{same_inner}
 use Rattle.gt_settled.proofs.Inside.{distinct, field_sound, shallow, structure_sound}
 use Rattle.gt_settled.proofs.Lists.{all_places, pairs_map}
 use Rattle.gt_settled.proofs.Made.{IsMade, field_drafted, structure_drafted}
@@ -50,6 +53,10 @@ BytesGood draft planes =
 
 module _ (draft : Draft) (planes : List Plane) (program : Program) (is : program ≡ program_by draft planes) (sound : IsSound draft) (none : draft_faults draft ≡ [])
     (faultless : (f : Fault) → ¬ HasProgramFault draft program f) where
+  -- the structures that are declared inner are those of the program
+  pub agree : Agree (IsDeclaredInner draft) (IsInner program)
+  agree = same_inner draft planes program is sound none
+
   pub number : (node : TypeId) (steps : List (List ℕ)) → Stable (LeadsToNumber program node steps)
   number = number_stable program (suc MAX_DEPTH) (shallow draft planes program is sound) (distinct draft planes program is sound)
 
@@ -73,9 +80,9 @@ module _ (draft : Draft) (planes : List Plane) (program : Program) (is : program
         let here : slice_get s.fields k ≡ Some (field_of draft planes ds.is_union df) = have ∙ ap (λ (g : Field). Some g) same in
         let good : IsField program id s (field_of draft planes ds.is_union df) = record {
           name = one.name;
-          shape = field.shape draft planes program is faultless number id ds s k df fine.0 made.drafted there at here one fine.1 (bytes id.0 ds k df made.drafted at);
-          names = field.names draft planes program is faultless number id ds s k df fine.0 made.drafted there at here one fine.1;
-          count = field.count draft planes program is faultless number id ds s k df fine.0 made.drafted there at here one fine.1;
+          shape = field.shape draft planes program is agree faultless number id ds s k df fine.0 made.drafted there at here one fine.1 (bytes id.0 ds k df made.drafted at);
+          names = field.names draft planes program is agree faultless number id ds s k df fine.0 made.drafted there at here one fine.1;
+          count = field.count draft planes program is agree faultless number id ds s k df fine.0 made.drafted there at here one fine.1;
           tails = λ node held tail.
               let kept = keeps draft planes program is sound fines id.0 ds k df made.drafted at node held tail in
               (union_same ∙ kept.0, kept.1);
@@ -108,7 +115,7 @@ module _ (draft : Draft) (planes : List Plane) (program : Program) (is : program
         let here : slice_get s.fields k ≡ Some (field_of draft planes ds.is_union from.0) = have ∙ ap (λ (g : Field). Some g) from.2 in (
           λ always. not_always draft from.0.options (sym active ∙ always),
           λ never. ap (λ (g : Field). is_unscanned g.ty) from.2 ∙ never_unscanned draft planes ds fine.0 from.0 (field_type draft planes from.0) kind fine.1
-              (field.view draft planes program is faultless number id ds s k from.0 fine.0 made.drafted there from.1 here one fine.1) (sym active ∙ never),
+              (field.view draft planes program is agree faultless number id ds s k from.0 fine.0 made.drafted there from.1 here one fine.1) (sym active ∙ never),
         )
 
     as_union : ds.is_union ≡ true → IsUnion program id s
@@ -125,7 +132,7 @@ module _ (draft : Draft) (planes : List Plane) (program : Program) (is : program
       where
         own_by : (d : Option Expr) → s.desc ≡ d → IfSome d (IsOption program id)
         own_by None e = tt
-        own_by (Some x) e = field.own_good draft program faultless number id ds x made.drafted kind (sym desc_same ∙ e)
+        own_by (Some x) e = field.own_good draft program agree faultless number id ds x made.drafted kind (sym desc_same ∙ e)
 
     of_its_kind : (b : Bool) → ds.is_union ≡ b → IsOfItsKind program id s b
     of_its_kind true kind = as_union kind

@@ -11,7 +11,7 @@ use Rattle.gt_types.specs.declared.program.Root.{Root}
 use Rattle.gt_types.specs.declared.program.Structure.{Structure}
 use Rattle.gt_types.specs.declared.program.TypeWord.{TypeWord}
 use Rattle.gt_types.specs.Names.{IsName}
-use Rattle.gt_types.specs.Paths.{MayStand}
+use Rattle.gt_types.specs.Paths.{IsInner, MayStand}
 use Rattle.gt_types.specs.Settled.{Settled, IsCache, IsRoot, IsTypeWord, global_names}
 use Rattle.gt_layout.specs.Planes.{AreLaidOut}
 use Rattle.gt_layout.specs.declared.planes.Plane.{Plane}
@@ -26,6 +26,8 @@ use Rattle.gt_markers.specs.Sound.{IsSound}
 use Rattle.gt_markers.specs.Sound as sounds
 use Rattle.gt_declare.specs.Programs.{cache_of, key_type, or_first, program_by, root_of, word_of}
 use Rattle.gt_rules.specs.Faults.{Declares, HasFault, HasProgramFault, StandsAlone, cache_shape, fault}
+use Rattle.gt_rules.specs.Inner.{IsDeclaredInner}
+use Rattle.gt_rules.proofs.InnerLemmas.{Agree, stand_same}
 use Rattle.gt_settled.proofs.Stable.{Stable}
 use Rattle.gt_settled.proofs.Expressions.{stand_stable}
 use Rattle.gt_settled.proofs.Good.{present}
@@ -34,17 +36,17 @@ use Rattle.gt_settled.proofs.Lists.{all_pairs, all_places, at_place, in_list, ma
 use Rattle.gt_settled.proofs.Made.{root_drafted, structure_at, structure_drafted, structures_length}
 use Rattle.gt_settled.proofs.Roots.{root_good}
 use Rattle.gt_settled.proofs.Sizes.{bytes_good}
-use Rattle.gt_settled.proofs.Structures.{fines, number, structure_good}
+use Rattle.gt_settled.proofs.Structures.{agree, fines, number, structure_good}
 
 -- ---- caches
 
-alone_stable : (program : Program) (o : Option TypeId) → Stable (StandsAlone program o)
-alone_stable program None nn = nn (λ alone. alone)
-alone_stable program (Some id) nn = stand_stable program id nn
+alone_stable : (draft : Draft) (program : Program) (o : Option TypeId) → Stable (StandsAlone draft program o)
+alone_stable draft program None nn = nn (λ alone. alone)
+alone_stable draft program (Some id) nn = stand_stable (IsDeclaredInner draft) program id nn
 
-alone_first : (program : Program) (o : Option TypeId) → StandsAlone program o → MayStand program (or_first o)
-alone_first program None alone = absurd alone
-alone_first program (Some id) alone = alone
+alone_first : (draft : Draft) (program : Program) → Agree (IsDeclaredInner draft) (IsInner program) → (o : Option TypeId) → StandsAlone draft program o → MayStand program (or_first o)
+alone_first draft program same None alone = absurd alone
+alone_first draft program same (Some id) alone = stand_same (IsDeclaredInner draft) (IsInner program) same program id alone
 
 module _ (draft : Draft) (planes : List Plane) (program : Program) (is : program ≡ program_by draft planes) (laid : AreLaidOut program planes) (sound : IsSound draft)
     (faultless : (f : Fault) → ¬ HasFault draft program f) where
@@ -53,6 +55,9 @@ module _ (draft : Draft) (planes : List Plane) (program : Program) (is : program
 
   program_faultless : (f : Fault) → ¬ HasProgramFault draft program f
   program_faultless f has = faultless f (inr has)
+
+  inner_same : Agree (IsDeclaredInner draft) (IsInner program)
+  inner_same = agree draft planes program is sound none program_faultless
 
   few_structures : length program.structures ≤ MAX_STRUCTURES
   few_structures = let few = sound.few_structures in let long = structures_length draft planes program is in omega (arith, few, long)
@@ -85,17 +90,17 @@ module _ (draft : Draft) (planes : List Plane) (program : Program) (is : program
   roots_good = all_places (IsRoot program) program.roots (λ k r there.
       let from = root_drafted draft planes program is k r there in
       subst (λ (x : Root). IsRoot program x) (sym from.2)
-      (root_good draft planes program is sound none program_faultless (number draft planes program is sound none program_faultless) (fines draft planes program is sound none program_faultless) k from.0 from.1
+      (root_good draft planes program is sound none inner_same program_faultless (number draft planes program is sound none program_faultless) (fines draft planes program is sound none program_faultless) k from.0 from.1
       (there ∙ ap (λ (x : Root). Some x) from.2)))
 
   cache_good : (k : ℕ) (c : DraftCache) → slice_get draft.caches k ≡ Some c → IsCache program (cache_of c)
   cache_good k c at = record {
     name = (at_place (λ (d : DraftCache). IsName d.name.word × sounds.NamesStructure draft d.key.base × sounds.NamesStructure draft d.value.base) draft.caches k c sound.caches at).0;
-    key = alone_first program (key_type c.key) (alone_stable program (key_type c.key) (λ not_alone. shape (λ both. not_alone both.0)));
-    value = alone_first program (key_type c.value) (alone_stable program (key_type c.value) (λ not_alone. shape (λ both. not_alone both.1)));
+    key = alone_first draft program inner_same (key_type c.key) (alone_stable draft program (key_type c.key) (λ not_alone. shape (λ both. not_alone both.0)));
+    value = alone_first draft program inner_same (key_type c.value) (alone_stable draft program (key_type c.value) (λ not_alone. shape (λ both. not_alone both.1)));
   }
     where
-      shape : ¬ (¬ (StandsAlone program (key_type c.key) × StandsAlone program (key_type c.value)))
+      shape : ¬ (¬ (StandsAlone draft program (key_type c.key) × StandsAlone draft program (key_type c.value)))
       shape bad = program_faultless (fault CACHE_SHAPE c.file c.name.at) (cache_shape (in_list draft.caches k c at) bad)
 
   caches_good : All (IsCache program) program.caches

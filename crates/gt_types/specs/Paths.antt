@@ -64,9 +64,17 @@ own_expressions s = filter_map (λ f. count_of f.ty) s.fields ++ option_to_list 
 abbrev pub IsInner : Program → TypeId → Type 0
 IsInner program node = (s : Structure) × HasStructure program node s × Any NamesOuter (own_expressions s)
 
+-- Which structures are inner is told apart from the program, since headers with a fault declare options that no program has.
+abbrev pub Inner : Type 1
+Inner = TypeId → Type 0
+
 -- a structure may stand alone, as an object or as what a pointer names: it is not inner, and a union has a `desc` of its own
+abbrev pub MayStandBeside : Inner → Program → TypeId → Type 0
+MayStandBeside inner program node = (s : Structure) × HasStructure program node s × ¬ inner node × (s.is_union ≡ true → IsSome s.desc)
+
+-- the same, where the inner structures are those of the program
 abbrev pub MayStand : Program → TypeId → Type 0
-MayStand program node = (s : Structure) × HasStructure program node s × ¬ IsInner program node × (s.is_union ≡ true → IsSome s.desc)
+MayStand program = MayStandBeside (IsInner program) program
 
 -- ---- paths
 
@@ -103,22 +111,32 @@ LeadsToOwnPointer program node places = (reorder : Bool) × Leads program by_pla
 -- ---- the expressions of options
 
 -- the structures at which a block may begin that holds the structure by value
-abbrev pub IsOutermost : Program → TypeId → TypeId → Type 0
-IsOutermost program node outer = ¬ IsInner program outer × ((outer ≡ node) ⊎ ContainsAtDepth program outer node)
+abbrev pub IsOutermostBeside : Inner → Program → TypeId → TypeId → Type 0
+IsOutermostBeside inner program node outer = ¬ inner outer × ((outer ≡ node) ⊎ ContainsAtDepth program outer node)
 
 -- A path in an option of a structure, by where it begins: the structure itself; each structure that contains it; each that
 -- is outermost.
-abbrev pub PathFits : Program → TypeId → Base → List (List ℕ) → Type 0
-PathFits program node Here steps = LeadsToNumber program node steps
-PathFits program node Outer steps = (outer : TypeId) → ContainsStructure program outer node → LeadsToNumber program outer steps
-PathFits program node Outermost steps = (outer : TypeId) → IsOutermost program node outer → LeadsToNumber program outer steps
+abbrev pub PathFitsBeside : Inner → Program → TypeId → Base → List (List ℕ) → Type 0
+PathFitsBeside inner program node Here steps = LeadsToNumber program node steps
+PathFitsBeside inner program node Outer steps = (outer : TypeId) → ContainsStructure program outer node → LeadsToNumber program outer steps
+PathFitsBeside inner program node Outermost steps = (outer : TypeId) → IsOutermostBeside inner program node outer → LeadsToNumber program outer steps
 
 -- A path in the `desc` of a field that holds a union: it begins at the union, at the field's structure, or at each that is
 -- outermost for this one.
+abbrev pub DescPathFitsBeside : Inner → Program → TypeId → TypeId → Base → List (List ℕ) → Type 0
+DescPathFitsBeside inner program node union Here steps = LeadsToNumber program union steps
+DescPathFitsBeside inner program node union Outer steps = LeadsToNumber program node steps
+DescPathFitsBeside inner program node union Outermost steps = PathFitsBeside inner program node Outermost steps
+
+-- the same, where the inner structures are those of the program
+abbrev pub IsOutermost : Program → TypeId → TypeId → Type 0
+IsOutermost program = IsOutermostBeside (IsInner program) program
+
+abbrev pub PathFits : Program → TypeId → Base → List (List ℕ) → Type 0
+PathFits program = PathFitsBeside (IsInner program) program
+
 abbrev pub DescPathFits : Program → TypeId → TypeId → Base → List (List ℕ) → Type 0
-DescPathFits program node union Here steps = LeadsToNumber program union steps
-DescPathFits program node union Outer steps = LeadsToNumber program node steps
-DescPathFits program node union Outermost steps = PathFits program node Outermost steps
+DescPathFits program = DescPathFitsBeside (IsInner program) program
 
 -- the steps of a path: one at least, each of which is a name
 abbrev pub AreSteps : List (List ℕ) → Type 0
@@ -129,18 +147,25 @@ abbrev pub IsScalarRoot : Program → ℕ → Type 0
 IsScalarRoot program i = (r : RootOf) × (slice_get program.roots i ≡ Some r) × IsTrue (is_number r.ty)
 
 -- the length of a field, or the `desc` of a union itself
-pub record IsOption (program : Program) (node : TypeId) (e : Expr) : Type 0 where
+pub record IsOptionBeside (inner : Inner) (program : Program) (node : TypeId) (e : Expr) : Type 0 where
   pub operators : HasOperators e
   pub no_roots : roots_of e ≡ []
   pub steps : All (λ path. AreSteps path.1) (paths_of e)
-  pub paths : All (λ path. PathFits program node path.0 path.1) (paths_of e)
+  pub paths : All (λ path. PathFitsBeside inner program node path.0 path.1) (paths_of e)
 
 -- the `desc` of a field of a structure that holds a union
-pub record IsFieldDesc (program : Program) (node union : TypeId) (e : Expr) : Type 0 where
+pub record IsFieldDescBeside (inner : Inner) (program : Program) (node union : TypeId) (e : Expr) : Type 0 where
   pub operators : HasOperators e
   pub no_roots : roots_of e ≡ []
   pub steps : All (λ path. AreSteps path.1) (paths_of e)
-  pub paths : All (λ path. DescPathFits program node union path.0 path.1) (paths_of e)
+  pub paths : All (λ path. DescPathFitsBeside inner program node union path.0 path.1) (paths_of e)
+
+-- the same, where the inner structures are those of the program
+abbrev pub IsOption : Program → TypeId → Expr → Type 0
+IsOption program = IsOptionBeside (IsInner program) program
+
+abbrev pub IsFieldDesc : Program → TypeId → TypeId → Expr → Type 0
+IsFieldDesc program = IsFieldDescBeside (IsInner program) program
 
 -- the length of a root, which has no paths
 pub record IsRootCount (program : Program) (e : Expr) : Type 0 where

@@ -1,7 +1,7 @@
 use Rattle.gt_types.specs.Shapes.{innermost}
-use Rattle.gt_types.specs.Paths.{IsInner}
 use Rattle.gt_markers.specs.declared.TheConstants.{MISSING_DESC, BAD_PATH}
 use Rattle.std.proofs.Common.{◌⊎◌}
+use Rattle.gt_rules.specs.Inner.{IsDeclaredInner}
 use Rattle.gt_rules.specs.Faults.{IsBareUnion, LacksDesc, NamesBareUnion, NamesInner, names_node}
 use Rattle.gt_rules.proofs.FirstLemmas.{first_if, first_of_both}
 use Rattle.gt_rules.proofs.PartLemmas.{named_by_number, or_named_by_number}
@@ -21,7 +21,7 @@ returns c =
           (first_if c.args.earliest c.with_fault-earliest.result c.lacks_its_desc-undescribed.result (lacks ⊎ NamesBareUnion program options declared) MISSING_DESC c.args.options.file c.args.at
           c.with_fault-earliest.ensures.same
           (or_named_by_number lacks found named (IsBareUnion program) c.lacks_its_desc-undescribed.result c.names_node-named.ensures.named c.lacks_its_desc-undescribed.ensures.decides))
-          (first_if c.with_fault-earliest.result c.with_fault.result c.is_named_inner-inner.result (NamesInner program options declared) BAD_PATH c.args.options.file c.args.at
+          (first_if c.with_fault-earliest.result c.with_fault.result c.is_named_inner-inner.result (NamesInner c.args.known.draft.now options declared) BAD_PATH c.args.options.file c.args.at
           c.with_fault.ensures.same
-          (named_by_number found named (IsInner program) c.is_named_inner-inner.result c.names_node-named.ensures.named c.is_named_inner-inner.ensures.decides));
+          (named_by_number found named (IsDeclaredInner c.args.known.draft.now) c.is_named_inner-inner.result c.names_node-named.ensures.named c.is_named_inner-inner.ensures.decides));
     }

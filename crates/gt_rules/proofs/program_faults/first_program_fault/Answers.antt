@@ -18,11 +18,11 @@ returns c =
           (first_of_both c.in_ok-earliest.ensures.first (first_of_both c.in_ok-earliest-2.ensures.first c.of_caches.ensures.first));
     }
 
-pub new-requires-clause-few : goal.new-requires-clause-few
-new-requires-clause-few c = few_structures c.args.draft.now c.args.program.now c.requires.sound c.requires.made
+pub with_inner-requires-clause-few : goal.with_inner-requires-clause-few
+with_inner-requires-clause-few c = few_structures c.args.draft.now c.args.program.now c.requires.sound c.requires.made
 
-pub new-requires-clause-fields : goal.new-requires-clause-fields
-new-requires-clause-fields c = few_fields c.args.draft.now c.args.program.now c.requires.sound c.requires.made
+pub with_inner-requires-clause-fields : goal.with_inner-requires-clause-fields
+with_inner-requires-clause-fields c = few_fields c.args.draft.now c.args.program.now c.requires.sound c.requires.made
 
 pub of-requires : goal.of-requires
 of-requires c = record {

@@ -15,7 +15,7 @@ returns-then-not-are_named c =
     let raw = c.in-Expression.raw in
     record {
       decides =
-          not_named (names_of (scope_of c.args.purpose) draft) (Fits c.args.known.program.now c.args.purpose) c.args.parameter.now raw c.in-Expression.is
+          not_named (names_of (scope_of c.args.purpose) draft) (Fits c.args.known.draft.now c.args.known.program.now c.args.purpose) c.args.parameter.now raw c.in-Expression.is
           (ap (λ (s : Scope). are_named (names_of s draft) raw) (sym c.scope-scope.ensures) ∙ sym (c.are_named.ensures.named draft c.requires.lookup) ∙ c.if-not-are_named.true);
     }
 
@@ -25,7 +25,7 @@ returns c =
     let program = c.args.known.program.now in
     let raw = c.in-Expression.raw in
     let names = names_of (scope_of c.args.purpose) draft in
-    let good = Fits program c.args.purpose in
+    let good = Fits draft program c.args.purpose in
     let is = c.in_ok-e.ensures.expression draft c.requires.lookup ∙ ap (λ (s : Scope). with_names (names_of s draft) raw) c.scope-scope.ensures in
     record {
       decides =

@@ -16,7 +16,7 @@ returns c =
           c.as_slice.ensures.items
           (first_of_both c.of_type-earliest.ensures.first
           (first_of_both
-          (first_if c.of_type-earliest.result c.with_fault-earliest.result c.holds_inner-inner.result (HoldsInner program type) BAD_PATH root.file root.name.at c.with_fault-earliest.ensures.same
+          (first_if c.of_type-earliest.result c.with_fault-earliest.result c.holds_inner-inner.result (HoldsInner c.args.known.draft.now type) BAD_PATH root.file root.name.at c.with_fault-earliest.ensures.same
           c.holds_inner-inner.ensures.decides)
           (first_of_both c.in_ok-earliest.ensures.first (first_of_both c.in_ok-earliest-2.ensures.first c.of_reorder.ensures.first))));
     }
