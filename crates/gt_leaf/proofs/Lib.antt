@@ -11,7 +11,6 @@ pub mod Alongs
 pub mod SwapScopes
 pub mod Refits
 pub mod UnreadLaws
-pub mod Texts
 pub mod Members
 pub mod EndLemmas
 pub mod TableLemmas

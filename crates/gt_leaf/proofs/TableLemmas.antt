@@ -1,6 +1,6 @@
 -- The places that are collected are the table of the program, and what the table says of a holder.
 use Rattle.std.proofs.Common.{◌≡◌, ℕ, Bool, true, false, not, cond, ◌&&◌, IsTrue, List, [], ◌∷◌, refl, ap, sym, subst, ◌∙◌, Option, Some, None, inl, inr, if◌then◌else◌}
-use Rattle.std.specs.Prelude.{◌↔◌, Contains, nat_eq, slice_get}
+use Rattle.std.specs.Prelude.{◌↔◌, Contains, nat_eq, slice_get, position, is_some}
 use Rattle.std.specs.List.{list_any}
 use Rattle.std.specs.Str.{bytes_eq}
 use Rattle.std.proofs.lemmas.Slice.Eq.{bytes_eq-Decides}
@@ -14,6 +14,7 @@ use Rattle.gt_types.specs.declared.program.Program.{Program}
 use Rattle.gt_types.specs.Shapes.{is_number}
 use Rattle.gt_value.specs.declared.places.Holder.{Holder}
 use Rattle.gt_value.specs.declared.places.Holder.TheVariants as lies_in
+use Rattle.gt_names.proofs.NameTests.{is_some_position}
 use Rattle.gt_leaf.specs.declared.fields.FieldPlace.{FieldPlace}
 use Rattle.gt_leaf.specs.declared.readings.Reading.{Reading}
 use Rattle.gt_leaf.specs.declared.ends.Ends.{Ends}
@@ -32,7 +33,7 @@ use Rattle.gt_leaf.proofs.SeekLemmas.{both-true, same-field, same-read, adds-fie
 -- ---- numbers of the names that are read
 
 abbrev IsNamed : List (List ℕ) → Field → Type 0
-IsNamed names f = (is_number f.ty && list_any (λ other. bytes_eq other f.name) names) ≡ true
+IsNamed names f = (is_number f.ty && is_some (position (λ other. bytes_eq other f.name) names)) ≡ true
 
 named-cases : (b : Bool) (x : FieldPlace) → Adds (λ k. if b then with_field x k else k) (λ y. (b ≡ true) × (x ≡ y))
 named-cases true x = adds-same (adds-field x) (λ y. (λ e. (refl, e), λ p. p.1))
@@ -42,7 +43,7 @@ abbrev NamedField : List (List ℕ) → ℕ → ℕ → Field → FieldPlace →
 NamedField names node i f y = IsNamed names f × (field_place node i ≡ y)
 
 of-field : (names : List (List ℕ)) (node i : ℕ) (f : Field) → Adds (with_named names node i f) (NamedField names node i f)
-of-field names node i f = named-cases (is_number f.ty && list_any (λ other. bytes_eq other f.name) names) (field_place node i)
+of-field names node i f = named-cases (is_number f.ty && is_some (position (λ other. bytes_eq other f.name) names)) (field_place node i)
 
 abbrev NamedFields : List (List ℕ) → ℕ → List Field → FieldPlace → Type 0
 NamedFields names node fields y = (i : ℕ) × (f : Field) × (slice_get fields i ≡ Some f) × NamedField names node i f y
@@ -94,7 +95,7 @@ names-there program node i = (there, back)
     found : (n : ℕ) (s : Structure) → slice_get program.structures n ≡ Some s → NamedFields (ends_of program).names n s.fields (field_place node.0 i) → ReadsByName program node i
     found n s has (j, f, get, (test, is)) =
         let both = both-true _ _ test in
-        let read = (names-read program f.name).0 (found-there (λ other. bytes_eq other f.name) (ends_of program).names f.name (λ z h. (bytes_eq-Decides z f.name).0 h) both.1) in
+        let read = (names-read program f.name).0 (found-there (λ other. bytes_eq other f.name) (ends_of program).names f.name (λ z h. (bytes_eq-Decides z f.name).0 h) (sym (is_some_position (λ other. bytes_eq other f.name) (ends_of program).names) ∙ both.1)) in
         name-at program node (numbered n) i j is (record { s = s; f = f; has = has; get = get; number = both.0; read = read })
 
     there : Contains (all_named program) (field_place node.0 i) → ReadsByName program node i
@@ -103,7 +104,7 @@ names-there program node i = (there, back)
     back : ReadsByName program node i → Contains (all_named program) (field_place node.0 i)
     back r =
         let found = there-found (λ other. bytes_eq other r.f.name) (ends_of program).names r.f.name ((bytes_eq-Decides r.f.name r.f.name).1 refl) ((names-read program r.f.name).1 r.read) in
-        let test = ap (λ b. b && list_any (λ other. bytes_eq other r.f.name) (ends_of program).names) r.number ∙ found in
+        let test = ap (λ b. b && is_some (position (λ other. bytes_eq other r.f.name) (ends_of program).names)) r.number ∙ is_some_position (λ other. bytes_eq other r.f.name) (ends_of program).names ∙ found in
         (named-at program (field_place node.0 i)).1 (node.0, r.s, r.has, (i, r.f, r.get, (test, refl)))
 
 -- ---- numbers that are read from structures

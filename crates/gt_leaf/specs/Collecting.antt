@@ -2,7 +2,6 @@
 -- crate.
 use Rattle.std.specs.Prelude.{ℕ, List, [], ◌∷◌, ◌++◌, Option, Some, None, if◌then◌else◌, ◌-◌, nat_eq, fold, length, slice_get}
 use Rattle.std.specs.List.{list_any}
-use Rattle.std.specs.Str.{bytes_eq}
 use Rattle.gt_types.specs.declared.expressions.Base.TheVariants.{Outermost}
 use Rattle.gt_types.specs.declared.expressions.Expr.{Expr}
 use Rattle.gt_types.specs.declared.expressions.Expr.TheOpen.{Expr-F, Int, Path, Root, One, Two, Cond}
@@ -17,11 +16,8 @@ use Rattle.gt_types.specs.declared.program.Field.{Field}
 use Rattle.gt_types.specs.declared.program.Structure.{Structure}
 use Rattle.gt_types.specs.declared.program.Root.{Root as RootOf}
 use Rattle.gt_types.specs.declared.program.Program.{Program}
+use Rattle.gt_names.specs.Lists.{with_name}
 use Rattle.gt_leaf.specs.declared.ends.Ends.{Ends}
-
--- distinct names with one more, where it is new
-abbrev pub with_name : List (List ℕ) → List ℕ → List (List ℕ)
-with_name names word = if list_any (λ name. bytes_eq name word) names then names else names ++ word ∷ []
 
 -- distinct places of roots with one more, where it is new
 abbrev pub with_place : List ℕ → ℕ → List ℕ

@@ -1,7 +1,6 @@
 -- Where the paths from `%h` and `%1` end, in the order of the code. It is no promise of this crate.
-use Rattle.std.specs.Prelude.{ℕ, suc, Bool, true, false, ◌&&◌, ◌==◌, List, [], ◌∷◌, ◌++◌, Option, Some, None, if◌then◌else◌, fold, map, slice_get}
+use Rattle.std.specs.Prelude.{ℕ, suc, Bool, true, false, ◌&&◌, ◌==◌, List, [], ◌∷◌, ◌++◌, Option, Some, None, if◌then◌else◌, fold, map, slice_get, position, is_some}
 use Rattle.std.specs.List.{list_any}
-use Rattle.std.specs.Map.{lookup}
 use Rattle.std.specs.Str.{bytes_eq}
 use Rattle.gt_types.specs.declared.expressions.Base.{Base}
 use Rattle.gt_types.specs.declared.expressions.Base.TheVariants.{Here, Outer, Outermost}
@@ -18,6 +17,8 @@ use Rattle.gt_types.specs.declared.program.Program.{Program}
 use Rattle.gt_types.specs.Shapes.{innermost, count_of, is_number}
 use Rattle.gt_types.specs.Contains.{held_by, itself}
 use Rattle.gt_tree.specs.Scopes.{◌then◌}
+use Rattle.gt_names.specs.declared.tables.Entry.{Entry}
+use Rattle.gt_names.specs.Entries.{value_in, with_value}
 use Rattle.gt_leaf.specs.declared.fields.FieldPlace.{FieldPlace}
 use Rattle.gt_leaf.specs.declared.readings.Reading.{Reading}
 use Rattle.gt_leaf.specs.declared.seeking.Start.{Start}
@@ -33,27 +34,15 @@ with_each g i (x ∷ xs) old = with_each g (suc i) xs (g i x old)
 
 -- the names of the fields of a structure, each with the place of the first field of the name
 abbrev pub Names : Type 0
-Names = List (List ℕ × ℕ)
-
--- the place of a name
-abbrev pub place_of : List ℕ → Names → Option ℕ
-place_of name names = lookup (λ other. bytes_eq other name) names
-
-abbrev pub with_new : Names → List ℕ → ℕ → Option ℕ → Names
-with_new names name i (Some other) = names
-with_new names name i None = names ++ (name, i) ∷ []
-
--- with a name, where it is new
-abbrev pub with_field_name : Names → List ℕ → ℕ → Names
-with_field_name names name i = with_new names name i (place_of name names)
+Names = List (Entry ℕ)
 
 -- those of fields
-abbrev pub with_field_names : List Field → Names → Names
-with_field_names fields names = with_each (λ i f old. with_field_name old f.name i) 0 fields names
+abbrev pub names_of : List Field → Names
+names_of fields = with_each (λ i f old. with_value old f.name i) 0 fields []
 
 -- those of each structure
 abbrev pub names_of_all : List Structure → List Names
-names_of_all structures = map (λ s. with_field_names s.fields []) structures
+names_of_all structures = map (λ s. names_of s.fields) structures
 
 -- ---- places of fields
 
@@ -86,7 +75,7 @@ with_fields readings places = fold (λ k r. with_field r.field k) places reading
 
 -- with a field, where it is a number of one of these names
 abbrev pub with_named : List (List ℕ) → ℕ → ℕ → Field → List FieldPlace → List FieldPlace
-with_named names node i f old = if is_number f.ty && list_any (λ other. bytes_eq other f.name) names then with_field (field_place node i) old else old
+with_named names node i f old = if is_number f.ty && is_some (position (λ other. bytes_eq other f.name) names) then with_field (field_place node i) old else old
 
 -- with those of a structure
 abbrev pub with_named_fields : List (List ℕ) → ℕ → List Field → List FieldPlace → List FieldPlace
@@ -100,7 +89,7 @@ with_all_named names structures old = with_each (λ node s. with_named_fields na
 
 -- the place of the field that a name picks
 abbrev pub pick : List Names → ℕ → List ℕ → Option ℕ
-pick index node name = slice_get index node then λ names. place_of name names
+pick index node name = slice_get index node then λ names. value_in names name
 
 -- the field at a place
 abbrev pub field_at : Program → ℕ → ℕ → Option Field

@@ -2,15 +2,15 @@
 ghost use Rattle.gt_leaf.specs.Collecting.{with_last, with_expr, with_option, with_kind, with_type, with_fields, with_structure, with_structures, with_roots, ends_of};
 ghost use Rattle.std.specs.Prelude.{◌≡◌, [], IfOk, OnOk};
 
-use crate::names::NameSet;
 use crate::places::PlaceSet;
+use gt_names::NameIndex;
 use gt_types::{Base, Expr, Field, Program, PtrKind, Root, Structure, Ty, Word};
 use std::alloc::{AllocError, Global};
 
 /// The last names of the paths of expressions from `%0`, and the roots that expressions name.
 #[derive(Drop)]
 pub struct Ends {
-    pub names: NameSet,
+    pub names: NameIndex,
     pub roots: PlaceSet,
 }
 
@@ -20,7 +20,7 @@ impl Ends {
         ensures all { IfOk result (λ ends. ends ≡ ends_of program.now) }
     {
         let mut ends = Ends {
-            names: NameSet::new(alloc),
+            names: NameIndex::new(alloc),
             roots: PlaceSet::new(alloc),
         };
         ends.add_structures(program.structures.as_slice())?;
@@ -125,9 +125,9 @@ impl Ends {
     fn add_last(&mut self, steps: &[Word]) -> Result<(), AllocError>
         ensures added { OnOk result (self.new ≡ with_last self.old steps.now) }
     {
-        match steps.last() {
-            Some(name) => self.names.add(name),
-            None => Ok(()),
+        if let Some(name) = steps.last() {
+            self.names.add(name)?;
         }
+        Ok(())
     }
 }

@@ -1,84 +1,30 @@
 // The fields of structures by their names.
-ghost use Rattle.gt_leaf.specs.Seeking.{place_of, with_field_name, with_field_names, names_of_all, pick, field_at, pick_number, pick_structure, end_of};
-ghost use Rattle.std.specs.Prelude.{◌≡◌, [], IfOk, OnOk, option_copied};
+ghost use Rattle.gt_leaf.specs.Seeking.{names_of, names_of_all, pick, field_at, pick_number, pick_structure, end_of};
+ghost use Rattle.std.specs.Prelude.{◌≡◌, IfOk, option_copied};
 
 use crate::fields::FieldPlace;
 use crate::types::is_number;
+use gt_names::Table;
 use gt_types::{Field, List, Program, Structure, Ty, TypeId, Word};
-use indexmap::IndexMap;
 use std::alloc::{AllocError, Global};
-use std::marker::Model;
 
-/// The names of the fields of a structure, each with the place of the first field of the name. A name is found in constant time.
-/// Contracts see the list of names and places.
-#[derive(Drop)]
-pub struct FieldNames {
-    places: IndexMap<String, usize>,
-}
-
-impl Model for FieldNames {
-    ghost use Rattle.std.specs.Prelude.{ℕ, List, map};
-    ghost use Rattle.std.specs.Str.{chars};
-    ghost use Rattle.std.specs.String.{string_bytes};
-
-    ghost Value = { List (List ℕ × ℕ) };
-
-    ghost view = { λ n. map (λ entry. (chars (string_bytes entry.0), entry.1)) n.places.entries };
-}
-
-impl FieldNames {
-    /// No names. It takes no memory.
-    pub fn new(alloc: Global) -> FieldNames
-        ensures empty { result ≡ [] }
-    {
-        FieldNames {
-            places: IndexMap::new(alloc),
-        }
-    }
-
-    /// The place of a name. It takes no memory.
-    pub fn get(&self, name: &Word) -> Option<usize>
-        ensures place { result ≡ place_of name.now self.now }
-    {
-        self.places.get(name.as_str()).copied()
-    }
-
-    // Adds a name, where it is new.
-    fn add(&mut self, name: &Word, place: usize) -> Result<(), AllocError>
-        ensures added { OnOk result (self.new ≡ with_field_name self.old name.now place) }
-    {
-        if self.get(name).is_some() {
-            return Ok(());
-        }
-        let text = String::from_str(*self.places.allocator(), name.as_str())?;
-        self.places.insert(text, place)?;
-        Ok(())
-    }
-
-    fn add_fields(&mut self, fields: &[Field]) -> Result<(), AllocError>
-        ensures added { OnOk result (self.new ≡ with_field_names fields.now self.old) }
-    {
-        for (place, f) in fields.iter().enumerate() {
-            self.add(&f.name, place)?;
-        }
-        Ok(())
-    }
-}
-
-fn names_of(alloc: Global, s: &Structure) -> Result<FieldNames, AllocError>
-    ensures names { IfOk result (λ names. names ≡ with_field_names s.now.fields []) }
+// The names of fields, each with the place of the first field of the name.
+fn names_of(alloc: Global, fields: &[Field]) -> Result<Table<usize>, AllocError>
+    ensures names { IfOk result (λ names. names ≡ names_of fields.now) }
 {
-    let mut names = FieldNames::new(alloc);
-    names.add_fields(s.fields.as_slice())?;
+    let mut names = Table::new(alloc);
+    for (place, f) in fields.iter().enumerate() {
+        names = names.with(alloc, &f.name, place)?;
+    }
     Ok(names)
 }
 
-fn names_of_all(alloc: Global, structures: &[Structure]) -> Result<List<FieldNames>, AllocError>
+fn names_of_all(alloc: Global, structures: &[Structure]) -> Result<List<Table<usize>>, AllocError>
     ensures names { IfOk result (λ made. made ≡ names_of_all structures.now) }
 {
     let mut made = List::new(alloc);
     for s in structures {
-        made.push(names_of(alloc, s)?)?;
+        made.push(names_of(alloc, s.fields.as_slice())?)?;
     }
     Ok(made)
 }
@@ -87,7 +33,7 @@ fn names_of_all(alloc: Global, structures: &[Structure]) -> Result<List<FieldNam
 #[derive(Drop)]
 pub struct Index<'a> {
     pub program: &'a Program,
-    pub names: List<FieldNames>,
+    pub names: List<Table<usize>>,
 }
 
 impl<'a> Index<'a> {
@@ -104,7 +50,7 @@ impl<'a> Index<'a> {
     fn pick(&self, structure: usize, name: &Word) -> Option<usize>
         ensures { result ≡ pick self.now.names structure name.now }
     {
-        self.names.get(structure)?.get(name)
+        self.names.get(structure)?.get(name).copied()
     }
 
     // The field at a place of a structure.

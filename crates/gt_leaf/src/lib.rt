@@ -7,7 +7,6 @@ mod ends;
 mod fields;
 mod index;
 pub mod laws;
-mod names;
 mod places;
 mod readings;
 mod reads;

@@ -9,10 +9,10 @@ ghost use Rattle.std.specs.Prelude.{◌≡◌, ◌↔◌, true, IsTrue, IfOk, On
 use crate::ends::Ends;
 use crate::fields::{FieldPlace, FieldSet};
 use crate::index::Index;
-use crate::names::NameSet;
 use crate::places::PlaceSet;
 use crate::readings::{Reading, ReadingSet};
 use crate::types::{is_number, part_at, root_at};
+use gt_names::NameIndex;
 use gt_types::{Field, Program, Structure, Ty};
 use gt_value::{Holder, Place};
 use std::alloc::{AllocError, Global};
@@ -138,7 +138,7 @@ impl Reads {
 
 impl FieldSet {
     // Adds the numbers of structures whose names are among these.
-    fn add_named(&mut self, structures: &[Structure], names: &NameSet) -> Result<(), AllocError>
+    fn add_named(&mut self, structures: &[Structure], names: &NameIndex) -> Result<(), AllocError>
         ensures added { OnOk result (self.new ≡ with_all_named names.now structures.now self.old) }
     {
         for (node, s) in structures.iter().enumerate() {
@@ -151,7 +151,7 @@ impl FieldSet {
         &mut self,
         structure: usize,
         fields: &[Field],
-        names: &NameSet,
+        names: &NameIndex,
     ) -> Result<(), AllocError>
         ensures added { OnOk result (self.new ≡ with_named_fields names.now structure fields.now self.old) }
     {
@@ -165,11 +165,11 @@ impl FieldSet {
         &mut self,
         at: FieldPlace,
         f: &Field,
-        names: &NameSet,
+        names: &NameIndex,
     ) -> Result<(), AllocError>
         ensures added { OnOk result (self.new ≡ with_named names.now at.structure at.place f.now self.old) }
     {
-        if is_number(&f.ty) && names.has(&f.name) {
+        if is_number(&f.ty) && names.get(&f.name).is_some() {
             self.add(at)
         } else {
             Ok(())
