@@ -1,6 +1,7 @@
 -- Which structures headers declare as inner. It is told by what their markers say, also where an option stands at a wrong place.
-use Rattle.std.specs.Prelude.{◌≡◌, ◌&&◌, ◌||◌, not, Bool, true, false, IsTrue, Option, Some, slice_get}
+use Rattle.std.specs.Prelude.{◌≡◌, ◌&&◌, ◌||◌, not, Bool, true, false, codes, IsTrue, List, Option, Some, slice_get}
 use Rattle.std.specs.List.{list_any}
+use Rattle.std.specs.Option.{option_map_or}
 use Rattle.gt_types.specs.declared.expressions.Base.{Base}
 use Rattle.gt_types.specs.declared.expressions.Base.TheVariants.{Outer}
 use Rattle.gt_types.specs.Paths.{Inner}
@@ -16,7 +17,7 @@ use Rattle.gt_drafts.specs.declared.draft.DraftStructure.{DraftStructure}
 use Rattle.gt_drafts.specs.Options.{has_skip}
 use Rattle.gt_markers.specs.declared.kinds.OptionKind.{OptionKind}
 use Rattle.gt_markers.specs.declared.kinds.OptionKind.TheVariants.{Desc, Reorder}
-use Rattle.gt_markers.specs.Options.{kind_of}
+use Rattle.gt_markers.specs.Options.{kind_of, option_named}
 
 abbrev pub is_outer : Base → Bool
 is_outer Outer = true
@@ -39,13 +40,6 @@ abbrev pub parameter_names_container : Parameter → Bool
 parameter_names_container (Expression e) = names_container e
 parameter_names_container parameter = false
 
-abbrev pub is_desc_kind : Option OptionKind → Bool
-is_desc_kind (Some Desc) = true
-is_desc_kind kind = false
-
-abbrev pub is_desc : RawOption → Bool
-is_desc o = is_desc_kind (kind_of o.name.word)
-
 abbrev pub is_outer_kind : Option OptionKind → Bool
 is_outer_kind (Some Desc) = false
 is_outer_kind (Some Reorder) = false
@@ -60,13 +54,13 @@ is_outer_option o = is_outer_kind (kind_of o.name.word) && parameter_names_conta
 abbrev pub has_outer_option : DraftField → Bool
 has_outer_option df = not (has_skip df.options) && list_any is_outer_option df.options
 
--- whether an option is a `desc` that names the structure that contains its own
-abbrev pub is_outer_desc : RawOption → Bool
-is_outer_desc o = is_desc o && parameter_names_container o.parameter
+-- whether the own `desc` of a structure, of two the first, names the structure that contains it
+abbrev pub has_outer_desc : List RawOption → Bool
+has_outer_desc options = option_map_or (λ o. parameter_names_container o.parameter) (option_named (codes "desc") options) false
 
 -- whether the own `desc` of a structure, or such a field, names the structure that contains it
 abbrev pub is_declared_inner : DraftStructure → Bool
-is_declared_inner ds = list_any is_outer_desc ds.options || list_any has_outer_option ds.fields
+is_declared_inner ds = has_outer_desc ds.options || list_any has_outer_option ds.fields
 
 -- a structure is declared inner
 abbrev pub IsDeclaredInner : Draft → Inner

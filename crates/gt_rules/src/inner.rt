@@ -4,12 +4,12 @@ ghost use Rattle.std.specs.List.{list_any};
 ghost use Rattle.std.specs.Bool.{Decides};
 ghost use Rattle.gt_types.specs.declared.types.TypeId.{TypeId};
 ghost use Rattle.gt_paths.specs.Numbers.{mark_at};
-ghost use Rattle.gt_rules.specs.Inner.{IsDeclaredInner, has_outer_option, is_declared_inner, is_desc_kind, is_outer, is_outer_desc, is_outer_kind, is_outer_option, names_container, parameter_names_container};
+ghost use Rattle.gt_rules.specs.Inner.{IsDeclaredInner, has_outer_option, is_declared_inner, is_outer, has_outer_desc, is_outer_kind, is_outer_option, names_container, parameter_names_container};
 
 use gt_drafts::{Draft, DraftField, DraftStructure};
 use gt_expr::RawExpr;
 use gt_items::{Parameter, RawOption};
-use gt_markers::{OptionKind, has_skip};
+use gt_markers::{OptionKind, has_skip, option_named};
 use gt_types::{Base, List};
 use std::alloc::{AllocError, Global};
 
@@ -42,12 +42,6 @@ fn parameter_names_container(parameter: &Parameter) -> bool
         Parameter::Expression(e) => names_container(e),
         Parameter::Absent | Parameter::Text(_) => false,
     }
-}
-
-fn is_desc_kind(kind: Option<OptionKind>) -> bool
-    ensures { result ≡ is_desc_kind kind }
-{
-    matches!(kind, Some(OptionKind::Desc))
 }
 
 fn is_outer_kind(kind: Option<OptionKind>) -> bool
@@ -84,26 +78,21 @@ fn is_some_field_outer(fields: &[DraftField]) -> bool
     fields.iter().any(|field| has_outer_option(field))
 }
 
-// Whether an option is a `desc` that names the structure that contains its own.
-fn is_outer_desc(option: &RawOption) -> bool
-    ensures { result ≡ is_outer_desc option.now }
+// Whether the own `desc` of a structure, of two the first, names the structure that contains it.
+fn has_outer_desc(options: &[RawOption]) -> bool
+    ensures { result ≡ has_outer_desc options.now }
 {
-    is_desc_kind(OptionKind::of(&option.name.word)) && parameter_names_container(&option.parameter)
-}
-
-// Whether one of the options of a structure is such a `desc`.
-fn is_some_desc_outer(options: &[RawOption]) -> bool
-    ensures { result ≡ list_any is_outer_desc options.now }
-{
-    options.iter().any(|option| is_outer_desc(option))
+    match option_named(options, "desc") {
+        Some(option) => parameter_names_container(&option.parameter),
+        None => false,
+    }
 }
 
 // Whether a structure is declared inner.
 fn is_declared_inner(structure: &DraftStructure) -> bool
     ensures { result ≡ is_declared_inner structure.now }
 {
-    is_some_desc_outer(structure.options.as_slice())
-        || is_some_field_outer(structure.fields.as_slice())
+    has_outer_desc(structure.options.as_slice()) || is_some_field_outer(structure.fields.as_slice())
 }
 
 /// For each structure, whether headers declare it inner. Its only error is out of memory.

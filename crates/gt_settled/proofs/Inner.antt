@@ -34,7 +34,7 @@ use Rattle.gt_markers.specs.Typing.{expression_named, own_desc, says}
 use Rattle.gt_declare.specs.Programs.{field_of, field_type, program_by}
 use Rattle.gt_paths.specs.Results.{HasResult}
 use Rattle.gt_paths.proofs.Walks.{any_joins, result_in, result_of}
-use Rattle.gt_rules.specs.Inner.{IsDeclaredInner, has_outer_option, is_declared_inner, is_desc, is_desc_kind, is_outer_desc, is_outer_kind, is_outer_option, parameter_names_container}
+use Rattle.gt_rules.specs.Inner.{IsDeclaredInner, has_outer_option, is_declared_inner, has_outer_desc, is_outer_kind, is_outer_option, parameter_names_container}
 use Rattle.gt_rules.proofs.InnerLemmas.{Agree}
 use Rattle.gt_settled.proofs.Chains.{kind_name, name_of}
 use Rattle.gt_settled.proofs.Counts.{or_cases, walked_counted, walked_string}
@@ -86,10 +86,6 @@ names_by draft name options e is outer = by (option_named name options) refl is
     by (Some o) named is =
         let at = found name options o named in
         (o, at.0, at.1, (outer_same draft o.parameter).1 (subst NamesOuter (sym (same_Some (expression_of (constants draft) o.parameter) e is)) outer))
-
-desc_kind : (kind : Option OptionKind) → is_desc_kind kind ≡ true → kind ≡ Some Desc
-desc_kind (Some Desc) e = refl
-desc_kind other e = absurd (cc)
 
 -- options of which each stands once
 named_once : (site : Site) (options : List RawOption) (o : RawOption) (kind : OptionKind) (name : List ℕ) → AllPairs (AreTwo site options) options → Contains options o → o.name.word ≡ name
@@ -231,26 +227,30 @@ module _ (draft : Draft) (planes : List Plane) (program : Program) (is : program
     own_said true kind e said = said
     own_said false kind e said = absurd (none-some e said)
 
-    pub declared_desc : (e : Expr) → own_desc draft ds ≡ Some e → NamesOuter e → list_any is_outer_desc ds.options ≡ true
-    declared_desc e said outer =
-        let o = names_by draft (codes "desc") ds.options e (own_said ds.is_union refl e said) outer in
-        any_of is_outer_desc ds.options o.0 o.1 (and_true (is_desc o.0) (parameter_names_container o.0.parameter) (ap (λ (word : List ℕ). is_desc_kind (kind_of word)) o.2) o.3)
+    pub declared_desc : (e : Expr) → own_desc draft ds ≡ Some e → NamesOuter e → has_outer_desc ds.options ≡ true
+    declared_desc e said outer = by (option_named (codes "desc") ds.options) (own_said ds.is_union refl e said)
+      where
+        by : (o : Option RawOption) → option_map (λ (r : RawOption). expression_of (constants draft) r.parameter) o ≡ Some e
+            → option_map_or (λ (r : RawOption). parameter_names_container r.parameter) o false ≡ true
+        by None is = absurd (none-some e is)
+        by (Some o) is = (outer_same draft o.parameter).1 (subst NamesOuter (sym (same_Some (expression_of (constants draft) o.parameter) e is)) outer)
 
-    pub inner_desc : list_any is_outer_desc ds.options ≡ true → (e : Expr) × (own_desc draft ds ≡ Some e) × NamesOuter e
-    inner_desc has =
-        let any = Any-from_list_any is_outer_desc ds.options has in
-        let o = any.1 in
-        let there : Contains ds.options o = (any.0, any.2, any.3) in
-        let marker = structure_marker draft none place ds drafted in
-        let name : o.name.word ≡ codes "desc" = kind_name o.name.word Desc (desc_kind (kind_of o.name.word) (and_first (is_desc o) (parameter_names_container o.parameter) any.4)) in
-        let union : ds.is_union ≡ true =
-        (All-contains (IsFine draft (at_structure ds.is_union) ds.options) ds.options o (marker_fine draft (at_structure ds.is_union) ds.options ds.file marker) there).stands Desc (ap kind_of name) refl in
-        let named = named_once (at_structure ds.is_union) ds.options o Desc (codes "desc") (marker_pairs draft (at_structure ds.is_union) ds.options ds.file marker) there name refl refl refl in (
-          expression_of (constants draft) o.parameter,
-          ap (λ (b : Bool). if b then expression_named (constants draft) (codes "desc") ds.options else None) union
-              ∙ ap (λ (x : Option RawOption). option_map (λ (r : RawOption). expression_of (constants draft) r.parameter) x) named,
-          (outer_same draft o.parameter).0 (and_second (is_desc o) (parameter_names_container o.parameter) any.4),
-        )
+    pub inner_desc : has_outer_desc ds.options ≡ true → (e : Expr) × (own_desc draft ds ≡ Some e) × NamesOuter e
+    inner_desc has = by (option_named (codes "desc") ds.options) refl has
+      where
+        by : (o : Option RawOption) → option_named (codes "desc") ds.options ≡ o → option_map_or (λ (r : RawOption). parameter_names_container r.parameter) o false ≡ true
+            → (e : Expr) × (own_desc draft ds ≡ Some e) × NamesOuter e
+        by None named has = absurd (cc)
+        by (Some o) named has =
+            let there = found (codes "desc") ds.options o named in
+            let marker = structure_marker draft none place ds drafted in
+            let union : ds.is_union ≡ true =
+            (All-contains (IsFine draft (at_structure ds.is_union) ds.options) ds.options o (marker_fine draft (at_structure ds.is_union) ds.options ds.file marker) there.0).stands Desc (ap kind_of there.1) refl in (
+              expression_of (constants draft) o.parameter,
+              ap (λ (b : Bool). if b then expression_named (constants draft) (codes "desc") ds.options else None) union
+                  ∙ ap (λ (x : Option RawOption). option_map (λ (r : RawOption). expression_of (constants draft) r.parameter) x) named,
+              (outer_same draft o.parameter).0 has,
+            )
 
   -- ---- the structures
 
@@ -265,7 +265,7 @@ module _ (draft : Draft) (planes : List Plane) (program : Program) (is : program
         any_of has_outer_option ds.fields from.0 (in_list ds.fields any.0 from.0 from.1)
         (declared_field id.0 ds made.drafted any.0 from.0 from.1 result.0 (sym (ap (λ (f : Field). count_of f.ty) from.2) ∙ result.1) result.2)
 
-    declared_by_desc : (d : Option Expr) → s.desc ≡ d → Any NamesOuter (option_to_list d) → list_any is_outer_desc ds.options ≡ true
+    declared_by_desc : (d : Option Expr) → s.desc ≡ d → Any NamesOuter (option_to_list d) → has_outer_desc ds.options ≡ true
     declared_by_desc None same any = absurd (omega (arith, any.2))
     declared_by_desc (Some e) same any =
         let outer = subst NamesOuter (of_one e any.1 any.0 any.2 any.3) any.4 in
@@ -277,8 +277,8 @@ module _ (draft : Draft) (planes : List Plane) (program : Program) (is : program
     declared_by_own : Any NamesOuter (own_expressions s) → is_declared_inner ds ≡ true
     declared_by_own any =
         elim ((any_joins NamesOuter).cases (filter_map (λ (f : Field). count_of f.ty) s.fields) (option_to_list s.desc) any) [
-          | inl counts ↦ or_other (list_any is_outer_desc ds.options) (list_any has_outer_option ds.fields) (declared_by_fields (result_of (λ (f : Field). count_of f.ty) NamesOuter s.fields counts))
-          | inr own ↦ or_one (list_any is_outer_desc ds.options) (list_any has_outer_option ds.fields) (declared_by_desc s.desc refl own)
+          | inl counts ↦ or_other (has_outer_desc ds.options) (list_any has_outer_option ds.fields) (declared_by_fields (result_of (λ (f : Field). count_of f.ty) NamesOuter s.fields counts))
+          | inr own ↦ or_one (has_outer_desc ds.options) (list_any has_outer_option ds.fields) (declared_by_desc s.desc refl own)
         ]
 
     inner_by_fields : list_any has_outer_option ds.fields ≡ true → Any Counted s.fields
@@ -288,14 +288,14 @@ module _ (draft : Draft) (planes : List Plane) (program : Program) (is : program
         subst (λ (fs : List Field). Any Counted fs) (sym (ap (λ (t : Structure). t.fields) made.same))
         (any_mapped Counted (field_of draft planes ds.is_union) ds.fields any.0 any.1 at (inner_field id.0 ds made.drafted any.0 any.1 at any.4))
 
-    inner_by_desc : list_any is_outer_desc ds.options ≡ true → Any NamesOuter (option_to_list s.desc)
+    inner_by_desc : has_outer_desc ds.options ≡ true → Any NamesOuter (option_to_list s.desc)
     inner_by_desc has =
         let own = inner_desc id.0 ds made.drafted has in
         subst (λ (d : Option Expr). Any NamesOuter (option_to_list d)) (sym (ap (λ (t : Structure). t.desc) made.same ∙ own.1)) (0, own.0, omega arith, refl, own.2)
 
     inner_by_own : is_declared_inner ds ≡ true → Any NamesOuter (own_expressions s)
     inner_by_own is_so =
-        elim (or_cases (list_any is_outer_desc ds.options) (list_any has_outer_option ds.fields) is_so) [
+        elim (or_cases (has_outer_desc ds.options) (list_any has_outer_option ds.fields) is_so) [
           | inl own ↦ (any_joins NamesOuter).second (filter_map (λ (f : Field). count_of f.ty) s.fields) (option_to_list s.desc) (inner_by_desc own)
           | inr fields ↦
               (any_joins NamesOuter).first (filter_map (λ (f : Field). count_of f.ty) s.fields) (option_to_list s.desc) (result_in (λ (f : Field). count_of f.ty) NamesOuter s.fields (inner_by_fields fields))
