@@ -1,7 +1,7 @@
 use Rattle.std.proofs.Common.{sym, subst}
 use Rattle.gt_space.specs.Range.{IsInside}
 use Rattle.gt_value.specs.Values.{tree_of}
-use Rattle.value_notation.proofs.Rereads.{inside-kept, beside-stored, keeps-both}
+use Rattle.value_notation.proofs.Rereads.{inside-kept, beside-stored}
 use Rattle.leaf_table.proofs.writing.store_and_write.Goals as goal
 
 pub store-requires-clause-inside : goal.store-requires-clause-inside
