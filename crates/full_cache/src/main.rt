@@ -3,6 +3,7 @@
 #![tactic(auto)]
 
 ghost use Rattle.std.specs.Prelude.{◌<◌, ◌^◌, IfOk, length};
+ghost use Rattle.gt_schema.specs.Schemas.{IsSchema};
 ghost use Rattle.gt_session.specs.Sessions.{IsSession};
 
 use gt_headers::{declare, declared_programs_are_settled};
@@ -76,17 +77,26 @@ fn fill(alloc: Global, files: &mut HostFiles, out: &mut HostOut) -> Result<(), F
     run(alloc, &mut session, files, out, last.as_slice())
 }
 
+// What is made of the header.
+fn schema_of(alloc: Global) -> Result<Schema, Failed>
+    ensures schema { IfOk result IsSchema }
+{
+    declared_programs_are_settled();
+    let mut texts = Vec::new(alloc);
+    let Ok(()) = texts.push(Bytes::of(alloc, HEADER)?) else {
+        return Err(Failed);
+    };
+    match declare(alloc, &texts) {
+        Ok(declared) => Ok(Schema::of(alloc, declared.program, declared.layouts)?),
+        Err(_) => Err(Failed),
+    }
+}
+
 // The session with which a run under the header begins.
 fn open(alloc: Global) -> Result<Session, Failed>
     ensures session { IfOk result IsSession }
 {
-    declared_programs_are_settled();
-    let mut texts = Vec::new(alloc);
-    texts.push(Bytes::of(alloc, HEADER)?)?;
-    let Ok(declared) = declare(alloc, &texts) else {
-        return Err(Failed);
-    };
-    let schema = Schema::of(alloc, declared.program, declared.layouts)?;
+    let schema = schema_of(alloc)?;
     let session = Session::open(alloc, schema, PAGES, MIN_EXPAND, MIN_HEAPSIZE)?;
     Ok(session)
 }
