@@ -35,7 +35,9 @@ part() {
   minus "$all" "$none"
 }
 for what in show store read; do
-  row "$what, pointers of each" 32000 "$(part $what 32000)" 'a tenth' "$(part $what 3200)" 14
+  large=$(part $what 32000)
+  small=$(part $what 3200)
+  row "$what, pointers of each" 32000 "$large" 'a tenth' "$small" 14
 done
 
 # The seconds of 2,000 lines `print`, of a structure with so many unions before the number that chooses their members.
@@ -49,4 +51,6 @@ prints() {
   wants 0 0 "$work/prints.gty" "$work/many.h"
   minus "$(seconds 5 "$program" "$work/prints.gty" "$work/many.h")" "$(seconds 5 "$program" "$work/none.gty" "$work/many.h")"
 }
-row 'print, unions chosen by name' 1000 "$(prints 1000)" 'a tenth' "$(prints 100)" 12
+large=$(prints 1000)
+small=$(prints 100)
+row 'print, unions chosen by name' 1000 "$large" 'a tenth' "$small" 12

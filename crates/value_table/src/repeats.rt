@@ -1,17 +1,20 @@
 // A part of what is done with a value, so many times, so that it can be timed apart from the others.
 ghost use Rattle.std.specs.Prelude.{◌≡◌, ℕ};
 ghost use Rattle.gt_space.specs.Range.{IsInside};
+ghost use Rattle.gt_types.specs.Paths.{MayStand};
 ghost use Rattle.gt_tree.specs.Trees.{Tree};
+ghost use Rattle.gt_tree.specs.Blocks.{Nodes, element_type};
 ghost use Rattle.gt_value.specs.Values.{tree_of};
 ghost use Rattle.gt_value.specs.Bytes.{IsElement, IsRoomFor, StandsFor, Takes};
 ghost use Rattle.gt_assign.specs.Results.{FitsBeside};
+ghost use Rattle.gt_show.specs.Parts.{FitsSomewhere};
 ghost use Rattle.value_notation.specs.Blocks.{blocks};
 ghost use Rattle.value_notation.specs.Trials.{IsReady};
 
 use gt_show::show;
 use gt_space::Space;
 use gt_store::store;
-use gt_types::Ty;
+use gt_types::{Ty, TypeId};
 use gt_value::{Value, read};
 use std::alloc::AllocError;
 use value_notation::{
@@ -45,32 +48,63 @@ pub fn repeat(on: &Sample, row: &Row, part: Part, times: u32) -> Result<(), Stop
 {
     let node = row.kind.id();
     let ty = element(on, node)?;
-    let value = last_value(on, row, &ty)?;
-    let size = size_of(on, node, &ty, row.capacity);
+    let done = repeat_of(on, node, &ty, row, part, times);
+    // Named, since what a type holds is then not looked at here, which makes the proof shorter.
+    drop(ty);
+    done
+}
+
+// The same, by the type of the row's structure.
+fn repeat_of(
+    on: &Sample,
+    id: TypeId,
+    ty: &Ty,
+    row: &Row,
+    part: Part,
+    times: u32,
+) -> Result<(), Stop>
+    requires ready { IsReady on.now.program on.now.layouts }
+    requires stands { MayStand on.now.program id }
+    requires element { ty.now ≡ element_type on.now.program (Nodes id) }
+{
+    let value = last_value(on, row, ty)?;
+    let size = size_of(on, id, ty, row.capacity);
+    repeat_with(on, ty, row.capacity, &value, size, part, times)
+}
+
+// Does a part so many times with a value, which has room in a new space.
+fn repeat_with(
+    on: &Sample,
+    ty: &Ty,
+    capacity: u32,
+    value: &Value,
+    size: u64,
+    part: Part,
+    times: u32,
+) -> Result<(), Stop>
+    requires ready { IsReady on.now.program on.now.layouts }
+    requires element { IsElement on.now.program ty.now }
+    requires takes { Takes on.now.program on.now.layouts capacity ty.now size }
+    requires only { (s : ℕ) → Takes on.now.program on.now.layouts capacity ty.now s → s ≡ size }
+    requires fits { FitsBeside on.now.program blocks capacity ty.now (tree_of value.now) }
+{
     let mut space = fresh_space(on)?;
     let Some(room) = room_in(&space, BEFORE, size) else {
         return Err(Stop::TooLarge);
     };
     match part {
-        Part::Show => show_times(on, &ty, row.capacity, &value, times)?,
-        Part::Store => store_times(on, &ty, row.capacity, &value, &mut space, room, times),
-        Part::Read => store_and_read(on, &ty, row.capacity, &value, &mut space, room, times)?,
+        Part::Show => show_times(on, ty, value, times)?,
+        Part::Store => store_times(on, ty, capacity, value, &mut space, room, times),
+        Part::Read => store_and_read(on, ty, capacity, value, &mut space, room, times)?,
     }
     Ok(())
 }
 
 // Shows a value so many times.
-fn show_times(
-    on: &Sample,
-    ty: &Ty,
-    capacity: u32,
-    value: &Value,
-    times: u32,
-) -> Result<(), AllocError>
+fn show_times(on: &Sample, ty: &Ty, value: &Value, times: u32) -> Result<(), AllocError>
     requires ready { IsReady on.now.program on.now.layouts }
-    requires fits { FitsBeside on.now.program blocks capacity ty.now (tree_of value.now) }
+    requires fits { FitsSomewhere on.now.program blocks ty.now (tree_of value.now) }
 {
-    let _ = capacity;
     for _ in 0..times {
         let _ = show(on.alloc, &on.program, ty, value, &TableBlocks)?;
     }
