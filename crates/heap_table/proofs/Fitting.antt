@@ -1,5 +1,5 @@
 -- Values of one type, and of the types of roots, one after another.
-use Rattle.std.proofs.Common.{◌≡◌, ◌≢◌, ◌<◌, ◌≤◌, ℕ, suc, Bool, true, false, List, [], ◌∷◌, length, get_or, map, refl, ap, subst, sym, arith}
+use Rattle.std.proofs.Common.{◌≡◌, ◌≢◌, ◌==◌, ◌<◌, ◌≤◌, ℕ, suc, Bool, true, false, List, [], ◌∷◌, length, get_or, map, refl, ap, subst, sym, ◌∙◌, arith, eqb-true}
 use Rattle.std.specs.Bool.{Decides}
 use Rattle.gt_types.specs.declared.types.Ty.{Ty}
 use Rattle.gt_types.specs.declared.program.Program.{Program}
@@ -38,10 +38,14 @@ module _ {program : Program} {blocks : Blocks} {capacity : ℕ} {scope : Scope} 
 
   -- ---- values of roots
 
-  pub no_roots : (roots : List Root) (values : List Value) → length roots < 1 → length values < 1 → Decides true (AllFit program blocks capacity scope (map (λ (r : Root). r.ty) roots) (values_of values))
-  no_roots [] [] a b = ((λ h. AllFit.none), (λ all. refl))
-  no_roots (r ∷ roots) values a b = absurd (omega (arith, a))
-  no_roots [] (v ∷ values) a b = absurd (omega (arith, b))
+  pub no_roots : (roots : List Root) (values : List Value) (r : Bool) → length roots < 1 → r ≡ (length values == 0)
+      → Decides r (AllFit program blocks capacity scope (map (λ (r : Root). r.ty) roots) (values_of values))
+  no_roots [] [] r short e = ((λ h. AllFit.none), (λ all. e))
+  no_roots [] (v ∷ values) r short e = (
+    (λ h. let none : length (v ∷ values) ≡ 0 = eqb-true (length (v ∷ values)) 0 (sym e ∙ h) in absurd (omega (arith, none))),
+    (λ all. elim all [ ]),
+  )
+  no_roots (root ∷ roots) values r short e = absurd (omega (arith, short))
 
   pub more_roots : (roots : List Root) (root : Root) (values : List Value) (v : Value) (r : Bool) → 1 ≤ length roots → root ≡ get_or roots 0 root → 1 ≤ length values → v ≡ get_or values 0 v
       → Fits program blocks capacity scope root.ty (tree_of v) → Decides r (AllFit program blocks capacity scope (map (λ (r : Root). r.ty) (rest_of roots)) (values_of (rest_of values)))
