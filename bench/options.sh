@@ -41,6 +41,17 @@ contain() {
 containers() { contain "$1" "$2" "%1"; }
 outermost() { contain "$1" "$2" "%0"; }
 
+# So many fields whose length begins at the container of their structure, in so many containers.
+fields() {
+  awk -v n="$1" -v header="$2/0.h" 'BEGIN {
+    print "struct GTY(()) leaf { int k; };" >header
+    print "struct GTY(()) in {" >header
+    for (k = 1; k <= n; k++) print "  struct leaf *GTY((length (\"%1.n\"))) f" k ";" >header
+    print "};" >header
+    for (i = 1; i <= n; i++) print "struct GTY(()) c" i " { int n; struct in f; };" >header
+  }'
+}
+
 # One field with so many options. The last of them is `skip`, which passes over those before it.
 one_field() {
   awk -v n="$1" -v header="$2/0.h" -v last="$3" 'BEGIN {
@@ -77,5 +88,6 @@ compare paths 4090 'structures of 29 paths'
 compare parts 24000 'options of 255 parts'
 compare containers 4000 'containers, a path from %1'
 compare outermost 4000 'containers, a path from %0'
+compare fields 1000 'fields in as many containers'
 compare skipped 80000 'options of one field, passed over'
 compare again 80000 'options of one field, each again' 'fault 17 WrongPlace'

@@ -35,6 +35,12 @@ seconds() {
   shift
   for ((run = 0; run < runs; run++)); do "$work/spent" "$work/input" "$@" 2>&1 >"$work/out"; done | sort -n | head -n 1 | awk '{ print $1 }'
 }
+# The least of the numbers that a command prints in so many runs.
+least() {
+  local runs=$1 run
+  shift
+  for ((run = 0; run < runs; run++)); do "$@"; done | sort -n | head -n 1
+}
 # The KiB that a command has at the most.
 most_memory() { "$work/spent" "$work/input" "$@" 2>&1 >"$work/out" | awk '{ print $2 }'; }
 # The instructions of a command, which are the same each time, counted by valgrind.
@@ -76,6 +82,34 @@ int main (int argc, char **argv)
 C
 cc -O2 -o "$work/spent" "$work/spent.c"
 : >"$work/input"
+
+# Builds `between`, which runs a program, and says how many seconds went by from its first line to its second one, as they came through a pipe.
+build_between() {
+  cat >"$work/between.c" <<'C'
+#include <stdio.h>
+#include <sys/wait.h>
+#include <time.h>
+#include <unistd.h>
+
+static double now (void) { struct timespec t; clock_gettime (CLOCK_MONOTONIC, &t); return t.tv_sec + t.tv_nsec / 1e9; }
+
+int main (int argc, char **argv)
+{
+  int ends[2], status, lines = 0; double came[2]; char text[4096]; ssize_t got;
+  if (argc < 2 || pipe (ends)) return 2;
+  pid_t child = fork ();
+  if (!child) { dup2 (ends[1], 1); close (ends[0]); execv (argv[1], argv + 1); _exit (127); }
+  close (ends[1]);
+  while ((got = read (ends[0], text, sizeof text)) > 0)
+    for (ssize_t i = 0; i < got; i++)
+      if (text[i] == '\n' && lines < 2) came[lines++] = now ();
+  if (waitpid (child, &status, 0) < 0 || !WIFEXITED (status) || WEXITSTATUS (status) || lines < 2) return 3;
+  printf ("%.9f\n", came[1] - came[0]);
+  return 0;
+}
+C
+  cc -O2 -o "$work/between" "$work/between.c"
+}
 
 # Copies these crates into `work`, each with its line of crates.txt, and with its library where that is built.
 copy_crates() {
@@ -120,7 +154,8 @@ build_pages() {
   (cd "$program" && quiet rt run -- "$@")
 }
 
-# Builds `small`, a list of nodes in a small allocator in C, which is made (`make N`), or made and collected so many times (`collect N TIMES`).
+# Builds `small`, a list of nodes in a small allocator in C, which is made (`make N`), or made and collected so many times (`collect N TIMES`), or which tells
+# the seconds of its first collection (`first N`).
 build_small() {
   cat >"$work/small.c" <<'C'
 /* A small allocator and its collection: pages of 4096 bytes, each of one size, with a bit for each place, a list of pages with a free place for each size,
@@ -130,6 +165,7 @@ build_small() {
 #include <stdlib.h>
 #include <string.h>
 #include <sys/mman.h>
+#include <time.h>
 enum { PAGE = 4096, PAGES = 16384 };
 typedef struct page { uint64_t bits[8]; uint16_t count, free, hint, shift; uint32_t next; } page;
 typedef struct node { struct node *next, *other; uint64_t key, pad; } node;
@@ -156,6 +192,7 @@ static int mark (void *block)
   if (e->bits[i >> 6] & bit) return 0;
   e->bits[i >> 6] |= bit; e->free--; return 1;
 }
+static double now (void) { struct timespec t; clock_gettime (CLOCK_MONOTONIC, &t); return t.tv_sec + t.tv_nsec / 1e9; }
 int main (int argc, char **argv)
 {
   long n = argc > 2 ? atol (argv[2]) : 0, times = argc > 3 ? atol (argv[3]) : 1, kept = 0; node *head = 0, **stack = malloc ((2 * n + 16) * sizeof *stack); size_t depth = 0;
@@ -166,7 +203,8 @@ int main (int argc, char **argv)
     node *x = take (5); x->key = i; x->next = head; head = x;
     if (i % 3 == 2) { node *y = take (5); y->other = x; }
   }
-  if (strcmp (argv[1], "collect")) { printf ("%ld\n", n); return 0; }
+  if (!strcmp (argv[1], "make")) { printf ("%ld\n", n); return 0; }
+  double begin = now ();
   for (long t = 0; t < times; t++) {
     kept = 0;
     for (uint32_t p = 0; p < top; p++) { page *e = &table[p]; memset (e->bits, 0, sizeof e->bits); e->free = e->count; }
@@ -184,7 +222,9 @@ int main (int argc, char **argv)
       else if (e->free) { e->next = first[e->shift]; first[e->shift] = p; }
     }
   }
-  printf ("%ld\n", kept); return 0;
+  double end = now ();
+  if (!strcmp (argv[1], "first")) printf ("%.9f\n", end - begin); else printf ("%ld\n", kept);
+  return 0;
 }
 C
   cc -O2 -o "$work/small" "$work/small.c"

@@ -1,8 +1,11 @@
 #!/usr/bin/env bash
 # Times zero, a write, showing, storing, reading back and showing again of 50 values by the program value_table, which is built first: structures that
-# end in so many pointers, with ten times as many from row to row. Run by hand, from any folder. The values of the last row no longer fit the caches: it
-# took 12.4 to 13.2 times as long as the one before, on a busy machine, on 27 November 2026.
+# end in so many pointers, with ten times as many from row to row; then showing, storing and reading alone, so many times; and `print` of a structure with
+# so many unions by the program gtyheap, where reading finds the number that chooses each member by its name. Run by hand, from any folder, after
+# ./gtyheap. The values of the last row of the first table no longer fit the caches: it took 12.4 to 13.2 times as long as the one before, on a busy machine,
+# on 27 November 2026.
 . "$(dirname "$0")/shared.sh"
+take_program
 (cd "$root/crates/value_table" && quiet rt run </dev/null)
 cp "$root/crates/value_table/out/value_table" "$work/value_table"
 
@@ -10,12 +13,40 @@ cp "$root/crates/value_table/out/value_table" "$work/value_table"
 rows() { awk -v rows="$1" -v n="$2" 'BEGIN {
   text = "null"; for (i = 1; i < n; i++) text = text ", null"
   for (i = 0; i < rows; i++) printf "vec %d 0=%d -> {num=%d, elem=[%s]}\n", n, n, n, text }'; }
-idle=$(seconds 9 "$work/value_table")
+: >"$work/input"
+idle_table=$(seconds 9 "$work/value_table")
 small=
 for n in 32 320 3200 32000; do
   rows 50 $n >"$work/input"
-  large=$(minus "$(seconds 5 "$work/value_table")" "$idle")
+  large=$(minus "$(seconds 5 "$work/value_table")" "$idle_table")
   grep -q ', 0 differ' "$work/out" || { head -c 300 "$work/out" >&2; exit 2; }
   if [ -n "$small" ]; then row 'values, pointers of each' $n "$large" 'a tenth' "$small" 14; fi
   small=$large
 done
+
+# The seconds that one part takes, 200 times, of a structure with so many pointers at its end.
+part() {
+  local all none
+  printf 'times 0 %s vec %d 0=%d -> done\n' "$1" "$2" "$2" >"$work/input"
+  none=$(seconds 5 "$work/value_table")
+  printf 'times 200 %s vec %d 0=%d -> done\n' "$1" "$2" "$2" >"$work/input"
+  all=$(seconds 5 "$work/value_table")
+  grep -q ', 0 differ' "$work/out" || { head -c 300 "$work/out" >&2; exit 2; }
+  minus "$all" "$none"
+}
+for what in show store read; do
+  row "$what, pointers of each" 32000 "$(part $what 32000)" 'a tenth' "$(part $what 3200)" 14
+done
+
+# The seconds of 2,000 lines `print`, of a structure with so many unions before the number that chooses their members.
+prints() {
+  awk -v n="$1" 'BEGIN {
+    print "union GTY(()) arm { int GTY((tag (\"0\"))) number; char *GTY((tag (\"1\"))) text; };\nstruct GTY(()) many {"
+    for (i = 0; i < n; i++) printf "  union arm GTY((desc (\"%%1.kind\"))) u%d;\n", i
+    print "  int kind;\n};" }' >"$work/many.h"
+  { echo '@new $m many'; awk 'BEGIN { for (i = 0; i < 2000; i++) print "@print $m" }'; } >"$work/prints.gty"
+  echo '@new $m many' >"$work/none.gty"
+  wants 0 0 "$work/prints.gty" "$work/many.h"
+  minus "$(seconds 5 "$program" "$work/prints.gty" "$work/many.h")" "$(seconds 5 "$program" "$work/none.gty" "$work/many.h")"
+}
+row 'print, unions chosen by name' 1000 "$(prints 1000)" 'a tenth' "$(prints 100)" 12

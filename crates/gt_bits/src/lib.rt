@@ -13,5 +13,5 @@ mod sparse;
 mod tests;
 
 pub use runs::{first_run, longest_run};
-pub use sets::{clear, count, has, insert, next, next_gap, remove};
+pub use sets::{clear, count, has, insert, insert_new, next, next_gap, remove};
 pub use sparse::SparseSet;

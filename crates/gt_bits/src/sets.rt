@@ -1,6 +1,6 @@
 //! One set: its members, put in, taken out, sought and counted.
 
-ghost use Rattle.std.specs.Prelude.{◌≡◌, ◌≢◌, ℕ, ◌*◌, ◌<◌, true, false, length};
+ghost use Rattle.std.specs.Prelude.{◌≡◌, ◌≢◌, ℕ, ◌*◌, ◌<◌, true, false, not, length};
 ghost use Rattle.gt_bits.specs.Sets.{has, members, Fits, IsNext, IsNextGap};
 ghost use Rattle.gt_bits.specs.Runs.{IsNextBelow};
 
@@ -24,6 +24,25 @@ pub fn insert(words: &mut [u64], i: u32)
     ensures others { (j : ℕ) → j ≢ i → has words.new j ≡ has words.old j }
 {
     words[word_of(i)] |= 1 << bit_of(i);
+}
+
+/// Puts a number into the set, and says whether it was not there before.
+#[inline(always)]
+pub fn insert_new(words: &mut [u64], i: u32) -> bool
+    requires { i < 64 * length words.old }
+    ensures fresh { result ≡ not (has words.old i) }
+    ensures len { length words.new ≡ length words.old }
+    ensures held { has words.new i ≡ true }
+    ensures others { (j : ℕ) → j ≢ i → has words.new j ≡ has words.old j }
+    ensures unchanged { result ≡ false → words.new ≡ words.old }
+{
+    let place = word_of(i);
+    let bit = bit_of(i);
+    if (words[place] >> bit) & 1 == 1 {
+        return false;
+    }
+    words[place] |= 1 << bit;
+    true
 }
 
 /// Takes a number out of the set, in which it need not be.

@@ -107,6 +107,10 @@ pub part_len : (ws vs : List ℕ) (n k : ℕ) → 3 * third ws ≡ length ws →
 part_len ws vs n k thirds was count low =
     length-take-le k (drop n vs) (omega (arith, count, low, length-drop n vs, ap (λ xs. length xs) was, thirds)) ∙ count
 
+-- the second set, where `vs` is what the words were
+pub second_of : (ws vs : List ℕ) (n k : ℕ) → vs ≡ ws → n ≡ third ws → k ≡ third ws → take k (drop n vs) ≡ (sets_of ws).marked
+second_of ws vs n k was first count = rw (was, first, count) refl
+
 -- three empty sets
 pub three_empty : (n : ℕ) → replicate (3 * n) 0 ≡ replicate {A = ℕ} n 0 ++ (replicate n 0 ++ replicate n 0)
 three_empty n =

@@ -155,10 +155,9 @@ impl Places {
             ≡ slice_set self.old k (Used (Some (record { walk = walk; count = count; pending = false }))) }
         ensures unchanged { result ≡ false → self.new ≡ self.old }
     {
-        if has(self.sets.marked(), k) {
+        if !self.sets.mark(k) {
             return false;
         }
-        self.sets.mark(k);
         self.tags[k as usize] = Tag { walk, count };
         true
     }

@@ -1,9 +1,9 @@
 //! The sets of an entry: its places in use, those with a marked block, and those whose block is left to a pass.
-ghost use Rattle.std.specs.Prelude.{◌≡◌, ◌≢◌, ℕ, ◌*◌, ◌^◌, ◌<◌, ◌≤◌, true, false, [], length, replicate, IfOk};
+ghost use Rattle.std.specs.Prelude.{◌≡◌, ◌≢◌, ℕ, ◌*◌, ◌^◌, ◌<◌, ◌≤◌, true, false, not, [], length, replicate, IfOk};
 ghost use Rattle.gt_bits.specs.Sets as bits;
 
 use crate::memory::filled;
-use gt_bits::{clear, insert, remove};
+use gt_bits::{clear, insert, insert_new, remove};
 use std::alloc::{AllocError, Global};
 use std::marker::Model;
 
@@ -92,16 +92,19 @@ impl Sets {
         insert_all(&mut self.words[0..len], end);
     }
 
-    /// The block at a place is marked from now on.
-    pub(crate) fn mark(&mut self, k: u32)
+    /// The block at a place is marked from now on. Says whether it was not marked before.
+    #[inline(always)]
+    pub(crate) fn mark(&mut self, k: u32) -> bool
         requires { k < 64 * length self.old.marked }
+        ensures fresh { result ≡ not (bits.has self.old.marked k) }
         ensures len { length self.new.marked ≡ length self.old.marked }
         ensures held { bits.has self.new.marked k ≡ true }
         ensures others { (j : ℕ) → j ≢ k → bits.has self.new.marked j ≡ bits.has self.old.marked j }
         ensures rest { self.new ≡ record self.old { marked = self.new.marked } }
+        ensures unchanged { result ≡ false → self.new ≡ self.old }
     {
         let len = self.len;
-        insert(&mut self.words[len..2 * len], k);
+        insert_new(&mut self.words[len..2 * len], k)
     }
 
     /// The block at a place is left to a pass.

@@ -1,5 +1,5 @@
 -- No promise: how the places of fields are found by their names.
-use Rattle.std.specs.Prelude.{◌≡◌, ℕ, ◌+◌, List, [], ◌∷◌, slice_get}
+use Rattle.std.specs.Prelude.{◌≡◌, ℕ, ◌+◌, List, [], ◌∷◌, map, slice_get}
 use Rattle.gt_types.specs.declared.program.Field.{Field}
 use Rattle.gt_types.specs.declared.program.Structure.{Structure}
 use Rattle.gt_names.specs.declared.tables.Entry.{Entry}
@@ -14,6 +14,10 @@ fields_from entries place (f ∷ fs) = fields_from (with_value entries f.name pl
 
 abbrev pub names_of : Structure → List (Entry ℕ)
 names_of s = fields_from [] 0 s.fields
+
+-- the names of the fields of structures
+abbrev pub field_names : List Structure → FieldNames
+field_names structures = record { structures = map names_of structures }
 
 -- for each structure each name has the place of the field of this name
 pub record AreNamesOf (structures : List Structure) (names : FieldNames) : Type 0 where

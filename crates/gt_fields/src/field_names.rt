@@ -5,7 +5,7 @@ ghost use Rattle.gt_types.specs.declared.limits.TheConstants.{MAX_FIELDS};
 ghost use Rattle.gt_types.specs.declared.program.Structure.{Structure};
 ghost use Rattle.gt_names.specs.Entries.{value_in, with_value};
 ghost use Rattle.gt_fields.specs.Places.{bind, place_in};
-ghost use Rattle.gt_fields.specs.FieldNames.{AreNamesOf, fields_from, names_of};
+ghost use Rattle.gt_fields.specs.FieldNames.{AreNamesOf, field_names, fields_from, names_of};
 
 use gt_names::Table;
 use gt_types::{Field, List, Structure, TypeId, Word};
@@ -46,6 +46,7 @@ impl FieldNames {
     pub fn of(alloc: Global, structures: &[Structure]) -> Result<FieldNames, AllocError>
         requires few { All (λ s. length s.fields ≤ MAX_FIELDS) structures.now }
         ensures names { IfOk result (AreNamesOf structures.now) }
+        ensures made { IfOk result (λ made. made ≡ field_names structures.now) }
     {
         Ok(FieldNames {
             structures: names_of_all(alloc, structures)?,

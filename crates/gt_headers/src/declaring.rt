@@ -22,7 +22,7 @@ use gt_types::{Bytes, Program, Stop};
 use std::alloc::Global;
 
 /// What headers declare: a program, and how its structures and its static record lie.
-#[derive(Debug, Drop)]
+#[derive(Drop)]
 pub struct Declared {
     pub program: Program,
     pub layouts: Layouts,

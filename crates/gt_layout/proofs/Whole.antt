@@ -11,6 +11,8 @@ use Rattle.gt_types.specs.declared.program.Structure.{Structure}
 use Rattle.gt_types.specs.declared.program.Root.{Root}
 use Rattle.gt_types.specs.declared.program.Program.{Program}
 use Rattle.gt_types.specs.Settled.{Settled}
+use Rattle.gt_fields.specs.declared.field_names.FieldNames.{FieldNames}
+use Rattle.gt_fields.specs.FieldNames.{field_names}
 use Rattle.gt_layout.specs.declared.planes.TheConstants.{MAX_SIZE}
 use Rattle.gt_layout.specs.declared.planes.Plane.{Plane}
 use Rattle.gt_layout.specs.declared.planes.Spot.{Spot}
@@ -257,12 +259,13 @@ pub known_laid : (program : Program) (known : List Plane) → Settled program �
 known_laid program known settled held_all none =
     subst (λ (ps : List Plane). AreLaidOut program ps) (sym (same_planes program known (ideal program) held_all (ideal_laid program settled) none)) (ideal_laid program settled)
 
-pub all_laid_out : (program : Program) (known structures : List Plane) (statics : Plane) → Settled program → AreHeldPlanes program known → ((other : ℕ) → ¬ IsLargeAt program known other) → IsWithinRecord known program.roots statics
-    → structures ≡ known → IsLaidOut program (record { structures = structures; statics = statics })
-all_laid_out program known structures statics settled held_all none within same =
-    subst (λ (ps : List Plane). IsLaidOut program (record { structures = ps; statics = statics })) (sym same) (record { structures = known_laid program known settled held_all none; statics = within.is })
+pub all_laid_out : (program : Program) (known structures : List Plane) (statics : Plane) (names : FieldNames) → Settled program → AreHeldPlanes program known → ((other : ℕ) → ¬ IsLargeAt program known other) → IsWithinRecord known program.roots statics
+    → structures ≡ known → names ≡ field_names program.structures → IsLaidOut program (record { structures = structures; statics = statics; names = names })
+all_laid_out program known structures statics names settled held_all none within same named =
+    subst (λ (ps : List Plane). IsLaidOut program (record { structures = ps; statics = statics; names = names })) (sym same)
+    (record { structures = known_laid program known settled held_all none; statics = within.is; names = named })
 
-pub all_within : (program : Program) (known structures : List Plane) (statics : Plane) → AreHeldPlanes program known → ((other : ℕ) → ¬ IsLargeAt program known other) → IsWithinRecord known program.roots statics
-    → structures ≡ known → IsWithin program (record { structures = structures; statics = statics })
-all_within program known structures statics held_all none within same =
-    subst (λ (ps : List Plane). IsWithin program (record { structures = ps; statics = statics })) (sym same) (record { structures = none; statics = within.within })
+pub all_within : (program : Program) (known structures : List Plane) (statics : Plane) (names : FieldNames) → AreHeldPlanes program known → ((other : ℕ) → ¬ IsLargeAt program known other) → IsWithinRecord known program.roots statics
+    → structures ≡ known → IsWithin program (record { structures = structures; statics = statics; names = names })
+all_within program known structures statics names held_all none within same =
+    subst (λ (ps : List Plane). IsWithin program (record { structures = ps; statics = statics; names = names })) (sym same) (record { structures = none; statics = within.within })

@@ -13,6 +13,7 @@ use crate::extents::{extent, storage};
 use crate::order::lay_out_all;
 use crate::planes::{LayoutStop, Layouts, MAX_SIZE, Plane};
 use crate::tails::tail_of;
+use gt_fields::FieldNames;
 use gt_types::{List, Program, Root, Structure};
 use std::alloc::{AllocError, Global};
 
@@ -65,7 +66,7 @@ fn lay_out_roots(alloc: Global, roots: &[Root], known: &[Plane]) -> Result<Stati
     Ok(Statics::Within(finish(alloc, draft)))
 }
 
-/// The layouts of all structures and of the static record. It stops exactly where a structure without its tail elements, one
+/// The layouts of all structures and of the static record, and the names of all fields. It stops exactly where a structure without its tail elements, one
 /// tail element of a structure, or the static record takes more than [`MAX_SIZE`](crate::MAX_SIZE) bytes.
 pub fn layout(alloc: Global, program: &Program) -> Result<Layouts, LayoutStop>
     requires { Settled program.now }
@@ -85,10 +86,14 @@ pub fn layout(alloc: Global, program: &Program) -> Result<Layouts, LayoutStop>
         }
     };
     match structure {
-        None => Ok(Layouts {
-            structures: List::of(known),
-            statics,
-        }),
+        None => {
+            let names = FieldNames::of(alloc, program.structures.as_slice())?;
+            Ok(Layouts {
+                structures: List::of(known),
+                statics,
+                names,
+            })
+        }
         Some(place) => Err(LayoutStop::TooLarge {
             structure: Some(place),
             root: None,

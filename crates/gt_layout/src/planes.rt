@@ -1,4 +1,5 @@
 // The types of a layout.
+use gt_fields::FieldNames;
 use gt_types::List;
 use std::alloc::AllocError;
 
@@ -30,11 +31,13 @@ pub struct Plane {
     pub fields: List<Spot>,
 }
 
-/// The layouts of the structures of a program, by place, and of the static record, which is a struct of the roots.
-#[derive(Debug, Drop)]
+/// The layouts of the structures of a program, by place, and of the static record, which is a struct of the roots; and the
+/// names of the fields, by which they are found.
+#[derive(Drop)]
 pub struct Layouts {
     pub structures: List<Plane>,
     pub statics: Plane,
+    pub names: FieldNames,
 }
 
 /// Why a program is not laid out: out of memory, or something is too large. That is the first structure which is too

@@ -43,9 +43,9 @@ pub record IsOnlyFrom (tables : Tables) (space : Range) (walks : Walks) (starts 
   pub no_start : ¬ Contains starts address
   pub no_other : (other : ℕ) → other ≢ from → IsMarkedAt new other → ¬ LeadsTo tables space walks other address
 
--- The number of rounds, which is left free between bounds: it is one at least, and at most one more than there are newly marked blocks;
--- one where at most 64 of these are named but by a chain pointer, which is what the stack has room for; and two at least where one block
--- leads to 66 that nothing else names, which are more than the stack and its chain pointer can take.
+-- How many rounds there were: at least one, and at most one more than there are newly marked blocks. There was one where no more than 64 of these
+-- are named by another edge than a chain edge, since the stack has room for 64. There were at least two where one block leads to 66 that nothing
+-- else names, which are more than the stack and the chain pointer can take. Between these bounds the number is free.
 pub record AreRounds (tables : Tables) (space : Range) (walks : Walks) (starts : List ℕ) (old new : List Slot) (rounds : ℕ) : Type 0 where
   pub at_least : 1 ≤ rounds
   pub at_most : rounds + count_by is_marked old ≤ 1 + count_by is_marked new

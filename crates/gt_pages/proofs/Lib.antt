@@ -1,5 +1,4 @@
 pub mod EmptiedLemmas
-pub mod LeafLemmas
 pub mod SlotLemmas
 pub mod NewLemmas
 pub mod SameLemmas

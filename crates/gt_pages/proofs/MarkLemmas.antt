@@ -1,7 +1,8 @@
 -- The block that starts at an address, and its mark.
 use Rattle.std.proofs.Common.{◌≡◌, ◌≢◌, ℕ, zero, suc, ◌+◌, ◌-◌, ◌*◌, ◌/◌, ◌<◌, ◌≤◌, ◌==◌, Bool, true, false, cond, not, List, [], ◌∷◌, Option, Some, None, is_some, refl, sym, ap, subst, ◌∙◌, inl, inr, arith}
 use Rattle.std.specs.Prelude.{Contains, find, option_and_then}
-use Rattle.std.proofs.lemmas.Bool.{cases_Bool, false≢true, eq-eqb, ne_eqb, eqb-true}
+use Rattle.std.proofs.lemmas.Bool.{cases_Bool, cases_lt, false≢true, eq-eqb, ne_eqb, eqb-true}
+use Rattle.gt_space.specs.declared.TheConstants.{HEAP_START}
 use Rattle.std.proofs.Math.Nat.{mul-div_right}
 use Rattle.gt_entries.specs.declared.marks.Mark.{Mark}
 use Rattle.gt_entries.specs.Cells.{Cell, Free, Used, cell_at, is_free, is_marked, mark_in}
@@ -76,6 +77,12 @@ module _ (p : Parts) (addr : ℕ) (kept : IsKept p) (start : StartsSome (content
       | inr none ↦ let e = sym none ∙ leads_here.0 in false≢true (ap is_some e)
     ]
   ]
+
+  pub start_above : HEAP_START ≤ addr
+  start_above = elim (cases_lt addr HEAP_START) [ inl below ↦ absurd (start_nowhere (inl below)) | inr above ↦ above ]
+
+  pub start_within : page_of addr < p.pages
+  start_within = elim (cases_lt (page_of addr) p.pages) [ inl within ↦ within | inr past ↦ absurd (start_nowhere (inr (inl past))) ]
 
   pub start_spot : (spot : Spot) → IsSpot p addr spot → IsStart p addr spot
   start_spot spot is =

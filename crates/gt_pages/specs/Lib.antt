@@ -5,7 +5,6 @@ pub mod Counts
 pub mod Images
 pub mod Tables
 pub mod Inverses
-pub mod Leaves
 pub mod Parts
 pub mod Changes
 pub mod Spots

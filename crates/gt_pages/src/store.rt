@@ -238,10 +238,8 @@ impl Store {
             ≡ with_slots (contents_of (parts_of self.old)) (with_mark_at (contents_of (parts_of self.old)).slots addr (Some (new_mark walk count))) }
         ensures unchanged { result ≡ false → contents_of (parts_of self.new) ≡ contents_of (parts_of self.old) }
     {
-        match self.spot(addr) {
-            None => unreachable!(),
-            Some(spot) => self.mark_spot(spot, walk, count),
-        }
+        let spot = self.start_spot(addr);
+        self.mark_spot(spot, walk, count)
     }
 
     // Marks the block at a place.
@@ -510,6 +508,20 @@ impl Store {
         match self.table.get(page as usize) {
             None => None,
             Some(first) => Some(self.spot_in(first, addr)),
+        }
+    }
+
+    // The place of the block that starts at an address.
+    #[inline(always)]
+    fn start_spot(&self, addr: u64) -> Spot
+        requires kept { IsKept (parts_of self.now) }
+        requires start { StartsSome (contents_of (parts_of self.now)).slots addr }
+        ensures { IsSpot (parts_of self.now) addr result }
+    {
+        let page = (addr - HEAP_START) / PAGE_BYTES;
+        match self.table.get(page as usize) {
+            None => unreachable!(),
+            Some(first) => self.spot_in(first, addr),
         }
     }
 

@@ -1,33 +1,14 @@
-//! The table of pages, in two levels: to which entry each page leads.
-ghost use Rattle.std.specs.Prelude.{◌≡◌, ℕ, ◌+◌, ◌*◌, ◌/◌, ◌%◌, ◌<◌, ◌≤◌, length, replicate, slice_set, IfOk, None, Some};
+//! The table of pages: to which entry each page leads.
+ghost use Rattle.std.specs.Prelude.{◌≡◌, ℕ, ◌+◌, ◌<◌, ◌≤◌, length, replicate, slice_set, IfOk, None, Some};
 ghost use Rattle.gt_pages.specs.Tables.{page_at, Leads};
-ghost use Rattle.gt_pages.specs.Leaves.{HasLeaves};
 
 use std::alloc::{AllocError, Global};
 use std::marker::Model;
 
-/// How many pages one leaf of the table has. The last leaf has those that are left.
-const LEAF_PAGES: usize = 128;
-
-/// Where consecutive pages lead.
-#[derive(Drop)]
-struct Leaf {
-    firsts: Vec<Option<u32>>,
-}
-
-/// For each page the first page of the entry that it leads to, or `None`: a directory of leaves, each for consecutive pages.
+/// For each page the first page of the entry that it leads to, or `None`.
 #[derive(Drop)]
 pub(crate) struct PageTable {
-    pages: u32,
-    leaves: Vec<Leaf>,
-}
-
-impl Model for Leaf {
-    ghost use Rattle.std.specs.Prelude.{List, Option, ℕ};
-
-    ghost Value = { List (Option ℕ) };
-
-    ghost view = { λ leaf. leaf.firsts.items };
+    firsts: Vec<Option<u32>>,
 }
 
 impl Model for PageTable {
@@ -35,38 +16,7 @@ impl Model for PageTable {
 
     ghost Value = { List (Option ℕ) };
 
-    ghost use Rattle.gt_pages.specs.Leaves.{table_of, HasLeaves};
-
-    ghost view = { λ t. table_of t.pages t.leaves.items };
-
-    ghost invariant = { λ t. HasLeaves t.pages t.leaves.items };
-}
-
-impl Leaf {
-    // A leaf for so many pages, of which none leads anywhere.
-    fn new(alloc: Global, pages: usize) -> Result<Leaf, AllocError>
-        ensures { IfOk result (λ leaf. leaf ≡ replicate pages None) }
-    {
-        Ok(Leaf {
-            firsts: vec![in alloc; None; pages]?,
-        })
-    }
-
-    // Where one of its pages leads.
-    fn get(&self, i: usize) -> Option<u32>
-        requires { i < length self.now }
-        ensures { result ≡ page_at self.now i }
-    {
-        self.firsts[i]
-    }
-
-    // From now on one of its pages leads to an entry, or nowhere.
-    fn set(&mut self, i: usize, entry: Option<u32>)
-        requires { i < length self.old }
-        ensures { self.new ≡ slice_set self.old i entry }
-    {
-        self.firsts[i] = entry;
-    }
+    ghost view = { λ t. t.firsts.items };
 }
 
 impl PageTable {
@@ -74,20 +24,18 @@ impl PageTable {
     pub(crate) fn new(alloc: Global, pages: u32) -> Result<PageTable, AllocError>
         ensures { IfOk result (λ t. t ≡ replicate pages None) }
     {
-        let mut leaves = Vec::new(alloc);
-        for i in 0..(pages as usize).div_ceil(LEAF_PAGES) {
-            let left = pages as usize - LEAF_PAGES * i;
-            leaves.push(Leaf::new(alloc, left.min(LEAF_PAGES))?)?;
-        }
-        Ok(PageTable { pages, leaves })
+        Ok(PageTable {
+            firsts: vec![in alloc; None; pages as usize]?,
+        })
     }
 
     /// Where a page leads.
+    #[inline(always)]
     pub(crate) fn get(&self, page: usize) -> Option<u32>
         requires { page < length self.now }
         ensures { result ≡ page_at self.now page }
     {
-        self.leaves[page / LEAF_PAGES].get(page % LEAF_PAGES)
+        self.firsts[page]
     }
 
     /// From now on so many pages lead to an entry.
@@ -121,6 +69,6 @@ impl PageTable {
         requires { page < length self.old }
         ensures { self.new ≡ slice_set self.old page entry }
     {
-        self.leaves[page / LEAF_PAGES].set(page % LEAF_PAGES, entry);
+        self.firsts[page] = entry;
     }
 }

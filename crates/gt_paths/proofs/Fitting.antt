@@ -1,94 +1,145 @@
--- The paths of an option, where the outermost structures are listed if one of them begins there.
-use Rattle.std.proofs.Common.{◌≡◌, ℕ, Bool, List, [], get_or, refl, sym, subst}
-use Rattle.std.specs.Prelude.{All, Contains}
+-- The paths of the options of a structure, by those that are known.
+use Rattle.std.proofs.Common.{◌≡◌, ℕ, Bool, List, [], ◌∷◌, get_or, refl, ap, sym, subst, true, false, Ordering}
+use Rattle.std.specs.Prelude.{◌++◌, All, Contains, IsTrue, IfOk, Result}
 use Rattle.std.specs.Bool.{Decides}
+use Rattle.std.specs.BTreeSet.{BTreeSet, contains, insert_key}
+use Rattle.std.specs.Cmp.Lexicographic.{slice_cmp, lists_total, nat_list_cmp_total}
+use Rattle.std.specs.Ordering.{nat_cmp, ordering_then}
+use Rattle.std.specs.declared.cmp.Ordering.TheVariants.{Less, Equal, Greater}
 use Rattle.std.proofs.lemmas.List.Elements.{All-contains, Contains-get_or}
+use Rattle.std.proofs.lemmas.Map.Lookups.{CmpEqualImpliesEq, exact_bytes}
+use Rattle.std.proofs.lemmas.Result.{IfOk-weaker}
+use Rattle.std.proofs.lemmas.Map.Views.{All-insert_key, btree_set_contains_iff}
 use Rattle.gt_types.specs.declared.expressions.Base.{Base}
-use Rattle.gt_types.specs.declared.expressions.Base.TheVariants.{Here, Outer, Outermost}
+use Rattle.gt_types.specs.declared.expressions.Base.TheVariants.{Outer, Outermost}
 use Rattle.gt_types.specs.declared.expressions.Expr.{Expr}
 use Rattle.gt_types.specs.declared.types.TypeId.{TypeId}
 use Rattle.gt_types.specs.declared.program.Program.{Program}
 use Rattle.gt_types.specs.Operators.{HasOperators}
-use Rattle.gt_types.specs.Paths.{DescPathFitsBeside, Inner, IsFieldDescBeside, IsOptionBeside, LeadsToNumber, PathFitsBeside, Way, paths_of, roots_of}
-use Rattle.gt_paths.specs.declared.options.Place.TheVariants.{Own, Field}
+use Rattle.gt_types.specs.Paths.{AreSteps, DescPathFitsBeside, Inner, IsFieldDescBeside, IsOptionBeside, LeadsToNumber, PathFitsBeside, Way, paths_of, roots_of}
+use Rattle.gt_paths.specs.declared.checks.Place.{Place}
+use Rattle.gt_paths.specs.declared.checks.Place.TheVariants.{Own, Desc}
 use Rattle.gt_paths.specs.declared.containers.Containers.{Containers}
+use Rattle.gt_paths.specs.Checks.{Checked, inner_of}
 use Rattle.gt_paths.specs.Containers.{AreContainersOf, containers_of}
 use Rattle.gt_paths.specs.Numbers.{numbered}
-use Rattle.gt_paths.specs.Places.{AllLead, AreStarts, DescFits, OwnFits, PathAt}
-use Rattle.gt_paths.specs.Steps.{NamesBase}
+use Rattle.gt_paths.specs.OuterPaths.{AllLead, AreKnown, AreStarts}
+use Rattle.gt_paths.specs.Places.{PathAt}
+use Rattle.gt_paths.proofs.Walks.{Splits, all_splits, each_of_one, goes}
 
--- the outermost structures are listed where a path of an expression begins there
-abbrev pub Starts : Inner → Program → TypeId → Expr → List ℕ → Type 0
-Starts inner program node e starts = NamesBase Outermost e → AreStarts inner program node starts
+-- ---- paths that are known
 
-listed_lead : (inner : Inner) (program : Program) (node : TypeId) (starts : List ℕ) (steps : List (List ℕ)) → AreStarts inner program node starts → AllLead program starts steps → PathFitsBeside inner program node Outermost steps
-listed_lead inner program node starts steps are all outer outermost = All-contains (λ start. LeadsToNumber program (numbered start) steps) starts outer.0 all (are.all outer outermost)
+tied_first : {K : Type 0} (R : K → K → Ordering) → CmpEqualImpliesEq R → (x y : K) (xs ys : List K) → (slice_cmp R xs ys ≡ Equal → xs ≡ ys) → (o : Ordering) → R x y ≡ o
+    → ordering_then o (slice_cmp R xs ys) ≡ Equal → x ∷ xs ≡ y ∷ ys
+tied_first R exact x y xs ys rest Less is tied = absurd (cc)
+tied_first R exact x y xs ys rest Equal is tied = let head = exact x y is in let tail = rest tied in λ i. head i ∷ tail i
+tied_first R exact x y xs ys rest Greater is tied = absurd (cc)
 
-outermost_lead : (inner : Inner) (program : Program) (node : TypeId) (starts : List ℕ) (steps : List (List ℕ)) → AreStarts inner program node starts → PathFitsBeside inner program node Outermost steps → AllLead program starts steps
-outermost_lead inner program node starts steps are fits k d within = fits (numbered (get_or starts k d)) (are.only (get_or starts k d) (Contains-get_or starts k d within))
+exact_lists : {K : Type 0} (R : K → K → Ordering) → CmpEqualImpliesEq R → CmpEqualImpliesEq (slice_cmp R)
+exact_lists R exact [] [] e = refl
+exact_lists R exact [] (y ∷ ys) e = absurd (cc)
+exact_lists R exact (x ∷ xs) [] e = absurd (cc)
+exact_lists R exact (x ∷ xs) (y ∷ ys) e = tied_first R exact x y xs ys (exact_lists R exact xs ys) (R x y) refl e
 
--- the structures that contain one are listed
-pub containers_lead : (program : Program) (containers : Containers) (node : TypeId) (outermost : List ℕ) (base : Base) (list : List ℕ) (steps : List (List ℕ)) (b : Bool) → AreContainersOf program containers
-    → base ≡ Outer → list ≡ containers_of containers node.0 → Decides b (AllLead program list steps) → Decides b (OwnFits program node outermost base steps)
-containers_lead program containers node outermost base list steps b are is same decides =
-    subst (λ (begin : Base). Decides b (OwnFits program node outermost begin steps)) (sym is) (
-      λ e outer contains.
-          All-contains (λ start. LeadsToNumber program (numbered start) steps) list outer.0 (decides.0 e) (subst (λ (xs : List ℕ). Contains xs outer.0) (sym same) (are.listed outer node contains)),
-      λ fits. decides.1 (λ k d within.
-          fits (numbered (get_or list k d)) (are.only (get_or list k d) node.0 (subst (λ (xs : List ℕ). Contains xs (get_or list k d)) same (Contains-get_or list k d within)))),
-    )
+-- a path that is among the known ones
+pub known_leads : (program : Program) (starts : List ℕ) (known : BTreeSet (List (List ℕ))) (steps : List (List ℕ)) → AreKnown program starts known
+    → IsTrue (contains (slice_cmp (slice_cmp nat_cmp)) known steps) → AllLead program starts steps
+known_leads program starts known steps all there =
+    All-contains (AllLead program starts) known.keys steps all
+    ((btree_set_contains_iff (lists_total nat_list_cmp_total) (exact_lists (slice_cmp nat_cmp) exact_bytes) known steps).0 there)
 
-names_it : (e : Expr) (steps : List (List ℕ)) → Contains (paths_of e) (Outermost, steps) → NamesBase Outermost e
-names_it e steps there = (there.0, (Outermost, steps), there.1, there.2, refl)
+-- one more
+pub known_more : (program : Program) (starts : List ℕ) (known more : BTreeSet (List (List ℕ))) (path steps : List (List ℕ)) → more.keys ≡ insert_key (slice_cmp (slice_cmp nat_cmp)) known.keys path
+    → path ≡ steps → AreKnown program starts known → AllLead program starts steps → AreKnown program starts more
+known_more program starts known more path steps is same all leads =
+    subst (All (AllLead program starts)) (sym is)
+    (All-insert_key (slice_cmp (slice_cmp nat_cmp)) path (AllLead program starts) known.keys all (subst (AllLead program starts) (sym same) leads))
 
-own_fits : (inner : Inner) (program : Program) (node : TypeId) (e : Expr) (starts : List ℕ) → Starts inner program node e starts → (base : Base) (steps : List (List ℕ)) → Contains (paths_of e) (base, steps)
-    → OwnFits program node starts base steps → PathFitsBeside inner program node base steps
-own_fits inner program node e starts are Here steps there fits = fits
-own_fits inner program node e starts are Outer steps there fits = fits
-own_fits inner program node e starts are Outermost steps there fits = listed_lead inner program node starts steps (are (names_it e steps there)) fits
+-- ---- structures that are listed
 
-fits_own : (inner : Inner) (program : Program) (node : TypeId) (e : Expr) (starts : List ℕ) → Starts inner program node e starts → (base : Base) (steps : List (List ℕ)) → Contains (paths_of e) (base, steps)
-    → PathFitsBeside inner program node base steps → OwnFits program node starts base steps
-fits_own inner program node e starts are Here steps there fits = fits
-fits_own inner program node e starts are Outer steps there fits = fits
-fits_own inner program node e starts are Outermost steps there fits = outermost_lead inner program node starts steps (are (names_it e steps there)) fits
-
-desc_fits : (inner : Inner) (program : Program) (node union : TypeId) (e : Expr) (starts : List ℕ) → Starts inner program node e starts → (base : Base) (steps : List (List ℕ)) → Contains (paths_of e) (base, steps)
-    → DescFits program node union starts base steps → DescPathFitsBeside inner program node union base steps
-desc_fits inner program node union e starts are Here steps there fits = fits
-desc_fits inner program node union e starts are Outer steps there fits = fits
-desc_fits inner program node union e starts are Outermost steps there fits = listed_lead inner program node starts steps (are (names_it e steps there)) fits
-
-fits_desc : (inner : Inner) (program : Program) (node union : TypeId) (e : Expr) (starts : List ℕ) → Starts inner program node e starts → (base : Base) (steps : List (List ℕ)) → Contains (paths_of e) (base, steps)
-    → DescPathFitsBeside inner program node union base steps → DescFits program node union starts base steps
-fits_desc inner program node union e starts are Here steps there fits = fits
-fits_desc inner program node union e starts are Outer steps there fits = fits
-fits_desc inner program node union e starts are Outermost steps there fits = outermost_lead inner program node starts steps (are (names_it e steps there)) fits
-
-pub own_option : (inner : Inner) (program : Program) (node : TypeId) (e : Expr) (starts : List ℕ) (b : Bool) → HasOperators e → roots_of e ≡ [] → Starts inner program node e starts
-    → Decides b (All (λ (path : Way). PathAt program (Own node) starts path.0 path.1) (paths_of e)) → Decides b (IsOptionBeside inner program node e)
-own_option inner program node e starts b operators roots are decides = (
-  λ yes. record {
-    operators = operators;
-    no_roots = roots;
-    steps = λ k d within. (decides.0 yes k d within).0;
-    paths = λ k d within.
-        own_fits inner program node e starts are (get_or (paths_of e) k d).0 (get_or (paths_of e) k d).1 (Contains-get_or (paths_of e) k d within) (decides.0 yes k d within).1;
-  },
-  λ option. decides.1 (λ k d within.
-      (option.steps k d within, fits_own inner program node e starts are (get_or (paths_of e) k d).0 (get_or (paths_of e) k d).1 (Contains-get_or (paths_of e) k d within) (option.paths k d within))),
+-- those that are outermost
+pub outermost_lead : (inner : Inner) (program : Program) (node : TypeId) (starts : List ℕ) (steps : List (List ℕ)) (b : Bool) → AreStarts inner program node starts
+    → Decides b (AllLead program starts steps) → Decides b (PathFitsBeside inner program node Outermost steps)
+outermost_lead inner program node starts steps b are decides = (
+  λ e outer outermost. All-contains (λ start. LeadsToNumber program (numbered start) steps) starts outer.0 (decides.0 e) (are.all outer outermost),
+  λ fits. decides.1 (λ k d within. fits (numbered (get_or starts k d)) (are.only (get_or starts k d) (Contains-get_or starts k d within))),
 )
 
-pub field_desc : (inner : Inner) (program : Program) (node union : TypeId) (e : Expr) (starts : List ℕ) (b : Bool) → HasOperators e → roots_of e ≡ [] → Starts inner program node e starts
-    → Decides b (All (λ (path : Way). PathAt program (Field node union) starts path.0 path.1) (paths_of e)) → Decides b (IsFieldDescBeside inner program node union e)
-field_desc inner program node union e starts b operators roots are decides = (
-  λ yes. record {
+-- those that contain one
+pub containers_lead : (inner : Inner) (program : Program) (containers : Containers) (node : TypeId) (list : List ℕ) (steps : List (List ℕ)) (b : Bool) → AreContainersOf program containers
+    → list ≡ containers_of containers node.0 → Decides b (AllLead program list steps) → Decides b (PathFitsBeside inner program node Outer steps)
+containers_lead inner program containers node list steps b are same decides = (
+  λ e outer contains.
+      All-contains (λ start. LeadsToNumber program (numbered start) steps) list outer.0 (decides.0 e) (subst (λ (xs : List ℕ). Contains xs outer.0) (sym same) (are.listed outer node contains)),
+  λ fits. decides.1 (λ k d within.
+      fits (numbered (get_or list k d)) (are.only (get_or list k d) node.0 (subst (λ (xs : List ℕ). Contains xs (get_or list k d)) same (Contains-get_or list k d within)))),
+)
+
+-- ---- one path in an option
+
+pub own_at : {E : Type 0} (c : Checked) (place : Place) (base : Base) (steps : List (List ℕ)) (r : Result Bool E) → place ≡ Own → AreSteps steps
+    → IfOk r (λ b. Decides b (PathFitsBeside (inner_of c) c.program c.node base steps)) → IfOk r (λ b. Decides b (PathAt c place base steps))
+own_at c place base steps r is are decides =
+    subst (λ (p : Place). IfOk r (λ b. Decides b (PathAt c p base steps))) (sym is)
+    (IfOk-weaker r (λ b. Decides b (PathFitsBeside (inner_of c) c.program c.node base steps)) (λ b. Decides b (PathAt c Own base steps)) (λ b d. (λ e. (are, d.0 e), λ fits. d.1 fits.1)) decides)
+
+pub desc_at : {E : Type 0} (c : Checked) (place : Place) (union : TypeId) (base : Base) (steps : List (List ℕ)) (r : Result Bool E) → place ≡ Desc union → AreSteps steps
+    → IfOk r (λ b. Decides b (DescPathFitsBeside (inner_of c) c.program c.node union base steps)) → IfOk r (λ b. Decides b (PathAt c place base steps))
+desc_at c place union base steps r is are decides =
+    subst (λ (p : Place). IfOk r (λ b. Decides b (PathAt c p base steps))) (sym is)
+    (IfOk-weaker r (λ b. Decides b (DescPathFitsBeside (inner_of c) c.program c.node union base steps)) (λ b. Decides b (PathAt c (Desc union) base steps)) (λ b d. (λ e. (are, d.0 e), λ fits. d.1 fits.1))
+    decides)
+
+-- ---- the paths of an expression, where a later part may fail to be looked at
+
+-- the paths of an expression are good in an option
+abbrev pub AllFit : Checked → Place → List Way → Type 0
+AllFit c place ways = All (λ (path : Way). PathAt c place path.0 path.1) ways
+
+pub of_path : {E : Type 0} (c : Checked) (place : Place) (e : Expr) (path : Way) (r : Result Bool E) → paths_of e ≡ path ∷ [] → IfOk r (λ b. Decides b (PathAt c place path.0 path.1))
+    → IfOk r (λ b. Decides b (AllFit c place (paths_of e)))
+of_path c place e path r same decides =
+    subst (λ (ways : List Way). IfOk r (λ b. Decides b (AllFit c place ways))) (sym same)
+    (IfOk-weaker r (λ b. Decides b (PathAt c place path.0 path.1)) (λ b. Decides b (AllFit c place (path ∷ []))) (λ b d. each_of_one (λ (way : Way). PathAt c place way.0 way.1) path b d) decides)
+
+-- the checks are of the same structure, and the part is the one that is meant
+pub at_part : (c d : Checked) (place : Place) (x y : Expr) (b : Bool) → c ≡ d → x ≡ y → Decides b (AllFit c place (paths_of x)) → Decides b (AllFit d place (paths_of y))
+at_part c d place x y b of part decides =
+    subst (λ (k : Checked). Decides b (AllFit k place (paths_of y))) of (subst (λ (z : Expr). Decides b (AllFit c place (paths_of z))) part decides)
+
+pub at_last : {E : Type 0} (c d : Checked) (place : Place) (x y : Expr) (r : Result Bool E) → c ≡ d → x ≡ y → IfOk r (λ b. Decides b (AllFit c place (paths_of x)))
+    → IfOk r (λ b. Decides b (AllFit d place (paths_of y)))
+at_last c d place x y r of part decides =
+    IfOk-weaker r (λ b. Decides b (AllFit c place (paths_of x))) (λ b. Decides b (AllFit d place (paths_of y))) (λ b fits. at_part c d place x y b of part fits) decides
+
+pub goes_last : {E : Type 0} (c : Checked) (place : Place) (zs xs ys : List Way) (a : Bool) (r : Result Bool E) → zs ≡ xs ++ ys → Decides a (AllFit c place xs) → a ≡ true
+    → IfOk r (λ b. Decides b (AllFit c place ys)) → IfOk r (λ b. Decides b (AllFit c place zs))
+goes_last c place zs xs ys a r same decides holds rest =
+    IfOk-weaker r (λ b. Decides b (AllFit c place ys)) (λ b. Decides b (AllFit c place zs))
+    (λ b later. goes (AllFit c place) (all_splits (λ (path : Way). PathAt c place path.0 path.1)) zs xs ys a b same decides holds later) rest
+
+-- ---- the paths of an option
+
+pub own_option : (c : Checked) (e : Expr) (b : Bool) → HasOperators e → roots_of e ≡ [] → Decides b (All (λ (path : Way). PathAt c Own path.0 path.1) (paths_of e))
+    → Decides b (IsOptionBeside (inner_of c) c.program c.node e)
+own_option c e b operators roots decides = (
+  λ holds. record {
     operators = operators;
     no_roots = roots;
-    steps = λ k d within. (decides.0 yes k d within).0;
-    paths = λ k d within.
-        desc_fits inner program node union e starts are (get_or (paths_of e) k d).0 (get_or (paths_of e) k d).1 (Contains-get_or (paths_of e) k d within) (decides.0 yes k d within).1;
+    steps = λ k d within. (decides.0 holds k d within).0;
+    paths = λ k d within. (decides.0 holds k d within).1;
   },
-  λ option. decides.1 (λ k d within.
-      (option.steps k d within, fits_desc inner program node union e starts are (get_or (paths_of e) k d).0 (get_or (paths_of e) k d).1 (Contains-get_or (paths_of e) k d within) (option.paths k d within))),
+  λ option. decides.1 (λ k d within. (option.steps k d within, option.paths k d within)),
+)
+
+pub field_desc : (c : Checked) (union : TypeId) (e : Expr) (b : Bool) → HasOperators e → roots_of e ≡ [] → Decides b (All (λ (path : Way). PathAt c (Desc union) path.0 path.1) (paths_of e))
+    → Decides b (IsFieldDescBeside (inner_of c) c.program c.node union e)
+field_desc c union e b operators roots decides = (
+  λ holds. record {
+    operators = operators;
+    no_roots = roots;
+    steps = λ k d within. (decides.0 holds k d within).0;
+    paths = λ k d within. (decides.0 holds k d within).1;
+  },
+  λ option. decides.1 (λ k d within. (option.steps k d within, option.paths k d within)),
 )

@@ -9,7 +9,7 @@ use Rattle.gt_paths.specs.declared.indexes.PathIndex.{PathIndex}
 use Rattle.gt_paths.specs.Climbs.{AreAbove}
 use Rattle.gt_paths.specs.Indexes.{inner_in}
 use Rattle.gt_paths.specs.Numbers.{mark_at, numbered}
-use Rattle.gt_paths.specs.Places.{AreStarts}
+use Rattle.gt_paths.specs.OuterPaths.{AreStarts}
 use Rattle.gt_paths.proofs.Ascents.{is_one}
 
 first_or_later : (y x : ℕ) (ys : List ℕ) → Contains (y ∷ ys) x → (x ≡ y) ⊎ Contains ys x

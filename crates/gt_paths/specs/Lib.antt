@@ -4,6 +4,9 @@ pub mod Containers
 pub mod Climbs
 pub mod Indexes
 pub mod Steps
+pub mod OuterPaths
+pub mod Around
+pub mod Checks
 pub mod Places
 pub mod Marks
 pub mod Starts

@@ -66,6 +66,13 @@ impl PathIndex {
         })
     }
 
+    /// The fields of the program by their names.
+    pub fn names(&self) -> &FieldNames
+        ensures names { result.now ≡ self.now.names }
+    {
+        &self.names
+    }
+
     /// Whether no structure has two fields of one name.
     pub(crate) fn is_distinct(&self) -> bool
         ensures distinct { result ≡ self.now.distinct }

@@ -1,7 +1,8 @@
 //! What the expressions of options may read in a program, and where a structure may stand alone. The layer above makes a
-//! [`PathIndex`] once, and then asks of each option.
+//! [`PathIndex`] once, and [`PathChecks`] for each structure, of which it asks for each option.
 #![tactic(auto)]
 
+mod checks;
 mod climbing;
 mod commons;
 mod containers;
@@ -10,14 +11,16 @@ mod expressions;
 mod indexes;
 mod inner;
 mod names;
-mod options;
+mod outer_paths;
 mod plain;
+mod roots;
 mod standing;
 mod starts;
 mod steps;
 mod structures;
 
+pub use checks::PathChecks;
 pub use indexes::PathIndex;
-pub use options::{is_field_desc, is_option, is_root_count, is_root_desc};
+pub use roots::{is_root_count, is_root_desc};
 pub use standing::{is_bare_union, is_inner, may_stand, may_stand_beside, names_sortable};
 pub use steps::leads_to_own_pointer;

@@ -1,5 +1,5 @@
 -- Expressions of options, and structures that may stand alone, where two ways to tell which structures are inner agree.
-use Rattle.std.proofs.Common.{ℕ, Bool, List, get_or}
+use Rattle.std.proofs.Common.{◌≡◌, ℕ, Bool, List, get_or, refl, sym, subst}
 use Rattle.std.specs.Prelude.{◌↔◌, IfOk, Result}
 use Rattle.std.specs.Bool.{Decides}
 use Rattle.std.proofs.lemmas.Result.{IfOk-weaker}
@@ -11,9 +11,10 @@ use Rattle.gt_types.specs.declared.program.Program.{Program}
 use Rattle.gt_types.specs.Paths.{Inner, IsFieldDescBeside, IsOptionBeside, MayStandBeside, PathFitsBeside, DescPathFitsBeside, paths_of}
 use Rattle.gt_drafts.specs.declared.draft.Draft.{Draft}
 use Rattle.gt_paths.specs.declared.indexes.PathIndex.{PathIndex}
+use Rattle.gt_paths.specs.Checks.{Checked, checked, inner_of}
 use Rattle.gt_paths.specs.Indexes.{inner_in}
 use Rattle.gt_rules.specs.Inner.{IsDeclaredInner}
-use Rattle.gt_rules.specs.Parts.{IsIndexFor}
+use Rattle.gt_rules.specs.Parts.{AreChecksFor, IsIndexFor}
 
 -- two ways to tell which structures are inner agree
 abbrev pub Agree : Inner → Inner → Type 0
@@ -60,24 +61,6 @@ agrees draft program index is id = ((is.inner id).0, (is.inner id).1)
 decided : (b : Bool) (P Q : Type 0) → (P → Q) → (Q → P) → Decides b P → Decides b Q
 decided b P Q to from decides = ((λ e. to (decides.0 e)), (λ q. decides.1 (from q)))
 
-pub option_ok : {E : Type 0} (draft : Draft) (program : Program) (index : PathIndex) (node : TypeId) (e : Expr) (r : Result Bool E) → IsIndexFor draft program index
-    → IfOk r (λ v. Decides v (IsOptionBeside (inner_in index) program node e)) → IfOk r (λ v. Decides v (IsOptionBeside (IsDeclaredInner draft) program node e))
-option_ok {E} draft program index node e r is ok =
-    let to = agrees draft program index is in
-    let from = turned (inner_in index) (IsDeclaredInner draft) to in
-    IfOk-weaker r (λ v. Decides v (IsOptionBeside (inner_in index) program node e)) (λ v. Decides v (IsOptionBeside (IsDeclaredInner draft) program node e))
-    (λ v. decided v (IsOptionBeside (inner_in index) program node e) (IsOptionBeside (IsDeclaredInner draft) program node e)
-    (option_same (inner_in index) (IsDeclaredInner draft) to program node e) (option_same (IsDeclaredInner draft) (inner_in index) from program node e)) ok
-
-pub desc_ok : {E : Type 0} (draft : Draft) (program : Program) (index : PathIndex) (node union : TypeId) (e : Expr) (r : Result Bool E) → IsIndexFor draft program index
-    → IfOk r (λ v. Decides v (IsFieldDescBeside (inner_in index) program node union e)) → IfOk r (λ v. Decides v (IsFieldDescBeside (IsDeclaredInner draft) program node union e))
-desc_ok {E} draft program index node union e r is ok =
-    let to = agrees draft program index is in
-    let from = turned (inner_in index) (IsDeclaredInner draft) to in
-    IfOk-weaker r (λ v. Decides v (IsFieldDescBeside (inner_in index) program node union e)) (λ v. Decides v (IsFieldDescBeside (IsDeclaredInner draft) program node union e))
-    (λ v. decided v (IsFieldDescBeside (inner_in index) program node union e) (IsFieldDescBeside (IsDeclaredInner draft) program node union e)
-    (desc_same (inner_in index) (IsDeclaredInner draft) to program node union e) (desc_same (IsDeclaredInner draft) (inner_in index) from program node union e)) ok
-
 pub named_ok : (draft : Draft) (program : Program) (index : PathIndex) (id : TypeId) (b : Bool) → IsIndexFor draft program index → Decides b (inner_in index id) → Decides b (IsDeclaredInner draft id)
 named_ok draft program index id b is decides = decided b (inner_in index id) (IsDeclaredInner draft id) (is.inner id).0 (is.inner id).1 decides
 
@@ -88,3 +71,32 @@ stands_ok draft program index id b is decides =
     let from = turned (inner_in index) (IsDeclaredInner draft) to in
     decided b (MayStandBeside (inner_in index) program id) (MayStandBeside (IsDeclaredInner draft) program id) (stand_same (inner_in index) (IsDeclaredInner draft) to program id)
     (stand_same (IsDeclaredInner draft) (inner_in index) from program id) decides
+
+-- ---- by checks of a structure
+
+-- the checks that an index gives
+pub checks_for : (draft : Draft) (program : Program) (index : PathIndex) (node : TypeId) (c : Checked) → c ≡ checked program index node → IsIndexFor draft program index → AreChecksFor draft program c
+checks_for draft program index node c is of_index = subst (AreChecksFor draft program) (sym is) (record { same = refl; inner = of_index.inner })
+
+alike : (draft : Draft) (program : Program) (c : Checked) → AreChecksFor draft program c → Agree (inner_of c) (IsDeclaredInner draft)
+alike draft program c are id = ((are.inner id).0, (are.inner id).1)
+
+pub option_ok : {E : Type 0} (draft : Draft) (program : Program) (c : Checked) (e : Expr) (r : Result Bool E) → AreChecksFor draft program c
+    → IfOk r (λ v. Decides v (IsOptionBeside (inner_of c) c.program c.node e)) → IfOk r (λ v. Decides v (IsOptionBeside (IsDeclaredInner draft) program c.node e))
+option_ok {E} draft program c e r are ok =
+    let to = alike draft program c are in
+    let from = turned (inner_of c) (IsDeclaredInner draft) to in
+    subst (λ (p : Program). IfOk r (λ v. Decides v (IsOptionBeside (IsDeclaredInner draft) p c.node e))) are.same
+    (IfOk-weaker r (λ v. Decides v (IsOptionBeside (inner_of c) c.program c.node e)) (λ v. Decides v (IsOptionBeside (IsDeclaredInner draft) c.program c.node e))
+    (λ v. decided v (IsOptionBeside (inner_of c) c.program c.node e) (IsOptionBeside (IsDeclaredInner draft) c.program c.node e)
+    (option_same (inner_of c) (IsDeclaredInner draft) to c.program c.node e) (option_same (IsDeclaredInner draft) (inner_of c) from c.program c.node e)) ok)
+
+pub desc_ok : {E : Type 0} (draft : Draft) (program : Program) (c : Checked) (union : TypeId) (e : Expr) (r : Result Bool E) → AreChecksFor draft program c
+    → IfOk r (λ v. Decides v (IsFieldDescBeside (inner_of c) c.program c.node union e)) → IfOk r (λ v. Decides v (IsFieldDescBeside (IsDeclaredInner draft) program c.node union e))
+desc_ok {E} draft program c union e r are ok =
+    let to = alike draft program c are in
+    let from = turned (inner_of c) (IsDeclaredInner draft) to in
+    subst (λ (p : Program). IfOk r (λ v. Decides v (IsFieldDescBeside (IsDeclaredInner draft) p c.node union e))) are.same
+    (IfOk-weaker r (λ v. Decides v (IsFieldDescBeside (inner_of c) c.program c.node union e)) (λ v. Decides v (IsFieldDescBeside (IsDeclaredInner draft) c.program c.node union e))
+    (λ v. decided v (IsFieldDescBeside (inner_of c) c.program c.node union e) (IsFieldDescBeside (IsDeclaredInner draft) c.program c.node union e)
+    (desc_same (inner_of c) (IsDeclaredInner draft) to c.program c.node union e) (desc_same (IsDeclaredInner draft) (inner_of c) from c.program c.node union e)) ok)

@@ -94,17 +94,17 @@ no_union_desc draft program id ds e (inl struct) = first_of_none e (UnionDescFau
 no_union_desc draft program id ds e (inr none) = first_of_none e (UnionDescFault draft program id ds) (λ f p. none-some p.0 (sym none ∙ p.2))
 
 pub one_union_desc : (draft : Draft) (program : Program) (id : TypeId) (ds : DraftStructure) (o : RawOption) (b : Bool) (e r : Option Fault) → ds.is_union ≡ true
-    → option_named (codes "desc") ds.options ≡ Some o → r ≡ first_from e (fault_if b BAD_PATH ds.file o.name.at) → Decides b (¬ Serves draft program (Own id) o.parameter)
+    → option_named (codes "desc") ds.options ≡ Some o → r ≡ first_from e (fault_if b BAD_PATH ds.file o.name.at) → Decides b (¬ Serves draft program id Own o.parameter)
     → IsFirstWith e (UnionDescFault draft program id ds) r
 one_union_desc draft program id ds o b e r union at is decides =
-    first_of_same e r (FaultIf (¬ Serves draft program (Own id) o.parameter) BAD_PATH ds.file o.name.at) (UnionDescFault draft program id ds)
-    (λ f p. (o, union, at, p.0, p.1)) (λ f p. back f p.0 p.2 p.3 p.4) (first_if e r b (¬ Serves draft program (Own id) o.parameter) BAD_PATH ds.file o.name.at is decides)
+    first_of_same e r (FaultIf (¬ Serves draft program id Own o.parameter) BAD_PATH ds.file o.name.at) (UnionDescFault draft program id ds)
+    (λ f p. (o, union, at, p.0, p.1)) (λ f p. back f p.0 p.2 p.3 p.4) (first_if e r b (¬ Serves draft program id Own o.parameter) BAD_PATH ds.file o.name.at is decides)
   where
-    back : (f : Fault) (other : RawOption) → option_named (codes "desc") ds.options ≡ Some other → ¬ Serves draft program (Own id) other.parameter
-        → f ≡ fault BAD_PATH ds.file other.name.at → FaultIf (¬ Serves draft program (Own id) o.parameter) BAD_PATH ds.file o.name.at f
+    back : (f : Fault) (other : RawOption) → option_named (codes "desc") ds.options ≡ Some other → ¬ Serves draft program id Own other.parameter
+        → f ≡ fault BAD_PATH ds.file other.name.at → FaultIf (¬ Serves draft program id Own o.parameter) BAD_PATH ds.file o.name.at f
     back f other there bad says =
         let same : other ≡ o = same_Some other o (sym there ∙ at) in
-        (subst (λ (x : RawOption). ¬ Serves draft program (Own id) x.parameter) same bad, says ∙ ap (λ (x : RawOption). fault BAD_PATH ds.file x.name.at) same)
+        (subst (λ (x : RawOption). ¬ Serves draft program id Own x.parameter) same bad, says ∙ ap (λ (x : RawOption). fault BAD_PATH ds.file x.name.at) same)
 
 -- ---- chains
 

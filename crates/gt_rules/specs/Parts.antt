@@ -24,17 +24,19 @@ use Rattle.gt_drafts.specs.declared.draft.DraftStructure.{DraftStructure}
 use Rattle.gt_drafts.specs.Options.{has_skip}
 use Rattle.gt_drafts.specs.FirstFaults.{is_no_later}
 use Rattle.gt_markers.specs.declared.TheConstants.{WRONG_PLACE, MISSING_DESC, BAD_PATH, CHAIN_NOT_OWN_POINTER, CACHE_SHAPE}
-use Rattle.gt_markers.specs.declared.expressions.Scope.{Scope}
 use Rattle.gt_markers.specs.declared.expressions.Scope.TheVariants.{Fields, Roots}
 use Rattle.gt_markers.specs.NameScopes.{names_of}
 use Rattle.gt_markers.specs.Options.{kind_of, option_named}
 use Rattle.gt_markers.specs.Typing.{node}
 use Rattle.gt_declare.specs.Programs.{chain_kind, path_places, key_type}
 use Rattle.gt_paths.specs.declared.indexes.PathIndex.{PathIndex}
+use Rattle.gt_paths.specs.Checks.{Checked}
 use Rattle.gt_paths.specs.Indexes.{IsIndexOn}
 use Rattle.gt_paths.specs.Numbers.{mark_at}
 use Rattle.gt_rules.specs.declared.purposes.Purpose.{Purpose}
-use Rattle.gt_rules.specs.declared.purposes.Purpose.TheVariants.{Own, FieldDesc, RootCount, RootDesc}
+use Rattle.gt_rules.specs.declared.purposes.Purpose.TheVariants.{Own, FieldDesc}
+use Rattle.gt_rules.specs.declared.purposes.RootPurpose.{RootPurpose}
+use Rattle.gt_rules.specs.declared.purposes.RootPurpose.TheVariants.{Count, Desc}
 use Rattle.gt_rules.specs.Inner.{IsDeclaredInner}
 use Rattle.gt_rules.specs.Faults.{IsBareUnion, IsGood, LacksDesc, NamesBareUnion, NamesInner, StandsAlone, fault, held_node, plain_node}
 
@@ -44,6 +46,11 @@ use Rattle.gt_rules.specs.Faults.{IsBareUnion, IsGood, LacksDesc, NamesBareUnion
 pub record IsIndexFor (draft : Draft) (program : Program) (index : PathIndex) : Type 0 where
   pub on : IsIndexOn program index
   pub inner : (id : TypeId) → Decides (mark_at index.inner id.0) (IsDeclaredInner draft id)
+
+-- checks of a structure of a program in which those structures are inner that a draft declares so
+pub record AreChecksFor (draft : Draft) (program : Program) (checks : Checked) : Type 0 where
+  pub same : checks.program ≡ program
+  pub inner : (id : TypeId) → Decides (mark_at checks.inner id.0) (IsDeclaredInner draft id)
 
 -- ---- the first so far
 
@@ -79,28 +86,27 @@ abbrev pub OptionFault : (of_field : Bool) → List RawOption → List ℕ → (
 OptionFault of_field options name holds number file f =
     (o : RawOption) × (read_option of_field name options ≡ Some o) × holds o × (f ≡ fault number file o.name.at)
 
--- which names count in an expression
-abbrev pub scope_of : Purpose → Scope
-scope_of (Own structure) = Fields
-scope_of (FieldDesc structure held) = Fields
-scope_of RootCount = Roots
-scope_of (RootDesc held) = Roots
+-- which expressions are good in a structure
+abbrev pub Fits : Draft → Program → TypeId → Purpose → Expr → Type 0
+Fits draft program structure Own = IsOptionBeside (IsDeclaredInner draft) program structure
+Fits draft program structure (FieldDesc held) = IsFieldDescBeside (IsDeclaredInner draft) program structure held
 
--- which expressions are good
-abbrev pub Fits : Draft → Program → Purpose → Expr → Type 0
-Fits draft program (Own structure) = IsOptionBeside (IsDeclaredInner draft) program structure
-Fits draft program (FieldDesc structure held) = IsFieldDescBeside (IsDeclaredInner draft) program structure held
-Fits draft program RootCount = IsRootCount program
-Fits draft program (RootDesc held) = IsRootDesc program held
+-- and in a root
+abbrev pub RootFits : Program → RootPurpose → Expr → Type 0
+RootFits program Count = IsRootCount program
+RootFits program (Desc held) = IsRootDesc program held
 
--- a parameter is good for a purpose
-abbrev pub Serves : Draft → Program → Purpose → Parameter → Type 0
-Serves draft program purpose parameter = IsGood (names_of (scope_of purpose) draft) (Fits draft program purpose) parameter
+-- a parameter is good for a purpose of a structure
+abbrev pub Serves : Draft → Program → TypeId → Purpose → Parameter → Type 0
+Serves draft program structure purpose parameter = IsGood (names_of Fields draft) (Fits draft program structure purpose) parameter
 
--- the option of a name that is read, where it is not good for a purpose
-abbrev pub ExpressionFault : Draft → Program → Purpose → (of_field : Bool) → List RawOption → List ℕ → ℕ → Fault → Type 0
-ExpressionFault draft program purpose of_field options name file =
-    OptionFault of_field options name (λ o. ¬ Serves draft program purpose o.parameter) BAD_PATH file
+-- and for one of a root
+abbrev pub ServesRoot : Draft → Program → RootPurpose → Parameter → Type 0
+ServesRoot draft program purpose parameter = IsGood (names_of Roots draft) (RootFits program purpose) parameter
+
+-- the option of a name that is read, where its parameter does not serve
+abbrev pub ExpressionFault : (Parameter → Type 0) → (of_field : Bool) → List RawOption → List ℕ → ℕ → Fault → Type 0
+ExpressionFault serves of_field options name file = OptionFault of_field options name (λ o. ¬ serves o.parameter) BAD_PATH file
 
 -- the `reorder` of a field that is not sorted
 abbrev pub ReorderFault : Program → List RawOption → Ty → ℕ → Fault → Type 0
@@ -131,12 +137,12 @@ OfHeld found faults f = (held : TypeId) × (found ≡ Some held) × faults held 
 -- the `desc` of a field that holds a union, where it is not good
 abbrev pub FieldDescFault : Draft → Program → TypeId → (of_field : Bool) → List RawOption → Ty → ℕ → Fault → Type 0
 FieldDescFault draft program structure of_field options type file =
-    OfHeld (held_by type) (λ held. ExpressionFault draft program (FieldDesc structure held) of_field options (codes "desc") file)
+    OfHeld (held_by type) (λ held. ExpressionFault (Serves draft program structure (FieldDesc held)) of_field options (codes "desc") file)
 
 -- the `desc` of a root that holds a union, where it is not good
 abbrev pub RootDescFault : Draft → Program → (of_field : Bool) → List RawOption → DeclaredType → ℕ → Fault → Type 0
 RootDescFault draft program of_field options t file =
-    OfHeld (held_node t) (λ held. ExpressionFault draft program (RootDesc held) of_field options (codes "desc") file)
+    OfHeld (held_node t) (λ held. ExpressionFault (ServesRoot draft program (Desc held)) of_field options (codes "desc") file)
 
 -- the `reorder` of a root that is a plain pointer, where it is not sorted
 abbrev pub RootReorderFault : Program → List RawOption → DeclaredType → ℕ → Fault → Type 0
@@ -146,8 +152,8 @@ RootReorderFault program options t file = OfHeld (plain_node options t) (RootReo
 abbrev pub FieldFaultsBy : Draft → Program → TypeId → (file at : ℕ) → DeclaredType → Ty → List RawOption → Fault → Type 0
 FieldFaultsBy draft program structure file at t type options =
     Either (TypeFaults draft program options t type file at)
-    (Either (ExpressionFault draft program (Own structure) true options (codes "length") file)
-    (Either (ExpressionFault draft program (Own structure) true options (codes "string_length") file)
+    (Either (ExpressionFault (Serves draft program structure Own) true options (codes "length") file)
+    (Either (ExpressionFault (Serves draft program structure Own) true options (codes "string_length") file)
     (Either (FieldDescFault draft program structure true options type file) (ReorderFault program options type file))))
 
 -- the faults of a field, as the draft has it and as the program has it
@@ -163,7 +169,7 @@ FieldsFaults draft program structure file drafted made =
 abbrev pub UnionDescFault : Draft → Program → TypeId → DraftStructure → Fault → Type 0
 UnionDescFault draft program structure ds f =
     (o : RawOption) × (ds.is_union ≡ true) × (option_named (codes "desc") ds.options ≡ Some o)
-    × (¬ Serves draft program (Own structure) o.parameter) × (f ≡ fault BAD_PATH ds.file o.name.at)
+    × (¬ Serves draft program structure Own o.parameter) × (f ≡ fault BAD_PATH ds.file o.name.at)
 
 -- the path of a chain leads to a plain pointer to its own structure
 abbrev pub LeadsBack : Program → TypeId → Parameter → Type 0
@@ -198,7 +204,7 @@ abbrev pub RootFaultsBy : Draft → Program → (file at : ℕ) → DeclaredType
 RootFaultsBy draft program file at t type options =
     Either (TypeFaults draft program options t type file at)
     (Either (FaultIf (HoldsInner draft type) BAD_PATH file at)
-    (Either (ExpressionFault draft program RootCount false options (codes "length") file)
+    (Either (ExpressionFault (ServesRoot draft program Count) false options (codes "length") file)
     (Either (RootDescFault draft program false options t file) (RootReorderFault program options t file))))
 
 -- the faults of a root, as the draft has it and as the program has it

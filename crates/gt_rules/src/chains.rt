@@ -1,7 +1,6 @@
 // The faults of chains.
 ghost use Rattle.std.specs.Prelude.{◌≡◌, IfOk, is_some};
 ghost use Rattle.std.specs.Bool.{Decides};
-ghost use Rattle.gt_fields.specs.FieldNames.{AreNamesOf};
 ghost use Rattle.gt_markers.specs.Options.{kind_of};
 ghost use Rattle.gt_declare.specs.Programs.{chain_kind};
 ghost use Rattle.gt_rules.specs.Parts.{IsIndexFor, IsFirstWith, ChainFault, ChainsFaults, LeadsBack};
@@ -27,11 +26,16 @@ fn is_chain(name: &Word) -> bool
 // Whether the path of a chain leads to a plain pointer to its own structure.
 fn leads_back(known: Known, structure: TypeId, parameter: &Parameter) -> Result<bool, AllocError>
     requires index { IsIndexFor known.draft.now known.program.now known.index.now }
-    requires names { AreNamesOf known.program.now.structures known.names.now }
     ensures decides { IfOk result (λ r. Decides r (LeadsBack known.entry.program.now structure parameter.now)) }
 {
     let structures = known.program.structures.as_slice();
-    match path_places(known.alloc, structures, known.names, structure, parameter)? {
+    match path_places(
+        known.alloc,
+        structures,
+        known.index.names(),
+        structure,
+        parameter,
+    )? {
         None => Ok(false),
         Some(path) => {
             let places = path.as_slice();
@@ -49,7 +53,6 @@ fn of_chain(
     option: &RawOption,
 ) -> Result<Option<Fault>, AllocError>
     requires index { IsIndexFor known.draft.now known.program.now known.index.now }
-    requires names { AreNamesOf known.program.now.structures known.names.now }
     ensures first { IfOk result (IsFirstWith earliest (ChainFault known.entry.program.now structure file option.now)) }
 {
     if !is_chain(&option.name.word) {
@@ -74,7 +77,6 @@ pub fn of_chains(
     options: &[RawOption],
 ) -> Result<Option<Fault>, AllocError>
     requires index { IsIndexFor known.draft.now known.program.now known.index.now }
-    requires names { AreNamesOf known.program.now.structures known.names.now }
     ensures first { IfOk result (IsFirstWith earliest (ChainsFaults known.entry.program.now structure file options.now)) }
 {
     let mut earliest = earliest;

@@ -3,7 +3,7 @@ ghost use Rattle.std.specs.Prelude.{◌≡◌, IfOk, All, length};
 ghost use Rattle.std.specs.Bool.{Decides};
 ghost use Rattle.gt_markers.specs.Lookups.{IsLookupOf};
 ghost use Rattle.gt_typing.specs.SmallTypes.{HasSmallId};
-ghost use Rattle.gt_rules.specs.Parts.{IsIndexFor, IsFirstWith, FieldDescFault, FieldFaults, FieldsFaults, LacksItsDesc, TypeFaults};
+ghost use Rattle.gt_rules.specs.Parts.{AreChecksFor, IsIndexFor, IsFirstWith, FieldDescFault, FieldFaults, FieldsFaults, LacksItsDesc, TypeFaults};
 
 use crate::known::{Known, Options};
 use crate::names::{is_bare, is_named_inner, names_node};
@@ -12,6 +12,7 @@ use crate::purposes::Purpose;
 use crate::types::{held_by, lacks_desc};
 use gt_drafts::{DeclaredType, DraftField};
 use gt_markers::{BAD_PATH, MISSING_DESC, with_fault};
+use gt_paths::PathChecks;
 use gt_types::{Fault, Field, Program, Ty, TypeId};
 use std::alloc::AllocError;
 
@@ -49,69 +50,73 @@ pub fn of_type(
 fn of_desc(
     earliest: Option<Fault>,
     known: Known,
+    checks: &mut PathChecks,
     options: Options,
-    structure: TypeId,
     ty: &Ty,
 ) -> Result<Option<Fault>, AllocError>
     requires lookup { IsLookupOf known.draft.now known.lookup.now }
-    requires index { IsIndexFor known.draft.now known.program.now known.index.now }
-    ensures first { IfOk result (IsFirstWith earliest (FieldDescFault known.entry.draft.now known.entry.program.now structure options.entry.of_field options.entry.options.now ty.now options.entry.file)) }
+    requires checks { AreChecksFor known.draft.now known.program.now checks.old }
+    ensures first { IfOk result (IsFirstWith earliest (FieldDescFault known.entry.draft.now known.entry.program.now checks.old.node options.entry.of_field options.entry.options.now ty.now options.entry.file)) }
+    ensures same { checks.new ≡ checks.old }
 {
     match held_by(ty) {
         None => Ok(earliest),
         Some(held) => {
-            let purpose = Purpose::FieldDesc { structure, held };
-            of_expression(earliest, known, options, "desc", purpose)
+            let purpose = Purpose::FieldDesc(held);
+            of_expression(earliest, known, checks, options, "desc", purpose)
         }
     }
 }
 
-// The earliest fault with those of a field.
+// The earliest fault with those of a field of the structure that is checked.
 fn of_field(
     earliest: Option<Fault>,
     known: Known,
-    structure: TypeId,
+    checks: &mut PathChecks,
     file: u32,
     field: &DraftField,
     made: &Field,
 ) -> Result<Option<Fault>, AllocError>
     requires lookup { IsLookupOf known.draft.now known.lookup.now }
     requires index { IsIndexFor known.draft.now known.program.now known.index.now }
+    requires checks { AreChecksFor known.draft.now known.program.now checks.old }
     requires small { HasSmallId field.now.ty.resolved.base }
-    ensures first { IfOk result (IsFirstWith earliest (FieldFaults known.entry.draft.now known.entry.program.now structure file field.now made.now)) }
+    ensures first { IfOk result (IsFirstWith earliest (FieldFaults known.entry.draft.now known.entry.program.now checks.old.node file field.now made.now)) }
+    ensures same { checks.new ≡ checks.old }
 {
     let options = Options {
         of_field: true,
         file,
         options: field.options.as_slice(),
     };
-    let own = Purpose::Own(structure);
+    let own = Purpose::Own;
     let earliest = of_type(earliest, known, options, field.name.at, &field.ty, &made.ty);
-    let earliest = of_expression(earliest, known, options, "length", own)?;
-    let earliest = of_expression(earliest, known, options, "string_length", own)?;
-    let earliest = of_desc(earliest, known, options, structure, &made.ty)?;
+    let earliest = of_expression(earliest, known, checks, options, "length", own)?;
+    let earliest = of_expression(earliest, known, checks, options, "string_length", own)?;
+    let earliest = of_desc(earliest, known, checks, options, &made.ty)?;
     Ok(of_reorder(earliest, known.program, options, &made.ty))
 }
 
-/// The earliest fault with those of the fields of a structure, which the draft and the program have at the same places. It answers want
-/// of memory alone.
+/// The earliest fault with those of the fields of the structure that is checked, which the draft and the program have at the same
+/// places. It fails only if memory runs out.
 pub fn of_fields(
     earliest: Option<Fault>,
     known: Known,
-    structure: TypeId,
+    checks: &mut PathChecks,
     file: u32,
     fields: &[DraftField],
     made: &[Field],
 ) -> Result<Option<Fault>, AllocError>
     requires lookup { IsLookupOf known.draft.now known.lookup.now }
     requires index { IsIndexFor known.draft.now known.program.now known.index.now }
+    requires checks { AreChecksFor known.draft.now known.program.now checks.old }
     requires small { All (λ f. HasSmallId f.ty.resolved.base) fields.now }
     requires same { length fields.now ≡ length made.now }
-    ensures first { IfOk result (IsFirstWith earliest (FieldsFaults known.entry.draft.now known.entry.program.now structure file fields.now made.now)) }
+    ensures first { IfOk result (IsFirstWith earliest (FieldsFaults known.entry.draft.now known.entry.program.now checks.old.node file fields.now made.now)) }
 {
     let mut earliest = earliest;
     for (place, field) in fields.iter().enumerate() {
-        earliest = of_field(earliest, known, structure, file, field, &made[place])?;
+        earliest = of_field(earliest, known, checks, file, field, &made[place])?;
     }
     Ok(earliest)
 }

@@ -1,6 +1,5 @@
 // What faults are looked for in.
 use gt_drafts::Draft;
-use gt_fields::FieldNames;
 use gt_items::RawOption;
 use gt_markers::Lookup;
 use gt_paths::PathIndex;
@@ -15,7 +14,6 @@ pub struct Known<'a> {
     pub lookup: &'a Lookup,
     pub program: &'a Program,
     pub index: &'a PathIndex,
-    pub names: &'a FieldNames,
 }
 
 /// The options of the marker of a field or of a root, and the file in which they stand.

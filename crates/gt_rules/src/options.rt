@@ -6,13 +6,13 @@ ghost use Rattle.std.specs.Char.{is_ascii};
 ghost use Rattle.std.specs.Bool.{Decides};
 ghost use Rattle.gt_types.specs.Settled.{EndsInPointers};
 ghost use Rattle.gt_markers.specs.Lookups.{IsLookupOf};
-ghost use Rattle.gt_rules.specs.Parts.{IsIndexFor, IsFirstWith, ExpressionFault, ReorderFault, RootReorderFaultOf, read_option};
+ghost use Rattle.gt_rules.specs.Parts.{AreChecksFor, IsIndexFor, IsFirstWith, ExpressionFault, ReorderFault, RootReorderFaultOf, Serves, ServesRoot, read_option};
 
 use crate::known::{Known, Options};
-use crate::purposes::{Purpose, serves};
+use crate::purposes::{Purpose, RootPurpose, serves, serves_root};
 use gt_items::RawOption;
 use gt_markers::{BAD_PATH, WRONG_PLACE, has_skip, option_named, with_fault};
-use gt_paths::names_sortable;
+use gt_paths::{PathChecks, names_sortable};
 use gt_types::{Fault, Program, PtrKind, Target, Ty, TypeId};
 use std::alloc::AllocError;
 
@@ -27,23 +27,46 @@ fn read_option<'a>(of_field: bool, options: &'a [RawOption], name: &str) -> Opti
     option_named(options, name)
 }
 
-/// The earliest fault with that of an expression which is not good for its purpose. It fails only if memory runs out.
+/// The earliest fault with that of an expression which is not good for its purpose in the structure that is checked. It fails only if
+/// memory runs out.
 pub fn of_expression(
     earliest: Option<Fault>,
     known: Known,
+    checks: &mut PathChecks,
     options: Options,
     name: &str,
     purpose: Purpose,
 ) -> Result<Option<Fault>, AllocError>
     requires ascii { IsTrue (list_all is_ascii name.now) }
     requires lookup { IsLookupOf known.draft.now known.lookup.now }
-    requires index { IsIndexFor known.draft.now known.program.now known.index.now }
-    ensures first { IfOk result (IsFirstWith earliest (ExpressionFault known.entry.draft.now known.entry.program.now purpose options.entry.of_field options.entry.options.now name.now options.entry.file)) }
+    requires checks { AreChecksFor known.draft.now known.program.now checks.old }
+    ensures first { IfOk result (IsFirstWith earliest (ExpressionFault (Serves known.entry.draft.now known.entry.program.now checks.old.node purpose) options.entry.of_field options.entry.options.now name.now options.entry.file)) }
+    ensures same { checks.new ≡ checks.old }
 {
     let Some(option) = read_option(options.of_field, options.options, name) else {
         return Ok(earliest);
     };
-    let good = serves(known, purpose, &option.parameter)?;
+    let good = serves(known, checks, purpose, &option.parameter)?;
+    Ok(with_fault(earliest, !good, BAD_PATH, options.file, option.name.at))
+}
+
+/// The same of an expression which is not good for its purpose in a root.
+pub fn of_root_expression(
+    earliest: Option<Fault>,
+    known: Known,
+    options: Options,
+    name: &str,
+    purpose: RootPurpose,
+) -> Result<Option<Fault>, AllocError>
+    requires ascii { IsTrue (list_all is_ascii name.now) }
+    requires lookup { IsLookupOf known.draft.now known.lookup.now }
+    requires index { IsIndexFor known.draft.now known.program.now known.index.now }
+    ensures first { IfOk result (IsFirstWith earliest (ExpressionFault (ServesRoot known.entry.draft.now known.entry.program.now purpose) options.entry.of_field options.entry.options.now name.now options.entry.file)) }
+{
+    let Some(option) = read_option(options.of_field, options.options, name) else {
+        return Ok(earliest);
+    };
+    let good = serves_root(known, purpose, &option.parameter)?;
     Ok(with_fault(earliest, !good, BAD_PATH, options.file, option.name.at))
 }
 

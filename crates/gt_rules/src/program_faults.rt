@@ -11,14 +11,13 @@ use crate::known::Known;
 use crate::roots::of_roots;
 use crate::structures::of_structures;
 use gt_drafts::Draft;
-use gt_fields::FieldNames;
 use gt_markers::Lookup;
 use gt_paths::PathIndex;
 use gt_types::{Fault, Program};
 use std::alloc::{AllocError, Global};
 
 /// The first fault of a draft that only the program tells which it declares: at the earliest place, and of those at one place the lowest
-/// number. `None` says that there is none. Its time is linear in the draft, but for what paths of options need: see [`PathIndex`]. It fails
+/// number. `None` says that there is none. Its time is linear in the draft, but for what paths of options need: see [`gt_paths::PathChecks`]. It fails
 /// only if memory runs out.
 pub fn first_program_fault(
     alloc: Global,
@@ -33,14 +32,12 @@ pub fn first_program_fault(
 {
     let inner = declared_inner(alloc, draft)?;
     let index = PathIndex::with_inner(alloc, program, inner)?;
-    let names = FieldNames::of(alloc, program.structures.as_slice())?;
     let known = Known {
         alloc,
         draft,
         lookup,
         program,
         index: &index,
-        names: &names,
     };
     let earliest = of_structures(None, known)?;
     let earliest = of_roots(earliest, known)?;

@@ -10,8 +10,8 @@ ghost use Rattle.gt_rules.specs.Parts.{IsIndexFor, IsFirstWith, HoldsInner, Root
 use crate::fields::of_type;
 use crate::known::{Known, Options};
 use crate::names::{held_node, is_named_inner, plain_node};
-use crate::options::{of_expression, of_root_reorder};
-use crate::purposes::Purpose;
+use crate::options::{of_root_expression, of_root_reorder};
+use crate::purposes::RootPurpose;
 use crate::types::held_by;
 use gt_drafts::{DeclaredType, DraftRoot};
 use gt_markers::{BAD_PATH, with_fault};
@@ -40,7 +40,7 @@ fn of_desc(
 {
     match held_node(declared) {
         None => Ok(earliest),
-        Some(held) => of_expression(earliest, known, options, "desc", Purpose::RootDesc(held)),
+        Some(held) => of_root_expression(earliest, known, options, "desc", RootPurpose::Desc(held)),
     }
 }
 
@@ -82,7 +82,7 @@ fn of_root(
     let earliest = of_type(earliest, known, options, at, &root.ty, &made.ty);
     let inner = holds_inner(known, &made.ty);
     let earliest = with_fault(earliest, inner, BAD_PATH, file, at);
-    let earliest = of_expression(earliest, known, options, "length", Purpose::RootCount)?;
+    let earliest = of_root_expression(earliest, known, options, "length", RootPurpose::Count)?;
     let earliest = of_desc(earliest, known, options, &root.ty)?;
     Ok(of_reorder(earliest, known.program, options, &root.ty))
 }

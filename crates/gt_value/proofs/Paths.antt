@@ -22,12 +22,17 @@ same-cell result p q e h = subst (λ x. IsCell result x) (sym e) h
 pub no-cell : (result : Option Cell) (p : Option Place) → result ≡ None → p ≡ None → IsCell result p
 no-cell result p e h = subst (λ r. IsCell r p) (sym e) h
 
-pub step-is : (program : Program) (planes : List Plane) (end : ℕ) (node : TypeId) (at : ℕ) (name : List ℕ) (s : Structure) (plane : Plane) (i : ℕ) → HasStructure program node s → slice_get planes node.0 ≡ Some plane
-    → position_from (λ f. bytes_eq f.name name) 0 s.fields ≡ Some i → step_to program planes end node at name ≡ place_field s.fields plane.fields end at i
-step-is program planes end node at name s plane i has laid found =
+-- where the field of a name lies, by its place among the fields
+pub step-found : (program : Program) (planes : List Plane) (end : ℕ) (node : TypeId) (at : ℕ) (name : List ℕ) (s : Structure) (plane : Plane) (o : Option ℕ) → HasStructure program node s → slice_get planes node.0 ≡ Some plane
+    → position_from (λ f. bytes_eq f.name name) 0 s.fields ≡ o → step_to program planes end node at name ≡ (o then λ i. place_field s.fields plane.fields end at i)
+step-found program planes end node at name s plane o has laid found =
     ap (λ o. o then λ x. slice_get planes node.0 then λ p. position_from (λ f. bytes_eq f.name name) 0 x.fields then λ k. place_field x.fields p.fields end at k) has
     ∙ ap (λ o. o then λ p. position_from (λ f. bytes_eq f.name name) 0 s.fields then λ k. place_field s.fields p.fields end at k) laid
     ∙ ap (λ o. o then λ k. place_field s.fields plane.fields end at k) found
+
+pub step-is : (program : Program) (planes : List Plane) (end : ℕ) (node : TypeId) (at : ℕ) (name : List ℕ) (s : Structure) (plane : Plane) (i : ℕ) → HasStructure program node s → slice_get planes node.0 ≡ Some plane
+    → position_from (λ f. bytes_eq f.name name) 0 s.fields ≡ Some i → step_to program planes end node at name ≡ place_field s.fields plane.fields end at i
+step-is program planes end node at name s plane i has laid found = step-found program planes end node at name s plane (Some i) has laid found
 
 -- from what is no structure no name leads on
 pub walk-ends : (program : Program) (planes : List Plane) (end : ℕ) (p : Place) (names : List (List ℕ)) (i : ℕ) → i < length names → itself p.type ≡ None → walk_on program planes end p (drop i names) ≡ None

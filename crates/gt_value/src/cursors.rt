@@ -15,8 +15,9 @@ ghost use Rattle.gt_value.specs.Places.{Part, IsPlaceOfPart};
 ghost use Rattle.gt_value.specs.Cursors.{Frame, frame, element_part, IsAt, IsAtRoot, IsNoPart, IsSomewhere, LeadsNowhere, member_of, count_of, IsMoved, StepAnswers, ElementAnswers};
 
 use crate::places::{Holder, Place, leaf_kind, read_count};
+use crate::readers::worth_of;
 use crate::reading::{read_length, read_type, size_of};
-use crate::sources::{Around, Source, begin_at, worth_of};
+use crate::sources::{Around, Source, begin_at};
 use crate::unions::{active_member, common_structure};
 use crate::values::Value;
 use gt_layout::Layouts;

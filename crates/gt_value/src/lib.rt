@@ -5,6 +5,7 @@ mod bits;
 mod cursors;
 mod names;
 mod places;
+mod readers;
 mod reading;
 mod sources;
 mod unions;

@@ -14,7 +14,8 @@ ghost use Rattle.gt_value.specs.Finding.{length_read};
 
 use crate::bits::{bits_at, number_at};
 use crate::cursors::Cursor;
-use crate::sources::{Around, Source, shape_of, worth, worth_of};
+use crate::readers::{worth, worth_of};
+use crate::sources::{Around, Source, shape_of};
 use gt_layout::Layouts;
 use gt_space::Space;
 use gt_types::{Program, PtrKind, Ty, TypeId};
@@ -78,6 +79,7 @@ pub fn leaf_kind(ty: &Ty) -> Option<LeafKind>
 
 // The value of the length in a type, where it has one.
 pub fn read_count(source: &Source<'_>, around: Around, ty: &Ty) -> Option<i64>
+    requires laid { IsLaidOut source.now.program.now source.now.layouts.now }
     ensures { result ≡ length_read source.now around ty.now }
 {
     match ty {

@@ -17,7 +17,8 @@ ghost use Rattle.gt_value.specs.Bytes.{IsRoomFor, StandsFor, StandForStatics};
 ghost use Rattle.gt_value.specs.Reading.{Stands, FieldsStand, EachStands, path_worth, root_worth};
 
 use crate::bits::{bits_at, bytes_at, number_at};
-use crate::sources::{Around, Source, begin_at, bytes_of, shape_of, worth, worth_of};
+use crate::readers::{worth, worth_of};
+use crate::sources::{Around, Source, begin_at, bytes_of, shape_of};
 use crate::unions::{active_member, common_structure};
 use crate::values::Value;
 use gt_layout::{Layouts, Spot};
@@ -99,6 +100,7 @@ pub fn size_of(ty: &Ty, layouts: &Layouts) -> u64
 
 // How many elements an array has, by its length.
 pub fn read_length(source: &Source<'_>, around: Around, len: &Expr) -> u32
+    requires laid { IsLaidOut source.now.program.now source.now.layouts.now }
     ensures { (n : ℕ) → value_of (path_worth source.now around) (root_worth source.now) len.now ≡ Some (pos n) → n < 2 ^ 32 → result ≡ n }
 {
     match worth(len, source, around) {

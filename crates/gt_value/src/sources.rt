@@ -1,18 +1,20 @@
-// Where values are read, and what the expressions of options read there.
+// Where values are read, and where paths of names lead there.
 ghost use Rattle.std.specs.Prelude.{◌≡◌, ◌≤◌, ◌<◌, ◌+◌, ◌-◌, ◌^◌, length, Some, None, MatchOption};
 ghost use Rattle.std.specs.Str.{bytes_eq};
 ghost use Rattle.std.specs.List.{position_from};
-ghost use Rattle.gt_types.specs.Contains.{itself};
-ghost use Rattle.gt_types.specs.Values.{value_of, within_i64};
+ghost use Rattle.gt_types.specs.declared.program.Structure.{Structure};
+ghost use Rattle.gt_types.specs.Contains.{itself, HasStructure};
+ghost use Rattle.gt_types.specs.Values.{within_i64};
+ghost use Rattle.gt_fields.specs.FieldNames.{field_names};
 ghost use Rattle.gt_layout.specs.Storages.{bytes_of};
 ghost use Rattle.gt_layout.specs.Places.{begin_at};
 ghost use Rattle.gt_tree.specs.Numbers.{is_signed};
-ghost use Rattle.gt_value.specs.Reading.{end_from, shape_of, number_in, place, place_field, step_to, walk_to, anchor_of, outside_all, entered, without_pointers, path_worth, root_worth, worth_of};
+ghost use Rattle.gt_value.specs.Reading.{end_from, shape_of, number_in, place, place_field, step_to, walk_to, anchor_of, outside_all, entered, without_pointers};
 
 use crate::bits::number_at;
 use gt_layout::{Layouts, Spot};
 use gt_space::Space;
-use gt_types::{Base, Expr, Field, Program, Reader, Scalar, Ty, TypeId, Width, Word, eval};
+use gt_types::{Base, Field, Program, Scalar, Ty, TypeId, Width, Word};
 
 /// The bytes of a space from a place on, which is counted from its lowest address, and the types by which they are read.
 #[derive(Clone, Copy)]
@@ -93,8 +95,8 @@ impl Around {
         }
     }
 
-    // The structure at which a path begins.
-    fn anchor(self, base: Base) -> Option<Anchor>
+    /// The structure at which a path begins.
+    pub fn anchor(self, base: Base) -> Option<Anchor>
         ensures { result ≡ anchor_of self base }
     {
         match base {
@@ -145,8 +147,8 @@ pub fn shape_of(ty: &Ty) -> Option<Shape>
     }
 }
 
-// How many bits the space has from a place on.
-fn end_from(space: &Space, from: u64) -> u64
+/// How many bits the space has from a place on.
+pub fn end_from(space: &Space, from: u64) -> u64
     ensures end { result ≡ end_from space.now from }
     ensures small { result < 2 ^ 32 }
 {
@@ -154,8 +156,8 @@ fn end_from(space: &Space, from: u64) -> u64
     8 * space.len().saturating_sub(from)
 }
 
-// The number of a type at a bit, where it ends inside the space.
-fn number_in(space: &Space, from: u64, ty: &Ty, at: u64) -> Option<i128>
+/// The number of a type at a bit, where it ends inside the space.
+pub fn number_in(space: &Space, from: u64, ty: &Ty, at: u64) -> Option<i128>
     requires { at < 2 ^ 63 }
     ensures { result ≡ number_in space.now from (place ty.now at) }
 {
@@ -166,7 +168,8 @@ fn number_in(space: &Space, from: u64, ty: &Ty, at: u64) -> Option<i128>
     Some(number_at(space, from, at, shape.signed, shape.width))
 }
 
-fn within_i64(n: i128) -> Option<i64>
+/// A number that an i64 holds.
+pub fn within_i64(n: i128) -> Option<i64>
     ensures { result ≡ within_i64 n }
 {
     if n >= i64::MIN as i128 && n <= i64::MAX as i128 {
@@ -174,13 +177,6 @@ fn within_i64(n: i128) -> Option<i64>
     } else {
         None
     }
-}
-
-// The place of the first field of a name.
-fn find_field(fields: &[Field], name: &Word) -> Option<usize>
-    ensures { result ≡ position_from (λ f. bytes_eq f.name name.now) 0 fields.now }
-{
-    fields.iter().position(|f| f.name == *name)
 }
 
 impl<'a> Source<'a> {
@@ -207,24 +203,34 @@ impl<'a> Source<'a> {
         }
     }
 
+    // The place of the first field of a name in a structure.
+    fn find_field(&self, node: TypeId, name: &Word) -> Option<u32>
+        requires named { self.now.layouts.now.names ≡ field_names self.now.program.now.structures }
+        ensures { (s : Structure) → HasStructure self.now.program.now node s → result ≡ position_from (λ f. bytes_eq f.name name.now) 0 s.fields }
+    {
+        self.layouts.names.place(node, name)
+    }
+
     // The field of a name in a structure that begins at a bit, where it begins inside the space.
     fn step(&self, end: u32, node: TypeId, at: u32, name: &Word) -> Option<Cell<'a>>
+        requires named { self.now.layouts.now.names ≡ field_names self.now.program.now.structures }
         ensures { MatchOption result (step_to self.now.program.now self.now.layouts.now.structures end node at name.now ≡ None) (λ c. step_to self.now.program.now self.now.layouts.now.structures end node at name.now ≡ Some (place c.ty.now c.at)) }
     {
         let structure = self.program.structures.get(node.0 as usize)?;
         let plane = self.layouts.structures.get(node.0 as usize)?;
-        let i = find_field(structure.fields.as_slice(), name)?;
+        let i = self.find_field(node, name)?;
         place_field(
             structure.fields.as_slice(),
             plane.fields.as_slice(),
             end,
             at,
-            i,
+            i as usize,
         )
     }
 
-    // The place to which names lead from a structure.
-    fn walk(&self, end: u32, from: Anchor, steps: &[Word]) -> Option<Cell<'a>>
+    /// The place to which names lead from a structure.
+    pub fn walk(&self, end: u32, from: Anchor, steps: &[Word]) -> Option<Cell<'a>>
+        requires named { self.now.layouts.now.names ≡ field_names self.now.program.now.structures }
         ensures { MatchOption result (walk_to self.now.program.now self.now.layouts.now.structures end from steps.now ≡ None) (λ c. walk_to self.now.program.now self.now.layouts.now.structures end from steps.now ≡ Some (place c.ty.now c.at)) }
     {
         let [first, rest @ ..] = steps else {
@@ -276,51 +282,4 @@ fn node_of(ty: &Ty) -> Option<TypeId>
         Ty::Node { id, .. } => Some(*id),
         _ => None,
     }
-}
-
-/// What the expressions of options read inside some structures of a value.
-#[derive(Clone, Copy)]
-pub struct Reading<'a> {
-    pub source: &'a Source<'a>,
-    pub around: Around,
-}
-
-impl Reader for Reading<'_> {
-    ghost use Rattle.gt_value.specs.Reading.{path_worth, root_worth, worth_of};
-
-    ghost leaf_of = { λ r. path_worth r.source.now r.around };
-
-    ghost root_of = { λ r. root_worth r.source.now };
-
-    fn leaf(&self, base: &Base, steps: &[Word]) -> Option<i64> {
-        let source = self.source;
-        let anchor = self.around.anchor(*base)?;
-        let end = end_from(source.space, source.from) as u32;
-        let cell = source.walk(end, anchor, steps)?;
-        within_i64(number_in(source.space, source.from, cell.ty, cell.at as u64)?)
-    }
-
-    fn root(&self, i: u32) -> Option<i64> {
-        let source = self.source;
-        let root = source.program.roots.get(i as usize)?;
-        let spot = source.layouts.statics.fields.get(i as usize)?;
-        within_i64(number_in(source.space, 0, &root.ty, begin_at(spot))?)
-    }
-}
-
-/// What the expression of an option is worth, where there is one.
-pub fn worth_of(e: &Option<Expr>, source: &Source<'_>, around: Around) -> Option<i64>
-    ensures { result ≡ worth_of source.now around e.now }
-{
-    match e {
-        Some(e) => worth(e, source, around),
-        None => None,
-    }
-}
-
-/// What an expression is worth inside some structures of a value.
-pub fn worth(e: &Expr, source: &Source<'_>, around: Around) -> Option<i64>
-    ensures { result ≡ value_of (path_worth source.now around) (root_worth source.now) e.now }
-{
-    eval(e, &Reading { source, around })
 }

@@ -34,31 +34,59 @@ use requests::{answer, number};
 use std::alloc::{AllocError, Global};
 use std::io;
 
+/// How many rows there were, and how many of them were answered otherwise.
+#[derive(Drop)]
+struct Tally {
+    count: u64,
+    differ: u64,
+}
+
 fn main(rt: HostRuntime) -> io::Result<()> {
-    let alloc = rt.alloc();
-    let table = io::read_to_string(alloc, rt.stdin())?;
-    let mut pages = Pages::new(alloc, MIN_PAGES)?;
-    let mut count = 0u64;
-    let mut differ = 0u64;
-    for line in table.lines() {
-        if let Some(asked) = pages_asked(line) {
-            match fresh(alloc, asked)? {
-                Some(new) => pages = new,
-                None => println!(rt; "{line}: no space has so many pages")?,
-            }
-            continue;
-        }
-        let Some((request, wanted)) = line.split_once(" = ") else {
-            continue;
-        };
-        count = count.saturating_add(1);
-        let found = answer(alloc, &mut pages, request, wanted)?;
-        if found.as_str() != wanted {
-            differ = differ.saturating_add(1);
-            println!(rt; "line {count}: {request} gives {found}")?;
-        }
+    let mut pages = Pages::new(rt.alloc(), MIN_PAGES)?;
+    try_lines(&rt, &mut pages)
+}
+
+// Tries the lines of the input.
+fn try_lines(rt: &HostRuntime, pages: &mut Pages) -> io::Result<()> {
+    let mut tally = Tally {
+        count: 0,
+        differ: 0,
+    };
+    for line in rt.lines(rt.alloc()) {
+        try_line(rt, pages, &mut tally, line?.as_str())?;
     }
-    println!(rt; "{count} rows, {differ} differ")
+    println!(rt; "{} rows, {} differ", tally.count, tally.differ)
+}
+
+// Tries a line: one that asks for a fresh space, or a row.
+fn try_line(rt: &HostRuntime, pages: &mut Pages, tally: &mut Tally, line: &str) -> io::Result<()> {
+    if let Some(asked) = pages_asked(line) {
+        if renew(rt.alloc(), pages, asked)? {
+            return Ok(());
+        }
+        return println!(rt; "{line}: no space has so many pages");
+    }
+    match line.split_once(" = ") {
+        Some((request, wanted)) => try_row(rt, pages, tally, request, wanted),
+        None => Ok(()),
+    }
+}
+
+// Tries a row, and prints it where it is answered otherwise.
+fn try_row(
+    rt: &HostRuntime,
+    pages: &mut Pages,
+    tally: &mut Tally,
+    request: &str,
+    wanted: &str,
+) -> io::Result<()> {
+    tally.count = tally.count.saturating_add(1);
+    let found = answer(rt.alloc(), pages, request, wanted)?;
+    if found.as_str() == wanted {
+        return Ok(());
+    }
+    tally.differ = tally.differ.saturating_add(1);
+    println!(rt; "line {}: {request} gives {found}", tally.count)
 }
 
 // How many pages a line asks for in a fresh space; `None` where it asks for no such space.
@@ -70,10 +98,11 @@ fn pages_asked(line: &str) -> Option<u32> {
     Some(number(count))
 }
 
-// A space of so many free pages; `None` where no space may have so many.
-fn fresh(alloc: Global, count: u32) -> Result<Option<Pages>, AllocError> {
+// Makes the space a fresh one of so many free pages, and says whether a space may have so many.
+fn renew(alloc: Global, pages: &mut Pages, count: u32) -> Result<bool, AllocError> {
     if count < MIN_PAGES || count > MAX_PAGES {
-        return Ok(None);
+        return Ok(false);
     }
-    Ok(Some(Pages::new(alloc, count)?))
+    *pages = Pages::new(alloc, count)?;
+    Ok(true)
 }

@@ -32,11 +32,27 @@ impl Generator {
 
 /// So many random calls. `None` says that all gave what the plain list gave, else it is the number of the first that did not.
 pub fn random_calls(alloc: Global, seed: u64, steps: u32) -> Result<Option<u32>, AllocError> {
-    let mut generator = Generator { state: seed };
     let mut pages = Pages::new(alloc, RANDOM_PAGES)?;
     let mut plain = Plain::new(alloc, RANDOM_PAGES as u64);
+    compare(
+        alloc,
+        &mut Generator { state: seed },
+        &mut pages,
+        &mut plain,
+        steps,
+    )
+}
+
+// So many random calls of both, or the number of the first that gave other things.
+fn compare(
+    alloc: Global,
+    generator: &mut Generator,
+    pages: &mut Pages,
+    plain: &mut Plain,
+    steps: u32,
+) -> Result<Option<u32>, AllocError> {
     for step in 0..steps {
-        if !one_call(alloc, &mut generator, &mut pages, &mut plain)? {
+        if !one_call(alloc, generator, pages, plain)? {
             return Ok(Some(step));
         }
     }
@@ -50,24 +66,36 @@ fn one_call(
     pages: &mut Pages,
     plain: &mut Plain,
 ) -> Result<bool, AllocError> {
-    match generator.below(200) {
-        0..=3 => {
-            pages.clear_marks();
-            plain.clear();
-            same_contents(alloc, pages, plain)
-        }
-        4..=8 => {
-            let swept = pages.sweep() as usize == plain.sweep()?;
-            Ok(swept && same_contents(alloc, pages, plain)?)
-        }
+    let call = generator.below(200);
+    match call {
+        0..=3 => clear_both(alloc, pages, plain),
+        4..=8 => sweep_both(alloc, pages, plain),
         9 => image_one(alloc, generator, pages, plain),
         10..=13 => same_contents(alloc, pages, plain),
-        14..=23 => Ok(fit_one(generator, pages, plain)),
-        24..=31 => Ok(walk_one(generator, pages, plain)),
-        32..=46 => Ok(postpone_one(generator, pages, plain)),
-        47..=72 => Ok(mark_one(generator, pages, plain)),
-        73..=98 => Ok(mark_owner_one(generator, pages, plain)),
+        14..=98 => Ok(block_one(call, generator, pages, plain)),
         _ => alloc_one(alloc, generator, pages, plain),
+    }
+}
+
+fn clear_both(alloc: Global, pages: &mut Pages, plain: &mut Plain) -> Result<bool, AllocError> {
+    pages.clear_marks();
+    plain.clear();
+    same_contents(alloc, pages, plain)
+}
+
+fn sweep_both(alloc: Global, pages: &mut Pages, plain: &mut Plain) -> Result<bool, AllocError> {
+    let swept = pages.sweep() as usize == plain.sweep()?;
+    Ok(swept && same_contents(alloc, pages, plain)?)
+}
+
+// One random call that makes no block and sweeps none, and whether both gave the same.
+fn block_one(call: u32, generator: &mut Generator, pages: &mut Pages, plain: &mut Plain) -> bool {
+    match call {
+        14..=23 => fit_one(generator, pages, plain),
+        24..=31 => walk_one(generator, pages, plain),
+        32..=46 => postpone_one(generator, pages, plain),
+        47..=72 => mark_one(generator, pages, plain),
+        _ => mark_owner_one(generator, pages, plain),
     }
 }
 
@@ -82,22 +110,41 @@ fn alloc_one(
     let Some(size) = size_for(size_of(kind)) else {
         return Ok(false);
     };
-    let first = entries(alloc, pages, kind)?.first().copied();
+    let first = first_entry(alloc, pages, kind)?;
     let has_room = pages.has_room(size);
     match pages.alloc_slot(size) {
         Ok(addr) => {
-            let allowed = has_room && plain.allows(size as u64, Some(addr));
-            let cached = takes_cached(alloc, pages, plain, addr, size)?;
-            plain.add(addr, size as u64)?;
-            Ok(allowed && cached && is_in_first(first, addr))
+            let taken = takes_block(alloc, pages, plain, addr, size)?;
+            Ok(has_room && taken && is_in_first(first, addr))
         }
-        Err(SlotFail::Full) => {
-            plain.cached.clear();
-            let full = !has_room && plain.allows(size as u64, None);
-            Ok(full && same_cached(alloc, pages, plain)?)
-        }
+        Err(SlotFail::Full) => Ok(!has_room && is_full(alloc, pages, plain, size)?),
         Err(SlotFail::Memory) => Err(AllocError),
     }
+}
+
+// The first entry of the list of a size, by its number.
+fn first_entry(alloc: Global, pages: &Pages, kind: u32) -> Result<Option<PageEntry>, AllocError> {
+    Ok(entries(alloc, pages, kind)?.first().copied())
+}
+
+// Whether a block may lie where one was made. The plain list takes it.
+fn takes_block(
+    alloc: Global,
+    pages: &Pages,
+    plain: &mut Plain,
+    addr: u64,
+    size: u32,
+) -> Result<bool, AllocError> {
+    let allowed = plain.allows(size as u64, Some(addr));
+    let cached = takes_cached(alloc, pages, plain, addr, size)?;
+    plain.add(addr, size as u64)?;
+    Ok(allowed && cached)
+}
+
+// Whether there may be no room for a block. Then no entry is cached any more.
+fn is_full(alloc: Global, pages: &Pages, plain: &mut Plain, size: u32) -> Result<bool, AllocError> {
+    plain.cached.clear();
+    Ok(plain.allows(size as u64, None) && same_cached(alloc, pages, plain)?)
 }
 
 // Whether the cached entries may be these after a block is made, which the plain list has not yet. The plain list takes

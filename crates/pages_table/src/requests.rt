@@ -6,8 +6,9 @@ use crate::images::{are_runs, pages_for};
 use crate::lists::{cached_pages, entries};
 use crate::random::random_calls;
 use crate::sizes::size_for;
-use gt_pages::{CACHED, Pages, Run, SlotFail};
+use gt_pages::{CACHED, PageEntry, Pages, Run, SlotFail};
 use std::alloc::{AllocError, Global};
+use std::fmt::Write;
 
 /// What a request gives. Blocks of `times` are all tried against the wanted address, and the first that lies elsewhere is told.
 pub fn answer(
@@ -17,30 +18,59 @@ pub fn answer(
     wanted: &str,
 ) -> Result<String, AllocError> {
     match request.split_once(' ') {
-        None if request == "clear" => {
+        None => answer_word(alloc, pages, request),
+        Some(("times", rest)) => made_some(alloc, pages, rest, wanted),
+        Some((verb, rest)) => change(alloc, pages, verb, rest),
+    }
+}
+
+// What a request of one word gives.
+fn answer_word(alloc: Global, pages: &mut Pages, request: &str) -> Result<String, AllocError> {
+    match request {
+        "clear" => {
             pages.clear_marks();
             String::from_str(alloc, "ok")
         }
-        None if request == "sweep" => {
-            let freed = pages.sweep();
-            format!(in alloc; "{freed}")
-        }
-        None if request == "cached" => cached(alloc, pages),
-        None => made(alloc, pages, request),
-        Some(("times", rest)) => made_some(alloc, pages, rest, wanted),
-        Some(("room", bytes)) => room(alloc, pages, number(bytes)),
-        Some(("owner", at)) => owner(alloc, pages, at),
-        Some(("mark", rest)) => mark(alloc, pages, rest),
-        Some(("byte", rest)) => mark_owner(alloc, pages, rest),
-        Some(("postpone", at)) => postpone(alloc, pages, at),
-        Some(("walked", at)) => walked(alloc, pages, at),
-        Some(("marked", at)) => marked(alloc, pages, at),
-        Some(("pending", at)) => pending(alloc, pages, at),
-        Some(("fit", rest)) => fit(alloc, pages, rest),
-        Some(("image", rest)) => image(alloc, pages, rest),
-        Some(("list", i)) => list(alloc, pages, number(i)),
-        Some(("random", rest)) => random(alloc, rest),
-        Some(_) => String::from_str(alloc, "no request"),
+        "sweep" => swept(alloc, pages.sweep()),
+        "cached" => cached(alloc, pages),
+        _ => made(alloc, pages, request),
+    }
+}
+
+fn swept(alloc: Global, freed: u32) -> Result<String, AllocError> {
+    format!(in alloc; "{freed}")
+}
+
+// What a request gives that changes blocks or their marks.
+fn change(alloc: Global, pages: &mut Pages, verb: &str, rest: &str) -> Result<String, AllocError> {
+    match verb {
+        "mark" => mark(alloc, pages, rest),
+        "byte" => mark_owner(alloc, pages, rest),
+        "postpone" => postpone(alloc, pages, rest),
+        "walked" => walked(alloc, pages, rest),
+        "image" => image(alloc, pages, rest),
+        _ => ask(alloc, pages, verb, rest),
+    }
+}
+
+// What a request gives that asks for blocks or their marks.
+fn ask(alloc: Global, pages: &Pages, verb: &str, rest: &str) -> Result<String, AllocError> {
+    match verb {
+        "owner" => owner(alloc, pages, rest),
+        "marked" => marked(alloc, pages, rest),
+        "pending" => pending(alloc, pages, rest),
+        _ => look(alloc, pages, verb, rest),
+    }
+}
+
+// What a request gives that asks for pages, or makes a space of its own.
+fn look(alloc: Global, pages: &Pages, verb: &str, rest: &str) -> Result<String, AllocError> {
+    match verb {
+        "room" => room(alloc, pages, number(rest)),
+        "fit" => fit(alloc, pages, rest),
+        "list" => list(alloc, pages, number(rest)),
+        "random" => random(alloc, rest),
+        _ => String::from_str(alloc, "no request"),
     }
 }
 
@@ -119,13 +149,18 @@ fn owner(alloc: Global, pages: &Pages, at: &str) -> Result<String, AllocError> {
     }
 }
 
-fn mark(alloc: Global, pages: &mut Pages, rest: &str) -> Result<String, AllocError> {
+// An address, a walk and a count; `None` where the first word is no address.
+fn marking(rest: &str) -> Option<(u64, u32, u32)> {
     let mut words = rest.split(' ');
-    let Some(addr) = address(words.next().unwrap_or("")) else {
+    let addr = address(words.next().unwrap_or(""))?;
+    let walk = number(words.next().unwrap_or(""));
+    Some((addr, walk, number(words.next().unwrap_or(""))))
+}
+
+fn mark(alloc: Global, pages: &mut Pages, rest: &str) -> Result<String, AllocError> {
+    let Some((addr, walk, count)) = marking(rest) else {
         return no_address(alloc);
     };
-    let walk = number(words.next().unwrap_or(""));
-    let count = number(words.next().unwrap_or(""));
     if !starts(pages, addr) {
         return String::from_str(alloc, "no block");
     }
@@ -135,12 +170,9 @@ fn mark(alloc: Global, pages: &mut Pages, rest: &str) -> Result<String, AllocErr
 
 // Marks the block that has the byte at an address.
 fn mark_owner(alloc: Global, pages: &mut Pages, rest: &str) -> Result<String, AllocError> {
-    let mut words = rest.split(' ');
-    let Some(addr) = address(words.next().unwrap_or("")) else {
+    let Some((addr, walk, count)) = marking(rest) else {
         return no_address(alloc);
     };
-    let walk = number(words.next().unwrap_or(""));
-    let count = number(words.next().unwrap_or(""));
     match pages.mark_owner(addr, walk, count) {
         Some(true) => String::from_str(alloc, "new"),
         Some(false) => String::from_str(alloc, "old"),
@@ -250,19 +282,30 @@ fn list(alloc: Global, pages: &Pages, i: u32) -> Result<String, AllocError> {
     if i >= CACHED {
         return String::from_str(alloc, "no list");
     }
+    let found = entries(alloc, pages, i)?;
+    entries_text(alloc, &found)
+}
+
+fn entries_text(alloc: Global, entries: &[PageEntry]) -> Result<String, AllocError> {
+    if entries.is_empty() {
+        return String::from_str(alloc, "none");
+    }
     let mut text = String::new(alloc);
-    for entry in entries(alloc, pages, i)? {
-        if !text.is_empty() {
-            text.push_str(" ")?;
-        }
-        let told = format!(in alloc; "{}:{}:{}", entry.page, entry.size, entry.free)?;
-        text.push_str(told.as_str())?;
+    add_entries(&mut text, entries)?;
+    Ok(text)
+}
+
+fn add_entries(text: &mut String, entries: &[PageEntry]) -> Result<(), AllocError> {
+    let mut between = "";
+    for entry in entries {
+        write!(
+            text,
+            "{between}{}:{}:{}",
+            entry.page, entry.size, entry.free
+        )?;
+        between = " ";
     }
-    if text.is_empty() {
-        String::from_str(alloc, "none")
-    } else {
-        Ok(text)
-    }
+    Ok(())
 }
 
 fn cached(alloc: Global, pages: &Pages) -> Result<String, AllocError> {

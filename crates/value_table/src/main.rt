@@ -1,6 +1,6 @@
 //! A table of values that are made by writes: each row begins with zero of a structure of the sample program, writes leaves one
 //! after another, and says what text the last value has, or what bytes stand for it. The value of each row is also stored, read
-//! and shown again, and has to have the same text. Other rows say where a leaf lies.
+//! and shown again, and has to have the same text. Other rows say where a leaf lies, or show, store or read a value many times.
 //!
 //! A line is printed for each row that comes out otherwise, and at the end how many rows there were. The head of the input says
 //! how a row is written.
@@ -9,6 +9,7 @@
 ghost use Rattle.value_notation.specs.Trials.{IsReady};
 
 mod finding;
+mod repeats;
 mod statics;
 mod table;
 mod trials;

@@ -2,12 +2,13 @@
 ghost use Rattle.value_notation.specs.Trials.{IsReady};
 
 use crate::finding::{Seen, try_element, try_leaf};
+use crate::repeats::{Part, repeat};
 use crate::statics::{try_record, try_root};
 use crate::trials::{Trial, try_row};
 use std::alloc::{AllocError, Global};
 use value_notation::{
     Leaf, MALFORMED, Refusal, Row, Sample, Stop, hexadecimal, read_path, stopped, text_difference,
-    told,
+    told, word_difference,
 };
 
 // What a row wants of its last value.
@@ -27,7 +28,40 @@ pub fn difference(on: &Sample, line: &str) -> Result<Option<String>, AllocError>
     if let Some(bytes) = line.strip_prefix("roots => ") {
         return record_difference(on, bytes);
     }
+    if let Some(row) = line.strip_prefix("times ") {
+        return times_difference(on, row);
+    }
     value_difference(on, line)
+}
+
+// The same of a row that does a part of a trial so many times.
+fn times_difference(on: &Sample, line: &str) -> Result<Option<String>, AllocError>
+    requires ready { IsReady on.now.program on.now.layouts }
+{
+    let Some((words, wanted)) = line.split_once(" -> ") else {
+        return told(on.alloc, MALFORMED);
+    };
+    match repeated(on, words) {
+        Ok(()) => word_difference(on.alloc, "done", wanted),
+        Err(stop) => stopped(on.alloc, stop),
+    }
+}
+
+// Does the part that words name, as many times as they say.
+fn repeated(on: &Sample, words: &str) -> Result<(), Stop>
+    requires ready { IsReady on.now.program on.now.layouts }
+{
+    let Some((times, rest)) = words.split_once(" ") else {
+        return Err(Stop::Malformed);
+    };
+    let (Ok(times), Some((name, value))) = (times.parse::<u32>(), rest.split_once(" ")) else {
+        return Err(Stop::Malformed);
+    };
+    let Some(part) = Part::named(name) else {
+        return Err(Stop::Malformed);
+    };
+    let row = Row::read(on.alloc, value)?;
+    repeat(on, &row, part, times)
 }
 
 // The same of a row that says where a leaf lies.

@@ -1,7 +1,3 @@
-use Rattle.std.proofs.Common.{◌≤◌, List, length, sym, subst}
-use Rattle.std.specs.Prelude.{All}
-use Rattle.gt_types.specs.declared.program.Structure.{Structure}
-use Rattle.gt_types.specs.declared.limits.TheConstants.{MAX_FIELDS}
 use Rattle.gt_rules.proofs.FirstLemmas.{first_of_both}
 use Rattle.gt_rules.proofs.MadeLemmas.{few_fields, few_structures, structure_made}
 use Rattle.gt_rules.proofs.WholeLemmas.{first_of_parts}
@@ -23,10 +19,3 @@ with_inner-requires-clause-few c = few_structures c.args.draft.now c.args.progra
 
 pub with_inner-requires-clause-fields : goal.with_inner-requires-clause-fields
 with_inner-requires-clause-fields c = few_fields c.args.draft.now c.args.program.now c.requires.sound c.requires.made
-
-pub of-requires : goal.of-requires
-of-requires c = record {
-  few =
-      subst (λ (ss : List Structure). All (λ (s : Structure). length s.fields ≤ MAX_FIELDS) ss) (sym c.as_slice.ensures.items)
-      (few_fields c.args.draft.now c.args.program.now c.requires.sound c.requires.made);
-}

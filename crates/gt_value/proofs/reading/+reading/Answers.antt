@@ -119,6 +119,9 @@ read_type-returns-in_ok-parts-in-Arr t c value stands =
     let row = array-stands c.args.source.now c.args.around c.args.ty.now elem c.args.at c.in-Arr.n value is stands in
     tree-row c.in_ok-parts-in-Arr.parts ∙ ap Row (c.in_ok-parts-in-Arr.ensures row.trees row.stand) ∙ sym row.is
 
+pub read_type-read_length-n-requires : goal.read_type-read_length-n-requires
+read_type-read_length-n-requires t c = record { laid = c.requires.stands.1.context.laid }
+
 pub read_type-read_elements-requires-in-Tail : goal.read_type-read_elements-requires-in-Tail
 read_type-read_elements-requires-in-Tail t c =
     let elem = c.get-in-Tail.result.now in
@@ -137,6 +140,9 @@ read_type-returns-in_ok-parts-in-Tail t c value stands =
     tree-row c.in_ok-parts-in-Tail.parts
     ∙ ap Row (c.in_ok-parts-in-Tail.ensures found.row.trees (subst (λ k. EachStands c.args.source.now c.args.around elem c.args.at k found.row.trees) (sym many) found.row.stand))
     ∙ sym found.row.is
+
+pub read_union-worth_of-requires : goal.read_union-worth_of-requires
+read_union-worth_of-requires t c = record { laid = c.requires.stands.1.context.laid }
 
 pub read_union-bounds-fields-place : goal.read_union-bounds-fields-place
 read_union-bounds-fields-place t c = active-within c.worth_of.result c.as_slice-fields.result.now c.in-Some.place (sym c.in-Some.ensures)

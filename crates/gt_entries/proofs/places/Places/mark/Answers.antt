@@ -1,13 +1,14 @@
 use Rattle.std.proofs.Common.{◌≡◌, true, false, not, length, set, Some, sym, ap, ◌∙◌, arith}
 use Rattle.gt_bits.specs.Sets.{has}
 use Rattle.gt_entries.specs.Cells.{Used, cell_at, is_free, is_marked}
+use Rattle.std.proofs.lemmas.Bool.{not-false, not-true}
 use Rattle.gt_entries.proofs.CellLemmas.{same_free}
 use Rattle.gt_entries.proofs.Changes.{cells_mark, kept_mark, marked_at, used_at}
 use Rattle.gt_entries.proofs.places.Places.mark.Goals as goal
 
-pub returns-then-has-clause-fresh : goal.returns-then-has-clause-fresh
-returns-then-has-clause-fresh c =
-    let bit : has c.self.inside.sets.marked c.args.k ≡ true = ap (λ words. has words c.args.k) (sym c.marked.ensures) ∙ (sym c.has.ensures ∙ c.if-has.true) in
+pub returns-then-not-mark-clause-fresh : goal.returns-then-not-mark-clause-fresh
+returns-then-not-mark-clause-fresh c =
+    let bit : has c.self.inside.sets.marked c.args.k ≡ true = not-false (has c.self.inside.sets.marked c.args.k) (sym c.mark.ensures.fresh ∙ c.if-not-mark.true) in
     sym (ap not (ap (λ cells. is_marked (cell_at cells c.args.k)) (sym c.self.view_is) ∙ (marked_at c.self.inside.count c.self.inside.sets.used c.self.inside.sets.marked c.self.inside.sets.pending c.self.inside.tags.items c.self.invariant.kept c.args.k ∙ bit)))
 
 pub mark-requires : goal.mark-requires
@@ -21,9 +22,9 @@ index_mut-requires c =
     let tags : c.self.inside.tags.len ≡ length c.self.inside.tags.items = c.self.inside.tags.ok.0 in
     omega (arith, low, tags, c.self.invariant.kept.tag_count)
 
-pub invariant_of-self : goal.invariant_of-self
-invariant_of-self c =
-    let bit : has c.self.inside.sets.marked c.args.k ≡ false = ap (λ words. has words c.args.k) (sym c.marked.ensures) ∙ (sym c.has.ensures ∙ c.if-has.false) in
+pub invariant_of-self-2 : goal.invariant_of-self-2
+invariant_of-self-2 c =
+    let bit : has c.self.inside.sets.marked c.args.k ≡ false = not-true (has c.self.inside.sets.marked c.args.k) (sym c.mark.ensures.fresh ∙ c.if-not-mark.false) in
     let used = (used_at c.self.inside.count c.self.inside.sets.used c.self.inside.sets.marked c.self.inside.sets.pending c.self.inside.tags.items c.self.invariant.kept c.args.k (ap (λ cells. is_free (cell_at cells c.args.k)) c.self.view_is ∙ c.requires)) in
     rw (ap (λ s. s.used) c.mark.ensures.rest, ap (λ s. s.pending) c.mark.ensures.rest)
     (record {
@@ -34,12 +35,12 @@ invariant_of-self c =
 
 pub returns-clause-fresh : goal.returns-clause-fresh
 returns-clause-fresh c =
-    let bit : has c.self.inside.sets.marked c.args.k ≡ false = ap (λ words. has words c.args.k) (sym c.marked.ensures) ∙ (sym c.has.ensures ∙ c.if-has.false) in
+    let bit : has c.self.inside.sets.marked c.args.k ≡ false = not-true (has c.self.inside.sets.marked c.args.k) (sym c.mark.ensures.fresh ∙ c.if-not-mark.false) in
     sym (ap not (ap (λ cells. is_marked (cell_at cells c.args.k)) (sym c.self.view_is) ∙ (marked_at c.self.inside.count c.self.inside.sets.used c.self.inside.sets.marked c.self.inside.sets.pending c.self.inside.tags.items c.self.invariant.kept c.args.k ∙ bit)))
 
 pub returns-clause-marked : goal.returns-clause-marked
 returns-clause-marked c = λ _.
-    let bit : has c.self.inside.sets.marked c.args.k ≡ false = ap (λ words. has words c.args.k) (sym c.marked.ensures) ∙ (sym c.has.ensures ∙ c.if-has.false) in
+    let bit : has c.self.inside.sets.marked c.args.k ≡ false = not-true (has c.self.inside.sets.marked c.args.k) (sym c.mark.ensures.fresh ∙ c.if-not-mark.false) in
     let used = (used_at c.self.inside.count c.self.inside.sets.used c.self.inside.sets.marked c.self.inside.sets.pending c.self.inside.tags.items c.self.invariant.kept c.args.k (ap (λ cells. is_free (cell_at cells c.args.k)) c.self.view_is ∙ c.requires)) in
     rw (ap (λ s. s.used) c.mark.ensures.rest, ap (λ s. s.pending) c.mark.ensures.rest)
     (cells_mark c.self.inside.count c.self.inside.sets.used c.self.inside.sets.marked c.self.inside.sets.pending c.self.inside.tags.items c.mark.new.self.marked (record { walk = c.args.walk; count = c.args.count }) c.args.k (c.self.invariant.kept.within c.args.k used) used bit

@@ -8,6 +8,9 @@ use Rattle.gt_value.proofs.FindingSteps.{node-has}
 use Rattle.gt_value.proofs.CursorLeaves.{struct-memberless, union-member}
 use Rattle.gt_value.proofs.cursors.Cursor.active.Goals as goal
 
+pub worth_of-requires : goal.worth_of-requires
+worth_of-requires c = record { laid = c.requires.stands.1.context.laid }
+
 pub bounds-as_slice-id : goal.bounds-as_slice-id
 bounds-as_slice-id c =
     let self = c.args.self.now in

@@ -10,6 +10,9 @@ returns-in-Arr c =
     let is = ap out-Ty c.in-Arr.is ∙ outs-Arr c.in-Arr.n c.in-Arr.elem in
     record { count = λ at value path there. (array-counted self.source self.site.around self.ty.now c.in-Arr.elem self.at c.in-Arr.n there.p.tree is there.stands.0).1 }
 
+pub read_length-requires : goal.read_length-requires
+read_length-requires c = record { laid = c.requires.stands.is.stands.0.context.laid }
+
 pub returns-in-Tail : goal.returns-in-Tail
 returns-in-Tail c =
     let self = c.args.self.now in

@@ -17,6 +17,9 @@ use Rattle.gt_value.proofs.CursorSteps.{site, answers-none, struct-step, struct-
 use Rattle.gt_value.proofs.CursorCommons.{common-at, common-missing, common-within}
 use Rattle.gt_value.proofs.cursors.Cursor.inside.Goals as goal
 
+pub worth_of-requires : goal.worth_of-requires
+worth_of-requires c = record { laid = c.requires.stands.1.context.laid }
+
 pub bounds-as_slice-id : goal.bounds-as_slice-id
 bounds-as_slice-id c =
     let self = c.args.self.now in

@@ -9,6 +9,9 @@ returns-in_err-kind c =
     let none : leaf_kind c.args.self.now.ty.now ≡ None = search rules in
     record { leaf = subst (λ r. LeafOn c.args.self.now r) (sym c.from_residual.ensures) (λ at value path there. no-leaf at c.args.self.now value path there none) }
 
+pub read_count-length-requires : goal.read_count-length-requires
+read_count-length-requires c = record { laid = c.requires.stands.is.stands.0.context.laid }
+
 pub returns : goal.returns
 returns c =
     let kind : leaf_kind c.args.self.now.ty.now ≡ Some c.in_ok-kind.kind = search rules in

@@ -31,6 +31,9 @@ returns-in-Arr c =
     let is : out-Ty self.ty.now ≡ part.Arr c.in-Arr.n elem = ap out-Ty c.in-Arr.is ∙ outs-Arr c.in-Arr.n c.in-Arr.elem ∙ ap (part.Arr c.in-Arr.n) (sym c.get.ensures) in
     record { part = steps-on self c.args.place c.element.result (array-answers self.source self.site elem self.at c.in-Arr.n c.args.place self.ty.now c.element.result is c.element.ensures) }
 
+pub read_length-n-requires : goal.read_length-n-requires
+read_length-n-requires c = record { laid = (stands-here c.args.self.now c.requires.stands).1.context.laid }
+
 pub element-requires-in-Tail : goal.element-requires-in-Tail
 element-requires-in-Tail c =
     let self = c.args.self.now in

@@ -1,0 +1,147 @@
+// Paths that begin at several structures: at each that contains one, or at each that is outermost for it.
+ghost use Rattle.std.specs.Prelude.{◌≡◌, IfOk, IfSome, filter, not};
+ghost use Rattle.std.specs.Bool.{Decides};
+ghost use Rattle.gt_types.specs.declared.expressions.Base.TheVariants.{Outermost as FromOutermost};
+ghost use Rattle.gt_types.specs.Paths.{PathFitsBeside};
+ghost use Rattle.gt_paths.specs.Numbers.{mark_at};
+ghost use Rattle.gt_paths.specs.Indexes.{IsIndexOn, inner_in};
+ghost use Rattle.gt_paths.specs.OuterPaths.{AllLead, AreKnown, AreStarts};
+ghost use Rattle.gt_paths.specs.Around.{IsAround};
+
+use crate::climbing::climb;
+use crate::indexes::PathIndex;
+use crate::steps::leads_to_number;
+use gt_types::{Copied, List, Program, TypeId, Word};
+use indexmap::IndexSet;
+use std::alloc::{AllocError, Global};
+use std::collections::BTreeSet;
+
+// Whether a path leads to a number from each of these structures.
+fn all_lead(program: &Program, index: &PathIndex, starts: &[u32], steps: &[Word]) -> bool
+    requires index { IsIndexOn program.now index.now }
+    ensures { Decides result (AllLead program.now starts.now steps.now) }
+{
+    for start in starts {
+        if !leads_to_number(program, index, TypeId(*start), steps) {
+            return false;
+        }
+    }
+    true
+}
+
+/// Whether a path leads to a number from each of these structures, as the known paths do. One that does is known from then on.
+/// Its only error is out of memory.
+pub fn each_leads(
+    alloc: Global,
+    program: &Program,
+    index: &PathIndex,
+    starts: &[u32],
+    known: &mut BTreeSet<List<Word>>,
+    steps: &List<Word>,
+) -> Result<bool, AllocError>
+    requires index { IsIndexOn program.now index.now }
+    requires known { AreKnown program.now starts.now known.old }
+    ensures decides { IfOk result (λ r. Decides r (AllLead program.now starts.now steps.now)) }
+    ensures known { AreKnown program.now starts.now known.new }
+{
+    if known.contains(steps) {
+        return Ok(true);
+    }
+    if !all_lead(program, index, starts, steps.as_slice()) {
+        return Ok(false);
+    }
+    let path = steps.copy(alloc)?;
+    known.insert(path)?;
+    Ok(true)
+}
+
+// Those of the structures that are not inner.
+fn not_inner(alloc: Global, index: &PathIndex, above: &[u32]) -> Result<Vec<u32>, AllocError>
+    ensures chosen { IfOk result (λ starts. starts.items ≡ filter (λ id. not (mark_at index.now.inner id)) above.now) }
+{
+    let mut starts = Vec::new(alloc);
+    for id in above {
+        if !index.is_inner(TypeId(*id)) {
+            starts.push(*id)?;
+        }
+    }
+    Ok(starts)
+}
+
+// The structures at which a block may begin that holds this one.
+fn outermost_of(
+    alloc: Global,
+    program: &Program,
+    index: &PathIndex,
+    node: TypeId,
+) -> Result<Vec<u32>, AllocError>
+    requires index { IsIndexOn program.now index.now }
+    ensures starts { IfOk result (λ starts. AreStarts (inner_in index.now) program.now node starts.items) }
+{
+    let mut from = IndexSet::new(alloc);
+    from.insert(node.0)?;
+    let above = climb(program, index.containers(), from)?;
+    not_inner(alloc, index, above.as_slice())
+}
+
+/// The structures at which a block may begin that holds a structure, and the paths that are known to lead to numbers from each.
+#[derive(Drop)]
+pub struct Outermost {
+    starts: List<u32>,
+    known: BTreeSet<List<Word>>,
+}
+
+impl Outermost {
+    // The outermost structures. No path is known.
+    fn of(
+        alloc: Global,
+        program: &Program,
+        index: &PathIndex,
+        node: TypeId,
+    ) -> Result<Outermost, AllocError>
+        requires index { IsIndexOn program.now index.now }
+        ensures around { IfOk result (IsAround program.now index.now node) }
+    {
+        let starts = outermost_of(alloc, program, index, node)?;
+        Ok(Outermost {
+            starts: List::of(starts),
+            known: BTreeSet::new(alloc),
+        })
+    }
+
+    /// The outermost structures that were found, else they are looked for. Its only error is out of memory.
+    pub fn or_of(
+        found: Option<Outermost>,
+        alloc: Global,
+        program: &Program,
+        index: &PathIndex,
+        node: TypeId,
+    ) -> Result<Outermost, AllocError>
+        requires index { IsIndexOn program.now index.now }
+        requires found { IfSome found (IsAround program.now index.now node) }
+        ensures around { IfOk result (IsAround program.now index.now node) }
+    {
+        match found {
+            Some(outermost) => Ok(outermost),
+            None => Outermost::of(alloc, program, index, node),
+        }
+    }
+
+    /// Whether a path leads to a number from each outermost structure of a structure. Its only error is out of memory.
+    pub fn lead(
+        &mut self,
+        alloc: Global,
+        program: &Program,
+        index: &PathIndex,
+        node: TypeId,
+        steps: &List<Word>,
+    ) -> Result<bool, AllocError>
+        requires index { IsIndexOn program.now index.now }
+        requires around { IsAround program.now index.now node self.old }
+        ensures decides { IfOk result (λ r. Decides r (PathFitsBeside (inner_in index.now) program.now node FromOutermost steps.now)) }
+        ensures around { IsAround program.now index.now node self.new }
+    {
+        let starts = self.starts.as_slice();
+        each_leads(alloc, program, index, starts, &mut self.known, steps)
+    }
+}
