@@ -1,0 +1,3 @@
+pub mod Graphs
+pub mod Good
+pub mod Grounds
