@@ -88,6 +88,6 @@ awk -v n=100000 'BEGIN {
     if (i % 3 == 2) { print "@new $w node"; print "@set $w.other $n" } }
   print "print head.key"; print "collect force" }' >"$work/s.gty"
 build_between
-row 'the collection of :100000' 100000 "$(least 21 "$work/between" "$program" "$work/s.gty" "$work/heap.h")" 'in C' "$(least 21 "$work/small" first 100000)" 3
+row 'the collection of :100000' 100000 "$(middle 21 "$work/between" "$program" "$work/s.gty" "$work/heap.h")" 'in C' "$(middle 21 "$work/small" first 100000)" 3
 : >"$work/input"
 row 'the words :100000, with their commands' 100000 "$(minus "$(seconds 5 "$program" :100000)" "$idle")"

@@ -35,11 +35,11 @@ seconds() {
   shift
   for ((run = 0; run < runs; run++)); do "$work/spent" "$work/input" "$@" 2>&1 >"$work/out"; done | sort -n | head -n 1 | awk '{ print $1 }'
 }
-# The least of the numbers that a command prints in so many runs.
-least() {
+# The middle one of the numbers that a command prints in so many runs.
+middle() {
   local runs=$1 run
   shift
-  for ((run = 0; run < runs; run++)); do "$@"; done | sort -n | head -n 1
+  for ((run = 0; run < runs; run++)); do "$@"; done | sort -n | sed -n "$((runs / 2 + 1))p"
 }
 # The KiB that a command has at the most.
 most_memory() { "$work/spent" "$work/input" "$@" 2>&1 >"$work/out" | awk '{ print $2 }'; }
