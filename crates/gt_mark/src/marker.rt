@@ -1,10 +1,11 @@
 //! The marker while it works: it takes the edges of one block after another.
-ghost use Rattle.std.specs.Prelude.{◌≡◌, ◌⊎◌, ◌≤◌, ◌<◌, ℕ, List, [], Option, Some, None, false, is_some, IsTrue};
+ghost use Rattle.std.specs.Prelude.{◌≡◌, ◌⊎◌, ◌≤◌, ◌<◌, ◌-◌, ◌^◌, ℕ, List, [], Option, Some, None, false, is_some, length, IsTrue};
 ghost use Rattle.gt_space.specs.Range.{Range};
 ghost use Rattle.gt_pages.specs.Slots.{StartsSome};
 ghost use Rattle.gt_walk.specs.declared.tables.Tables.{Tables};
+ghost use Rattle.gt_walk.specs.Rows.{word_at};
 ghost use Rattle.gt_mark.specs.Chains.{AreLinks};
-ghost use Rattle.gt_mark.specs.Steps.{Task, Ends, Goes, Holds, Leaves, Lessens, PassesOver, ahead, begun_state, lost_in, place_of, postponed_pages, start_state, state_of};
+ghost use Rattle.gt_mark.specs.Steps.{Task, Ends, Follows, Goes, Holds, Leaves, Lessens, PassesOver, ahead, begun_state, lost_in, place_of, postponed_pages, start_state, state_of};
 ghost use Rattle.gt_mark.specs.Wide.{Wide};
 
 use crate::chains::{Links, chain_place};
@@ -13,7 +14,7 @@ use crate::stack::{Block, Stack};
 use arrayvec::ArrayVec;
 use gt_pages::Pages;
 use gt_space::Space;
-use gt_walk::{EdgeSink, Tables, rows_of, visit_element, visit_with_rows};
+use gt_walk::{EdgeSink, Tables, rows_of, visit_element, visit_with_rows, word_of};
 
 /// Marks the blocks that edges name. A block that is newly marked comes onto the stack, or it is the next of a chain. Where the stack has
 /// no room for it, its mark says that it is left to a pass: it lies ahead of the pass that runs, or in the span that the next one goes over.
@@ -119,7 +120,30 @@ impl<'a> Marker<'a> {
         self.walk_block(tables, space, block)
     }
 
-    /// The same for a block of one element that has a chain pointer.
+    // Marks the block that a chain pointer names, and says which it is, where it was not marked.
+    #[inline(always)]
+    fn follow(&mut self, space: &Space, links: Links<'_>, place: u64) -> Option<Block>
+        requires words { links.words ≡ length space.now.bytes - 7 }
+        requires near { place < 2 ^ 63 }
+        requires starts { (target : ℕ) → word_at space.now place ≡ Some target → 0 < target → StartsSome self.old.pages.now.slots target }
+        ensures same_reference { self.new.pages.ghost_name ≡ self.old.pages.ghost_name }
+        ensures follows { Follows space.now place links.entry.walk (state_of self.old) result (state_of self.new) }
+    {
+        let target = word_of(space, links.words, place)?;
+        if target == 0 {
+            return None;
+        }
+        if !self.pages.mark(target, links.walk, 1) {
+            return None;
+        }
+        Some(Block {
+            addr: target,
+            walk: links.walk,
+            count: 1,
+        })
+    }
+
+    /// The same for a block of one element that has a chain pointer. What this names is marked first, and held until the other rows are walked.
     #[inline(always)]
     fn walk_link(
         &mut self,
@@ -135,10 +159,10 @@ impl<'a> Marker<'a> {
         ensures goes { (t : Task tables.now space.now) (begun : List ℕ) → Holds t begun (Some block) (state_of self.old) → Goes t begun result (state_of self.old) (state_of self.new) }
         ensures wide { (t : Task tables.now space.now) (begun : List ℕ) → Holds t begun (Some block) (state_of self.old) → Wide t (state_of self.old) (Some block) → Wide t (state_of self.new) result }
     {
-        self.chain = Some(block.addr + links.offset as u64);
-        visit_element(tables, links.rows, space, links.words, block.addr, self);
-        self.chain = None;
-        self.next.take()
+        let next = self.follow(space, links, block.addr + links.offset as u64);
+        visit_element(tables, links.before, space, links.words, block.addr, self);
+        visit_element(tables, links.after, space, links.words, block.addr, self);
+        next
     }
 
     /// Walks such a block, and the blocks of its chain that were not marked, as long as they are walked alike. Says which comes after
