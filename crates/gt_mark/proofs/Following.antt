@@ -1,6 +1,6 @@
 -- Walking a block whose chain pointer is followed first.
 use Rattle.std.proofs.Common.{◌≡◌, ℕ, ◌+◌, ◌<◌, List, ◌++◌, Option, Some, None, sym, ap, subst, ◌∙◌, arith}
-use Rattle.std.specs.Prelude.{All, Contains}
+use Rattle.std.specs.Prelude.{All, Contains, option_map}
 use Rattle.std.proofs.lemmas.List.Elements.{All-contains, Contains-append_left, Contains-append_right}
 use Rattle.gt_space.specs.Range.{Range}
 use Rattle.gt_pages.specs.Slots.{StartsSome}
@@ -12,7 +12,7 @@ use Rattle.gt_mark.specs.declared.chains.Links.{Links}
 use Rattle.gt_mark.specs.declared.stack.Block.{Block}
 use Rattle.gt_mark.specs.declared.marker.Marker.{Marker}
 use Rattle.gt_mark.specs.Chains.{AreLinks}
-use Rattle.gt_mark.specs.Steps.{Task, Follows, Goes, Good, Holds, Leaves, Suits, Takes, state_of, with_targets}
+use Rattle.gt_mark.specs.Steps.{Task, Follows, Goes, Good, Holds, Leaves, Suits, Takes, one_of, state_of, with_targets}
 use Rattle.gt_mark.specs.Wide.{Wide}
 use Rattle.gt_mark.proofs.EdgeWords.{edges-read}
 use Rattle.gt_mark.proofs.Going.{all_from, block_fits, starts_now}
@@ -47,12 +47,16 @@ module _ {tables : Tables} {space : Range} (t : Task tables space) (begun : List
       let there = fixed_has place l.walk target (word_at space place) word some in
       starts_now t begun (Some b.addr) (state_of m) h.good target (suits e (Contains-append_left first rest e there)).starts
 
-  module _ (block : Option Block) (n : Marker) (follows : Follows space place l.walk (state_of m) block (state_of n)) where
+  module _ (found : Option ℕ) (n : Marker) (follows : Follows space place l.walk (state_of m) found (state_of n)) where
+    -- the block that it named
+    abbrev block : Option Block
+    block = option_map (one_of l.walk) found
+
     taken : Takes (held place None (state_of m)) first (held place block (state_of n))
     taken =
         let near = are.near in
         let small = are.small in
-        follows_takes space place l.walk (state_of m) block (state_of n) (omega (arith, near, small, inside)) follows
+        follows_takes space place l.walk (state_of m) found (state_of n) (omega (arith, near, small, inside)) follows
 
     abbrev begun_first : List ℕ
     begun_first = with_targets first begun
@@ -64,7 +68,7 @@ module _ {tables : Tables} {space : Range} (t : Task tables space) (begun : List
         (subst (Good t begun (Some b.addr)) (sym held_start) (good_chained t begun b h.fits (state_of m) (Some place) h.good)) taken).good
 
     pub bare_held : IsBare (state_of n)
-    bare_held = follows_bare space place l.walk (state_of m) block (state_of n) (record { chain = h.unchained; next = h.idle }) follows
+    bare_held = follows_bare space place l.walk (state_of m) found (state_of n) (record { chain = h.unchained; next = h.idle }) follows
 
     pub named_held : (e : Edge) → Contains rest e → place ≡ e.place → Contains begun_first e.target
     named_held e there at =

@@ -1,6 +1,6 @@
 -- What the rows beside a chain pointer do, while the block that it names is held.
 use Rattle.std.proofs.Common.{◌≡◌, ◌≢◌, ℕ, zero, suc, ◌^◌, ◌<◌, Bool, true, false, cond, List, [], ◌∷◌, Option, Some, None, is_some, refl, sym, ap, subst, ◌∙◌, arith}
-use Rattle.std.specs.Prelude.{All, Contains, nat_lt}
+use Rattle.std.specs.Prelude.{All, Contains, nat_lt, option_map}
 use Rattle.std.proofs.lemmas.Bool.{false≢true}
 use Rattle.std.proofs.lemmas.List.Elements.{All-head, All-tail}
 use Rattle.gt_space.specs.Range.{Range}
@@ -12,7 +12,7 @@ use Rattle.gt_walk.specs.Visiting.{fixed_edges}
 use Rattle.gt_mark.specs.declared.spans.Pass.{Pass}
 use Rattle.gt_mark.specs.declared.stack.Block.{Block}
 use Rattle.gt_mark.specs.declared.marker.Marker.{Marker}
-use Rattle.gt_mark.specs.Steps.{State, Task, Good, Follows, Leaves, Suits, Takes, TakesEdge, known, next, pushed, lost, outside, null, fresh, block_in, lost_in, marked_pages, postponed_pages, state_of, with_targets}
+use Rattle.gt_mark.specs.Steps.{State, Task, Good, Follows, Leaves, Suits, Takes, TakesEdge, known, next, pushed, lost, outside, null, fresh, lost_in, marked_pages, one_of, postponed_pages, state_of, with_targets}
 use Rattle.gt_mark.proofs.Remarked.{contains_head, contains_tail}
 use Rattle.gt_mark.proofs.Going.{is_at, starts_now, stepped}
 use Rattle.gt_mark.proofs.Losing.{loses}
@@ -102,30 +102,32 @@ module _ {tables : Tables} {space : Range} (t : Task tables space) (hand : Optio
 -- ---- the chain pointer
 
 -- what it gives is what the edge that lies there does, where there is one
-pub follows_takes : (space : Range) (place walk : ℕ) (old : State) (block : Option Block) (new : State) → place < 2 ^ 64 → Follows space place walk old block new
-    → Takes (held place None old) (fixed_edges place walk 1 (word_at space place)) (held place block new)
-follows_takes space place walk old block new small (outside word idle same) =
-    subst (λ o. Takes (held place None old) (fixed_edges place walk 1 o) (held place block new)) (sym word) (ap (λ x. held place x new) idle ∙ ap (held place None) same)
-follows_takes space place walk old block new small (null word idle same) =
-    subst (λ o. Takes (held place None old) (fixed_edges place walk 1 o) (held place block new)) (sym word) (ap (λ x. held place x new) idle ∙ ap (held place None) same)
-follows_takes space place walk old block new small (known zero word some-target some idle same) = absurd (not_less some-target)
-follows_takes space place walk old block new small (known (suc k) word some-target some idle same) =
-    subst (λ o. Takes (held place None old) (fixed_edges place walk 1 o) (held place block new)) (sym word)
-    (held place None old, small, known some refl, ap (λ x. held place x new) idle ∙ ap (held place None) same)
-follows_takes space place walk old block new small (fresh zero word some-target none is same) = absurd (not_less some-target)
-follows_takes space place walk old block new small (fresh (suc k) word some-target none is same) =
-    subst (λ o. Takes (held place None old) (fixed_edges place walk 1 o) (held place block new)) (sym word) (
-      held place (Some (block_in (edge place (suc k) walk 1))) (record old { pages = marked_pages old.pages (edge place (suc k) walk 1) }),
+pub follows_takes : (space : Range) (place walk : ℕ) (old : State) (found : Option ℕ) (new : State) → place < 2 ^ 64 → Follows space place walk old found new
+    → Takes (held place None old) (fixed_edges place walk 1 (word_at space place)) (held place (option_map (one_of walk) found) new)
+follows_takes space place walk old found new small (outside word idle same) =
+    subst (λ o. Takes (held place None old) (fixed_edges place walk 1 o) (held place (option_map (one_of walk) found) new)) (sym word)
+    (ap (λ x. held place (option_map (one_of walk) x) new) idle ∙ ap (held place None) same)
+follows_takes space place walk old found new small (null word idle same) =
+    subst (λ o. Takes (held place None old) (fixed_edges place walk 1 o) (held place (option_map (one_of walk) found) new)) (sym word)
+    (ap (λ x. held place (option_map (one_of walk) x) new) idle ∙ ap (held place None) same)
+follows_takes space place walk old found new small (known zero word some-target some idle same) = absurd (not_less some-target)
+follows_takes space place walk old found new small (known (suc k) word some-target some idle same) =
+    subst (λ o. Takes (held place None old) (fixed_edges place walk 1 o) (held place (option_map (one_of walk) found) new)) (sym word)
+    (held place None old, small, known some refl, ap (λ x. held place (option_map (one_of walk) x) new) idle ∙ ap (held place None) same)
+follows_takes space place walk old found new small (fresh zero word some-target none is same) = absurd (not_less some-target)
+follows_takes space place walk old found new small (fresh (suc k) word some-target none is same) =
+    subst (λ o. Takes (held place None old) (fixed_edges place walk 1 o) (held place (option_map (one_of walk) found) new)) (sym word) (
+      held place (Some (one_of walk (suc k))) (record old { pages = marked_pages old.pages (edge place (suc k) walk 1) }),
       small,
       next none (record { free = refl; place = refl; result = refl }),
-      ap (λ x. held place x new) is ∙ ap (held place (Some (block_in (edge place (suc k) walk 1)))) same,
+      ap (λ x. held place (option_map (one_of walk) x) new) is ∙ ap (held place (Some (one_of walk (suc k)))) same,
     )
 
-pub follows_bare : (space : Range) (place walk : ℕ) (old : State) (block : Option Block) (new : State) → IsBare old → Follows space place walk old block new → IsBare new
-follows_bare space place walk old block new bare (outside word idle same) = subst IsBare (sym same) bare
-follows_bare space place walk old block new bare (null word idle same) = subst IsBare (sym same) bare
-follows_bare space place walk old block new bare (known target word some-target some idle same) = subst IsBare (sym same) bare
-follows_bare space place walk old block new bare (fresh target word some-target none is same) = subst IsBare (sym same) (record { chain = bare.chain; next = bare.next })
+pub follows_bare : (space : Range) (place walk : ℕ) (old : State) (found : Option ℕ) (new : State) → IsBare old → Follows space place walk old found new → IsBare new
+follows_bare space place walk old found new bare (outside word idle same) = subst IsBare (sym same) bare
+follows_bare space place walk old found new bare (null word idle same) = subst IsBare (sym same) bare
+follows_bare space place walk old found new bare (known target word some-target some idle same) = subst IsBare (sym same) bare
+follows_bare space place walk old found new bare (fresh target word some-target none is same) = subst IsBare (sym same) (record { chain = bare.chain; next = bare.next })
 
 -- the edge that lies there
 pub fixed_has : (place walk target : ℕ) (o : Option ℕ) → o ≡ Some target → 0 < target → Contains (fixed_edges place walk 1 o) (edge place target walk 1)

@@ -20,6 +20,7 @@ use Rattle.gt_mark.specs.declared.chains.Links.{Links}
 use Rattle.gt_mark.specs.declared.stack.Block.{Block}
 use Rattle.gt_mark.specs.Chains.{AreLinks, HasLink, chain_place, is_link}
 use Rattle.gt_mark.specs.Rounds.{chain_in_note}
+use Rattle.gt_mark.specs.Steps.{one_of}
 
 -- ---- the row of the chain pointer
 
@@ -109,16 +110,18 @@ module _ (tables : Tables) (space : Range) (b : Block) (l : Links) (are : AreLin
       )
 
 -- another block of one element of the same walk
-pub link_next : (tables : Tables) (space : Range) (b c : Block) (l : Links) → AreLinks tables space b l → c.walk ≡ l.walk → c.count ≡ 1 → AreLinks tables space c l
-link_next tables space b c l are walk one =
-    let same : b.walk ≡ c.walk = are.walk ∙ sym walk in
-    record {
-      one = one;
-      walk = walk;
-      rows = subst (λ w. HasLink l.offset l.walk (after_note (rows_of tables w)) l.before.now l.after.now) same are.rows;
-      chain = ap (λ w. chain_in_note (rows_of tables w)) (sym same) ∙ are.chain;
-      near = are.near;
-      end = are.end;
-      small = are.small;
-      words = are.words;
-    }
+pub link_next : (tables : Tables) (space : Range) (b : Block) (l : Links) (address : ℕ) → AreLinks tables space b l → AreLinks tables space (one_of l.walk address) l
+link_next tables space b l address are = record {
+  one = refl;
+  walk = refl;
+  rows = subst (λ w. HasLink l.offset l.walk (after_note (rows_of tables w)) l.before.now l.after.now) are.walk are.rows;
+  chain = subst (λ w. chain_in_note (rows_of tables w) ≡ Some l.offset) are.walk are.chain;
+  near = are.near;
+  end = are.end;
+  small = are.small;
+  words = are.words;
+}
+
+-- such a block is told by its address
+pub link_block : (tables : Tables) (space : Range) (b : Block) (l : Links) → AreLinks tables space b l → b ≡ one_of l.walk b.addr
+link_block tables space b l are = ap (λ w. record b { walk = w }) are.walk ∙ ap (λ n. record b { walk = l.walk; count = n }) are.one

@@ -125,13 +125,17 @@ abbrev pub Takes : State → List Edge → State → Type 0
 Takes old [] new = new ≡ old
 Takes old (e ∷ es) new = (next : State) × (e.place < 2 ^ 64) × TakesEdge old e next × Takes next es new
 
+-- the block at an address of one element of a walk
+abbrev pub one_of : (walk address : ℕ) → Block
+one_of walk address = record { addr = address; walk = walk; count = 1 }
+
 -- What the chain pointer at an address gives, to one element of a walk: where it names a block that was not marked, this is marked and is the
 -- next. It does not come onto the stack.
-pub data Follows (space : Range) (place walk : ℕ) (old : State) (next : Option Block) (new : State) : Type 0 where
+pub data Follows (space : Range) (place walk : ℕ) (old : State) (next : Option ℕ) (new : State) : Type 0 where
   outside : word_at space place ≡ None → next ≡ None → new ≡ old → Follows space place walk old next new
   null : word_at space place ≡ Some 0 → next ≡ None → new ≡ old → Follows space place walk old next new
   known : (target : ℕ) → word_at space place ≡ Some target → 0 < target → mark_at old.pages.slots target ≢ None → next ≡ None → new ≡ old → Follows space place walk old next new
-  fresh : (target : ℕ) → word_at space place ≡ Some target → 0 < target → mark_at old.pages.slots target ≡ None → next ≡ Some (block_in (edge place target walk 1))
+  fresh : (target : ℕ) → word_at space place ≡ Some target → 0 < target → mark_at old.pages.slots target ≡ None → next ≡ Some target
       → new ≡ record old { pages = marked_pages old.pages (edge place target walk 1) } → Follows space place walk old next new
 
 -- ---- the whole work
