@@ -19,6 +19,7 @@ use Rattle.gt_mark.specs.Wide.{HasTooMany, IsAside, IsGained, Wide}
 use Rattle.gt_mark.proofs.Remarked.{contains_cases, contains_map_from, contains_none, marked_slot}
 use Rattle.gt_mark.proofs.Going.{is_at, marked_before, none_from}
 use Rattle.gt_mark.proofs.Apart.{distinct_none, sides_start}
+use Rattle.gt_mark.proofs.Blocks.{took_states}
 use Rattle.gt_mark.proofs.Widening.{widen_all}
 use Rattle.gt_mark.proofs.Final.{HasMoreRounds, HasOneRound, none_waits, reached_now, start_holds}
 
@@ -51,7 +52,7 @@ module _ {tables : Tables} {space : Range} (t : Task tables space) where
   pub root_wide : (begun : List ℕ) (es : List Edge) (m n : Marker) → Holds t begun None (state_of m) → All (Suits t) es → ((e : Edge) → Contains es e → Contains t.starts e.target) → Wide t (state_of m) None → Took Leaves m es n → Wide t (state_of n) None
   root_wide begun es m n h fits starts w took = record {
     walked = w.walked;
-    opened = (widen_all t w.walked None None None es begun m n fits h.good w.opened (λ e there. inl (starts e there)) (λ e there. sides_start t (state_of m).chain e h.unchained (starts e there)) took).now;
+    opened = (widen_all t w.walked None None None es begun (state_of m) (state_of n) fits h.good w.opened (λ e there. inl (starts e there)) (λ e there. sides_start t (state_of m).chain e h.unchained (starts e there)) (took_states es m n took)).now;
     handed = tt;
   }
 

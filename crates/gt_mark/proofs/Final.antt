@@ -24,7 +24,7 @@ use Rattle.gt_mark.specs.Steps.{State, Task, Ends, Fits, Goes, Holds, IsLeft, Le
 use Rattle.gt_mark.proofs.Remarked.{contains_head, contains_map, contains_none, contains_tail, count_cons, mark_of_slot, remarked_same}
 use Rattle.gt_mark.proofs.Losing.{loses}
 use Rattle.gt_mark.proofs.Going.{closed_before, marked_before, none_from, own_as, own_of, reaches_on, some_still, suits_named, suits_on, walked_done}
-use Rattle.gt_mark.proofs.Blocks.{took_all}
+use Rattle.gt_mark.proofs.Blocks.{taken_all, took_reference, took_states}
 use Rattle.gt_mark.proofs.Steps.{no_place}
 use Rattle.gt_mark.proofs.Decide.{settle_from}
 
@@ -121,7 +121,7 @@ module _ {tables : Tables} {space : Range} (t : Task tables space) where
   pub root_took : (begun : List ℕ) (es : List Edge) (m n : Marker) → Holds t begun None (state_of m) → All (Suits t) es → Took Leaves m es n
       → Goes t (with_targets es begun) None (state_of m) (state_of n)
   root_took begun es m n h fits took =
-      let all = took_all t None es begun m n fits h.good took in
+      let all = taken_all t None es begun (state_of m) (state_of n) fits h.good (took_states es m n took) in
       let idle = idle_all es m n took h.idle h.unchained in
       let none : one_if (is_some m.next) ≡ 0 = ap (λ x. one_if (is_some x)) h.idle in
       let load = all.eases.load in
@@ -133,7 +133,7 @@ module _ {tables : Tables} {space : Range} (t : Task tables space) where
       }
 
   pub root_same : (begun : List ℕ) (es : List Edge) (m n : Marker) → Holds t begun None (state_of m) → All (Suits t) es → Took Leaves m es n → n.pages.ghost_name ≡ m.pages.ghost_name
-  root_same begun es m n h fits took = (took_all t None es begun m n fits h.good took).same
+  root_same begun es m n h fits took = took_reference es m n took
 
   -- ---- the end
 

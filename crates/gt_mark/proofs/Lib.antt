@@ -4,6 +4,7 @@ pub mod Losing
 pub mod Going
 pub mod Further
 pub mod Blocks
+pub mod Holding
 pub mod Links
 pub mod Steps
 pub mod Decide
@@ -12,4 +13,5 @@ pub mod Roots
 pub mod Crowds
 pub mod Apart
 pub mod Widening
+pub mod Following
 pub mod Crowded

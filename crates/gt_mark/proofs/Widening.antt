@@ -14,12 +14,12 @@ use Rattle.gt_walk.specs.Sinks.{Took}
 use Rattle.gt_mark.specs.declared.stack.Block.{Block}
 use Rattle.gt_mark.specs.declared.marker.Marker.{Marker}
 use Rattle.gt_mark.specs.Chains.{chain_place}
-use Rattle.gt_mark.specs.Steps.{State, Task, Good, Holds, Leaves, Suits, TakesEdge, Waits, known, next, pushed, lost, block_in, marked_pages, one_if, postponed_pages, state_of, with_targets}
+use Rattle.gt_mark.specs.Steps.{State, Task, Good, Holds, Leaves, Suits, Takes, TakesEdge, Waits, known, next, pushed, lost, block_in, marked_pages, one_if, postponed_pages, state_of, with_targets}
 use Rattle.gt_mark.specs.Wide.{IsCrowd, IsGained, IsOnly, Opened, Origin, KeepsAside, Wide}
 use Rattle.gt_mark.proofs.Remarked.{contains_tail, contains_head, count_cons}
 use Rattle.gt_mark.proofs.Going.{block_fits, is_at, same_edges, starts_now, stepped}
 use Rattle.gt_mark.proofs.Losing.{Loses, loses, mark_as, postponed_marked}
-use Rattle.gt_mark.proofs.Blocks.{good_begun, targets_have, took_all}
+use Rattle.gt_mark.proofs.Blocks.{good_chained, taken_all, takes_block, targets_have}
 use Rattle.gt_mark.proofs.Crowds.{Grows, count_one, fewer_only, grows_marked}
 use Rattle.gt_mark.proofs.Apart.{Sides, aside_now, before_none, chain_same, distinct_popped, number_in, sides_block, stacked_lost, stacked_next, stacked_pushed}
 
@@ -133,24 +133,24 @@ module _ {tables : Tables} {space : Range} (t : Task tables space) (walked : ℕ
       (widens old _ o e source grows first.0 (stacked_lost t old o.keeps e none o.stacked pages new.lost new.pass is.full (aside_now t old o.keeps e none o.followed sides small is.aside (gained none))) o.short (λ b there. grows.grow b.addr (o.stacked b there)) (if_some_on old.next _ _ (λ b h. grows.grow b.addr h) o.followed)
       (λ a w. w) (λ _. first.1) (inr first.1) (inr first.1))
 
-  pub widen_all : (hand : Option ℕ) (es : List Edge) (begun : List ℕ) (m n : Marker) → All (Suits t) es → Good t begun hand (state_of m) → Opened t (state_of m) walked opened held
-      → ((e : Edge) → Contains es e → Origin t walked e.target) → ((e : Edge) → Contains es e → Sides t (state_of m).chain e) → Took Leaves m es n → Widens (state_of m) (state_of n)
-  widen_all hand [] begun m n fits g o source sides took = subst (λ x. Widens (state_of m) (state_of x)) (sym took) (widens_same (state_of m) o)
-  widen_all hand (e ∷ es) begun m n fits g o source sides took =
+  pub widen_all : (hand : Option ℕ) (es : List Edge) (begun : List ℕ) (old new : State) → All (Suits t) es → Good t begun hand old → Opened t old walked opened held
+      → ((e : Edge) → Contains es e → Origin t walked e.target) → ((e : Edge) → Contains es e → Sides t old.chain e) → Takes old es new → Widens old new
+  widen_all hand [] begun old new fits g o source sides takes = subst (Widens old) (sym takes) (widens_same old o)
+  widen_all hand (e ∷ es) begun old new fits g o source sides takes =
       let first = All-head (Suits t) e es fits in
-      let step = took.1.step in
-      let good = stepped t begun hand (state_of m) g e (state_of took.0) first step in
-      let one = widen_step (state_of m) (state_of took.0) e o (starts_now t begun hand (state_of m) g e.target first.starts) (source e (contains_head e es)) (sides e (contains_head e es)) took.1.small
-      (λ none. let free = before_none t begun hand (state_of m) g e.target first.starts none in
+      let step = takes.2 in
+      let good = stepped t begun hand old g e takes.0 first step in
+      let one = widen_step old takes.0 e o (starts_now t begun hand old g e.target first.starts) (source e (contains_head e es)) (sides e (contains_head e es)) takes.1
+      (λ none. let free = before_none t begun hand old g e.target first.starts none in
       record {
         starts = first.starts;
         reached = elim (first.fits free).met [ inl some ↦ absurd (false≢true (sym (ap is_some free) ∙ some)) | inr reached ↦ reached ];
         unmarked = free;
       }) step in
-      let rest = widen_all hand es (e.target ∷ begun) took.0 n (All-tail (Suits t) e es fits) good.good one.now
+      let rest = widen_all hand es (e.target ∷ begun) takes.0 new (All-tail (Suits t) e es fits) good.good one.now
       (λ x there. source x (contains_tail e x es there))
-      (λ x there. subst (λ c. Sides t c x) (sym (chain_same t (state_of m) (state_of took.0) e step)) (sides x (contains_tail e x es there))) took.2 in
-      widens_on (state_of m) (state_of took.0) (state_of n) one rest
+      (λ x there. subst (λ c. Sides t c x) (sym (chain_same t old takes.0 e step)) (sides x (contains_tail e x es there))) takes.3 in
+      widens_on old takes.0 new one rest
 
 -- ---- a block that is walked
 
@@ -297,21 +297,27 @@ module _ {tables : Tables} {space : Range} (t : Task tables space) where
 
 -- ---- walking a block
 
+-- its edges, in any order
+pub wide_taken : {tables : Tables} {space : Range} (t : Task tables space) (begun : List ℕ) (b : Block) (st : State) (h : Holds t begun (Some b) st) → Wide t st (Some b)
+    → (chain : Option ℕ) → chain ≡ chain_place (rows_of tables b.walk) b → (es : List Edge) → All (Suits t) es
+    → ((e : Edge) → Contains (edges_of tables b.walk b.count space b.addr) e → Contains es e) → ((e : Edge) → Contains es e → Contains (edges_of tables b.walk b.count space b.addr) e)
+    → (new : State) → Takes (record st { chain = chain }) es new → Wide t (record new { chain = None; next = None }) new.next
+wide_taken {tables} {space} t begun b st h w chain placed es fits every only new takes =
+    let good = good_chained t begun b h.fits st chain h.good in
+    let walked : ℕ → Bool = walked_n t begun b st h w in
+    let v = widen_all t walked (Some b.addr) None (Some b.addr) es begun (record st { chain = chain }) new fits good (opened_n t begun b st h w chain)
+    (λ e there. source_n t begun b st h w e (only e there))
+    (λ e there. subst (λ c. Sides t c e) (sym placed) (sides_block t b h.fits e (only e there))) takes in
+    let all = taken_all t (Some b.addr) es begun (record st { chain = chain }) new fits good takes in
+    wide_done t begun b st h w chain new v
+    (λ e there. ap is_some (is_at t (with_targets es begun) (Some b.addr) new all.good e.target (All-contains (Suits t) es e fits (every e there)).starts) ∙ all.good.began e.target (targets_have es begun e (every e there)))
+
 pub wide_block : {tables : Tables} {space : Range} (t : Task tables space) (begun : List ℕ) (b : Block) (m : Marker) (h : Holds t begun (Some b) (state_of m)) → Wide t (state_of m) (Some b)
     → (n : Marker) (chain : Option ℕ) → state_of n ≡ record (state_of m) { chain = chain } → (o : Marker) → chain ≡ chain_place (rows_of tables b.walk) b → Took Leaves n (edges_of tables b.walk b.count space b.addr) o
     → Wide t (record (state_of o) { chain = None; next = None }) (state_of o).next
 wide_block {tables} {space} t begun b m h w n chain is o placed took =
-    let es = edges_of tables b.walk b.count space b.addr in
-    let fits = block_fits t b h.fits in
-    let good = good_begun t begun b m h n chain is in
-    let walked : ℕ → Bool = walked_n t begun b (state_of m) h w in
-    let v = widen_all t walked (Some b.addr) None (Some b.addr) es begun n o fits good
-    (subst (λ s. Opened t s walked (Some b.addr) None) (sym is) (opened_n t begun b (state_of m) h w chain))
-    (source_n t begun b (state_of m) h w)
-    (λ e there. subst (λ c. Sides t c e) (sym (ap (λ s. s.chain) is ∙ placed)) (sides_block t b h.fits e there)) took in
-    let all = took_all t (Some b.addr) es begun n o fits good took in
-    wide_done t begun b (state_of m) h w chain (state_of o) (subst (λ s. Widens t walked (Some b.addr) None s (state_of o)) is v)
-    (λ e there. ap is_some (is_at t (with_targets es begun) (Some b.addr) (state_of o) all.good e.target (All-contains (Suits t) es e fits there).starts) ∙ all.good.began e.target (targets_have es begun e there))
+    wide_taken t begun b (state_of m) h w chain placed (edges_of tables b.walk b.count space b.addr) (block_fits t b h.fits) (λ e there. there) (λ e there. there) (state_of o)
+    (takes_block t begun b m h n chain is o took)
 
 pub wide_popped : {tables : Tables} {space : Range} (t : Task tables space) (rest : List Block) (b : Block) (st : State) → st.stack ≡ rest ++ b ∷ [] → Wide t st None → Wide t (record st { stack = rest }) (Some b)
 wide_popped t rest b st is w =

@@ -6,7 +6,7 @@ use Rattle.gt_entries.specs.Cells.{has_pending}
 use Rattle.gt_pages.specs.Slots.{Slot, StartsSome, is_unmarked, mark_at, new_mark, postponed, walked, with_mark, with_mark_at}
 use Rattle.gt_pages.specs.Contents.{Contents, Rises, with_slots}
 use Rattle.gt_walk.specs.declared.tables.Tables.{Tables}
-use Rattle.gt_walk.specs.Rows.{Edge}
+use Rattle.gt_walk.specs.Rows.{Edge, edge, word_at}
 use Rattle.gt_mark.specs.declared.spans.Pass.{Pass}
 use Rattle.gt_mark.specs.declared.spans.Span.{Span}
 use Rattle.gt_mark.specs.declared.stack.Block.{Block}
@@ -119,6 +119,24 @@ pub record Leaves (old : Marker) (e : Edge) (new : Marker) : Type 0 where
   pub small : e.place < 2 ^ 64
   pub same_reference : new.pages.ghost_name ≡ old.pages.ghost_name
   pub step : TakesEdge (state_of old) e (state_of new)
+
+-- edges are taken one after another
+abbrev pub Takes : State → List Edge → State → Type 0
+Takes old [] new = new ≡ old
+Takes old (e ∷ es) new = (next : State) × (e.place < 2 ^ 64) × TakesEdge old e next × Takes next es new
+
+-- the block at an address of one element of a walk
+abbrev pub one_of : (walk address : ℕ) → Block
+one_of walk address = record { addr = address; walk = walk; count = 1 }
+
+-- What the chain pointer at an address gives, to one element of a walk: where it names a block that was not marked, this is marked and is the
+-- next. It does not come onto the stack.
+pub data Follows (space : Range) (place walk : ℕ) (old : State) (next : Option ℕ) (new : State) : Type 0 where
+  outside : word_at space place ≡ None → next ≡ None → new ≡ old → Follows space place walk old next new
+  null : word_at space place ≡ Some 0 → next ≡ None → new ≡ old → Follows space place walk old next new
+  known : (target : ℕ) → word_at space place ≡ Some target → 0 < target → mark_at old.pages.slots target ≢ None → next ≡ None → new ≡ old → Follows space place walk old next new
+  fresh : (target : ℕ) → word_at space place ≡ Some target → 0 < target → mark_at old.pages.slots target ≡ None → next ≡ Some target
+      → new ≡ record old { pages = marked_pages old.pages (edge place target walk 1) } → Follows space place walk old next new
 
 -- ---- the whole work
 

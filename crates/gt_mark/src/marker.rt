@@ -1,10 +1,11 @@
 //! The marker while it works: it takes the edges of one block after another.
-ghost use Rattle.std.specs.Prelude.{◌≡◌, ◌⊎◌, ◌≤◌, ◌<◌, ℕ, List, [], Option, Some, None, false, is_some, IsTrue};
+ghost use Rattle.std.specs.Prelude.{◌≡◌, ◌⊎◌, ◌≤◌, ◌<◌, ◌-◌, ◌^◌, ℕ, List, [], Option, Some, None, false, is_some, length, option_map, IsTrue};
 ghost use Rattle.gt_space.specs.Range.{Range};
 ghost use Rattle.gt_pages.specs.Slots.{StartsSome};
 ghost use Rattle.gt_walk.specs.declared.tables.Tables.{Tables};
+ghost use Rattle.gt_walk.specs.Rows.{word_at};
 ghost use Rattle.gt_mark.specs.Chains.{AreLinks};
-ghost use Rattle.gt_mark.specs.Steps.{Task, Ends, Goes, Holds, Leaves, Lessens, PassesOver, ahead, begun_state, lost_in, place_of, postponed_pages, start_state, state_of};
+ghost use Rattle.gt_mark.specs.Steps.{Task, Ends, Follows, Goes, Holds, Leaves, Lessens, PassesOver, ahead, begun_state, lost_in, one_of, place_of, postponed_pages, start_state, state_of};
 ghost use Rattle.gt_mark.specs.Wide.{Wide};
 
 use crate::chains::{Links, chain_place};
@@ -13,7 +14,7 @@ use crate::stack::{Block, Stack};
 use arrayvec::ArrayVec;
 use gt_pages::Pages;
 use gt_space::Space;
-use gt_walk::{EdgeSink, Tables, rows_of, visit_element, visit_with_rows};
+use gt_walk::{EdgeSink, Tables, rows_of, visit_element, visit_with_rows, word_of};
 
 /// Marks the blocks that edges name. A block that is newly marked comes onto the stack, or it is the next of a chain. Where the stack has
 /// no room for it, its mark says that it is left to a pass: it lies ahead of the pass that runs, or in the span that the next one goes over.
@@ -119,30 +120,49 @@ impl<'a> Marker<'a> {
         self.walk_block(tables, space, block)
     }
 
-    /// The same for a block of one element that has a chain pointer.
+    // Marks the block that a chain pointer names, and says where it starts, where it was not marked.
+    #[inline(always)]
+    fn follow(&mut self, space: &Space, links: Links<'_>, place: u64) -> Option<u64>
+        requires words { links.words ≡ length space.now.bytes - 7 }
+        requires near { place < 2 ^ 63 }
+        requires starts { (target : ℕ) → word_at space.now place ≡ Some target → 0 < target → StartsSome self.old.pages.now.slots target }
+        ensures same_reference { self.new.pages.ghost_name ≡ self.old.pages.ghost_name }
+        ensures follows { Follows space.now place links.entry.walk (state_of self.old) result (state_of self.new) }
+    {
+        let target = word_of(space, links.words, place)?;
+        if target == 0 {
+            return None;
+        }
+        if !self.pages.mark(target, links.walk, 1) {
+            return None;
+        }
+        Some(target)
+    }
+
+    /// The same for a block at an address, of one element that has a chain pointer. What this names is marked first, and held until the other rows
+    /// are walked.
     #[inline(always)]
     fn walk_link(
         &mut self,
         tables: &Tables,
         space: &Space,
         links: Links<'_>,
-        block: Block,
-    ) -> Option<Block>
-        requires ready { (t : Task tables.now space.now) × (begun : List ℕ) × Holds t begun (Some block) (state_of self.old) }
-        requires links { AreLinks tables.now space.now block links }
-        requires inside { block.addr < links.end }
+        addr: u64,
+    ) -> Option<u64>
+        requires ready { (t : Task tables.now space.now) × (begun : List ℕ) × Holds t begun (Some (one_of links.walk addr)) (state_of self.old) }
+        requires links { AreLinks tables.now space.now (one_of links.walk addr) links }
+        requires inside { addr < links.end }
         ensures same_reference { self.new.pages.ghost_name ≡ self.old.pages.ghost_name }
-        ensures goes { (t : Task tables.now space.now) (begun : List ℕ) → Holds t begun (Some block) (state_of self.old) → Goes t begun result (state_of self.old) (state_of self.new) }
-        ensures wide { (t : Task tables.now space.now) (begun : List ℕ) → Holds t begun (Some block) (state_of self.old) → Wide t (state_of self.old) (Some block) → Wide t (state_of self.new) result }
+        ensures goes { (t : Task tables.now space.now) (begun : List ℕ) → Holds t begun (Some (one_of links.entry.walk addr)) (state_of self.old) → Goes t begun (option_map (one_of links.entry.walk) result) (state_of self.old) (state_of self.new) }
+        ensures wide { (t : Task tables.now space.now) (begun : List ℕ) → Holds t begun (Some (one_of links.entry.walk addr)) (state_of self.old) → Wide t (state_of self.old) (Some (one_of links.entry.walk addr)) → Wide t (state_of self.new) (option_map (one_of links.entry.walk) result) }
     {
-        self.chain = Some(block.addr + links.offset as u64);
-        visit_element(tables, links.rows, space, links.words, block.addr, self);
-        self.chain = None;
-        self.next.take()
+        let next = self.follow(space, links, addr + links.offset as u64);
+        visit_element(tables, links.before, space, links.words, addr, self);
+        visit_element(tables, links.after, space, links.words, addr, self);
+        next
     }
 
-    /// Walks such a block, and the blocks of its chain that were not marked, as long as they are walked alike. Says which comes after
-    /// them.
+    /// Walks such a block, and the blocks of its chain that were not marked. Says which comes after them.
     fn walk_links(
         &mut self,
         tables: &Tables,
@@ -156,19 +176,19 @@ impl<'a> Marker<'a> {
         ensures goes { (t : Task tables.now space.now) (begun : List ℕ) → Holds t begun (Some block) (state_of self.old) → Goes t begun result (state_of self.old) (state_of self.new) }
         ensures wide { (t : Task tables.now space.now) (begun : List ℕ) → Holds t begun (Some block) (state_of self.old) → Wide t (state_of self.old) (Some block) → Wide t (state_of self.new) result }
     {
-        let mut block = block;
+        let mut addr = block.addr;
         'links: loop {
-            if block.addr >= links.end {
+            if addr >= links.end {
+                let block = Block {
+                    addr,
+                    walk: links.walk,
+                    count: 1,
+                };
                 return self.walk_outside(tables, space, block);
             }
-            match self.walk_link(tables, space, links, block) {
+            match self.walk_link(tables, space, links, addr) {
                 None => return None,
-                Some(next) => {
-                    if next.walk != links.walk || next.count != 1 {
-                        return Some(next);
-                    }
-                    block = next;
-                }
+                Some(next) => addr = next,
             }
         }
     }

@@ -27,7 +27,7 @@ pub fn words_in(space: &Space) -> u64
     space.len().saturating_sub(7)
 }
 
-// The eight bytes at an address; none where they do not lie in the space, of which `words_in` says `words`.
+/// The eight bytes at an address; none where they do not lie in the space, of which `words_in` says `words`.
 #[inline(always)]
 pub fn word_of(space: &Space, words: u64, address: u64) -> Option<u64>
     requires words { words ≡ length space.now.bytes - 7 }

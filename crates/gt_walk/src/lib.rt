@@ -12,7 +12,7 @@ mod tables;
 mod visiting;
 
 pub use laws::rows_give_the_edges_of_their_walk;
-pub use lengths::{end_of, words_in};
+pub use lengths::{end_of, word_of, words_in};
 pub use rows::{Arm, Count, Origin, RowExpr, RowLeaf, WalkRow};
 pub use sinks::EdgeSink;
 pub use tables::{CacheWalks, Tables};
