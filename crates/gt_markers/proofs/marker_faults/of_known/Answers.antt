@@ -1,7 +1,7 @@
 use Rattle.std.proofs.Common.{◌∙◌, Bool, sym, ap}
 use Rattle.std.specs.Prelude.{◌&&◌, ◌||◌, not}
 use Rattle.gt_drafts.specs.Sameness.{same_bool}
-use Rattle.gt_markers.specs.FirstFaults.{first_from}
+use Rattle.gt_drafts.specs.FirstFaults.{first_from}
 use Rattle.gt_markers.specs.Options.{exclude, has_parameter, needs_parameter}
 use Rattle.gt_markers.specs.Sites.{is_tag, is_excluded, may_stand, stands_among}
 use Rattle.gt_markers.specs.SiteViews.{site_of}
