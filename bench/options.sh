@@ -1,25 +1,25 @@
 #!/usr/bin/env bash
 # Runs an empty script under headers with many options, and under a tenth of them: the program reads all of them and settles what they
-# declare; `again` alone has a fault. Run by hand, from any folder, after ./gtyheap.
+# declare; `failing` and `again` alone have a fault. Run by hand, from any folder, after ./gtyheap.
 . "$(dirname "$0")/shared.sh"
 take_program
 
-# So many structures with 29 pointers, each with a path to a length; 256 in a header.
+# So many structures with 30 pointers, each with a path to a length, which is a field more; 256 in a header.
 paths() {
   awk -v n="$1" -v folder="$2" 'BEGIN {
     for (i = 0; i < n; i++) {
       header = folder "/" int(i / 256) ".h"
       print "struct GTY(()) s" i " {\n  int n;" >header
-      for (k = 1; k <= 29; k++) print "  struct s" i " *GTY((length (\"%h.n\"))) f" k ";" >header
+      for (k = 1; k <= 30; k++) print "  struct s" i " *GTY((length (\"%h.n\"))) f" k ";" >header
       print "};" >header
     }
   }'
 }
 
-# So many pointers, each with a length of 255 parts; 30 in a structure, 2,400 in a header.
+# So many pointers, each with a length of 256 parts; 30 in a structure, 2,400 in a header.
 parts() {
   awk -v n="$1" -v folder="$2" 'BEGIN {
-    text = "%h.n"
+    text = "-%h.n"
     for (k = 1; k < 64; k++) text = text "+%h.n"
     for (i = 0; i < n; i++) {
       header = folder "/" int(i / 2400) ".h"
@@ -41,16 +41,19 @@ contain() {
 containers() { contain "$1" "$2" "%1"; }
 outermost() { contain "$1" "$2" "%0"; }
 
-# So many fields whose length begins at the container of their structure, in so many containers.
-fields() {
-  awk -v n="$1" -v header="$2/0.h" 'BEGIN {
+# So many fields whose length begins at the container of their structure, in so many containers, of which the last has a field of this name.
+contained() {
+  awk -v n="$1" -v header="$2/0.h" -v last="$3" 'BEGIN {
     print "struct GTY(()) leaf { int k; };" >header
     print "struct GTY(()) in {" >header
     for (k = 1; k <= n; k++) print "  struct leaf *GTY((length (\"%1.n\"))) f" k ";" >header
     print "};" >header
-    for (i = 1; i <= n; i++) print "struct GTY(()) c" i " { int n; struct in f; };" >header
+    for (i = 1; i <= n; i++) print "struct GTY(()) c" i " { int " (i < n ? "n" : last) "; struct in f; };" >header
   }'
 }
+fields() { contained "$1" "$2" n; }
+# The same where the path leads from each container but the last, which is 20 at each field.
+failing() { contained "$1" "$2" m; }
 
 # One field with so many options. The last of them is `skip`, which passes over those before it.
 one_field() {
@@ -84,10 +87,12 @@ compare() {
   large=$(took "$1" "$2" "$words")
   row "$3" "$2" "$large" 'a tenth' "$small" 12
 }
-compare paths 4090 'structures of 29 paths'
-compare parts 24000 'options of 255 parts'
+compare paths 4096 'structures of 30 paths'
+compare parts 10000 'options of 256 parts'
+compare containers 1000 'containers, a path from %1'
 compare containers 4000 'containers, a path from %1'
 compare outermost 4000 'containers, a path from %0'
 compare fields 1000 'fields in as many containers'
+compare failing 1000 'such fields with a bad path' 'fault 20 BadPath'
 compare skipped 80000 'options of one field, passed over'
 compare again 80000 'options of one field, each again' 'fault 17 WrongPlace'

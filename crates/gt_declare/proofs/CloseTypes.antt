@@ -1,6 +1,7 @@
 -- The type of a field or a root depends on planes only by what it holds, and there by sizes within the limit.
 use Rattle.std.proofs.Common.{◌≡◌, ◌∙◌, ℕ, ◌*◌, min, Bool, true, false, List, [], ◌∷◌, Option, Some, None, refl, sym, ap}
-use Rattle.std.specs.Prelude.{if◌then◌else◌}
+use Rattle.std.specs.Prelude.{codes, if◌then◌else◌}
+use Rattle.gt_types.specs.declared.expressions.Expr.{Expr}
 use Rattle.gt_types.specs.declared.limits.TheConstants.{TOO_LARGE}
 use Rattle.gt_types.specs.declared.types.Ty.{Ty}
 use Rattle.gt_types.specs.declared.types.Ty.TheVariants as ty
@@ -19,7 +20,7 @@ use Rattle.gt_drafts.specs.Options.{has_skip}
 use Rattle.gt_drafts.specs.Undefined.{is_zero}
 use Rattle.gt_drafts.specs.Shapes.{held_type, structure_by_value}
 use Rattle.gt_markers.specs.Expressions.{Names}
-use Rattle.gt_markers.specs.Typing.{amount, bits_type, base_extent, elements, pointer_extent, says, single_extent, opaque_type, or_opaque, skipped_by, skipped_single, skipped_type, type_by, walked_type}
+use Rattle.gt_markers.specs.Typing.{amount, array_type, bits_type, base_extent, declared_type, elements, expression_named, faulty_by, opaque_element, or_faulty, pointer_extent, says, single_extent, opaque_type, or_opaque, skipped_by, skipped_single, skipped_type, type_by, walked_type}
 use Rattle.gt_typing.proofs.SizeLemmas.{times_held}
 
 -- so many of sizes that are the same within the limit
@@ -59,10 +60,23 @@ module _ (p q : List Plane) (t : DeclaredType) (close : (id : ℕ) → held_type
   same_skipped None [] = same_single t.resolved.base
   same_skipped None (bound ∷ bounds) = same_opaque
 
-  same_by : (skip : Bool) (walked : Option Ty) → or_opaque p t (if skip then Some (skipped_type p t) else walked) ≡ or_opaque q t (if skip then Some (skipped_type q t) else walked)
-  same_by true walked = same_skipped t.bits t.bounds
-  same_by false walked = same_or walked
+  same_element : opaque_element p t ≡ opaque_element q t
+  same_element =
+      let both : AreClose (single_extent p t) (single_extent q t) = single_by t.is_function t.resolved.stars t.resolved.base (λ id is. is) in
+      ap (λ (n : ℕ). ty.Opaque n (single_extent p t).align) both.1 ∙ ap (λ (n : ℕ). ty.Opaque (min (single_extent q t).size TOO_LARGE) n) both.0
+
+  same_faulty : (length : Option Expr) (bits : Option Amount) (bounds : List Amount) → faulty_by p t length bits bounds ≡ faulty_by q t length bits bounds
+  same_faulty (Some count) None (bound ∷ bounds) = ap (array_type (Some count) bound bounds) same_element
+  same_faulty (Some count) None [] = same_opaque
+  same_faulty (Some count) (Some bits) bounds = same_opaque
+  same_faulty None bits bounds = same_opaque
+
+  same_by : (length : Option Expr) (skip : Bool) (walked : Option Ty)
+      → or_faulty p t length (if skip then Some (skipped_type p t) else walked) ≡ or_faulty q t length (if skip then Some (skipped_type q t) else walked)
+  same_by length true walked = same_skipped t.bits t.bounds
+  same_by length false None = same_faulty length t.bits t.bounds
+  same_by length false (Some type) = refl
 
   -- the type of a field or a root is the same by both
-  pub same_type : (names : Names) (draft : Draft) (options : List RawOption) → or_opaque p t (type_by names draft p options t) ≡ or_opaque q t (type_by names draft q options t)
-  same_type names draft options = same_by (has_skip options) (walked_type draft (says names options) t)
+  pub same_type : (names : Names) (draft : Draft) (options : List RawOption) → declared_type names draft p options t ≡ declared_type names draft q options t
+  same_type names draft options = same_by (expression_named names (codes "length") options) (has_skip options) (walked_type draft (says names options) t)

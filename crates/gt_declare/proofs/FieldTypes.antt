@@ -1,6 +1,6 @@
 -- The types of fields and roots that a draft declares: what they hold by value, and how they are aligned.
 use Rattle.std.proofs.Common.{◌≡◌, ◌∙◌, ℕ, ◌≤◌, Bool, true, false, IsTrue, List, [], ◌∷◌, Option, Some, None, IfSome, refl, sym, ap, subst, arith}
-use Rattle.std.specs.Prelude.{if◌then◌else◌, option_map}
+use Rattle.std.specs.Prelude.{codes, if◌then◌else◌, option_map}
 use Rattle.std.proofs.lemmas.Option.{same_Some, none-some}
 use Rattle.gt_types.specs.declared.expressions.Expr.{Expr}
 use Rattle.gt_types.specs.declared.types.Width.TheVariants.{W1, W2, W4, W8}
@@ -37,7 +37,7 @@ use Rattle.gt_drafts.specs.Shapes.{held_type, structure_by_value}
 use Rattle.gt_markers.specs.declared.type_options.TypeOptions.{TypeOptions}
 use Rattle.gt_markers.specs.Expressions.{Names}
 use Rattle.gt_markers.specs.Sound.{IsBitCount}
-use Rattle.gt_markers.specs.Typing.{amount, arrays, array_type, bits_type, desc_at, base_extent, pointer_extent, node, of_elements, opaque_type, or_opaque, pointer_or_atomic, pointer_type, says, single_type, skipped_by, skipped_single, skipped_type, type_by, value_type, walked_by, walked_type}
+use Rattle.gt_markers.specs.Typing.{amount, arrays, array_type, bits_type, declared_type, desc_at, expression_named, faulty_by, opaque_element, or_faulty, base_extent, pointer_extent, node, of_elements, opaque_type, or_opaque, pointer_or_atomic, pointer_type, says, single_type, skipped_by, skipped_single, skipped_type, type_by, value_type, walked_by, walked_type}
 
 -- ---- what types take and hold, one constructor after another
 
@@ -284,8 +284,23 @@ module _ (A : ℕ → Type 0) (good : (n : ℕ) → IsTrue (is_alignment n) → 
   skipped_parts None [] is = skipped_part t.resolved.base
   skipped_parts None (bound ∷ bounds) is = opaque_part
 
+  -- ---- what is a fault
+
+  element_part : P (opaque_element p t)
+  element_part = part_opaque _ _ (opaque_by t.is_function t.resolved.stars t.resolved.base (λ id is. is))
+
+  faulty_part : (length : Option Expr) (bits : Option Amount) (bounds : List Amount) → P (faulty_by p t length bits bounds)
+  faulty_part (Some count) None (bound ∷ bounds) = part_array (Some count) bound bounds (opaque_element p t) element_part
+  faulty_part (Some count) None [] = opaque_part
+  faulty_part (Some count) (Some bits) bounds = opaque_part
+  faulty_part None bits bounds = opaque_part
+
+  or_faulty_part : (length : Option Expr) (o : Option Ty) → IfSome o P → P (or_faulty p t length o)
+  or_faulty_part length None part = faulty_part length t.bits t.bounds
+  or_faulty_part length (Some type) part = part
+
   -- the type of a field or a root
-  pub field_part : (names : Names) (draft : Draft) (options : List RawOption) → IfSome t.bits (IsBitCount t) → P (or_opaque p t (type_by names draft p options t))
+  pub field_part : (names : Names) (draft : Draft) (options : List RawOption) → IfSome t.bits (IsBitCount t) → P (declared_type names draft p options t)
   field_part names draft options is =
-      or_part (type_by names draft p options t)
+      or_faulty_part (expression_named names (codes "length") options) (type_by names draft p options t)
       (either (has_skip options) (skipped_type p t) (walked_type draft (says names options) t) (skipped_parts t.bits t.bounds is) (walked_parts draft (says names options) t.bits t.bounds is))

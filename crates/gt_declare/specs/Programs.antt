@@ -38,13 +38,13 @@ use Rattle.gt_markers.specs.declared.kinds.OptionKind.TheVariants.{ChainNext, Ch
 use Rattle.gt_markers.specs.Options.{kind_of}
 use Rattle.gt_markers.specs.Expressions.{constants, constants_and_roots}
 use Rattle.gt_markers.specs.Actives.{active_of}
-use Rattle.gt_markers.specs.Typing.{node, own_desc, or_opaque, type_by}
+use Rattle.gt_markers.specs.Typing.{declared_type, node, own_desc}
 
 -- ---- fields
 
--- a type that is a fault counts as bytes that are never scanned
+-- of a field the expressions know constants
 abbrev pub field_type : Draft → List Plane → DraftField → Ty
-field_type draft planes f = or_opaque planes f.ty (type_by (constants draft) draft planes f.options f.ty)
+field_type draft planes f = declared_type (constants draft) draft planes f.options f.ty
 
 abbrev pub field_of : Draft → List Plane → Bool → DraftField → Field
 field_of draft planes in_union f = record { name = f.name.word; ty = field_type draft planes f; active = active_of draft in_union f.options }
@@ -116,7 +116,7 @@ abbrev pub root_of : Draft → List Plane → DraftRoot → Root
 root_of draft planes r =
     record {
       name = r.name.word;
-      ty = or_opaque planes r.ty (type_by (constants_and_roots draft) draft planes r.options r.ty);
+      ty = declared_type (constants_and_roots draft) draft planes r.options r.ty;
       deletable = has_option (codes "deletable") r.options;
     }
 

@@ -12,7 +12,7 @@ use Rattle.gt_resolve.specs.Faults.{faults_of}
 use Rattle.gt_scope.specs.Meanings.{AreTypeNames}
 use Rattle.gt_resolve.specs.Resolution.{IsRead}
 use Rattle.gt_drafts.specs.Shapes.{AreShapes, Holds, IsNested, IsTail}
-use Rattle.gt_markers.specs.FirstFaults.{first_from, IsFirstOf}
+use Rattle.gt_drafts.specs.FirstFaults.{first_from, IsFirstOf}
 use Rattle.gt_markers.proofs.Firsts.{first_from_first}
 use Rattle.gt_exists.specs.Outcomes.{HasResolution}
 use Rattle.gt_exists.proofs.NotNot.{NotNot, holds, and_then}

@@ -7,7 +7,7 @@ use Rattle.gt_types.specs.declared.faults.Fault.{Fault}
 use Rattle.gt_drafts.specs.declared.draft.Draft.{Draft}
 use Rattle.gt_drafts.specs.declared.draft.DraftField.{DraftField}
 use Rattle.gt_drafts.specs.declared.draft.DraftStructure.{DraftStructure}
-use Rattle.gt_markers.specs.FirstFaults.{first_from}
+use Rattle.gt_drafts.specs.FirstFaults.{first_from}
 use Rattle.gt_markers.specs.MarkerFaults.{field_faults, fields_faults, is_empty}
 use Rattle.gt_markers.proofs.Firsts.{first_from_both, first_from_nil}
 

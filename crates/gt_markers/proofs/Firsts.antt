@@ -5,8 +5,7 @@ use Rattle.std.proofs.lemmas.Bool.Decides.{nat_tests}
 use Rattle.std.proofs.lemmas.List.{drop_more, append-nil, drop_all}
 use Rattle.std.proofs.lemmas.List.Elements.{All-nil, All-push, All-weaker, Contains-push, Contains-append_left}
 use Rattle.gt_types.specs.declared.faults.Fault.{Fault}
-use Rattle.gt_drafts.specs.FirstFaults.{IsFirst, is_no_later, fault_if}
-use Rattle.gt_markers.specs.FirstFaults.{earlier_of, first_from, IsFirstOf}
+use Rattle.gt_drafts.specs.FirstFaults.{IsFirst, IsFirstOf, earlier_of, fault_if, first_from, is_no_later}
 
 -- ---- parts
 

@@ -6,11 +6,10 @@ use Rattle.std.proofs.lemmas.List.{take_more, drop_more, drop_all}
 use Rattle.gt_types.specs.declared.faults.Fault.{Fault}
 use Rattle.gt_items.specs.declared.items.RawOption.{RawOption}
 use Rattle.gt_drafts.specs.declared.draft.Draft.{Draft}
-use Rattle.gt_drafts.specs.FirstFaults.{fault_if}
+use Rattle.gt_drafts.specs.FirstFaults.{fault_if, first_from}
 use Rattle.gt_markers.specs.declared.TheConstants.{UNKNOWN_OPTION, WRONG_PLACE, DUPLICATE_TAG, BAD_PATH, UNKNOWN_HOOK}
 use Rattle.gt_markers.specs.declared.kinds.OptionKind.{OptionKind}
 use Rattle.gt_markers.specs.Expressions.{constant_value}
-use Rattle.gt_markers.specs.FirstFaults.{first_from}
 use Rattle.gt_markers.specs.Sites.{Site, is_tag, stands_among, is_unknown_hook, is_ill_formed, is_passed_over, known_faults, option_faults, faults_after, may_stand, wrong_number}
 use Rattle.gt_markers.proofs.Firsts.{first_from_both, first_from_nil}
 

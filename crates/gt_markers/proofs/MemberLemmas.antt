@@ -9,10 +9,9 @@ use Rattle.gt_drafts.specs.declared.draft.Draft.{Draft}
 use Rattle.gt_drafts.specs.declared.draft.DraftField.{DraftField}
 use Rattle.gt_drafts.specs.Options.{has_option}
 use Rattle.gt_markers.specs.declared.members.Members.{Members}
-use Rattle.gt_markers.specs.FirstFaults.{first_from}
+use Rattle.gt_drafts.specs.FirstFaults.{first_from}
 use Rattle.gt_markers.specs.MarkerFaults.{has_tag, is_default, repeated_fault, same_tag, tag_value}
 use Rattle.gt_markers.specs.Members.{holds_tag, AreMembers}
-use Rattle.gt_markers.specs.Options.{option_named}
 
 or_false : (a : Bool) → (a || false) ≡ a
 or_false true = refl

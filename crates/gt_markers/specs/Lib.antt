@@ -9,6 +9,5 @@ pub mod SiteViews
 pub mod KindSets
 pub mod Lookups
 pub mod NameScopes
-pub mod FirstFaults
 pub mod Walking
 pub mod Members

@@ -35,7 +35,7 @@ abbrev pub has_parameter : Parameter → Bool
 has_parameter Absent = false
 has_parameter parameter = true
 
--- the first option of a name; a second one is a fault, and is not read
+-- the first option of a name: of two, it is the one that is read
 abbrev pub option_named : List ℕ → List RawOption → Option RawOption
 option_named name options = find (λ o. bytes_eq o.name.word name) options
 

@@ -182,3 +182,20 @@ skipped_type planes t = skipped_by planes t t.bits t.bounds
 abbrev pub type_by : Names → Draft → List Plane → List RawOption → DeclaredType → Option Ty
 type_by names draft planes options t =
     if has_skip options then Some (skipped_type planes t) else walked_type draft (says names options) t
+
+-- one element of an array, as bytes that are never scanned
+abbrev pub opaque_element : List Plane → DeclaredType → Ty
+opaque_element planes t = ty.Opaque (min (single_extent planes t).size TOO_LARGE) (single_extent planes t).align
+
+-- A type that is a fault counts as bytes that are never scanned. An array with `length` is one also then, and its elements are such bytes.
+abbrev pub faulty_by : List Plane → DeclaredType → Option Expr → Option Amount → List Amount → Ty
+faulty_by planes t (Some count) None (bound ∷ bounds) = array_type (Some count) bound bounds (opaque_element planes t)
+faulty_by planes t length bits bounds = opaque_type planes t
+
+abbrev pub or_faulty : List Plane → DeclaredType → Option Expr → Option Ty → Ty
+or_faulty planes t length (Some type) = type
+or_faulty planes t length None = faulty_by planes t length t.bits t.bounds
+
+-- the type that is declared, by the options
+abbrev pub declared_type : Names → Draft → List Plane → List RawOption → DeclaredType → Ty
+declared_type names draft planes options t = or_faulty planes t (expression_named names (codes "length") options) (type_by names draft planes options t)

@@ -1,6 +1,6 @@
 // The first fault that a draft alone tells.
 ghost use Rattle.std.specs.Prelude.{◌≡◌, flat_map, IfOk};
-ghost use Rattle.gt_markers.specs.FirstFaults.{first_from, IsFirstOf};
+ghost use Rattle.gt_drafts.specs.FirstFaults.{first_from, IsFirstOf};
 ghost use Rattle.gt_markers.specs.Lookups.{IsLookupOf};
 ghost use Rattle.gt_markers.specs.MarkerFaults.{cache_faults, draft_faults, root_faults, structure_faults};
 

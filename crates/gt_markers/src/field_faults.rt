@@ -3,19 +3,18 @@ ghost use Rattle.std.specs.Prelude.{◌≡◌, ◌&&◌, ◌||◌, codes, not, i
 ghost use Rattle.gt_drafts.specs.declared.draft.Draft.{Draft};
 ghost use Rattle.gt_drafts.specs.Options.{has_skip};
 ghost use Rattle.gt_markers.specs.Expressions.{Names};
-ghost use Rattle.gt_markers.specs.FirstFaults.{first_from};
+ghost use Rattle.gt_drafts.specs.FirstFaults.{first_from};
 ghost use Rattle.gt_markers.specs.Lookups.{IsLookupOf};
 ghost use Rattle.gt_markers.specs.MarkerFaults.{cache_faults, is_unmarked, root_faults};
 ghost use Rattle.gt_markers.specs.Typing.{says, walked_type};
 
 use crate::WRONG_PLACE;
-use crate::earliest::with_fault;
 use crate::lookups::Lookup;
 use crate::marker_faults::{Marker, of_marker};
 use crate::options::{has_option, has_skip};
 use crate::sites::Site;
 use crate::walking::is_walked;
-use gt_drafts::{DeclaredType, Draft, DraftCache, DraftRoot};
+use gt_drafts::{DeclaredType, Draft, DraftCache, DraftRoot, with_fault};
 use gt_items::RawOption;
 use gt_types::Fault;
 use std::alloc::{AllocError, Global};

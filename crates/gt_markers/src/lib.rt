@@ -4,7 +4,6 @@
 
 mod constants;
 mod draft_faults;
-mod earliest;
 mod expressions;
 mod field_faults;
 mod kind_sets;
@@ -20,7 +19,6 @@ mod walking;
 
 pub use constants::constant_value;
 pub use draft_faults::first_draft_fault;
-pub use earliest::with_fault;
 pub use expressions::{Scope, are_named, with_names};
 pub use kinds::OptionKind;
 pub use lookups::Lookup;

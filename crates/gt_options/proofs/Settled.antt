@@ -7,8 +7,7 @@ use Rattle.std.proofs.lemmas.List.Elements.{All-contains}
 use Rattle.gt_types.specs.declared.faults.Fault.{Fault}
 use Rattle.gt_types.specs.declared.program.Program.{Program}
 use Rattle.gt_drafts.specs.declared.draft.Draft.{Draft}
-use Rattle.gt_drafts.specs.FirstFaults.{is_no_later}
-use Rattle.gt_markers.specs.FirstFaults.{IsFirstOf}
+use Rattle.gt_drafts.specs.FirstFaults.{IsFirstOf, is_no_later}
 use Rattle.gt_markers.specs.MarkerFaults.{draft_faults}
 use Rattle.gt_markers.specs.Sound.{IsSound}
 use Rattle.gt_declare.specs.Programs.{IsMadeOf}

@@ -5,8 +5,8 @@ ghost use Rattle.gt_rules.specs.Parts.{IsFirstWith};
 ghost use Rattle.gt_options.specs.Settlements.{IsSettlement};
 
 use gt_declare::declare;
-use gt_drafts::Draft;
-use gt_markers::{Lookup, first_draft_fault, with_fault};
+use gt_drafts::{Draft, with_fault};
+use gt_markers::{Lookup, first_draft_fault};
 use gt_rules::first_program_fault;
 use gt_types::{Fault, Program};
 use std::alloc::{AllocError, Global};

@@ -1,15 +1,14 @@
--- The paths of the options of a structure, by those that are known.
-use Rattle.std.proofs.Common.{◌≡◌, ℕ, Bool, List, [], ◌∷◌, get_or, refl, ap, sym, subst, true, false, Ordering}
-use Rattle.std.specs.Prelude.{◌++◌, All, Contains, IsTrue, IfOk, Result}
+-- The paths of the options of a structure, by the answers for them.
+use Rattle.std.proofs.Common.{◌≡◌, ℕ, Bool, List, [], ◌∷◌, get_or, refl, sym, subst, ◌∙◌, true, cond, Some, Ordering}
+use Rattle.std.specs.Prelude.{◌++◌, All, Contains, IfOk, Result}
 use Rattle.std.specs.Bool.{Decides}
-use Rattle.std.specs.BTreeSet.{BTreeSet, contains, insert_key}
-use Rattle.std.specs.Cmp.Lexicographic.{slice_cmp, lists_total, nat_list_cmp_total}
-use Rattle.std.specs.Ordering.{nat_cmp, ordering_then}
+use Rattle.std.specs.BTreeMap.{BTreeMap, get, is_at}
+use Rattle.std.specs.Cmp.Lexicographic.{slice_cmp}
+use Rattle.std.specs.Ordering.{is_eq, nat_cmp, ordering_then}
 use Rattle.std.specs.declared.cmp.Ordering.TheVariants.{Less, Equal, Greater}
 use Rattle.std.proofs.lemmas.List.Elements.{All-contains, Contains-get_or}
 use Rattle.std.proofs.lemmas.Map.Lookups.{CmpEqualImpliesEq, exact_bytes}
 use Rattle.std.proofs.lemmas.Result.{IfOk-weaker}
-use Rattle.std.proofs.lemmas.Map.Views.{All-insert_key, btree_set_contains_iff}
 use Rattle.gt_types.specs.declared.expressions.Base.{Base}
 use Rattle.gt_types.specs.declared.expressions.Base.TheVariants.{Outer, Outermost}
 use Rattle.gt_types.specs.declared.expressions.Expr.{Expr}
@@ -23,11 +22,11 @@ use Rattle.gt_paths.specs.declared.containers.Containers.{Containers}
 use Rattle.gt_paths.specs.Checks.{Checked, inner_of}
 use Rattle.gt_paths.specs.Containers.{AreContainersOf, containers_of}
 use Rattle.gt_paths.specs.Numbers.{numbered}
-use Rattle.gt_paths.specs.OuterPaths.{AllLead, AreKnown, AreStarts}
+use Rattle.gt_paths.specs.OuterPaths.{AllLead, AreAnswers, AreStarts, path_cmp}
 use Rattle.gt_paths.specs.Places.{PathAt}
-use Rattle.gt_paths.proofs.Walks.{Splits, all_splits, each_of_one, goes}
+use Rattle.gt_paths.proofs.Walks.{all_splits, each_of_one, goes}
 
--- ---- paths that are known
+-- ---- answers for paths
 
 tied_first : {K : Type 0} (R : K → K → Ordering) → CmpEqualImpliesEq R → (x y : K) (xs ys : List K) → (slice_cmp R xs ys ≡ Equal → xs ≡ ys) → (o : Ordering) → R x y ≡ o
     → ordering_then o (slice_cmp R xs ys) ≡ Equal → x ∷ xs ≡ y ∷ ys
@@ -41,19 +40,25 @@ exact_lists R exact [] (y ∷ ys) e = absurd (cc)
 exact_lists R exact (x ∷ xs) [] e = absurd (cc)
 exact_lists R exact (x ∷ xs) (y ∷ ys) e = tied_first R exact x y xs ys (exact_lists R exact xs ys) (R x y) refl e
 
--- a path that is among the known ones
-pub known_leads : (program : Program) (starts : List ℕ) (known : BTreeSet (List (List ℕ))) (steps : List (List ℕ)) → AreKnown program starts known
-    → IsTrue (contains (slice_cmp (slice_cmp nat_cmp)) known steps) → AllLead program starts steps
-known_leads program starts known steps all there =
-    All-contains (AllLead program starts) known.keys steps all
-    ((btree_set_contains_iff (lists_total nat_list_cmp_total) (exact_lists (slice_cmp nat_cmp) exact_bytes) known steps).0 there)
+exact_paths : CmpEqualImpliesEq path_cmp
+exact_paths = exact_lists (slice_cmp nat_cmp) exact_bytes
+
+some_is : (a b : Bool) → Some a ≡ Some b → a ≡ b
+some_is a b e = cc
 
 -- one more
-pub known_more : (program : Program) (starts : List ℕ) (known more : BTreeSet (List (List ℕ))) (path steps : List (List ℕ)) → more.keys ≡ insert_key (slice_cmp (slice_cmp nat_cmp)) known.keys path
-    → path ≡ steps → AreKnown program starts known → AllLead program starts steps → AreKnown program starts more
-known_more program starts known more path steps is same all leads =
-    subst (All (AllLead program starts)) (sym is)
-    (All-insert_key (slice_cmp (slice_cmp nat_cmp)) path (AllLead program starts) known.keys all (subst (AllLead program starts) (sym same) leads))
+pub answers_more : (program : Program) (starts : List ℕ) (answers more : BTreeMap (List (List ℕ)) Bool) (path steps : List (List ℕ)) (leads : Bool)
+    → ((q : List (List ℕ)) → get path_cmp more q ≡ cond (is_at (path_cmp path) q) (Some leads) (get path_cmp answers q)) → path ≡ steps → AreAnswers program starts answers
+    → Decides leads (AllLead program starts steps) → AreAnswers program starts more
+answers_more program starts answers more path steps leads updates same are decides q told there =
+    by (path_cmp path q) refl (sym (updates q) ∙ there)
+  where
+    by : (o : Ordering) → path_cmp path q ≡ o → cond (is_eq o) (Some leads) (get path_cmp answers q) ≡ Some told → Decides told (AllLead program starts q)
+    by Less is e = are q told e
+    by Equal is e =
+        subst (λ (b : Bool). Decides b (AllLead program starts q)) (some_is leads told e)
+        (subst (λ (p : List (List ℕ)). Decides leads (AllLead program starts p)) (sym same ∙ exact_paths path q is) decides)
+    by Greater is e = are q told e
 
 -- ---- structures that are listed
 

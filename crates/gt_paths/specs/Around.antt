@@ -4,9 +4,9 @@ use Rattle.gt_types.specs.declared.program.Program.{Program}
 use Rattle.gt_paths.specs.declared.indexes.PathIndex.{PathIndex}
 use Rattle.gt_paths.specs.declared.outer_paths.Outermost.{Outermost}
 use Rattle.gt_paths.specs.Indexes.{inner_in}
-use Rattle.gt_paths.specs.OuterPaths.{AreKnown, AreStarts}
+use Rattle.gt_paths.specs.OuterPaths.{AreAnswers, AreStarts}
 
--- they are listed, and the known paths lead to numbers from each
+-- they are listed, and the answers are those for them
 pub record IsAround (program : Program) (index : PathIndex) (node : TypeId) (outermost : Outermost) : Type 0 where
   pub starts : AreStarts (inner_in index) program node outermost.starts
-  pub known : AreKnown program outermost.starts outermost.known
+  pub answers : AreAnswers program outermost.starts outermost.answers

@@ -1,6 +1,6 @@
 -- What checks of the paths of a structure are about, and what they know.
 use Rattle.std.specs.Prelude.{ℕ, Bool, List, Option, IfSome, IsTrue}
-use Rattle.std.specs.BTreeSet.{BTreeSet}
+use Rattle.std.specs.BTreeMap.{BTreeMap}
 use Rattle.gt_types.specs.declared.types.TypeId.{TypeId}
 use Rattle.gt_types.specs.declared.program.Program.{Program}
 use Rattle.gt_types.specs.Paths.{Inner}
@@ -9,7 +9,7 @@ use Rattle.gt_paths.specs.declared.outer_paths.Outermost.{Outermost}
 use Rattle.gt_paths.specs.Numbers.{mark_at}
 use Rattle.gt_paths.specs.Containers.{containers_of}
 use Rattle.gt_paths.specs.Indexes.{IsIndexOn}
-use Rattle.gt_paths.specs.OuterPaths.{AreKnown}
+use Rattle.gt_paths.specs.OuterPaths.{AreAnswers}
 use Rattle.gt_paths.specs.Around.{IsAround}
 
 -- a structure of a program, in which structures are marked as inner
@@ -26,8 +26,8 @@ checked program index node = record { program = program; inner = index.inner; no
 abbrev pub inner_of : Checked → Inner
 inner_of c node = IsTrue (mark_at c.inner node.0)
 
--- the known paths lead to numbers from each structure that contains this one, and from each that is outermost for it
-pub record IsKnown (program : Program) (index : PathIndex) (node : TypeId) (known : BTreeSet (List (List ℕ))) (outermost : Option Outermost) : Type 0 where
+-- the answers are those for the structures that contain this one, and for those that are outermost for it
+pub record HasAnswers (program : Program) (index : PathIndex) (node : TypeId) (answers : BTreeMap (List (List ℕ)) Bool) (outermost : Option Outermost) : Type 0 where
   pub index_on : IsIndexOn program index
-  pub known_here : AreKnown program (containers_of index.containers node.0) known
+  pub for_containers : AreAnswers program (containers_of index.containers node.0) answers
   pub around : IfSome outermost (IsAround program index node)

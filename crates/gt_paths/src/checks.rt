@@ -14,7 +14,7 @@ use crate::outer_paths::{Outermost, each_leads};
 use crate::steps::leads_to_number;
 use gt_types::{Base, Expr, List, Program, TypeId, Word};
 use std::alloc::{AllocError, Global};
-use std::collections::BTreeSet;
+use std::collections::BTreeMap;
 use std::marker::Model;
 
 fn are_steps(steps: &[Word]) -> bool
@@ -32,16 +32,17 @@ enum Place {
     Desc(TypeId),
 }
 
-/// The paths in the options of one structure. One that leads is looked at once for each structure at which it may begin.
-/// Contracts see the program, its inner structures and the structure.
+/// The paths in the options of one structure. A path that begins at the structure itself, or at a union of a field, is walked wherever
+/// it stands, which takes about as long as its text; any other is walked once from each structure at which it may begin, however often it
+/// stands. Contracts see the program, its inner structures and the structure.
 #[derive(Drop)]
 pub struct PathChecks<'a> {
     alloc: Global,
     program: &'a Program,
     index: &'a PathIndex,
     node: TypeId,
-    // The paths that are known to lead to numbers from each structure that contains this one.
-    known: BTreeSet<List<Word>>,
+    // Of paths, whether they lead to numbers from each structure that contains this one.
+    answers: BTreeMap<List<Word>, bool>,
     // The outermost structures, which are looked for at the first path that begins there.
     outermost: Option<Outermost>,
 }
@@ -50,7 +51,7 @@ impl<'a> Model for PathChecks<'a> {
     ghost use Rattle.std.specs.Coded.{codes};
     ghost use Rattle.gt_types.specs.contracts.expressions.Expr as expr;
     ghost use Rattle.gt_types.specs.contracts.types.Ty as ty;
-    ghost use Rattle.gt_paths.specs.Checks.{Checked, IsKnown, checked};
+    ghost use Rattle.gt_paths.specs.Checks.{Checked, HasAnswers, checked};
 
     ghost Value = { Checked };
 
@@ -58,7 +59,7 @@ impl<'a> Model for PathChecks<'a> {
 
     ghost view = { λ c. checked c.program.now c.index.now c.node };
 
-    ghost invariant = { λ c. IsKnown c.program.now c.index.now c.node c.known c.outermost };
+    ghost invariant = { λ c. HasAnswers c.program.now c.index.now c.node c.answers c.outermost };
 }
 
 impl<'a> PathChecks<'a> {
@@ -77,7 +78,7 @@ impl<'a> PathChecks<'a> {
             program,
             index,
             node,
-            known: BTreeSet::new(alloc),
+            answers: BTreeMap::new(alloc),
             outermost: None,
         }
     }
@@ -211,7 +212,7 @@ impl<'a> PathChecks<'a> {
             self.program,
             index,
             starts,
-            &mut self.known,
+            &mut self.answers,
             steps,
         )
     }

@@ -5,7 +5,7 @@ ghost use Rattle.gt_types.specs.declared.expressions.Base.TheVariants.{Outermost
 ghost use Rattle.gt_types.specs.Paths.{PathFitsBeside};
 ghost use Rattle.gt_paths.specs.Numbers.{mark_at};
 ghost use Rattle.gt_paths.specs.Indexes.{IsIndexOn, inner_in};
-ghost use Rattle.gt_paths.specs.OuterPaths.{AllLead, AreKnown, AreStarts};
+ghost use Rattle.gt_paths.specs.OuterPaths.{AllLead, AreAnswers, AreStarts};
 ghost use Rattle.gt_paths.specs.Around.{IsAround};
 
 use crate::climbing::climb;
@@ -14,7 +14,7 @@ use crate::steps::leads_to_number;
 use gt_types::{Copied, List, Program, TypeId, Word};
 use indexmap::IndexSet;
 use std::alloc::{AllocError, Global};
-use std::collections::BTreeSet;
+use std::collections::BTreeMap;
 
 // Whether a path leads to a number from each of these structures.
 fn all_lead(program: &Program, index: &PathIndex, starts: &[u32], steps: &[Word]) -> bool
@@ -29,30 +29,28 @@ fn all_lead(program: &Program, index: &PathIndex, starts: &[u32], steps: &[Word]
     true
 }
 
-/// Whether a path leads to a number from each of these structures, as the known paths do. One that does is known from then on.
+/// Whether a path leads to a number from each of these structures. It is walked where it has no answer yet, and has one from then on.
 /// Its only error is out of memory.
 pub fn each_leads(
     alloc: Global,
     program: &Program,
     index: &PathIndex,
     starts: &[u32],
-    known: &mut BTreeSet<List<Word>>,
+    answers: &mut BTreeMap<List<Word>, bool>,
     steps: &List<Word>,
 ) -> Result<bool, AllocError>
     requires index { IsIndexOn program.now index.now }
-    requires known { AreKnown program.now starts.now known.old }
+    requires answers { AreAnswers program.now starts.now answers.old }
     ensures decides { IfOk result (λ r. Decides r (AllLead program.now starts.now steps.now)) }
-    ensures known { AreKnown program.now starts.now known.new }
+    ensures answers { AreAnswers program.now starts.now answers.new }
 {
-    if known.contains(steps) {
-        return Ok(true);
+    if let Some(leads) = answers.get(steps).copied() {
+        return Ok(leads);
     }
-    if !all_lead(program, index, starts, steps.as_slice()) {
-        return Ok(false);
-    }
+    let leads = all_lead(program, index, starts, steps.as_slice());
     let path = steps.copy(alloc)?;
-    known.insert(path)?;
-    Ok(true)
+    answers.insert(path, leads)?;
+    Ok(leads)
 }
 
 // Those of the structures that are not inner.
@@ -84,15 +82,15 @@ fn outermost_of(
     not_inner(alloc, index, above.as_slice())
 }
 
-/// The structures at which a block may begin that holds a structure, and the paths that are known to lead to numbers from each.
+/// The structures at which a block may begin that holds a structure, and of paths whether they lead to numbers from each.
 #[derive(Drop)]
 pub struct Outermost {
     starts: List<u32>,
-    known: BTreeSet<List<Word>>,
+    answers: BTreeMap<List<Word>, bool>,
 }
 
 impl Outermost {
-    // The outermost structures. No path is known.
+    // The outermost structures. No path has an answer.
     fn of(
         alloc: Global,
         program: &Program,
@@ -105,7 +103,7 @@ impl Outermost {
         let starts = outermost_of(alloc, program, index, node)?;
         Ok(Outermost {
             starts: List::of(starts),
-            known: BTreeSet::new(alloc),
+            answers: BTreeMap::new(alloc),
         })
     }
 
@@ -142,6 +140,6 @@ impl Outermost {
         ensures around { IsAround program.now index.now node self.new }
     {
         let starts = self.starts.as_slice();
-        each_leads(alloc, program, index, starts, &mut self.known, steps)
+        each_leads(alloc, program, index, starts, &mut self.answers, steps)
     }
 }

@@ -6,8 +6,7 @@ use Rattle.std.proofs.lemmas.Bool.{false≢true}
 use Rattle.std.proofs.lemmas.Bool.Decides.{nat_tests}
 use Rattle.std.proofs.lemmas.Option.{none-some, same_Some, slice_get_within}
 use Rattle.gt_types.specs.declared.faults.Fault.{Fault}
-use Rattle.gt_drafts.specs.FirstFaults.{fault_if, is_no_later}
-use Rattle.gt_markers.specs.FirstFaults.{earlier_of, first_from}
+use Rattle.gt_drafts.specs.FirstFaults.{earlier_of, fault_if, first_from, is_no_later}
 use Rattle.gt_rules.specs.Faults.{fault}
 use Rattle.gt_rules.specs.Parts.{AtPlace, Each, Either, FaultIf, IsFirstWith}
 

@@ -18,8 +18,7 @@ use Rattle.gt_items.specs.declared.items.Parameter.TheVariants.{Expression}
 use Rattle.gt_items.specs.declared.items.RawOption.{RawOption}
 use Rattle.gt_drafts.specs.declared.draft.Draft.{Draft}
 use Rattle.gt_drafts.specs.declared.draft.DraftStructure.{DraftStructure}
-use Rattle.gt_drafts.specs.FirstFaults.{fault_if}
-use Rattle.gt_markers.specs.FirstFaults.{first_from}
+use Rattle.gt_drafts.specs.FirstFaults.{fault_if, first_from}
 use Rattle.gt_markers.specs.declared.TheConstants.{BAD_PATH, CHAIN_NOT_OWN_POINTER}
 use Rattle.gt_markers.specs.Expressions.{Names as NamesOf, names_in, with_names}
 use Rattle.gt_markers.specs.NameScopes.{are_named}

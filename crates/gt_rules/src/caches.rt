@@ -10,8 +10,8 @@ ghost use Rattle.gt_rules.specs.Parts.{IsIndexFor, IsFirstWith, CacheFault, Cach
 
 use crate::known::Known;
 use gt_declare::key_type;
-use gt_drafts::{DraftCache, Resolved};
-use gt_markers::{CACHE_SHAPE, with_fault};
+use gt_drafts::{DraftCache, Resolved, with_fault};
+use gt_markers::CACHE_SHAPE;
 use gt_paths::may_stand_beside;
 use gt_types::{Fault, TypeId};
 

@@ -7,8 +7,9 @@ ghost use Rattle.gt_rules.specs.Parts.{IsIndexFor, IsFirstWith, ChainFault, Chai
 
 use crate::known::Known;
 use gt_declare::path_places;
+use gt_drafts::with_fault;
 use gt_items::{Parameter, RawOption};
-use gt_markers::{CHAIN_NOT_OWN_POINTER, OptionKind, with_fault};
+use gt_markers::{CHAIN_NOT_OWN_POINTER, OptionKind};
 use gt_paths::leads_to_own_pointer;
 use gt_types::{Fault, TypeId, Word};
 use std::alloc::AllocError;

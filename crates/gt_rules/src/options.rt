@@ -10,8 +10,9 @@ ghost use Rattle.gt_rules.specs.Parts.{AreChecksFor, IsIndexFor, IsFirstWith, Ex
 
 use crate::known::{Known, Options};
 use crate::purposes::{Purpose, RootPurpose, serves, serves_root};
+use gt_drafts::with_fault;
 use gt_items::RawOption;
-use gt_markers::{BAD_PATH, WRONG_PLACE, has_skip, option_named, with_fault};
+use gt_markers::{BAD_PATH, WRONG_PLACE, has_skip, option_named};
 use gt_paths::{PathChecks, names_sortable};
 use gt_types::{Fault, Program, PtrKind, Target, Ty, TypeId};
 use std::alloc::AllocError;

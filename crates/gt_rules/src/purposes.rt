@@ -1,14 +1,17 @@
 // What expressions are read for.
 ghost use Rattle.std.specs.Prelude.{◌≡◌, IfOk};
 ghost use Rattle.std.specs.Bool.{Decides};
+ghost use Rattle.gt_types.specs.declared.program.Program.{Program};
+ghost use Rattle.gt_drafts.specs.declared.draft.Draft.{Draft};
 ghost use Rattle.gt_markers.specs.Lookups.{IsLookupOf};
+ghost use Rattle.gt_paths.specs.Indexes.{IsIndexOn};
 ghost use Rattle.gt_rules.specs.Parts.{AreChecksFor, IsIndexFor, Fits, RootFits, Serves, ServesRoot};
 
 use crate::known::Known;
 use gt_items::Parameter;
 use gt_markers::{Scope, are_named, with_names};
-use gt_paths::{PathChecks, is_root_count, is_root_desc};
-use gt_types::{Expr, TypeId};
+use gt_paths::{PathChecks, PathIndex, is_root_count, is_root_desc};
+use gt_types::{Expr, Program, TypeId};
 use std::alloc::AllocError;
 
 /// What the expression of an option of a structure is read for, which says where its paths may begin.
@@ -30,14 +33,8 @@ pub enum RootPurpose {
 }
 
 // Whether an expression is good for a purpose of the structure that is checked.
-fn fits(
-    known: Known,
-    checks: &mut PathChecks,
-    purpose: Purpose,
-    e: &Expr,
-) -> Result<bool, AllocError>
-    requires checks { AreChecksFor known.draft.now known.program.now checks.old }
-    ensures decides { IfOk result (λ r. Decides r (Fits known.entry.draft.now known.entry.program.now checks.old.node purpose e.now)) }
+fn fits(checks: &mut PathChecks, purpose: Purpose, e: &Expr) -> Result<bool, AllocError>
+    ensures decides { (draft : Draft) (program : Program) → AreChecksFor draft program checks.old → IfOk result (λ r. Decides r (Fits draft program checks.old.node purpose e.now)) }
     ensures same { checks.new ≡ checks.old }
 {
     match purpose {
@@ -47,13 +44,13 @@ fn fits(
 }
 
 // Whether an expression is good for a purpose of a root.
-fn fits_root(known: Known, purpose: RootPurpose, e: &Expr) -> bool
-    requires index { IsIndexFor known.draft.now known.program.now known.index.now }
-    ensures decides { Decides result (RootFits known.entry.program.now purpose e.now) }
+fn fits_root(program: &Program, index: &PathIndex, purpose: RootPurpose, e: &Expr) -> bool
+    requires index { IsIndexOn program.now index.now }
+    ensures decides { Decides result (RootFits program.now purpose e.now) }
 {
     match purpose {
-        RootPurpose::Count => is_root_count(known.program, e),
-        RootPurpose::Desc(held) => is_root_desc(known.program, known.index, held, e),
+        RootPurpose::Count => is_root_count(program, e),
+        RootPurpose::Desc(held) => is_root_desc(program, index, held, e),
     }
 }
 
@@ -77,7 +74,7 @@ pub fn serves(
         return Ok(false);
     }
     let e = with_names(known.alloc, known.lookup, Scope::Fields, raw)?;
-    fits(known, checks, purpose, &e)
+    fits(checks, purpose, &e)
 }
 
 /// The same for a purpose of a root.
@@ -97,5 +94,5 @@ pub fn serves_root(
         return Ok(false);
     }
     let e = with_names(known.alloc, known.lookup, Scope::Roots, raw)?;
-    Ok(fits_root(known, purpose, &e))
+    Ok(fits_root(known.program, known.index, purpose, &e))
 }

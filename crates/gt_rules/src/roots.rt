@@ -13,8 +13,8 @@ use crate::names::{held_node, is_named_inner, plain_node};
 use crate::options::{of_root_expression, of_root_reorder};
 use crate::purposes::RootPurpose;
 use crate::types::held_by;
-use gt_drafts::{DeclaredType, DraftRoot};
-use gt_markers::{BAD_PATH, with_fault};
+use gt_drafts::{DeclaredType, DraftRoot, with_fault};
+use gt_markers::BAD_PATH;
 use gt_types::{Fault, Program, Root, Ty};
 use std::alloc::AllocError;
 

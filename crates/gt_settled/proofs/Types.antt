@@ -1,6 +1,6 @@
 -- The types that options give, case by case.
 use Rattle.std.proofs.Common.{◌≡◌, ◌∙◌, ℕ, ◌≤◌, Bool, true, false, not, ◌&&◌, List, [], ◌∷◌, Option, Some, None, IfSome, refl, sym, ap, subst, arith}
-use Rattle.std.specs.Prelude.{if◌then◌else◌, option_map, is_none}
+use Rattle.std.specs.Prelude.{codes, if◌then◌else◌, option_map, is_none}
 use Rattle.std.proofs.lemmas.Option.{same_Some, none-some}
 use Rattle.gt_types.specs.declared.expressions.Expr.{Expr}
 use Rattle.gt_types.specs.declared.types.Scalar.{Scalar}
@@ -24,7 +24,7 @@ use Rattle.gt_drafts.specs.Undefined.{is_zero}
 use Rattle.gt_markers.specs.declared.type_options.TypeOptions.{TypeOptions}
 use Rattle.gt_markers.specs.Expressions.{Names}
 use Rattle.gt_markers.specs.Sound.{IsBitCount}
-use Rattle.gt_markers.specs.Typing.{amount, arrays, array_type, bits_type, desc_at, kind_by, node, of_elements, opaque_type, or_opaque, pointer_or_atomic, pointer_type, says, single_type, skipped_by, skipped_single, skipped_type, type_by, value_type, walked_by, walked_type}
+use Rattle.gt_markers.specs.Typing.{amount, arrays, array_type, bits_type, declared_type, desc_at, expression_named, kind_by, node, of_elements, opaque_type, or_faulty, or_opaque, pointer_or_atomic, pointer_type, says, single_type, skipped_by, skipped_single, skipped_type, type_by, value_type, walked_by, walked_type}
 
 -- ---- what is no array
 
@@ -171,15 +171,18 @@ module _ (draft : Draft) (planes : List Plane) (names : Names) (options : List R
   skips None [] is skip = skipped_single_by t.resolved.base skip
   skips None (bound ∷ bounds) is skip = opaque skip
 
-  walks_by : (made : Option Ty) → walked_type draft (says names options) t ≡ made → IfSome t.bits (IsBitCount t) → has_skip options ≡ false → is_none made ≡ false → F (or_opaque planes t made)
+  abbrev length : Option Expr
+  length = expression_named names (codes "length") options
+
+  walks_by : (made : Option Ty) → walked_type draft (says names options) t ≡ made → IfSome t.bits (IsBitCount t) → has_skip options ≡ false → is_none made ≡ false → F (or_faulty planes t length made)
   walks_by None e is skip some = absurd (cc)
   walks_by (Some type) e is skip some = walked skip (walked_view draft (says names options) t type is e)
 
   by_skip : (skip : Bool) → has_skip options ≡ skip → IfSome t.bits (IsBitCount t) → (not skip && is_none (walked_type draft (says names options) t)) ≡ false
-      → F (or_opaque planes t (if skip then Some (skipped_type planes t) else walked_type draft (says names options) t))
+      → F (or_faulty planes t length (if skip then Some (skipped_type planes t) else walked_type draft (says names options) t))
   by_skip true skip is typed = skips t.bits t.bounds is skip
   by_skip false skip is typed = walks_by (walked_type draft (says names options) t) refl is skip typed
 
   pub field_view : IfSome t.bits (IsBitCount t) → (not (has_skip options) && is_none (walked_type draft (says names options) t)) ≡ false
-      → F (or_opaque planes t (type_by names draft planes options t))
+      → F (declared_type names draft planes options t)
   field_view is typed = by_skip (has_skip options) refl is typed

@@ -36,8 +36,8 @@ fn arrays(alloc: Global, bounds: &[Amount], elem: Ty) -> Result<Ty, AllocError>
     }
 }
 
-// An array, of which `length` replaces the outermost dimension.
-fn array_type(
+/// An array, of which `length` replaces the outermost dimension. It fails only if memory runs out.
+pub fn array_type(
     alloc: Global,
     length: Option<Expr>,
     bound: Amount,

@@ -2,11 +2,11 @@
 ghost use Rattle.std.specs.Prelude.{◌≡◌, IfOk};
 ghost use Rattle.gt_markers.specs.Lookups.{IsLookupOf};
 ghost use Rattle.gt_markers.specs.NameScopes.{names_of};
-ghost use Rattle.gt_markers.specs.Typing.{or_opaque, type_by};
+ghost use Rattle.gt_markers.specs.Typing.{declared_type, type_by};
 ghost use Rattle.gt_typing.specs.SmallTypes.{IsSmallType};
 
-use crate::sayings::type_options;
-use crate::skipped::{or_opaque, skipped_type};
+use crate::sayings::{expression_named, type_options};
+use crate::skipped::{faulty_type, skipped_type};
 use crate::walked::walked_type;
 use gt_drafts::{DeclaredType, Draft};
 use gt_items::RawOption;
@@ -37,7 +37,7 @@ pub fn type_by(
     walked_type(alloc, lookup, draft, options, ty)
 }
 
-/// The type that options give, where one that is a fault counts as bytes that are never scanned. `planes` are those of the structures
+/// The type that is declared: the one that options give, or what counts for it where it is a fault. `planes` are those of the structures
 /// of the draft, by place. It fails only if memory runs out.
 pub fn field_type(
     alloc: Global,
@@ -50,8 +50,13 @@ pub fn field_type(
 ) -> Result<Ty, AllocError>
     requires lookup { IsLookupOf draft.now lookup.now }
     requires small { IsSmallType ty.now }
-    ensures made { IfOk result (λ t. t ≡ or_opaque planes.now ty.now (type_by (names_of scope draft.now) draft.now planes.now options.now ty.now)) }
+    ensures made { IfOk result (λ t. t ≡ declared_type (names_of scope draft.now) draft.now planes.now options.now ty.now) }
 {
-    let made = type_by(alloc, draft, lookup, scope, planes, options, ty)?;
-    Ok(or_opaque(planes, ty, made))
+    match type_by(alloc, draft, lookup, scope, planes, options, ty)? {
+        Some(made) => Ok(made),
+        None => {
+            let length = expression_named(alloc, lookup, scope, options, "length")?;
+            faulty_type(alloc, planes, ty, length)
+        }
+    }
 }

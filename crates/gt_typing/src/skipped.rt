@@ -1,15 +1,16 @@
 // The types of what is passed over with `skip`.
-ghost use Rattle.std.specs.Prelude.{◌≡◌, ◌*◌, min, All};
+ghost use Rattle.std.specs.Prelude.{◌≡◌, ◌*◌, min, All, IfOk};
 ghost use Rattle.gt_types.specs.declared.limits.TheConstants.{TOO_LARGE};
 ghost use Rattle.gt_layout.specs.Storages.{held_extent, extent_at};
-ghost use Rattle.gt_markers.specs.Typing.{base_extent, single_extent, elements, opaque_type, or_opaque, skipped_single, skipped_type};
+ghost use Rattle.gt_markers.specs.Typing.{base_extent, single_extent, elements, faulty_by, opaque_element, opaque_type, or_opaque, skipped_single, skipped_type};
 ghost use Rattle.gt_typing.specs.SmallTypes.{IsSmall, IsSmallType};
 
-use crate::arrays::{bits_type, number_of};
+use crate::arrays::{array_type, bits_type, number_of};
 use gt_drafts::{Amount, BaseType, DeclaredType};
 use gt_items::Stars;
 use gt_layout::{Extent, Plane, extent};
-use gt_types::{TOO_LARGE, Ty};
+use gt_types::{Expr, TOO_LARGE, Ty};
+use std::alloc::{AllocError, Global};
 
 // Size and alignment of the structure at a place, held within the limit.
 fn structure_extent(planes: &[Plane], id: usize) -> Extent
@@ -74,14 +75,47 @@ fn opaque_type(planes: &[Plane], ty: &DeclaredType) -> Ty
     }
 }
 
-/// A type that is a fault counts as bytes that are never scanned.
-pub fn or_opaque(planes: &[Plane], ty: &DeclaredType, made: Option<Ty>) -> Ty
+// A type, or bytes that are never scanned.
+fn or_opaque(planes: &[Plane], ty: &DeclaredType, made: Option<Ty>) -> Ty
     requires small { IsSmallType ty.now }
     ensures { result ≡ or_opaque planes.now ty.now made }
 {
     match made {
         Some(made) => made,
         None => opaque_type(planes, ty),
+    }
+}
+
+// One element of an array, as bytes that are never scanned.
+fn opaque_element(planes: &[Plane], ty: &DeclaredType) -> Ty
+    ensures { result ≡ opaque_element planes.now ty.now }
+{
+    let single = single_extent(planes, ty);
+    Ty::Opaque {
+        size: single.size.min(TOO_LARGE),
+        align: single.align,
+    }
+}
+
+/// What a type that is a fault counts as: bytes that are never scanned. An array with `length`, which says how many elements it has, is one
+/// also then, and its elements are such bytes. It fails only if memory runs out.
+pub fn faulty_type(
+    alloc: Global,
+    planes: &[Plane],
+    ty: &DeclaredType,
+    length: Option<Expr>,
+) -> Result<Ty, AllocError>
+    requires small { IsSmallType ty.now }
+    ensures made { IfOk result (λ t. t ≡ faulty_by planes.now ty.now length ty.now.bits ty.now.bounds) }
+{
+    if length.is_none() || ty.bits.is_some() {
+        return Ok(opaque_type(planes, ty));
+    }
+    match ty.bounds.as_slice() {
+        [] => Ok(opaque_type(planes, ty)),
+        [bound, bounds @ ..] => {
+            array_type(alloc, length, *bound, bounds, opaque_element(planes, ty))
+        }
     }
 }
 

@@ -3,7 +3,7 @@ use Rattle.std.specs.Prelude.{flat_map}
 use Rattle.gt_drafts.specs.declared.draft.DraftCache.{DraftCache}
 use Rattle.gt_drafts.specs.declared.draft.DraftRoot.{DraftRoot}
 use Rattle.gt_drafts.specs.declared.draft.DraftStructure.{DraftStructure}
-use Rattle.gt_markers.specs.FirstFaults.{first_from, IsFirstOf}
+use Rattle.gt_drafts.specs.FirstFaults.{first_from, IsFirstOf}
 use Rattle.gt_markers.specs.MarkerFaults.{cache_faults, draft_faults, root_faults, structure_faults}
 use Rattle.gt_markers.proofs.Firsts.{first_from_both, first_of_all, if_ok}
 use Rattle.gt_markers.proofs.draft_faults.first_draft_fault.Goals as goal

@@ -1,5 +1,5 @@
 use Rattle.std.proofs.Common.{◌≡◌, ◌∙◌, ap}
-use Rattle.gt_markers.specs.FirstFaults.{first_from}
+use Rattle.gt_drafts.specs.FirstFaults.{first_from}
 use Rattle.gt_markers.specs.Sites.{at_cache, marker_faults}
 use Rattle.gt_markers.proofs.Firsts.{if_ok}
 use Rattle.gt_markers.proofs.field_faults.of_cache.Goals as goal

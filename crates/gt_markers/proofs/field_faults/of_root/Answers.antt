@@ -2,7 +2,7 @@ use Rattle.std.proofs.Common.{◌∙◌, ap}
 use Rattle.std.specs.Prelude.{◌&&◌, not, is_none}
 use Rattle.gt_drafts.specs.Options.{has_skip}
 use Rattle.gt_markers.specs.Expressions.{constants_and_roots}
-use Rattle.gt_markers.specs.FirstFaults.{first_from}
+use Rattle.gt_drafts.specs.FirstFaults.{first_from}
 use Rattle.gt_markers.specs.Sites.{at_root, marker_faults}
 use Rattle.gt_markers.specs.Typing.{says, walked_type}
 use Rattle.gt_markers.proofs.Firsts.{first_from_both, first_from_if}

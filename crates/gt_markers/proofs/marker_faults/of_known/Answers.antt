@@ -1,9 +1,9 @@
 use Rattle.std.proofs.Common.{◌∙◌, Bool, sym, ap}
 use Rattle.std.specs.Prelude.{◌&&◌, ◌||◌, not}
 use Rattle.gt_drafts.specs.Sameness.{same_bool}
-use Rattle.gt_markers.specs.FirstFaults.{first_from}
+use Rattle.gt_drafts.specs.FirstFaults.{first_from}
 use Rattle.gt_markers.specs.Options.{exclude, has_parameter, needs_parameter}
-use Rattle.gt_markers.specs.Sites.{is_tag, is_excluded, may_stand, stands_among}
+use Rattle.gt_markers.specs.Sites.{is_tag, may_stand, stands_among}
 use Rattle.gt_markers.specs.SiteViews.{site_of}
 use Rattle.gt_markers.proofs.Firsts.{first_from_both, first_from_if, first_from_numbered}
 use Rattle.gt_markers.proofs.KindLemmas.{any_in, stands_by_kind}

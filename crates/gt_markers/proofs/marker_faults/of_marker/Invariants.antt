@@ -1,5 +1,5 @@
 use Rattle.std.proofs.Common.{◌≡◌, take}
-use Rattle.gt_markers.specs.FirstFaults.{first_from}
+use Rattle.gt_drafts.specs.FirstFaults.{first_from}
 use Rattle.gt_markers.specs.KindSets.{AreKindsOf}
 use Rattle.gt_markers.specs.Sites.{marker_faults}
 use Rattle.gt_markers.specs.SiteViews.{site_of}

@@ -1,6 +1,6 @@
 use Rattle.std.proofs.Common.{◌≡◌, ◌∙◌, List, sym, ap}
 use Rattle.gt_items.specs.declared.items.RawOption.{RawOption}
-use Rattle.gt_markers.specs.FirstFaults.{first_from}
+use Rattle.gt_drafts.specs.FirstFaults.{first_from}
 use Rattle.gt_markers.specs.KindSets.{AreKindsOf}
 use Rattle.gt_markers.specs.Options.{kind_of}
 use Rattle.gt_markers.specs.Sites.{known_faults, option_faults}

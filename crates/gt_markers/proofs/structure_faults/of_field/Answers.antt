@@ -2,7 +2,7 @@ use Rattle.std.proofs.Common.{◌≡◌, ◌∙◌, List, [], ◌∷◌, ◌++�
 use Rattle.gt_items.specs.declared.items.RawOption.{RawOption}
 use Rattle.gt_drafts.specs.declared.draft.Draft.{Draft}
 use Rattle.gt_drafts.specs.declared.draft.DraftField.{DraftField}
-use Rattle.gt_markers.specs.FirstFaults.{first_from}
+use Rattle.gt_drafts.specs.FirstFaults.{first_from}
 use Rattle.gt_markers.specs.Lookups.{IsLookupOf}
 use Rattle.gt_markers.specs.MarkerFaults.{field_faults, repeated_faults}
 use Rattle.gt_markers.specs.Members.{AreMembers}

@@ -1,5 +1,5 @@
 use Rattle.std.proofs.Common.{◌≡◌, [], take}
-use Rattle.gt_markers.specs.FirstFaults.{first_from}
+use Rattle.gt_drafts.specs.FirstFaults.{first_from}
 use Rattle.gt_markers.specs.MarkerFaults.{fields_faults}
 use Rattle.gt_markers.specs.Members.{AreMembers}
 use Rattle.gt_markers.proofs.FieldLemmas.{rest_faults}

@@ -2,7 +2,7 @@ use Rattle.std.proofs.Common.{◌∙◌, ap}
 use Rattle.std.specs.Prelude.{◌&&◌, not, is_none}
 use Rattle.gt_drafts.specs.Options.{has_skip}
 use Rattle.gt_markers.specs.Expressions.{constants}
-use Rattle.gt_markers.specs.FirstFaults.{first_from}
+use Rattle.gt_drafts.specs.FirstFaults.{first_from}
 use Rattle.gt_markers.specs.MarkerFaults.{is_unmarked}
 use Rattle.gt_markers.specs.Sites.{at_field, marker_faults}
 use Rattle.gt_markers.specs.Typing.{says, walked_type}

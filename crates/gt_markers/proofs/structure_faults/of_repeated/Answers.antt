@@ -1,6 +1,6 @@
 use Rattle.std.proofs.Common.{◌∙◌, sym, ap, Option}
 use Rattle.gt_items.specs.declared.items.RawOption.{RawOption}
-use Rattle.gt_markers.specs.FirstFaults.{first_from}
+use Rattle.gt_drafts.specs.FirstFaults.{first_from}
 use Rattle.gt_markers.specs.MarkerFaults.{repeated_fault}
 use Rattle.gt_markers.proofs.Firsts.{first_from_nil}
 use Rattle.gt_markers.proofs.structure_faults.of_repeated.Goals as goal

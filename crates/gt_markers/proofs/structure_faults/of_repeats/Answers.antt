@@ -1,4 +1,4 @@
-use Rattle.std.proofs.Common.{◌≡◌, ◌∙◌, ℤ, List, Option, ap}
+use Rattle.std.proofs.Common.{◌≡◌, ◌∙◌, ℤ, Option, ap}
 use Rattle.std.specs.Prelude.{◌&&◌, codes}
 use Rattle.std.specs.List.{list_any}
 use Rattle.gt_markers.specs.MarkerFaults.{has_tag, is_default, tag_value}

@@ -1,5 +1,5 @@
 use Rattle.std.proofs.Common.{◌≡◌, ◌∙◌, [], ap}
-use Rattle.gt_markers.specs.FirstFaults.{first_from}
+use Rattle.gt_drafts.specs.FirstFaults.{first_from}
 use Rattle.gt_markers.specs.MarkerFaults.{fields_faults, structure_faults}
 use Rattle.gt_markers.specs.Sites.{at_structure, marker_faults}
 use Rattle.gt_markers.proofs.Firsts.{first_from_both, if_ok}

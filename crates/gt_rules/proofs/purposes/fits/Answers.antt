@@ -7,11 +7,11 @@ use Rattle.gt_rules.proofs.InnerLemmas.{option_ok, desc_ok}
 use Rattle.gt_rules.proofs.purposes.fits.Goals as goal
 
 pub returns-in-Own-clause-decides : goal.returns-in-Own-clause-decides
-returns-in-Own-clause-decides c =
-    subst (λ (p : Purpose). IfOk c.is_option.result (λ r. Decides r (Fits c.args.known.draft.now c.args.known.program.now c.args.checks.now.node p c.args.e.now))) (sym c.in-Own.is)
-    (option_ok c.args.known.draft.now c.args.known.program.now c.args.checks.now c.args.e.now c.is_option.result c.requires.checks c.is_option.ensures.decides)
+returns-in-Own-clause-decides c draft program are =
+    subst (λ (p : Purpose). IfOk c.is_option.result (λ r. Decides r (Fits draft program c.args.checks.now.node p c.args.e.now))) (sym c.in-Own.is)
+    (option_ok draft program c.args.checks.now c.args.e.now c.is_option.result are c.is_option.ensures.decides)
 
 pub returns-in-FieldDesc-clause-decides : goal.returns-in-FieldDesc-clause-decides
-returns-in-FieldDesc-clause-decides c =
-    subst (λ (p : Purpose). IfOk c.is_field_desc.result (λ r. Decides r (Fits c.args.known.draft.now c.args.known.program.now c.args.checks.now.node p c.args.e.now))) (sym c.in-FieldDesc.is)
-    (desc_ok c.args.known.draft.now c.args.known.program.now c.args.checks.now c.in-FieldDesc.held c.args.e.now c.is_field_desc.result c.requires.checks c.is_field_desc.ensures.decides)
+returns-in-FieldDesc-clause-decides c draft program are =
+    subst (λ (p : Purpose). IfOk c.is_field_desc.result (λ r. Decides r (Fits draft program c.args.checks.now.node p c.args.e.now))) (sym c.in-FieldDesc.is)
+    (desc_ok draft program c.args.checks.now c.in-FieldDesc.held c.args.e.now c.is_field_desc.result are c.is_field_desc.ensures.decides)

@@ -22,4 +22,4 @@ returns-clause-decides c =
     let good = Fits draft program structure c.args.purpose in
     IfOk-weaker c.fits.result (λ r. Decides r (good c.in_ok-e.e)) (λ r. Decides r (Serves draft program structure c.args.purpose c.args.parameter.now))
     (λ r decides. good_named (names_of Fields draft) good c.args.parameter.now c.in-Expression.raw r c.in-Expression.is (sym (c.are_named.ensures.named draft c.requires.lookup) ∙ c.if-not-are_named.false)
-    (subst (λ (e : Expr). Decides r (good e)) (c.in_ok-e.ensures.expression draft c.requires.lookup) decides)) c.fits.ensures.decides
+    (subst (λ (e : Expr). Decides r (good e)) (c.in_ok-e.ensures.expression draft c.requires.lookup) decides)) (c.fits.ensures.decides draft program c.requires.checks)

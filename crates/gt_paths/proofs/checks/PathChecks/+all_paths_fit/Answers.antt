@@ -1,4 +1,4 @@
-use Rattle.std.proofs.Common.{ℕ, List, ◌++◌, ◌∙◌, false, refl, ap, sym, subst}
+use Rattle.std.proofs.Common.{List, ◌++◌, ◌∙◌, false, refl, ap, sym, subst}
 use Rattle.std.specs.Prelude.{IfOk}
 use Rattle.std.specs.Bool.{Decides}
 use Rattle.gt_types.specs.Paths.{Way, paths_of}

@@ -7,21 +7,21 @@ use Rattle.gt_types.specs.Paths.{PathFitsBeside}
 use Rattle.gt_paths.specs.declared.containers.Containers.{Containers}
 use Rattle.gt_paths.specs.Checks.{Checked, checked, inner_of}
 use Rattle.gt_paths.specs.Containers.{containers_of}
-use Rattle.gt_paths.specs.OuterPaths.{AllLead, AreKnown}
+use Rattle.gt_paths.specs.OuterPaths.{AllLead, AreAnswers}
 use Rattle.gt_paths.proofs.Fitting.{containers_lead}
 use Rattle.gt_paths.proofs.checks.PathChecks.leads_from_containers.Goals as goal
 
-pub each_leads-requires-clause-known : goal.each_leads-requires-clause-known
-each_leads-requires-clause-known c =
+pub each_leads-requires-clause-answers : goal.each_leads-requires-clause-answers
+each_leads-requires-clause-answers c =
     let same : c.of-starts.result.now ≡ containers_of c.self.inside.index.now.containers c.self.inside.node.0 = c.of-starts.ensures.containers ∙ ap (λ (k : Containers). containers_of k c.self.inside.node.0) c.containers.ensures.containers in
-    subst (λ (starts : List ℕ). AreKnown c.self.inside.program.now starts c.self.inside.known) (sym same) c.self.invariant.known_here
+    subst (λ (starts : List ℕ). AreAnswers c.self.inside.program.now starts c.self.inside.answers) (sym same) c.self.invariant.for_containers
 
 pub invariant_of-self : goal.invariant_of-self
 invariant_of-self c =
     let same : c.of-starts.result.now ≡ containers_of c.self.inside.index.now.containers c.self.inside.node.0 = c.of-starts.ensures.containers ∙ ap (λ (k : Containers). containers_of k c.self.inside.node.0) c.containers.ensures.containers in
     record {
       index_on = c.self.invariant.index_on;
-      known_here = subst (λ (starts : List ℕ). AreKnown c.self.inside.program.now starts c.each_leads.new.known) same c.each_leads.ensures.known;
+      for_containers = subst (λ (starts : List ℕ). AreAnswers c.self.inside.program.now starts c.each_leads.new.answers) same c.each_leads.ensures.answers;
       around = c.self.invariant.around;
     }
 

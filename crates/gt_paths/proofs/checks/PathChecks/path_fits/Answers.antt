@@ -1,4 +1,4 @@
-use Rattle.std.proofs.Common.{ℕ, List, subst}
+use Rattle.std.proofs.Common.{subst}
 use Rattle.gt_types.specs.Paths.{AreSteps}
 use Rattle.gt_paths.proofs.Fitting.{desc_at, own_at}
 use Rattle.gt_paths.proofs.checks.PathChecks.path_fits.Goals as goal

@@ -4,13 +4,13 @@ use Rattle.std.proofs.lemmas.Result.{IfOk-weaker}
 use Rattle.gt_types.specs.declared.expressions.Base.TheVariants.{Outermost}
 use Rattle.gt_types.specs.Paths.{PathFitsBeside}
 use Rattle.gt_paths.specs.Indexes.{inner_in}
-use Rattle.gt_paths.specs.OuterPaths.{AllLead, AreKnown}
+use Rattle.gt_paths.specs.OuterPaths.{AllLead, AreAnswers}
 use Rattle.gt_paths.proofs.Fitting.{outermost_lead}
 use Rattle.gt_paths.proofs.outer_paths.Outermost.lead.Goals as goal
 
-pub each_leads-requires-clause-known : goal.each_leads-requires-clause-known
-each_leads-requires-clause-known c =
-    subst (λ (starts : List ℕ). AreKnown c.args.program.now starts c.args.self.now.known) (sym c.as_slice-starts.ensures.items) c.requires.around.known
+pub each_leads-requires-clause-answers : goal.each_leads-requires-clause-answers
+each_leads-requires-clause-answers c =
+    subst (λ (starts : List ℕ). AreAnswers c.args.program.now starts c.args.self.now.answers) (sym c.as_slice-starts.ensures.items) c.requires.around.answers
 
 pub returns-clause-decides : goal.returns-clause-decides
 returns-clause-decides c =
@@ -22,5 +22,5 @@ returns-clause-decides c =
 pub returns-clause-around : goal.returns-clause-around
 returns-clause-around c = record {
   starts = c.requires.around.starts;
-  known = subst (λ (starts : List ℕ). AreKnown c.args.program.now starts c.each_leads.new.known) c.as_slice-starts.ensures.items c.each_leads.ensures.known;
+  answers = subst (λ (starts : List ℕ). AreAnswers c.args.program.now starts c.each_leads.new.answers) c.as_slice-starts.ensures.items c.each_leads.ensures.answers;
 }
