@@ -12,7 +12,7 @@ use Rattle.gt_value.specs.declared.values.Value.{Value}
 use Rattle.gt_value.specs.Values.{trees, tree_of}
 use Rattle.gt_fit.specs.Values.{maybe_tree}
 use Rattle.gt_fit.specs.Commons.{common_of}
-use Rattle.gt_assign.specs.Pasts.{Was, Whole, Past}
+use Rattle.gt_assign.specs.Pasts.{Whole, Past}
 use Rattle.gt_assign.specs.Turning.{Maker, fields_made, elements_made, maybe_whole, begun_by, alt_made, member_was, member_made, row_made}
 use Rattle.gt_fit.proofs.Endings.{equals}
 use Rattle.gt_assign.proofs.Rows.{following, FieldsSoFar, fields-more, fields-end, ElementsSoFar, elements-more, elements-end}
@@ -25,7 +25,7 @@ after-none None = refl
 same : (n : ℕ) → (n == n) ≡ true
 same n = (equals n n).1 refl
 
-at-place : (parts : List Value) (i : ℕ) (v : Value) → i < length parts → v ≡ get_or parts i v → tree_at (trees (map tree_of parts)) i ≡ Some (tree_of v)
+pub at-place : (parts : List Value) (i : ℕ) (v : Value) → i < length parts → v ≡ get_or parts i v → tree_at (trees (map tree_of parts)) i ≡ Some (tree_of v)
 at-place parts i v inside is = tree_at-trees parts i ∙ ap maybe_tree (slice_get_read parts (length parts) i v refl inside is)
 
 take-next : (parts : List Value) (i : ℕ) (v : Value) → i < length parts → v ≡ get_or parts i v → take (i + 1) parts ≡ take i parts ++ v ∷ []

@@ -11,3 +11,6 @@ pub mod Nesting
 pub mod Assigned
 pub mod Records
 pub mod Kept
+pub mod Decided
+pub mod PartFields
+pub mod PartElements

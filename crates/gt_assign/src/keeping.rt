@@ -15,9 +15,9 @@ use gt_fit::{is_active, is_bare};
 use gt_types::{Expr, Field, Structure, Ty, TypeId};
 use gt_value::Value;
 
-/// Whether a part stays as it is, by what was around it.
+// Whether a part stays as it is, by what was around it.
 #[cycle(keeping)]
-pub fn is_kept(on: &Making, ty: &Ty, value: &Value, around: &Around, depth: usize) -> bool
+fn is_kept(on: &Making, ty: &Ty, value: &Value, around: &Around, depth: usize) -> bool
     requires settled { Settled on.now.program.now }
     ensures { IsTrue result → made on.now.program.now on.now.capacity depth (past_of around.now) ty.now (Whole (tree_of value.now)) ≡ Some (tree_of value.now) }
 {
@@ -151,9 +151,9 @@ fn elements_kept(on: &Making, ty: &Ty, parts: &[Value], around: &Around, depth: 
     true
 }
 
-// A union.
+/// Whether a union stays as it is.
 #[cycle(keeping)]
-fn union_kept(
+pub fn union_kept(
     on: &Making,
     desc: &Option<Expr>,
     structure: &Structure,

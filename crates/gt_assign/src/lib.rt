@@ -4,6 +4,8 @@
 #![tactic(auto)]
 
 mod assigning;
+mod changes;
+mod changing;
 mod copies;
 mod keeping;
 mod parts;

@@ -181,9 +181,9 @@ fn row(
     Ok(Value::Row(parts))
 }
 
-// What is there in a union: its active member, or without one its common structure.
+/// A union, by what it was: its active member, or without one its common structure.
 #[cycle(turning)]
-fn union(
+pub fn union(
     on: &Making,
     desc: &Option<Expr>,
     structure: &Structure,
