@@ -3,7 +3,7 @@ use Rattle.std.proofs.Common.{◌≡◌, ℕ, zero, suc, ◌+◌, ◌<◌, ◌�
 use Rattle.std.specs.Option.{option_to_list, unwrap_or}
 use Rattle.std.proofs.Math.Nat.{le-max_left, le-max_right, min-eq_left, min-eq_right, min-le_right}
 use Rattle.std.proofs.lemmas.List.{map-append, length-map, length-append}
-use Rattle.gt_tree.specs.Trees.{Tree, Null, Rec, Row, Trees, End, And, count, tree_at}
+use Rattle.gt_tree.specs.Trees.{Tree, Null, Rec, Alt, Row, Trees, End, And, count, tree_at}
 use Rattle.gt_tree.specs.Scopes.{◌then◌}
 use Rattle.gt_value.specs.declared.values.Value.{Value, Null as NullOf}
 use Rattle.gt_value.specs.declared.values.ValueFail.{ValueFail}
@@ -12,7 +12,7 @@ use Rattle.gt_value.specs.Values.{trees, tree_of}
 use Rattle.gt_fit.proofs.Values.{null-tree}
 use Rattle.gt_assign.specs.declared.changes.Change.{Change}
 use Rattle.gt_assign.specs.declared.changes.Change.TheVariants as change
-use Rattle.gt_assign.specs.declared.changes.Change.TheVariants.{Kept, New, Parts as PartsOf}
+use Rattle.gt_assign.specs.declared.changes.Change.TheVariants.{Kept, New, Parts as PartsOf, There}
 use Rattle.gt_assign.specs.declared.changes.Change.TheOpen as open_part
 use Rattle.gt_assign.specs.declared.changes.Change.TheOpen.{Change-F}
 use Rattle.gt_assign.specs.declared.changes.Change.TheFolds.{fold-Change, fold-roll-Change}
@@ -107,6 +107,9 @@ kept-changed tree = ap (λ (f : Tree → Tree). f tree) (ap changed (sym change.
 
 pub new-changed : (value : Value) (tree : Tree) → changed (New value) tree ≡ tree_of value
 new-changed value tree = ap (λ (f : Tree → Tree). f tree) (ap changed (sym (change.rolls-New value)) ∙ fold-roll-Change (Tree → Tree) change_step (open_part.New value))
+
+pub there-changed : (change : Change) (member : Option ℕ) (tree : Tree) → changed (There change) (Alt member tree) ≡ Alt member (changed change tree)
+there-changed c member tree = ap (λ (f : Tree → Tree). f (Alt member tree)) (ap changed (sym (change.rolls-There c)) ∙ fold-roll-Change (Tree → Tree) change_step (open_part.There c))
 
 module _ (kept : ℕ) (changes : Vec Change Global) (old : Trees) where
   pub rec-changed : changed (PartsOf kept changes) (Rec old) ≡ Rec (parts_changed kept (map changed changes.items) old)
@@ -281,12 +284,16 @@ abbrev pub levels_step : Change-F ℕ → ℕ
 levels_step open_part.Kept = 0
 levels_step (open_part.New value) = 0
 levels_step (open_part.Parts kept changes) = suc (most changes.items)
+levels_step (open_part.There inner) = suc inner
 
 abbrev pub levels : Change → ℕ
 levels = fold-Change ℕ levels_step
 
 pub parts-levels : (kept : ℕ) (changes : Vec Change Global) → levels (PartsOf kept changes) ≡ suc (most (map levels changes.items))
 parts-levels kept changes = ap levels (sym (change.rolls-Parts kept changes)) ∙ fold-roll-Change ℕ levels_step (open_part.Parts kept changes)
+
+pub there-levels : (change : Change) → levels (There change) ≡ suc (levels change)
+there-levels c = ap levels (sym (change.rolls-There c)) ∙ fold-roll-Change ℕ levels_step (open_part.There c)
 
 -- each of some changes nests no deeper than all
 pub first-levels : (all left : List Change) (change : Change) (changes : List Change) → left ≡ change ∷ changes → most (map levels left) ≤ most (map levels all) → levels change ≤ most (map levels all)

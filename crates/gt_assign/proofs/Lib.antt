@@ -10,7 +10,6 @@ pub mod Whole
 pub mod Nesting
 pub mod Assigned
 pub mod Records
-pub mod Kept
 pub mod Decided
 pub mod PartFields
 pub mod PartElements

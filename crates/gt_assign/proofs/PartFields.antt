@@ -1,6 +1,7 @@
 -- What becomes of fields or roots, decided one after another.
 use Rattle.std.proofs.Common.{◌≡◌, ◌≢◌, ℕ, ◌+◌, ◌<◌, ◌≤◌, Bool, true, false, List, ◌∷◌, length, map, drop, get_or, cond, refl, ap, sym, ◌∙◌, arith, add-one, Option, Some, None}
 use Rattle.std.specs.Prelude.{option_map, ◌==◌}
+use Rattle.std.proofs.lemmas.Option.{slice_get_read}
 use Rattle.gt_types.specs.declared.types.Ty.{Ty}
 use Rattle.gt_tree.specs.Trees.{Tree, Trees, Rec, count, tree_at}
 use Rattle.gt_value.specs.declared.values.Value.{Value}
@@ -12,10 +13,13 @@ use Rattle.gt_assign.specs.Pasts.{Was, Whole, Past}
 use Rattle.gt_assign.specs.Turning.{Maker, fields_made}
 use Rattle.gt_fit.proofs.Endings.{equals}
 use Rattle.gt_fit.proofs.Listing.{drop-item, drop-none}
-use Rattle.gt_fit.proofs.Values.{count-trees}
-use Rattle.gt_assign.proofs.Kept.{at-place}
+use Rattle.gt_fit.specs.Values.{maybe_tree}
+use Rattle.gt_fit.proofs.Values.{count-trees, tree_at-trees}
 use Rattle.gt_assign.proofs.Rows.{one-made, no-tree}
 use Rattle.gt_assign.proofs.Decided.{more, SoFar, so_far, parts-next, parts-none, parts-end}
+
+at-place : (parts : List Value) (i : ℕ) (v : Value) → i < length parts → v ≡ get_or parts i v → tree_at (trees (map tree_of parts)) i ≡ Some (tree_of v)
+at-place parts i v inside is = tree_at-trees parts i ∙ ap maybe_tree (slice_get_read parts (length parts) i v refl inside is)
 
 differ : (a b : ℕ) → a ≢ b → (a == b) ≡ false
 differ a b h = go (a == b) refl

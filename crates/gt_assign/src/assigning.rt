@@ -58,7 +58,7 @@ fn make_anew(
         capacity,
     };
     let change = change(&on, ty, &old, &around, MAX_NESTING)?;
-    Ok(change.apply(old)?)
+    Ok(change.apply(alloc, old)?)
 }
 
 // Whether a value fits an element of a block, where no structure is around it. Its expressions read no roots.

@@ -1,11 +1,12 @@
 // What becomes of a value in which a leaf was replaced. It is decided while the value is read; then its parts are moved.
-ghost use Rattle.std.specs.Prelude.{◌≡◌, IfOk, OnOk, true, [], map};
-ghost use Rattle.gt_tree.specs.Trees.{Trees, Rec, Row, count};
+ghost use Rattle.std.specs.Prelude.{◌≡◌, IfOk, OnOk, ℕ, Option, true, [], map};
+ghost use Rattle.gt_tree.specs.Trees.{Tree, Trees, Rec, Alt, Row, count};
 ghost use Rattle.gt_value.specs.Values.{trees, tree_of};
 ghost use Rattle.gt_assign.specs.declared.changes.Change.TheVariants.{Kept};
 ghost use Rattle.gt_assign.specs.Changes.{changed, parts_changed, IsNext};
 
 use gt_value::Value;
+use sqlite_items::Boxed;
 use std::alloc::{AllocError, Global};
 
 /// What becomes of a value.
@@ -17,22 +18,47 @@ pub enum Change {
     New(Value),
     /// So many of its first parts stay, and then each becomes what its change says. The parts after them go.
     Parts { kept: usize, changes: Vec<Change> },
+    /// It is a union of which the same member stays active, and what is there becomes what this says.
+    There(Boxed<Change>),
 }
 
 impl Change {
     /// What a value becomes. The parts that stay are moved.
     #[cycle(applying)]
-    pub fn apply(self, value: Value) -> Result<Value, AllocError>
+    pub fn apply(self, alloc: Global, value: Value) -> Result<Value, AllocError>
         ensures { IfOk result (λ v. tree_of v ≡ changed self (tree_of value)) }
     {
         match self {
             Change::Kept => Ok(value),
             Change::New(new) => Ok(new),
             Change::Parts { kept, changes } => match value {
-                Value::Rec(parts) => Ok(Value::Rec(apply_all(changes, parts, kept)?)),
-                Value::Row(parts) => Ok(Value::Row(apply_all(changes, parts, kept)?)),
+                Value::Rec(parts) => Ok(Value::Rec(apply_all(changes, alloc, parts, kept)?)),
+                Value::Row(parts) => Ok(Value::Row(apply_all(changes, alloc, parts, kept)?)),
                 other => Ok(other),
             },
+            Change::There(change) => match value {
+                Value::Alt {
+                    member,
+                    value: there,
+                } => {
+                    let made = change.into_inner().apply(alloc, there.into_inner())?;
+                    Ok(Value::Alt {
+                        member,
+                        value: Boxed::new(alloc, made)?,
+                    })
+                }
+                other => Ok(other),
+            },
+        }
+    }
+
+    /// What becomes of a union, of which the same member stays active, where this becomes of what is there.
+    pub fn inside(self, alloc: Global) -> Result<Change, AllocError>
+        ensures { IfOk result (λ made. (member : Option ℕ) (tree : Tree) → changed made (Alt member tree) ≡ Alt member (changed self tree)) }
+    {
+        match self {
+            Change::Kept => Ok(Change::Kept),
+            change => Ok(Change::There(Boxed::new(alloc, change)?)),
         }
     }
 
@@ -41,7 +67,7 @@ impl Change {
     {
         match self {
             Change::Kept => true,
-            Change::New(_) | Change::Parts { .. } => false,
+            Change::New(_) | Change::Parts { .. } | Change::There(_) => false,
         }
     }
 }
@@ -100,6 +126,7 @@ impl Parts {
 #[cycle(applying)]
 fn apply_all(
     changes: Vec<Change>,
+    alloc: Global,
     mut parts: Vec<Value>,
     kept: usize,
 ) -> Result<Vec<Value>, AllocError>
@@ -109,7 +136,7 @@ fn apply_all(
     let mut olds = parts.split_off(place)?.into_iter();
     for change in changes {
         let old = olds.next().unwrap_or(Value::Null);
-        parts.push(change.apply(old)?)?;
+        parts.push(change.apply(alloc, old)?)?;
     }
     Ok(parts)
 }

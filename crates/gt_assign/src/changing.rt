@@ -1,26 +1,26 @@
 // What becomes of each part of a value in which a leaf was replaced: most parts stay as they are.
-ghost use Rattle.std.specs.Prelude.{◌≡◌, ◌≤◌, true, cond, Some, None, length, map, option_copied};
+ghost use Rattle.std.specs.Prelude.{◌≡◌, ◌≤◌, IfOk, true, cond, Some, None, length, map, option_copied};
 ghost use Rattle.gt_types.specs.declared.types.TypeId.{TypeId};
 ghost use Rattle.gt_types.specs.Contains.{HasStructure};
 ghost use Rattle.gt_types.specs.Settled.{Settled};
 ghost use Rattle.gt_types.specs.declared.limits.TheConstants.{MAX_FIELDS};
 ghost use Rattle.gt_types.specs.declared.types.Ty.{out-Ty};
-ghost use Rattle.gt_tree.specs.Trees.{Rec, Row, is_leaf};
+ghost use Rattle.gt_tree.specs.Trees.{Rec, Alt, Row, is_leaf, without_pointers};
 ghost use Rattle.gt_tree.specs.Fits.{active_member};
 ghost use Rattle.gt_value.specs.Values.{trees, tree_of};
 ghost use Rattle.gt_fit.specs.Values.{maybe_tree};
 ghost use Rattle.gt_assign.specs.Pasts.{Whole, past_of, desc_was};
 ghost use Rattle.gt_assign.specs.Turning.{made, layer_made, tail_made, node_made, struct_made, row_made, member_made, maybe_whole};
-ghost use Rattle.gt_assign.specs.Changes.{Decides, or_null};
+ghost use Rattle.gt_assign.specs.Changes.{changed, Decides, or_null};
 
 use crate::changes::{Change, Parts};
-use crate::copies::is_leaf;
-use crate::keeping::union_kept;
-use crate::seeing::{Around, Seen};
+use crate::copies::{is_leaf, without_pointers};
+use crate::seeing::{Around, Seen, desc_value};
 use crate::turning::{Making, tail_length, turn, union};
-use gt_fit::item;
+use gt_fit::{is_active, is_bare, item};
 use gt_types::{Expr, Field, Structure, Ty, TypeId};
 use gt_value::{Value, ValueFail};
+use std::alloc::AllocError;
 
 /// What becomes of a part, by what was around it. `Shape` says that there is no value.
 #[cycle(changing)]
@@ -218,7 +218,8 @@ fn element_change(
     }
 }
 
-// A union: it stays, or is made anew.
+// A union: its active member stays active, or it is made anew.
+#[cycle(changing)]
 fn union_change(
     on: &Making,
     desc: &Option<Expr>,
@@ -234,8 +235,64 @@ fn union_change(
     ensures { Decides result (tree_of value.now) (member_made on.now.program.now (made on.now.program.now on.now.capacity depth) (past_of inner.now) structure.now (Whole (tree_of value.now))
         (active_member (desc_was on.now.program.now (past_of inner.now) desc.now) structure.now.fields)) }
 {
-    if union_kept(on, desc, structure, value, inner, depth) {
+    match value {
+        Value::Alt {
+            member,
+            value: there,
+        } if is_active(
+            desc_value(on.program, desc, inner),
+            structure.fields.as_slice(),
+            *member,
+        ) => there_change(on, structure, *member, there.get(), inner, depth),
+        _ => Ok(Change::New(union(on, desc, structure, Seen::Whole(value), inner, depth)?)),
+    }
+}
+
+// A union of which the same member is active as before, or none.
+#[cycle(changing)]
+fn there_change(
+    on: &Making,
+    structure: &Structure,
+    member: Option<u32>,
+    there: &Value,
+    inner: &Around,
+    depth: usize,
+) -> Result<Change, ValueFail>
+    requires settled { Settled on.now.program.now }
+    ensures { Decides result (Alt member (tree_of there.now)) (member_made on.now.program.now (made on.now.program.now on.now.capacity depth) (past_of inner.now) structure.now (Whole (Alt member (tree_of there.now))) member) }
+{
+    match member {
+        None => Ok(bare_change(on, there)?),
+        Some(place) => member_change(on, structure, place as usize, there, inner, depth),
+    }
+}
+
+// The common structure of a union, where no member is active: its pointers become null.
+fn bare_change(on: &Making, there: &Value) -> Result<Change, AllocError>
+    ensures { IfOk result (λ made. changed made (Alt None (tree_of there.now)) ≡ Alt None (without_pointers (tree_of there.now))) }
+{
+    if is_bare(there) {
         return Ok(Change::Kept);
     }
-    Ok(Change::New(union(on, desc, structure, Seen::Whole(value), inner, depth)?))
+    Change::New(without_pointers(on.alloc, there)?).inside(on.alloc)
+}
+
+// The active member of a union.
+#[cycle(changing)]
+fn member_change(
+    on: &Making,
+    structure: &Structure,
+    place: usize,
+    there: &Value,
+    inner: &Around,
+    depth: usize,
+) -> Result<Change, ValueFail>
+    requires settled { Settled on.now.program.now }
+    ensures { Decides result (Alt (Some place) (tree_of there.now)) (member_made on.now.program.now (made on.now.program.now on.now.capacity depth) (past_of inner.now) structure.now (Whole (Alt (Some place) (tree_of there.now))) (Some place)) }
+{
+    let Some(field) = structure.fields.get(place) else {
+        return Err(ValueFail::Shape);
+    };
+    let change = change(on, &field.ty, there, inner, depth)?;
+    Ok(change.inside(on.alloc)?)
 }

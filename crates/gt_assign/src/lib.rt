@@ -7,7 +7,6 @@ mod assigning;
 mod changes;
 mod changing;
 mod copies;
-mod keeping;
 mod parts;
 mod seeing;
 mod statics;

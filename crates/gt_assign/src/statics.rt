@@ -64,7 +64,7 @@ fn record_anew(alloc: Global, program: &Program, written: Value) -> Result<Value
         capacity: 0,
     };
     let change = roots_change(&on, program.roots.as_slice(), parts, &around)?;
-    Ok(change.apply(written)?)
+    Ok(change.apply(alloc, written)?)
 }
 
 // Whether values fit these roots, one after another.

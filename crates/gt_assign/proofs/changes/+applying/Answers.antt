@@ -1,7 +1,7 @@
 use Rattle.std.proofs.Common.{map, ap, sym, ◌∙◌, arith, min}
 use Rattle.gt_value.specs.Values.{trees, tree_of}
 use Rattle.gt_assign.specs.Changes.{changed, parts_changed}
-use Rattle.gt_assign.proofs.Decided.{apply-start, apply-next, apply-end, list-none, olds-none, levels, same-levels, parts-levels, first-levels, next-levels}
+use Rattle.gt_assign.proofs.Decided.{apply-start, apply-next, apply-end, list-none, olds-none, levels, same-levels, parts-levels, there-levels, first-levels, next-levels}
 use Rattle.gt_assign.proofs.changes.+applying.Goals as goal
 
 pub apply_all-loop-change-init : goal.apply_all-loop-change-init
@@ -36,3 +36,9 @@ Change::apply-apply_all-requires t c = let h = ap levels c.in-Parts.is ∙ parts
 
 pub Change::apply-apply_all-requires-in-Row : goal.Change::apply-apply_all-requires-in-Row
 Change::apply-apply_all-requires-in-Row t c = let h = ap levels c.in-Parts.is ∙ parts-levels c.in-Parts.kept c.in-Parts.changes in (omega (arith, h), tt)
+
+pub Change::apply-apply-requires : goal.Change::apply-apply-requires
+Change::apply-apply-requires t c =
+    let h = ap levels c.in-There.is ∙ there-levels c.in-There.change in
+    let same = ap levels c.into_inner.ensures in
+    (omega (arith, h, same), tt)

@@ -26,6 +26,15 @@ decreases-struct_change l = 8 * l.depth + 5
 abbrev pub decreases-row_change : goal.decreases-row_change
 decreases-row_change l = 8 * l.depth + 5
 
+abbrev pub decreases-union_change : goal.decreases-union_change
+decreases-union_change l = 8 * l.depth + 5
+
+abbrev pub decreases-there_change : goal.decreases-there_change
+decreases-there_change l = 8 * l.depth + 4
+
+abbrev pub decreases-member_change : goal.decreases-member_change
+decreases-member_change l = 8 * l.depth + 3
+
 abbrev pub decreases-fields_change : goal.decreases-fields_change
 decreases-fields_change l = 8 * l.depth + 1
 
