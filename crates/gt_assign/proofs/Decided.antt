@@ -1,9 +1,9 @@
 -- What becomes of the parts of a value, decided one after another.
-use Rattle.std.proofs.Common.{◌≡◌, ℕ, zero, suc, ◌+◌, ◌<◌, ◌≤◌, Vec, Global, List, [], ◌∷◌, ◌++◌, length, map, take, drop, min, max, ◌⊎◌, refl, ap, sym, subst, ◌∙◌, arith, add-one, Option, Some, None, Err, IsSome, ◌↔◌, inl, inr}
+use Rattle.std.proofs.Common.{◌≡◌, ℕ, zero, suc, ◌+◌, ◌<◌, ◌≤◌, Vec, Global, List, [], ◌∷◌, ◌++◌, length, map, take, drop, min, ◌⊎◌, refl, ap, sym, subst, ◌∙◌, arith, add-one, Option, Some, None, Err, IsSome, ◌↔◌, inl, inr}
 use Rattle.std.specs.Option.{option_to_list, unwrap_or}
-use Rattle.std.proofs.Math.Nat.{le-max_left, le-max_right, min-eq_left, min-eq_right, min-le_right}
+use Rattle.std.proofs.Math.Nat.{min-eq_left, min-eq_right, min-le_right}
 use Rattle.std.proofs.lemmas.List.{map-append, length-map, length-append}
-use Rattle.gt_tree.specs.Trees.{Tree, Null, Rec, Alt, Row, Trees, End, And, count, tree_at}
+use Rattle.gt_tree.specs.Trees.{Tree, Null, Rec, Alt, Row, Trees, End, And, count, tree_at, without_pointers}
 use Rattle.gt_tree.specs.Scopes.{◌then◌}
 use Rattle.gt_value.specs.declared.values.Value.{Value, Null as NullOf}
 use Rattle.gt_value.specs.declared.values.ValueFail.{ValueFail}
@@ -12,10 +12,11 @@ use Rattle.gt_value.specs.Values.{trees, tree_of}
 use Rattle.gt_fit.proofs.Values.{null-tree}
 use Rattle.gt_assign.specs.declared.changes.Change.{Change}
 use Rattle.gt_assign.specs.declared.changes.Change.TheVariants as change
-use Rattle.gt_assign.specs.declared.changes.Change.TheVariants.{Kept, New, Parts as PartsOf, There}
+use Rattle.gt_assign.specs.declared.changes.Change.TheVariants.{Kept, New, Parts as PartsOf, Bare, There}
 use Rattle.gt_assign.specs.declared.changes.Change.TheOpen as open_part
 use Rattle.gt_assign.specs.declared.changes.Change.TheOpen.{Change-F}
 use Rattle.gt_assign.specs.declared.changes.Change.TheFolds.{fold-Change, fold-roll-Change}
+use Rattle.gt_assign.proofs.Nested.{most}
 use Rattle.gt_assign.specs.declared.changes.Parts.{Parts}
 use Rattle.gt_assign.specs.Turning.{Gives}
 use Rattle.gt_assign.specs.Changes.{all_changed, parts_changed, change_step, changed, or_null, Decides, IsNext}
@@ -107,6 +108,9 @@ kept-changed tree = ap (λ (f : Tree → Tree). f tree) (ap changed (sym change.
 
 pub new-changed : (value : Value) (tree : Tree) → changed (New value) tree ≡ tree_of value
 new-changed value tree = ap (λ (f : Tree → Tree). f tree) (ap changed (sym (change.rolls-New value)) ∙ fold-roll-Change (Tree → Tree) change_step (open_part.New value))
+
+pub bare-changed : (tree : Tree) → changed Bare tree ≡ without_pointers tree
+bare-changed tree = ap (λ (f : Tree → Tree). f tree) (ap changed (sym change.rolls-Bare) ∙ fold-roll-Change (Tree → Tree) change_step open_part.Bare)
 
 pub there-changed : (change : Change) (member : Option ℕ) (tree : Tree) → changed (There change) (Alt member tree) ≡ Alt member (changed change tree)
 there-changed c member tree = ap (λ (f : Tree → Tree). f (Alt member tree)) (ap changed (sym (change.rolls-There c)) ∙ fold-roll-Change (Tree → Tree) change_step (open_part.There c))
@@ -276,14 +280,11 @@ all-kept kept len changes old full none h = sym (ap (λ (cs : List Change). part
 
 -- ---- how deep changes nest
 
-abbrev pub most : List ℕ → ℕ
-most [] = 0
-most (x ∷ xs) = max x (most xs)
-
 abbrev pub levels_step : Change-F ℕ → ℕ
 levels_step open_part.Kept = 0
 levels_step (open_part.New value) = 0
 levels_step (open_part.Parts kept changes) = suc (most changes.items)
+levels_step open_part.Bare = 0
 levels_step (open_part.There inner) = suc inner
 
 abbrev pub levels : Change → ℕ
@@ -294,22 +295,6 @@ parts-levels kept changes = ap levels (sym (change.rolls-Parts kept changes)) �
 
 pub there-levels : (change : Change) → levels (There change) ≡ suc (levels change)
 there-levels c = ap levels (sym (change.rolls-There c)) ∙ fold-roll-Change ℕ levels_step (open_part.There c)
-
--- each of some changes nests no deeper than all
-pub first-levels : (all left : List Change) (change : Change) (changes : List Change) → left ≡ change ∷ changes → most (map levels left) ≤ most (map levels all) → levels change ≤ most (map levels all)
-first-levels all left change changes e h =
-    let a : max (levels change) (most (map levels changes)) ≤ most (map levels all) = subst (λ (cs : List Change). most (map levels cs) ≤ most (map levels all)) e h in
-    let b = le-max_left (levels change) (most (map levels changes)) in
-    omega (arith, a, b)
-
-pub next-levels : (all left : List Change) (change : Change) (changes : List Change) → left ≡ change ∷ changes → most (map levels left) ≤ most (map levels all) → most (map levels changes) ≤ most (map levels all)
-next-levels all left change changes e h =
-    let a : max (levels change) (most (map levels changes)) ≤ most (map levels all) = subst (λ (cs : List Change). most (map levels cs) ≤ most (map levels all)) e h in
-    let b = le-max_right (levels change) (most (map levels changes)) in
-    omega (arith, a, b)
-
-pub same-levels : (left all : List Change) → left ≡ all → most (map levels left) ≤ most (map levels all)
-same-levels left all e = let h = ap (λ (cs : List Change). most (map levels cs)) e in omega (arith, h)
 
 -- nothing comes of an iterator that has nothing
 pub olds-none : (r : Option Value) (olds : List Value) (len : ℕ) → len ≡ length olds → (IsSome r ↔ (0 < len)) → r ≡ None → olds ≡ []

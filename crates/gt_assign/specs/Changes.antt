@@ -1,6 +1,6 @@
 -- No promise: what the code decides of a value before it moves the parts.
 use Rattle.std.specs.Prelude.{◌≡◌, ℕ, zero, suc, ◌+◌, ◌<◌, ◌⊎◌, Result, Ok, Err, List, [], ◌∷◌, ◌++◌, Option, Some, None}
-use Rattle.gt_tree.specs.Trees.{Tree, Null, Rec, Alt, Row, Trees, End, And}
+use Rattle.gt_tree.specs.Trees.{Tree, Null, Rec, Alt, Row, Trees, End, And, without_pointers}
 use Rattle.gt_value.specs.declared.values.ValueFail.{ValueFail}
 use Rattle.gt_value.specs.declared.values.ValueFail.TheVariants.{Shape, Memory}
 use Rattle.gt_value.specs.Values.{tree_of}
@@ -29,6 +29,7 @@ change_step (open_part.New value) tree = tree_of value
 change_step (open_part.Parts kept changes) (Rec trees) = Rec (parts_changed kept changes.items trees)
 change_step (open_part.Parts kept changes) (Row trees) = Row (parts_changed kept changes.items trees)
 change_step (open_part.Parts kept changes) tree = tree
+change_step open_part.Bare tree = without_pointers tree
 change_step (open_part.There change) (Alt member tree) = Alt member (change tree)
 change_step (open_part.There change) tree = tree
 

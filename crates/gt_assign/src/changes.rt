@@ -5,6 +5,7 @@ ghost use Rattle.gt_value.specs.Values.{trees, tree_of};
 ghost use Rattle.gt_assign.specs.declared.changes.Change.TheVariants.{Kept};
 ghost use Rattle.gt_assign.specs.Changes.{changed, parts_changed, IsNext};
 
+use crate::copies::without_pointers;
 use gt_value::Value;
 use sqlite_items::Boxed;
 use std::alloc::{AllocError, Global};
@@ -18,6 +19,8 @@ pub enum Change {
     New(Value),
     /// So many of its first parts stay, and then each becomes what its change says. The parts after them go.
     Parts { kept: usize, changes: Vec<Change> },
+    /// Its pointers become null, and the rest of it stays.
+    Bare,
     /// It is a union of which the same member stays active, and what is there becomes what this says.
     There(Boxed<Change>),
 }
@@ -36,6 +39,7 @@ impl Change {
                 Value::Row(parts) => Ok(Value::Row(apply_all(changes, alloc, parts, kept)?)),
                 other => Ok(other),
             },
+            Change::Bare => without_pointers(alloc, value),
             Change::There(change) => match value {
                 Value::Alt {
                     member,
@@ -67,7 +71,7 @@ impl Change {
     {
         match self {
             Change::Kept => true,
-            Change::New(_) | Change::Parts { .. } | Change::There(_) => false,
+            Change::New(_) | Change::Parts { .. } | Change::Bare | Change::There(_) => false,
         }
     }
 }

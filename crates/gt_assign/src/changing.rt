@@ -1,5 +1,5 @@
 // What becomes of each part of a value in which a leaf was replaced: most parts stay as they are.
-ghost use Rattle.std.specs.Prelude.{◌≡◌, ◌≤◌, IfOk, true, cond, Some, None, length, map, option_copied};
+ghost use Rattle.std.specs.Prelude.{◌≡◌, ◌≤◌, true, cond, Some, None, length, map, option_copied};
 ghost use Rattle.gt_types.specs.declared.types.TypeId.{TypeId};
 ghost use Rattle.gt_types.specs.Contains.{HasStructure};
 ghost use Rattle.gt_types.specs.Settled.{Settled};
@@ -14,13 +14,12 @@ ghost use Rattle.gt_assign.specs.Turning.{made, layer_made, tail_made, node_made
 ghost use Rattle.gt_assign.specs.Changes.{changed, Decides, or_null};
 
 use crate::changes::{Change, Parts};
-use crate::copies::{is_leaf, without_pointers};
+use crate::copies::is_leaf;
 use crate::seeing::{Around, Seen, desc_value};
 use crate::turning::{Making, tail_length, turn, union};
 use gt_fit::{is_active, is_bare, item};
 use gt_types::{Expr, Field, Structure, Ty, TypeId};
 use gt_value::{Value, ValueFail};
-use std::alloc::AllocError;
 
 /// What becomes of a part, by what was around it. `Shape` says that there is no value.
 #[cycle(changing)]
@@ -262,19 +261,20 @@ fn there_change(
     ensures { Decides result (Alt member (tree_of there.now)) (member_made on.now.program.now (made on.now.program.now on.now.capacity depth) (past_of inner.now) structure.now (Whole (Alt member (tree_of there.now))) member) }
 {
     match member {
-        None => Ok(bare_change(on, there)?),
+        None => Ok(bare_change(there)),
         Some(place) => member_change(on, structure, place as usize, there, inner, depth),
     }
 }
 
 // The common structure of a union, where no member is active: its pointers become null.
-fn bare_change(on: &Making, there: &Value) -> Result<Change, AllocError>
-    ensures { IfOk result (λ made. changed made (Alt None (tree_of there.now)) ≡ Alt None (without_pointers (tree_of there.now))) }
+fn bare_change(there: &Value) -> Change
+    ensures { changed result (Alt None (tree_of there.now)) ≡ Alt None (without_pointers (tree_of there.now)) }
 {
     if is_bare(there) {
-        return Ok(Change::Kept);
+        Change::Kept
+    } else {
+        Change::Bare
     }
-    Change::New(without_pointers(on.alloc, there)?).inside(on.alloc)
 }
 
 // The active member of a union.

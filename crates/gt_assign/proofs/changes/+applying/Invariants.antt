@@ -1,7 +1,8 @@
 use Rattle.std.proofs.Common.{◌≡◌, ◌+◌, ◌*◌, ◌≤◌, map}
 use Rattle.gt_value.specs.Values.{trees, tree_of}
 use Rattle.gt_assign.specs.Changes.{changed, parts_changed, all_changed}
-use Rattle.gt_assign.proofs.Decided.{append, most, levels}
+use Rattle.gt_assign.proofs.Decided.{append, levels}
+use Rattle.gt_assign.proofs.Nested.{most}
 use Rattle.gt_assign.proofs.changes.+applying.Given as goal
 
 abbrev pub decreases-Change::apply : goal.decreases-Change::apply
