@@ -10,4 +10,7 @@ pub mod Whole
 pub mod Nesting
 pub mod Assigned
 pub mod Records
-pub mod Kept
+pub mod Nested
+pub mod Decided
+pub mod PartFields
+pub mod PartElements

@@ -34,7 +34,7 @@ abbrev pub following : List Value → Option Trees → Option Trees
 following values (Some rest) = Some (before values rest)
 following values None = None
 
-abbrev more : Tree → Option Trees → Option Trees
+abbrev pub more : Tree → Option Trees → Option Trees
 more tree o = o then λ rest. Some (And tree rest)
 
 after-more : (values : List Value) (value : Value) (o : Option Trees) → following values (more (tree_of value) o) ≡ following (values ++ value ∷ []) o
@@ -45,7 +45,7 @@ module _ (make : Maker) (past : Past) (was : Was) where
   abbrev rest_of : ℕ → List Ty → Tree → Option Trees
   rest_of i types tree = more tree (fields_made make past was (suc i) types)
 
-  one-made : (i : ℕ) (type : Ty) (types : List Ty) (part : Was) (tree : Tree) → field_was was i ≡ Some part → make past type part ≡ Some tree
+  pub one-made : (i : ℕ) (type : Ty) (types : List Ty) (part : Was) (tree : Tree) → field_was was i ≡ Some part → make past type part ≡ Some tree
       → fields_made make past was i (type ∷ types) ≡ more tree (fields_made make past was (suc i) types)
   one-made i type types part tree e f =
       ap (λ o. o then λ p. make past type p then λ t. fields_made make past was (suc i) types then λ rest. Some (And t rest)) e
@@ -54,7 +54,7 @@ module _ (make : Maker) (past : Past) (was : Was) where
   no-part : (i : ℕ) (type : Ty) (types : List Ty) → field_was was i ≡ None → fields_made make past was i (type ∷ types) ≡ None
   no-part i type types e = ap (λ o. o then λ p. make past type p then λ t. fields_made make past was (suc i) types then λ rest. Some (And t rest)) e
 
-  no-tree : (i : ℕ) (type : Ty) (types : List Ty) (part : Was) → field_was was i ≡ Some part → make past type part ≡ None → fields_made make past was i (type ∷ types) ≡ None
+  pub no-tree : (i : ℕ) (type : Ty) (types : List Ty) (part : Was) → field_was was i ≡ Some part → make past type part ≡ None → fields_made make past was i (type ∷ types) ≡ None
   no-tree i type types part e f =
       ap (λ o. o then λ p. make past type p then λ t. fields_made make past was (suc i) types then λ rest. Some (And t rest)) e
       ∙ ap (λ o. o then λ t. fields_made make past was (suc i) types then λ rest. Some (And t rest)) f

@@ -2,3 +2,4 @@ pub mod Results
 pub mod Checks
 pub mod Pasts
 pub mod Turning
+pub mod Changes

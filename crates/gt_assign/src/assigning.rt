@@ -12,11 +12,11 @@ ghost use Rattle.gt_assign.specs.Pasts.{Whole, past_outside};
 ghost use Rattle.gt_assign.specs.Turning.{Gives, made};
 ghost use Rattle.gt_assign.specs.Results.{FitsBeside, IsAssigned, IsMisfit, IsMadeWhereFit, NoneElseIsMade, NoneIsMade};
 
+use crate::changing::change;
 use crate::copies::is_word;
-use crate::keeping::is_kept;
 use crate::parts::{part_at, with_part};
-use crate::seeing::{Around, Seen};
-use crate::turning::{Making, turn};
+use crate::seeing::Around;
+use crate::turning::Making;
 use gt_fit::{Checking, Within, fits};
 use gt_types::{Program, Ty};
 use gt_value::{BlockNames, Value, ValueFail};
@@ -57,10 +57,8 @@ fn make_anew(
         program,
         capacity,
     };
-    if is_kept(&on, ty, &old, &around, MAX_NESTING) {
-        return Ok(old);
-    }
-    turn(&on, ty, Seen::Whole(&old), &around, MAX_NESTING)
+    let change = change(&on, ty, &old, &around, MAX_NESTING)?;
+    Ok(change.apply(alloc, old)?)
 }
 
 // Whether a value fits an element of a block, where no structure is around it. Its expressions read no roots.

@@ -43,28 +43,33 @@ fn copy_all(alloc: Global, parts: &[Value]) -> Result<Vec<Value>, AllocError>
     Ok(made)
 }
 
-/// The value in which each pointer is null.
+/// The value in which each pointer is null. Its other parts are moved.
 #[cycle(bare)]
-pub fn without_pointers(alloc: Global, value: &Value) -> Result<Value, AllocError>
-    ensures { IfOk result (λ made. tree_of made ≡ without_pointers (tree_of value.now)) }
+pub fn without_pointers(alloc: Global, value: Value) -> Result<Value, AllocError>
+    ensures { IfOk result (λ made. tree_of made ≡ without_pointers (tree_of value)) }
 {
     match value {
-        Value::Num(n) => Ok(Value::Num(*n)),
         Value::Null | Value::To(_) => Ok(Value::Null),
-        Value::Raw(bytes) => Ok(Value::Raw(bytes.copy(alloc)?)),
-        Value::Rec(parts) => Ok(Value::Rec(all_without_pointers(alloc, parts.as_slice())?)),
-        Value::Row(parts) => Ok(Value::Row(all_without_pointers(alloc, parts.as_slice())?)),
-        Value::Alt { member, value } => Ok(Value::Alt {
-            member: *member,
-            value: Boxed::new(alloc, without_pointers(alloc, value.get())?)?,
-        }),
+        Value::Rec(parts) => Ok(Value::Rec(all_without_pointers(alloc, parts)?)),
+        Value::Row(parts) => Ok(Value::Row(all_without_pointers(alloc, parts)?)),
+        Value::Alt {
+            member,
+            value: there,
+        } => {
+            let made = without_pointers(alloc, there.into_inner())?;
+            Ok(Value::Alt {
+                member,
+                value: Boxed::new(alloc, made)?,
+            })
+        }
+        Value::Num(_) | Value::Raw(_) => Ok(value),
     }
 }
 
 // The values in which each pointer is null.
 #[cycle(bare)]
-fn all_without_pointers(alloc: Global, parts: &[Value]) -> Result<Vec<Value>, AllocError>
-    ensures { IfOk result (λ made. trees (map tree_of made.items) ≡ all_without_pointers (trees (map tree_of parts.now))) }
+fn all_without_pointers(alloc: Global, parts: Vec<Value>) -> Result<Vec<Value>, AllocError>
+    ensures { IfOk result (λ made. trees (map tree_of made.items) ≡ all_without_pointers (trees (map tree_of parts.items))) }
 {
     let mut made = Vec::new(alloc);
     for part in parts {

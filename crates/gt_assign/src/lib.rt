@@ -4,8 +4,9 @@
 #![tactic(auto)]
 
 mod assigning;
+mod changes;
+mod changing;
 mod copies;
-mod keeping;
 mod parts;
 mod seeing;
 mod statics;

@@ -1,59 +1,46 @@
 // Writing one leaf of the static record.
-ghost use Rattle.std.specs.Prelude.{◌≡◌, ◌↔◌, IsTrue, IfOk, Some, Err, map};
+ghost use Rattle.std.specs.Prelude.{◌≡◌, ◌↔◌, IsTrue, IfOk, Err, map};
 ghost use Rattle.gt_types.specs.Settled.{Settled};
 ghost use Rattle.gt_tree.specs.Trees.{Trees, Rec};
 ghost use Rattle.gt_tree.specs.Fits.{AllFit, StaticsFit};
 ghost use Rattle.gt_value.specs.Values.{trees, tree_of};
 ghost use Rattle.gt_value.specs.declared.values.ValueFail.TheVariants.{Shape};
-ghost use Rattle.gt_assign.specs.Pasts.{Whole, was_of, past_of};
+ghost use Rattle.gt_assign.specs.Pasts.{Whole, past_of};
 ghost use Rattle.gt_fit.specs.Scoping.{scope_of};
 ghost use Rattle.gt_assign.specs.Turning.{Gives, made, roots_made, record_made};
+ghost use Rattle.gt_assign.specs.Changes.{Decides};
 ghost use Rattle.gt_assign.specs.Results.{IsRecord, RecordFits, IsRecordAssigned, IsRecordMisfit, IsRecordWhereFit, NoneElseIsRecord, NoneIsRecord};
 
 use crate::assigning::{MAX_NESTING, leads_to_leaf};
+use crate::changes::{Change, Parts};
+use crate::changing::change;
 use crate::copies::is_word;
-use crate::keeping::is_kept;
 use crate::parts::with_part;
-use crate::seeing::{Around, Seen};
-use crate::steps::{field_of, has_fields};
-use crate::turning::{Making, turn};
+use crate::seeing::Around;
+use crate::turning::Making;
 use gt_fit::{Checking, Within, fits};
 use gt_types::{Program, Root};
 use gt_value::{BlockNames, Value, ValueFail};
 use std::alloc::Global;
 
-// The roots, made anew one after another.
-fn roots_anew(on: &Making, roots: &[Root], seen: Seen, around: &Around) -> Result<Value, ValueFail>
+// What becomes of the roots, one after another.
+fn roots_change(
+    on: &Making,
+    roots: &[Root],
+    parts: &[Value],
+    around: &Around,
+) -> Result<Change, ValueFail>
     requires settled { Settled on.now.program.now }
-    ensures { Gives result (roots_made (made on.now.program.now on.now.capacity 256) (past_of around.now) roots.now (was_of seen.entry)) }
-{
-    if !has_fields(seen, roots.len()) {
-        return Err(ValueFail::Shape);
-    }
-    let mut parts = Vec::new(on.alloc);
-    for (i, root) in roots.iter().enumerate() {
-        let Some(part) = field_of(seen, i) else {
-            return Err(ValueFail::Shape);
-        };
-        parts.push(turn(on, &root.ty, part, around, MAX_NESTING)?)?;
-    }
-    Ok(Value::Rec(parts))
-}
-
-// Whether the roots stay as they are, one after another.
-fn roots_kept(on: &Making, roots: &[Root], parts: &[Value], around: &Around) -> bool
-    requires settled { Settled on.now.program.now }
-    ensures { IsTrue result → roots_made (made on.now.program.now on.now.capacity 256) (past_of around.now) roots.now (Whole (Rec (trees (map tree_of parts.now)))) ≡ Some (Rec (trees (map tree_of parts.now))) }
+    ensures { Decides result (Rec (trees (map tree_of parts.now))) (roots_made (made on.now.program.now on.now.capacity 256) (past_of around.now) roots.now (Whole (Rec (trees (map tree_of parts.now))))) }
 {
     if parts.len() != roots.len() {
-        return false;
+        return Err(ValueFail::Shape);
     }
+    let mut all = Parts::new(on.alloc, parts.len());
     for (i, part) in parts.iter().enumerate() {
-        if !is_kept(on, &roots[i].ty, part, around, MAX_NESTING) {
-            return false;
-        }
+        all.push(change(on, &roots[i].ty, part, around, MAX_NESTING)?)?;
     }
-    true
+    Ok(all.finish())
 }
 
 // What the static record becomes, in which a leaf was replaced: mostly itself. Its expressions read the roots as they are there.
@@ -64,26 +51,20 @@ fn record_anew(alloc: Global, program: &Program, written: Value) -> Result<Value
     let Value::Rec(parts) = &written else {
         return Err(ValueFail::Shape);
     };
+    let parts = parts.as_slice();
     let around = Around {
         here: None,
         outer: None,
         outermost: None,
-        roots: parts.as_slice(),
+        roots: parts,
     };
     let on = Making {
         alloc,
         program,
         capacity: 0,
     };
-    if roots_kept(&on, program.roots.as_slice(), parts.as_slice(), &around) {
-        return Ok(written);
-    }
-    roots_anew(
-        &on,
-        program.roots.as_slice(),
-        Seen::Whole(&written),
-        &around,
-    )
+    let change = roots_change(&on, program.roots.as_slice(), parts, &around)?;
+    Ok(change.apply(alloc, written)?)
 }
 
 // Whether values fit these roots, one after another.

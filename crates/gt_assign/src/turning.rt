@@ -181,9 +181,9 @@ fn row(
     Ok(Value::Row(parts))
 }
 
-// What is there in a union: its active member, or without one its common structure.
+/// A union, by what it was: its active member, or without one its common structure.
 #[cycle(turning)]
-fn union(
+pub fn union(
     on: &Making,
     desc: &Option<Expr>,
     structure: &Structure,
@@ -280,13 +280,13 @@ fn rest_of(on: &Making, structure: &Structure, value: &Value) -> Result<Value, V
         return Err(ValueFail::Shape);
     };
     let Some(place) = member else {
-        return Ok(without_pointers(on.alloc, there.get())?);
+        return Ok(without_pointers(on.alloc, copy(on.alloc, there.get())?)?);
     };
     let Some(id) = common_of(on.program, structure) else {
         return Ok(Value::Rec(Vec::new(on.alloc)));
     };
     match beginning(on.program, id, member_type(structure, *place), there.get()) {
         None => Err(ValueFail::Shape),
-        Some(part) => Ok(without_pointers(on.alloc, part)?),
+        Some(part) => Ok(without_pointers(on.alloc, copy(on.alloc, part)?)?),
     }
 }

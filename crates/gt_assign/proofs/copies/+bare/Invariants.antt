@@ -1,8 +1,17 @@
-use Rattle.std.proofs.Common.{◌≡◌, map, take}
+use Rattle.std.proofs.Common.{◌≡◌, ◌+◌, ◌*◌, ◌≤◌, ◌++◌, map}
 use Rattle.gt_tree.specs.Trees.{without_pointers}
 use Rattle.gt_value.specs.declared.values.Value.{Value}
 use Rattle.gt_value.specs.Values.{tree_of}
+use Rattle.gt_assign.proofs.Nested.{most, depth_of}
 use Rattle.gt_assign.proofs.copies.+bare.Given as goal
 
+abbrev pub decreases-without_pointers : goal.decreases-without_pointers
+decreases-without_pointers l = 2 * depth_of l.value
+
+abbrev pub decreases-all_without_pointers : goal.decreases-all_without_pointers
+decreases-all_without_pointers l = 2 * most (map depth_of l.parts.items) + 1
+
 abbrev pub invariant-all_without_pointers-loop-part : goal.invariant-all_without_pointers-loop-part
-invariant-all_without_pointers-loop-part l = map tree_of l.made.items ≡ map (λ (x : Value). without_pointers (tree_of x)) (take l.part-index l.parts)
+invariant-all_without_pointers-loop-part l =
+    (map tree_of l.made.items ++ map (λ (x : Value). without_pointers (tree_of x)) l.part-iterator.rest.items ≡ map (λ (x : Value). without_pointers (tree_of x)) l.fn.parts.items)
+    × (most (map depth_of l.part-iterator.rest.items) ≤ most (map depth_of l.fn.parts.items))

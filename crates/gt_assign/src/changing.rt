@@ -1,0 +1,298 @@
+// What becomes of each part of a value in which a leaf was replaced: most parts stay as they are.
+ghost use Rattle.std.specs.Prelude.{◌≡◌, ◌≤◌, true, cond, Some, None, length, map, option_copied};
+ghost use Rattle.gt_types.specs.declared.types.TypeId.{TypeId};
+ghost use Rattle.gt_types.specs.Contains.{HasStructure};
+ghost use Rattle.gt_types.specs.Settled.{Settled};
+ghost use Rattle.gt_types.specs.declared.limits.TheConstants.{MAX_FIELDS};
+ghost use Rattle.gt_types.specs.declared.types.Ty.{out-Ty};
+ghost use Rattle.gt_tree.specs.Trees.{Rec, Alt, Row, is_leaf, without_pointers};
+ghost use Rattle.gt_tree.specs.Fits.{active_member};
+ghost use Rattle.gt_value.specs.Values.{trees, tree_of};
+ghost use Rattle.gt_fit.specs.Values.{maybe_tree};
+ghost use Rattle.gt_assign.specs.Pasts.{Whole, past_of, desc_was};
+ghost use Rattle.gt_assign.specs.Turning.{made, layer_made, tail_made, node_made, struct_made, row_made, member_made, maybe_whole};
+ghost use Rattle.gt_assign.specs.Changes.{changed, Decides, or_null};
+
+use crate::changes::{Change, Parts};
+use crate::copies::is_leaf;
+use crate::seeing::{Around, Seen, desc_value};
+use crate::turning::{Making, tail_length, turn, union};
+use gt_fit::{is_active, is_bare, item};
+use gt_types::{Expr, Field, Structure, Ty, TypeId};
+use gt_value::{Value, ValueFail};
+
+/// What becomes of a part, by what was around it. `Shape` says that there is no value.
+#[cycle(changing)]
+pub fn change(
+    on: &Making,
+    ty: &Ty,
+    value: &Value,
+    around: &Around,
+    depth: usize,
+) -> Result<Change, ValueFail>
+    requires settled { Settled on.now.program.now }
+    ensures { Decides result (tree_of value.now) (made on.now.program.now on.now.capacity depth (past_of around.now) ty.now (Whole (tree_of value.now))) }
+{
+    if depth == 0 {
+        return Err(ValueFail::Shape);
+    }
+    layer_change(on, ty, value, around, depth - 1)
+}
+
+// The same, where its parts nest one less deep.
+#[cycle(changing)]
+fn layer_change(
+    on: &Making,
+    ty: &Ty,
+    value: &Value,
+    around: &Around,
+    depth: usize,
+) -> Result<Change, ValueFail>
+    requires settled { Settled on.now.program.now }
+    ensures { Decides result (tree_of value.now) (layer_made on.now.program.now on.now.capacity (made on.now.program.now on.now.capacity depth) (past_of around.now) (out-Ty ty.now) (Whole (tree_of value.now))) }
+{
+    match ty {
+        Ty::Node { id, desc } => node_change(on, *id, desc, value, around, depth),
+        Ty::Arr { n, elem } => row_change(on, elem.get(), value, *n as usize, around, depth),
+        Ty::Tail { len, elem } => tail_change(
+            on,
+            elem.get(),
+            value,
+            tail_length(on, len, around),
+            around,
+            depth,
+        ),
+        _ => leaf_change(value),
+    }
+}
+
+// A leaf.
+fn leaf_change(value: &Value) -> Result<Change, ValueFail>
+    ensures { Decides result (tree_of value.now) (cond (is_leaf (tree_of value.now)) (Some (tree_of value.now)) None) }
+{
+    if is_leaf(value) {
+        Ok(Change::Kept)
+    } else {
+        Err(ValueFail::Shape)
+    }
+}
+
+// A structure by value.
+#[cycle(changing)]
+fn node_change(
+    on: &Making,
+    id: TypeId,
+    desc: &Option<Expr>,
+    value: &Value,
+    around: &Around,
+    depth: usize,
+) -> Result<Change, ValueFail>
+    requires settled { Settled on.now.program.now }
+    ensures { Decides result (tree_of value.now) (node_made on.now.program.now (made on.now.program.now on.now.capacity depth) (past_of around.now) id desc.now (Whole (tree_of value.now))) }
+{
+    let Some(structure) = on.program.structures.get(id.0 as usize) else {
+        return Err(ValueFail::Shape);
+    };
+    let inner = (&*around).inside(id, Seen::Whole(&*value));
+    if structure.is_union {
+        union_change(on, desc, structure, value, &inner, depth)
+    } else {
+        struct_change(on, structure.fields.as_slice(), value, &inner, depth)
+    }
+}
+
+// A struct.
+#[cycle(changing)]
+fn struct_change(
+    on: &Making,
+    fields: &[Field],
+    value: &Value,
+    inner: &Around,
+    depth: usize,
+) -> Result<Change, ValueFail>
+    requires settled { Settled on.now.program.now }
+    ensures { Decides result (tree_of value.now) (struct_made (made on.now.program.now on.now.capacity depth) (past_of inner.now) fields.now (Whole (tree_of value.now))) }
+{
+    match value {
+        Value::Rec(parts) => fields_change(on, fields, parts.as_slice(), inner, depth),
+        _ => Err(ValueFail::Shape),
+    }
+}
+
+// The fields of a struct.
+#[cycle(changing)]
+fn fields_change(
+    on: &Making,
+    fields: &[Field],
+    parts: &[Value],
+    inner: &Around,
+    depth: usize,
+) -> Result<Change, ValueFail>
+    requires settled { Settled on.now.program.now }
+    ensures { Decides result (Rec (trees (map tree_of parts.now))) (struct_made (made on.now.program.now on.now.capacity depth) (past_of inner.now) fields.now (Whole (Rec (trees (map tree_of parts.now))))) }
+{
+    if parts.len() != fields.len() {
+        return Err(ValueFail::Shape);
+    }
+    let mut all = Parts::new(on.alloc, parts.len());
+    for (i, part) in parts.iter().enumerate() {
+        all.push(change(on, &fields[i].ty, part, inner, depth)?)?;
+    }
+    Ok(all.finish())
+}
+
+// An array with a length, by how many elements it is to have.
+#[cycle(changing)]
+fn tail_change(
+    on: &Making,
+    ty: &Ty,
+    value: &Value,
+    n: Option<usize>,
+    around: &Around,
+    depth: usize,
+) -> Result<Change, ValueFail>
+    requires settled { Settled on.now.program.now }
+    ensures { Decides result (tree_of value.now) (tail_made (made on.now.program.now on.now.capacity depth) (past_of around.now) ty.now (Whole (tree_of value.now)) n) }
+{
+    match n {
+        None => Err(ValueFail::Shape),
+        Some(n) => row_change(on, ty, value, n, around, depth),
+    }
+}
+
+// An array that is to have so many elements.
+#[cycle(changing)]
+fn row_change(
+    on: &Making,
+    ty: &Ty,
+    value: &Value,
+    n: usize,
+    around: &Around,
+    depth: usize,
+) -> Result<Change, ValueFail>
+    requires settled { Settled on.now.program.now }
+    ensures { Decides result (tree_of value.now) (row_made (made on.now.program.now on.now.capacity depth) (past_of around.now) ty.now (Whole (tree_of value.now)) n) }
+{
+    match value {
+        Value::Row(parts) => elements_change(on, ty, parts.as_slice(), n, around, depth),
+        _ => Err(ValueFail::Shape),
+    }
+}
+
+// The elements of an array that is to have so many.
+#[cycle(changing)]
+fn elements_change(
+    on: &Making,
+    ty: &Ty,
+    parts: &[Value],
+    n: usize,
+    around: &Around,
+    depth: usize,
+) -> Result<Change, ValueFail>
+    requires settled { Settled on.now.program.now }
+    ensures { Decides result (Row (trees (map tree_of parts.now))) (row_made (made on.now.program.now on.now.capacity depth) (past_of around.now) ty.now (Whole (Row (trees (map tree_of parts.now)))) n) }
+{
+    let mut all = Parts::new(on.alloc, parts.len());
+    for i in 0..n {
+        all.push(element_change(on, ty, item(parts, i), around, depth)?)?;
+    }
+    Ok(all.finish())
+}
+
+// An element of an array: what was there, or zero.
+#[cycle(changing)]
+fn element_change(
+    on: &Making,
+    ty: &Ty,
+    part: Option<&Value>,
+    around: &Around,
+    depth: usize,
+) -> Result<Change, ValueFail>
+    requires settled { Settled on.now.program.now }
+    ensures { Decides result (or_null (maybe_tree (option_copied part.entry))) (made on.now.program.now on.now.capacity depth (past_of around.now) ty.now (maybe_whole (maybe_tree (option_copied part.entry)))) }
+{
+    match part {
+        None => Ok(Change::New(turn(on, ty, Seen::Zero, around, depth)?)),
+        Some(part) => change(on, ty, part, around, depth),
+    }
+}
+
+// A union: its active member stays active, or it is made anew.
+#[cycle(changing)]
+fn union_change(
+    on: &Making,
+    desc: &Option<Expr>,
+    structure: &Structure,
+    value: &Value,
+    inner: &Around,
+    depth: usize,
+) -> Result<Change, ValueFail>
+    requires settled { Settled on.now.program.now }
+    requires few { length structure.now.fields ≤ MAX_FIELDS }
+    requires there { (node : TypeId) × HasStructure on.now.program.now node structure.now }
+    requires union { structure.now.is_union ≡ true }
+    ensures { Decides result (tree_of value.now) (member_made on.now.program.now (made on.now.program.now on.now.capacity depth) (past_of inner.now) structure.now (Whole (tree_of value.now))
+        (active_member (desc_was on.now.program.now (past_of inner.now) desc.now) structure.now.fields)) }
+{
+    match value {
+        Value::Alt {
+            member,
+            value: there,
+        } if is_active(
+            desc_value(on.program, desc, inner),
+            structure.fields.as_slice(),
+            *member,
+        ) => there_change(on, structure, *member, there.get(), inner, depth),
+        _ => Ok(Change::New(union(on, desc, structure, Seen::Whole(value), inner, depth)?)),
+    }
+}
+
+// A union of which the same member is active as before, or none.
+#[cycle(changing)]
+fn there_change(
+    on: &Making,
+    structure: &Structure,
+    member: Option<u32>,
+    there: &Value,
+    inner: &Around,
+    depth: usize,
+) -> Result<Change, ValueFail>
+    requires settled { Settled on.now.program.now }
+    ensures { Decides result (Alt member (tree_of there.now)) (member_made on.now.program.now (made on.now.program.now on.now.capacity depth) (past_of inner.now) structure.now (Whole (Alt member (tree_of there.now))) member) }
+{
+    match member {
+        None => Ok(bare_change(there)),
+        Some(place) => member_change(on, structure, place as usize, there, inner, depth),
+    }
+}
+
+// The common structure of a union, where no member is active: its pointers become null.
+fn bare_change(there: &Value) -> Change
+    ensures { changed result (Alt None (tree_of there.now)) ≡ Alt None (without_pointers (tree_of there.now)) }
+{
+    if is_bare(there) {
+        Change::Kept
+    } else {
+        Change::Bare
+    }
+}
+
+// The active member of a union.
+#[cycle(changing)]
+fn member_change(
+    on: &Making,
+    structure: &Structure,
+    place: usize,
+    there: &Value,
+    inner: &Around,
+    depth: usize,
+) -> Result<Change, ValueFail>
+    requires settled { Settled on.now.program.now }
+    ensures { Decides result (Alt (Some place) (tree_of there.now)) (member_made on.now.program.now (made on.now.program.now on.now.capacity depth) (past_of inner.now) structure.now (Whole (Alt (Some place) (tree_of there.now))) (Some place)) }
+{
+    let Some(field) = structure.fields.get(place) else {
+        return Err(ValueFail::Shape);
+    };
+    let change = change(on, &field.ty, there, inner, depth)?;
+    Ok(change.inside(on.alloc)?)
+}
