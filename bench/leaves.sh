@@ -1,7 +1,7 @@
 #!/usr/bin/env bash
-# Times writes of one leaf in place, by the program leaf_table, which is built first: an element of the array at the end of a structure, once of 64
-# elements and once of 65,536. The time of a run without a write is taken off. A write takes O(path), whatever the size of the block. Run by hand, from any
-# folder. On a busy machine, on 28 November 2026, a million writes took 0.1 s, 8.8 times as long as 100,000, and 1.08 times as long in the larger array.
+# Times writes of one leaf in place, by the program leaf_table, which is built first: elements of the array at the end of a structure, once of 64
+# elements and once of 65,536, each write at another one, spread over the array. The time of a run without a write is taken off. A write takes O(path),
+# whatever the size of the block. Run by hand, from any folder.
 . "$(dirname "$0")/shared.sh"
 (cd "$root/crates/leaf_table" && quiet rt run </dev/null)
 cp "$root/crates/leaf_table/out/leaf_table" "$work/leaf_table"
@@ -9,9 +9,9 @@ cp "$root/crates/leaf_table/out/leaf_table" "$work/leaf_table"
 # The seconds that so many writes take in an array of so many elements.
 writes() {
   local all none
-  printf 'times 0 vecb %d 1=%d at 2.7=5 -> written\n' "$2" "$2" >"$work/input"
+  printf 'spread 0 %d vecb %d 1=%d at 2.0=5 -> written\n' "$2" "$2" "$2" >"$work/input"
   none=$(seconds 5 "$work/leaf_table")
-  printf 'times %d vecb %d 1=%d at 2.7=5 -> written\n' "$1" "$2" "$2" >"$work/input"
+  printf 'spread %d %d vecb %d 1=%d at 2.0=5 -> written\n' "$1" "$2" "$2" "$2" >"$work/input"
   all=$(seconds 5 "$work/leaf_table")
   grep -q ', 0 differ' "$work/out" || { head -c 300 "$work/out" >&2; exit 2; }
   minus "$all" "$none"

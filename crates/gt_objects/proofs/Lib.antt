@@ -19,5 +19,4 @@ pub mod Finding
 pub mod Taking
 pub mod Counts
 pub mod Widths
-pub mod PlainSizes
 pub mod Characters

@@ -1,8 +1,6 @@
 //! How many bytes objects need.
 ghost use Rattle.std.specs.Prelude.{MatchOption};
-ghost use Rattle.gt_types.specs.Paths.{MayStand};
 ghost use Rattle.gt_types.specs.Settled.{Settled};
-ghost use Rattle.gt_layout.specs.Capacity.{SizeAt};
 ghost use Rattle.gt_layout.specs.Planes.{IsLaidOut};
 ghost use Rattle.gt_layout.specs.Excess.{IsWithin};
 ghost use Rattle.gt_tree.specs.Blocks.{element_type};
@@ -14,23 +12,9 @@ ghost use Rattle.gt_objects.specs.Making.{HasSize, IsTooLarge};
 use crate::objects::Known;
 use gt_layout::Layouts;
 use gt_pages::rounded_size;
-use gt_types::{Program, TypeId};
+use gt_store::node_size;
+use gt_types::Program;
 use gt_value::BlockKind;
-
-// How many bytes a structure takes, with room for so many elements at its end. Without room it takes the size in its plane, which is
-// found in constant time.
-fn node_size(program: &Program, layouts: &Layouts, id: TypeId, capacity: u32) -> u64
-    requires settled { Settled program.now }
-    requires laid { IsLaidOut program.now layouts.now }
-    requires within { IsWithin program.now layouts.now }
-    requires stands { MayStand program.now id }
-    ensures size { SizeAt program.now layouts.now.structures capacity id result }
-{
-    match layouts.structures.get(id.0 as usize) {
-        Some(plane) if capacity == 0 => plane.size as u64,
-        _ => layouts.size(program, id, capacity),
-    }
-}
 
 /// How many bytes an element takes, with room for so many elements at its end.
 pub fn element_size(program: &Program, layouts: &Layouts, kind: BlockKind, capacity: u32) -> u64

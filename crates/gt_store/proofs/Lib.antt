@@ -13,3 +13,4 @@ pub mod LeafPlaces
 pub mod LeafBits
 pub mod LeafStored
 pub mod Stored
+pub mod PlainSizes

@@ -7,30 +7,16 @@ ghost use Rattle.gt_space.specs.Range.{KeepsAddresses, IsInside};
 ghost use Rattle.gt_tree.specs.Trees.{Trees, Rec};
 ghost use Rattle.gt_tree.specs.Leaves.{Leaf, FieldsHaveLeaves};
 ghost use Rattle.gt_value.specs.Values.{tree_of, trees};
-ghost use Rattle.gt_value.specs.Bytes.{IsElement, Takes, IsRoomFor, FitsSome, IsStored, StaticsFitSome, AreStaticsStored};
+ghost use Rattle.gt_value.specs.Bytes.{IsElement, IsRoomFor, FitsSome, IsStored, StaticsFitSome, AreStaticsStored};
 ghost use Rattle.gt_store.specs.declared.stores.TheConstants.{MAX_BITS};
 ghost use Rattle.gt_store.specs.Overlays.{LieIn, Overlays, written};
 
+use crate::sizes::size_at;
 use crate::stores::{store_part, store_value};
 use gt_layout::Layouts;
 use gt_space::Space;
 use gt_types::{Program, Ty};
 use gt_value::Value;
-
-// How many bytes a value of an element takes, with room for so many elements at its end.
-fn size_at(program: &Program, layouts: &Layouts, ty: &Ty, capacity: u32) -> u64
-    requires settled { Settled program.now }
-    requires laid { IsLaidOut program.now layouts.now }
-    requires within { IsWithin program.now layouts.now }
-    requires element { IsElement program.now ty.now }
-    ensures { Takes program.now layouts.now capacity ty.now result }
-{
-    match ty {
-        Ty::Node { id, .. } => layouts.size(program, *id, capacity),
-        Ty::Num(_) => 1,
-        _ => 8,
-    }
-}
 
 /// Stores a value of an element of a block at an address, with room for so many elements at its end. It takes no memory.
 pub fn store(

@@ -34,7 +34,7 @@ use Rattle.gt_objects.specs.declared.objects.Objects.{Objects}
 use Rattle.gt_objects.specs.Holding.{IsHeapOf}
 use Rattle.gt_objects.proofs.Listed.{rounded_listed, size_bounds}
 use Rattle.gt_objects.proofs.Naming.{object_of_block, placed_of}
-use Rattle.gt_objects.proofs.PlainSizes.{plain-size}
+use Rattle.gt_store.proofs.PlainSizes.{plain-size}
 use Rattle.gt_objects.proofs.Widths.{pointers_take, strings_take, chars_take, raw_takes}
 use Rattle.gt_elements.proofs.Found.{block_holds, one_size}
 use Rattle.gt_edges.specs.Tables.{AreTables}

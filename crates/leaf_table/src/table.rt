@@ -2,7 +2,7 @@
 ghost use Rattle.gt_leaf.specs.Tables.{IsTableOf};
 ghost use Rattle.value_notation.specs.Trials.{IsReady};
 
-use crate::writing::{Outcome, try_static_write, try_write};
+use crate::writing::{Outcome, Repeats, try_static_write, try_write};
 use gt_leaf::Reads;
 use std::alloc::AllocError;
 use value_notation::{
@@ -27,6 +27,9 @@ pub fn difference(on: &Sample, reads: &Reads, line: &str) -> Result<Option<Strin
     if let Some(row) = line.strip_prefix("times ") {
         return times_difference(on, reads, row);
     }
+    if let Some(row) = line.strip_prefix("spread ") {
+        return spread_difference(on, reads, row);
+    }
     told(on.alloc, MALFORMED)
 }
 
@@ -38,7 +41,7 @@ fn write_difference(on: &Sample, reads: &Reads, line: &str) -> Result<Option<Str
     let Some((words, wanted)) = line.split_once(" -> ") else {
         return told(on.alloc, MALFORMED);
     };
-    match written_at(on, reads, words, 1) {
+    match written_at(on, reads, words, Repeats::at_one_place(1)) {
         Ok(Outcome::Bytes(bytes)) => {
             text_difference(hexadecimal(on.alloc, bytes.as_slice())?, wanted)
         }
@@ -56,10 +59,43 @@ fn times_difference(on: &Sample, reads: &Reads, line: &str) -> Result<Option<Str
     let Some((times, row)) = line.split_once(" ") else {
         return told(on.alloc, MALFORMED);
     };
-    let (Ok(times), Some((words, wanted))) = (times.parse::<u32>(), row.split_once(" -> ")) else {
+    match times.parse::<u32>() {
+        Ok(times) => repeats_difference(on, reads, row, Repeats::at_one_place(times)),
+        Err(_) => told(on.alloc, MALFORMED),
+    }
+}
+
+// The same of a row that writes a leaf in place so many times, each time at another one of so many places.
+fn spread_difference(on: &Sample, reads: &Reads, line: &str) -> Result<Option<String>, AllocError>
+    requires ready { IsReady on.now.program on.now.layouts }
+    requires table { IsTableOf on.now.program reads.now }
+{
+    let Some((times, rest)) = line.split_once(" ") else {
         return told(on.alloc, MALFORMED);
     };
-    let found = match written_at(on, reads, words, times) {
+    let Some((places, row)) = rest.split_once(" ") else {
+        return told(on.alloc, MALFORMED);
+    };
+    match (times.parse::<u32>(), places.parse::<u32>()) {
+        (Ok(times), Ok(places)) => { repeats_difference(on, reads, row, Repeats { times, places }) }
+        _ => told(on.alloc, MALFORMED),
+    }
+}
+
+// The same of the rest of such a row.
+fn repeats_difference(
+    on: &Sample,
+    reads: &Reads,
+    row: &str,
+    repeats: Repeats,
+) -> Result<Option<String>, AllocError>
+    requires ready { IsReady on.now.program on.now.layouts }
+    requires table { IsTableOf on.now.program reads.now }
+{
+    let Some((words, wanted)) = row.split_once(" -> ") else {
+        return told(on.alloc, MALFORMED);
+    };
+    let found = match written_at(on, reads, words, repeats) {
         Ok(Outcome::Bytes(_)) => "written",
         Ok(Outcome::NotInPlace) => NOT_IN_PLACE,
         Ok(Outcome::Misfit) => MISFIT,
@@ -68,18 +104,18 @@ fn times_difference(on: &Sample, reads: &Reads, line: &str) -> Result<Option<Str
     word_difference(on.alloc, found, wanted)
 }
 
-// What comes of the leaf that words name, where it is written in place so many times.
-fn written_at(on: &Sample, reads: &Reads, words: &str, times: u32) -> Result<Outcome, Stop>
+// What comes of the leaf that words name, where it is written in place so often.
+fn written_at(on: &Sample, reads: &Reads, words: &str, repeats: Repeats) -> Result<Outcome, Stop>
     requires ready { IsReady on.now.program on.now.layouts }
     requires table { IsTableOf on.now.program reads.now }
 {
     let Some((value, leaf)) = words.split_once(" at ") else {
         return Err(Stop::Malformed);
     };
-    let write = Write::read(on.alloc, leaf)?;
+    let mut write = Write::read(on.alloc, leaf)?;
     if value == "roots" {
-        return try_static_write(on, reads, &write, times);
+        return try_static_write(on, reads, &mut write, repeats);
     }
     let row = Row::read(on.alloc, value)?;
-    try_write(on, reads, &row, &write, times)
+    try_write(on, reads, &row, &mut write, repeats)
 }

@@ -34,36 +34,59 @@ pub enum Outcome {
     Misfit,
 }
 
-// The leaf that is written in place: where, and what it is from then on.
+// The steps from one place to the next, where each write takes another one: a prime, so that they are spread over all.
+const STEP: u64 = 7919;
+
+/// How many times a leaf is written, and at how many last places of the path in turn; 0 where it is the path's own each time.
 #[derive(Clone, Copy)]
-struct At<'a> {
-    path: &'a [u32],
-    leaf: LeafContent,
-    times: u32,
+pub struct Repeats {
+    pub times: u32,
+    pub places: u32,
 }
 
-/// The bytes of the last value of a row after a leaf was written in place so many times, or why it is not.
+impl Repeats {
+    /// So many writes at the path's own place.
+    pub fn at_one_place(times: u32) -> Repeats {
+        Repeats { times, places: 0 }
+    }
+
+    // Turns a path to the place of one of the writes.
+    fn turn(self, path: &mut [u32], write: u32) {
+        if self.places == 0 {
+            return;
+        }
+        if let [.., last] = path {
+            *last = (write as u64 * STEP % self.places as u64) as u32;
+        }
+    }
+}
+
+// What is written in place, and how often.
+#[derive(Clone, Copy)]
+struct Leaf {
+    content: LeafContent,
+    repeats: Repeats,
+}
+
+/// The bytes of the last value of a row after a leaf was written in place so often, or why it is not.
 pub fn try_write(
     on: &Sample,
     reads: &Reads,
     row: &Row,
-    write: &Write,
-    times: u32,
+    write: &mut Write,
+    repeats: Repeats,
 ) -> Result<Outcome, Stop>
     requires ready { IsReady on.now.program on.now.layouts }
     requires table { IsTableOf on.now.program reads.now }
 {
-    let Some(leaf) = write.leaf.content() else {
+    let Some(content) = write.leaf.content() else {
         return Err(Stop::Malformed);
     };
-    let at = At {
-        path: write.path.as_slice(),
-        leaf,
-        times,
-    };
+    let leaf = Leaf { content, repeats };
+    let path = write.path.as_mut_slice();
     let node = row.kind.id();
     let ty = element(on, node)?;
-    try_value(on, reads, node, &ty, row, at)
+    try_value(on, reads, node, &ty, row, path, leaf)
 }
 
 // The same, by the type of the row's structure.
@@ -73,7 +96,8 @@ fn try_value(
     id: TypeId,
     ty: &Ty,
     row: &Row,
-    at: At<'_>,
+    path: &mut [u32],
+    leaf: Leaf,
 ) -> Result<Outcome, Stop>
     requires ready { IsReady on.now.program on.now.layouts }
     requires table { IsTableOf on.now.program reads.now }
@@ -82,7 +106,7 @@ fn try_value(
 {
     let value = last_value(on, row, ty)?;
     let size = size_of(on, id, ty, row.capacity);
-    write_stored(on, reads, ty, row.capacity, &value, size, at)
+    write_stored(on, reads, ty, row.capacity, &value, size, path, leaf)
 }
 
 // The bytes of a value that is stored in a new space, after the leaf was written there.
@@ -93,7 +117,8 @@ fn write_stored(
     capacity: u32,
     value: &Value,
     size: u64,
-    at: At<'_>,
+    path: &mut [u32],
+    leaf: Leaf,
 ) -> Result<Outcome, Stop>
     requires ready { IsReady on.now.program on.now.layouts }
     requires table { IsTableOf on.now.program reads.now }
@@ -106,33 +131,30 @@ fn write_stored(
     let Some(room) = room_in(&space, BEFORE, size) else {
         return Err(Stop::TooLarge);
     };
-    match store_and_write(on, reads, ty, capacity, value, &mut space, room, at) {
+    match store_and_write(on, reads, ty, capacity, value, &mut space, room, path, leaf) {
         LeafWrite::NotInPlace => Ok(Outcome::NotInPlace),
         LeafWrite::Misfit => Ok(Outcome::Misfit),
         LeafWrite::Written => Ok(Outcome::Bytes(bytes_in(on.alloc, &space, room)?)),
     }
 }
 
-/// The bytes of the static record, which was zero, after a leaf was written in place so many times, or why it is not.
+/// The bytes of the static record, which was zero, after a leaf was written in place so often, or why it is not.
 pub fn try_static_write(
     on: &Sample,
     reads: &Reads,
-    write: &Write,
-    times: u32,
+    write: &mut Write,
+    repeats: Repeats,
 ) -> Result<Outcome, Stop>
     requires ready { IsReady on.now.program on.now.layouts }
     requires table { IsTableOf on.now.program reads.now }
 {
-    let Some(leaf) = write.leaf.content() else {
+    let Some(content) = write.leaf.content() else {
         return Err(Stop::Malformed);
     };
-    let at = At {
-        path: write.path.as_slice(),
-        leaf,
-        times,
-    };
+    let leaf = Leaf { content, repeats };
+    let path = write.path.as_mut_slice();
     let mut space = zero_space(on)?;
-    match write_root(on, reads, &mut space, at) {
+    match write_root(on, reads, &mut space, path, leaf) {
         LeafWrite::NotInPlace => Ok(Outcome::NotInPlace),
         LeafWrite::Misfit => Ok(Outcome::Misfit),
         LeafWrite::Written => {
@@ -163,7 +185,8 @@ fn store_and_write(
     value: &Value,
     space: &mut Space,
     room: Room,
-    at: At<'_>,
+    path: &mut [u32],
+    leaf: Leaf,
 ) -> LeafWrite
     requires ready { IsReady on.now.program on.now.layouts }
     requires table { IsTableOf on.now.program reads.now }
@@ -184,7 +207,7 @@ fn store_and_write(
         capacity,
         value,
     );
-    write_times(on, reads, space, ty, room.addr, capacity, at)
+    write_times(on, reads, space, ty, room.addr, capacity, path, leaf)
 }
 
 // Writes a leaf in place as many times as it says.
@@ -195,7 +218,8 @@ fn write_times(
     ty: &Ty,
     addr: u64,
     capacity: u32,
-    at: At<'_>,
+    path: &mut [u32],
+    leaf: Leaf,
 ) -> LeafWrite
     requires ready { IsReady on.now.program on.now.layouts }
     requires table { IsTableOf on.now.program reads.now }
@@ -204,7 +228,8 @@ fn write_times(
     requires stands { (statics : Trees) × (value : Tree) × StandsBeside on.now.program on.now.layouts blocks statics capacity ty.now space.old addr value }
     ensures addresses { KeepsAddresses space.old space.new }
 {
-    for _ in 0..at.times {
+    for write in 0..leaf.repeats.times {
+        leaf.repeats.turn(path, write);
         match write_leaf(
             &on.program,
             &on.layouts,
@@ -214,8 +239,8 @@ fn write_times(
             ty,
             addr,
             capacity,
-            at.path,
-            at.leaf,
+            path,
+            leaf.content,
         ) {
             LeafWrite::NotInPlace => return LeafWrite::NotInPlace,
             LeafWrite::Misfit => return LeafWrite::Misfit,
@@ -226,22 +251,29 @@ fn write_times(
 }
 
 // The same in the static record that stands from the lowest address on.
-fn write_root(on: &Sample, reads: &Reads, space: &mut Space, at: At<'_>) -> LeafWrite
+fn write_root(
+    on: &Sample,
+    reads: &Reads,
+    space: &mut Space,
+    path: &mut [u32],
+    leaf: Leaf,
+) -> LeafWrite
     requires ready { IsReady on.now.program on.now.layouts }
     requires table { IsTableOf on.now.program reads.now }
     requires inside { IsInside space.old space.old.start on.now.layouts.statics.size }
     requires stands { (values : Trees) × StaticsStandBeside on.now.program on.now.layouts blocks space.old values }
     ensures addresses { KeepsAddresses space.old space.new }
 {
-    for _ in 0..at.times {
+    for write in 0..leaf.repeats.times {
+        leaf.repeats.turn(path, write);
         match write_static_leaf(
             &on.program,
             &on.layouts,
             reads,
             &TableBlocks,
             space,
-            at.path,
-            at.leaf,
+            path,
+            leaf.content,
         ) {
             LeafWrite::NotInPlace => return LeafWrite::NotInPlace,
             LeafWrite::Misfit => return LeafWrite::Misfit,

@@ -13,7 +13,7 @@ use Rattle.gt_types.specs.declared.program.Field.{Field}
 use Rattle.gt_types.specs.declared.program.Structure.{Structure}
 use Rattle.gt_types.specs.Contains.{itself, held_by}
 use Rattle.gt_types.specs.Tails.{tail_of}
-use Rattle.sample_program.specs.Sample.{structures, item, base, wide, form, pay, cell, vec, hold, duo, two, vecb, any, rest, big, bigv, node, path, own_kind, own_len, own_n, outer_n}
+use Rattle.sample_program.specs.Sample.{structures, item, base, wide, form, pay, cell, vec, hold, duo, two, vecb, any, rest, big, bigv, kindv, ever, label, node, path, own_kind, own_len, own_n, outer_n, outermost_a}
 use Rattle.gt_types.specs.declared.expressions.Base.TheVariants.{Here, Outer}
 use Rattle.sample_program.proofs.Lists.{AllFrom}
 use Rattle.sample_program.proofs.Types.{IsFlat, flat-num, flat-bits, flat-opaque, flat-str, flat-ptr, flat-node, inner-arr, inner-tail, tail-tail}
@@ -30,7 +30,7 @@ held-flat : (type : Ty) → IsFlat type → held_by type ≡ itself type
 held-flat type flat = ap itself flat.inner
 
 abbrev pub ends_in_tail : ℕ → Bool
-ends_in_tail i = (i == 6) || (i == 10) || (i == 14)
+ends_in_tail i = (i == 6) || (i == 10) || (i == 14) || (i == 15)
 
 pub record IsTold (i : ℕ) (s : Structure) : Type 0 where
   pub held : All HoldsAsTold s.fields
@@ -196,5 +196,23 @@ told-bigv = record {
   tail = ap is_some (tail-tail own_n (ty.Num (scalar.Int W2 true)));
 }
 
+told-kindv : IsTold 15 kindv
+told-kindv = record {
+  held = All-from_recursion HoldsAsTold kindv.fields (held-flat (ty.Node (node 1) None) (flat-node (node 1) None), ((ap itself (inner-tail own_kind (ty.Num (scalar.Int W2 true))) ∙ held-flat (ty.Num (scalar.Int W2 true)) (flat-num (scalar.Int W2 true))), tt));
+  tail = ap is_some (tail-tail own_kind (ty.Num (scalar.Int W2 true)));
+}
+
+told-ever : IsTold 16 ever
+told-ever = record {
+  held = All-from_recursion HoldsAsTold ever.fields (held-flat (ty.Node (node 1) None) (flat-node (node 1) None), (held-flat (ty.Node (node 15) None) (flat-node (node 15) None), tt));
+  tail = ap is_some (flat-node (node 15) None).no_tail;
+}
+
+told-label : IsTold 17 label
+told-label = record {
+  held = All-from_recursion HoldsAsTold label.fields (held-flat (ty.Num (scalar.Int W8 false)) (flat-num (scalar.Int W8 false)), (held-flat (ty.Str (Some own_n)) (flat-str (Some own_n)), (held-flat (ty.Num (scalar.Int W2 true)) (flat-num (scalar.Int W2 true)), (held-flat (ty.Str (Some outermost_a)) (flat-str (Some outermost_a)), tt))));
+  tail = ap is_some (flat-str (Some outermost_a)).no_tail;
+}
+
 pub all_told : AllFrom IsTold 0 structures
-all_told = (told-item, (told-base, (told-wide, (told-form, (told-pay, (told-cell, (told-vec, (told-hold, (told-duo, (told-two, (told-vecb, (told-any, (told-rest, (told-big, (told-bigv, tt)))))))))))))))
+all_told = (told-item, (told-base, (told-wide, (told-form, (told-pay, (told-cell, (told-vec, (told-hold, (told-duo, (told-two, (told-vecb, (told-any, (told-rest, (told-big, (told-bigv, (told-kindv, (told-ever, (told-label, tt))))))))))))))))))

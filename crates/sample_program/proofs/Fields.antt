@@ -98,6 +98,15 @@ to_kind i s has c common = (
   refl,
 )
 
+-- from a struct that begins with base to its kind
+pub to_kind_of : (i : ℕ) (s : Structure) → slice_get structures i ≡ Some s → s.is_union ≡ false → Contains s.fields (field (codes "b") (held 1)) → LeadsToNumber sample (node i) (codes "b" ∷ codes "kind" ∷ [])
+to_kind_of i s has struct c = (
+  ty.Num (scalar.Int W2 true),
+  next_step {s = s} {f = field (codes "b") (held 1)} {desc = None} has refl (a_step s (field (codes "b") (held 1)) c struct) refl
+      (last_step {s = base} {f = field (codes "kind") (ty.Num (scalar.Int W2 true))} refl refl (a_step base (field (codes "kind") (ty.Num (scalar.Int W2 true))) (0, omega arith, refl) refl)),
+  refl,
+)
+
 -- an option that is a path of one name or two
 pub an_option : (i : ℕ) (b : Base) (steps : List (List ℕ)) → AreSteps steps → PathFits sample (node i) b steps → IsOption sample (node i) (path b steps)
 an_option i b steps are fits =

@@ -1,10 +1,10 @@
 -- Each structure of the sample keeps the rules, field by field.
-use Rattle.std.proofs.Common.{◌≡◌, true, false, not, [], ◌∷◌, ap, sym, subst, ◌∙◌, arith, refl}
+use Rattle.std.proofs.Common.{◌≡◌, true, false, not, [], ◌∷◌, ap, sym, subst, ◌∙◌, arith, refl, inl, inr}
 use Rattle.std.specs.Prelude.{◌≢◌, Some, None, All, AllPairs, codes}
 use Rattle.std.specs.Str.{bytes_eq}
 use Rattle.std.proofs.lemmas.List.Elements.{All-from_recursion}
 use Rattle.std.proofs.lemmas.Slice.Eq.{bytes_eq-Decides}
-use Rattle.gt_types.specs.declared.expressions.Base.TheVariants.{Here, Outer}
+use Rattle.gt_types.specs.declared.expressions.Base.TheVariants.{Here, Outer, Outermost}
 use Rattle.gt_types.specs.declared.types.Width.TheVariants.{W1, W2, W4, W8}
 use Rattle.gt_types.specs.declared.types.Scalar.TheVariants as scalar
 use Rattle.gt_types.specs.declared.types.Target.TheVariants as target
@@ -15,18 +15,23 @@ use Rattle.gt_types.specs.declared.program.Field.{Field}
 use Rattle.gt_types.specs.Shapes.{field_type_at}
 use Rattle.gt_types.specs.Unions.{is_it, by_first, IsCommon, IsMember, AreApart}
 use Rattle.gt_types.specs.Settled.{IsField, IsStructure}
-use Rattle.gt_types.specs.Paths.{LeadsToOwnPointer, IsFieldDesc}
-use Rattle.sample_program.specs.Sample.{sample, structures, item, base, wide, form, pay, cell, vec, hold, duo, two, vecb, any, rest, big, bigv, int, node, path, own_kind, own_len, own_n, outer_n, held, member, field}
+use Rattle.gt_types.specs.Paths.{LeadsToNumber, LeadsToOwnPointer, IsFieldDesc, IsOutermost}
+use Rattle.sample_program.specs.Sample.{sample, structures, item, base, wide, form, pay, cell, vec, hold, duo, two, vecb, any, rest, big, bigv, kindv, ever, label, int, node, path, own_kind, own_len, own_n, outer_n, outermost_a, held, member, field}
 use Rattle.sample_program.proofs.Lists.{AllFrom, differ, pair, three}
 use Rattle.sample_program.proofs.Types.{flat-num, flat-bits, flat-opaque, flat-str, flat-ptr, flat-node, inner-arr, inner-tail}
+use Rattle.sample_program.proofs.Orders.{lower_by, in_program}
+use Rattle.gt_types.specs.declared.types.TypeId.{TypeId}
 use Rattle.sample_program.proofs.Structures.{item_stands, common_base}
-use Rattle.sample_program.proofs.Fields.{names, grid-type, pointers-type, shorts-type, a_field, to_int, to_kind, an_option, a_desc, one_name, two_names}
+use Rattle.sample_program.proofs.Fields.{names, grid-type, pointers-type, shorts-type, a_field, to_int, to_kind, to_kind_of, an_option, a_desc, one_name, two_names}
 
 names_differ : (f g : Field) → not (bytes_eq f.name g.name) ≡ true → f.name ≢ g.name
 names_differ f g differ same =
     let wrong : not (bytes_eq f.name f.name) ≡ true = subst (λ n. not (bytes_eq f.name n) ≡ true) (sym same) differ in
     let right : bytes_eq f.name f.name ≡ true = (bytes_eq-Decides f.name f.name).1 refl in
     absurd (cc)
+
+ever_common : IsCommon sample ever (node 1)
+ever_common = common_base ever (member (codes "b") (held 1) 1) (member (codes "v") (held 15) 2) None refl refl refl is_it (by_first {s = kindv} {f = field (codes "b") (held 1)} refl refl refl is_it)
 
 form_common : IsCommon sample form (node 1)
 form_common = common_base form (member (codes "b") (held 1) 1) (member (codes "w") (held 2) 2) None refl refl refl is_it (by_first {s = wide} {f = field (codes "b") (held 1)} refl refl refl is_it)
@@ -476,6 +481,71 @@ bigv-keeps = record {
   kinds = λ i j d lt within. absurd (omega (arith, within));
 }
 
+kindv-fields : All (IsField sample (node 15) kindv) kindv.fields
+kindv-fields = All-from_recursion (IsField sample (node 15) kindv) kindv.fields (a_field 15 kindv (field (codes "b") (ty.Node (node 1) None)) refl (0, omega arith, refl) refl (ap field_type_at (ty.outs-Node (node 1) None)) (names (λ union u e. IsFieldDesc sample (node 15) union e) (ty.Node (node 1) None) (ty.Node (node 1) None) (flat-node (node 1) None).inner tt tt (base, refl, refl)) tt, (a_field 15 kindv (field (codes "elem") (ty.Tail own_kind (ty.Num (scalar.Int W2 true)))) refl (1, omega arith, refl) refl (shorts-type own_kind) (names (λ union u e. IsFieldDesc sample (node 15) union e) (ty.Tail own_kind (ty.Num (scalar.Int W2 true))) (ty.Num (scalar.Int W2 true)) (inner-tail own_kind (ty.Num (scalar.Int W2 true)) ∙ (flat-num (scalar.Int W2 true)).inner) tt tt tt) (an_option 15 Here (codes "b" ∷ codes "kind" ∷ []) (two_names (codes "b") (codes "kind") refl refl) (to_kind_of 15 kindv refl refl (0, omega arith, refl))), tt))
+
+kindv-keeps : IsStructure sample (node 15) kindv
+kindv-keeps = record {
+  name = refl;
+  some_fields = omega arith;
+  few_fields = omega arith;
+  distinct = differ (λ f g. bytes_eq f.name g.name) (λ f g. f.name ≢ g.name) names_differ kindv.fields refl;
+  fields = kindv-fields;
+  sort = record { no_desc = refl; active = All-from_recursion (λ f. f.active ≡ Always) kindv.fields (refl, (refl, tt)); last_tail = refl };
+  chains = All-from_recursion (λ c. LeadsToOwnPointer sample (node 15) c.path) [] tt;
+  kinds = λ i j d lt within. absurd (omega (arith, within));
+}
+
+ever-fields : All (IsField sample (node 16) ever) ever.fields
+ever-fields =
+    All-from_recursion (IsField sample (node 16) ever) ever.fields (
+      a_field 16 ever (member (codes "b") (ty.Node (node 1) None) 1) refl (0, omega arith, refl) refl (ap field_type_at (ty.outs-Node (node 1) None)) (names (λ union u e. IsFieldDesc sample (node 16) union e) (ty.Node (node 1) None) (ty.Node (node 1) None) (flat-node (node 1) None).inner tt tt (base, refl, refl)) tt,
+      (a_field 16 ever (member (codes "v") (ty.Node (node 15) None) 2) refl (1, omega arith, refl) refl (ap field_type_at (ty.outs-Node (node 15) None)) (names (λ union u e. IsFieldDesc sample (node 16) union e) (ty.Node (node 15) None) (ty.Node (node 15) None) (flat-node (node 15) None).inner tt tt (kindv, refl, refl)) tt, tt),
+    )
+
+ever-apart : AllPairs (λ f g. AreApart f.active g.active) ever.fields
+ever-apart = pair (λ f g. AreApart f.active g.active) _ _ (λ e. absurd (cc))
+
+ever-keeps : IsStructure sample (node 16) ever
+ever-keeps = record {
+  name = refl;
+  some_fields = omega arith;
+  few_fields = omega arith;
+  distinct = differ (λ f g. bytes_eq f.name g.name) (λ f g. f.name ≢ g.name) names_differ ever.fields refl;
+  fields = ever-fields;
+  sort = record {
+    desc = (an_option 16 Here (codes "b" ∷ codes "kind" ∷ []) (two_names (codes "b") (codes "kind") refl refl) (to_kind 16 ever refl (0, omega arith, refl) ever_common));
+    members = record {
+      each = All-from_recursion IsMember ever.fields ((λ e. absurd (cc), λ e. absurd (cc)), ((λ e. absurd (cc), λ e. absurd (cc)), tt));
+      apart = ever-apart;
+    };
+    tails = refl;
+  };
+  chains = All-from_recursion (λ c. LeadsToOwnPointer sample (node 16) c.path) [] tt;
+  kinds = λ i j d lt within. absurd (omega (arith, within));
+}
+
+-- no structure holds a label, so it is the outermost one itself
+label_outermost : (outer : TypeId) → IsOutermost sample (node 17) outer → LeadsToNumber sample outer (codes "a" ∷ [])
+label_outermost outer (alone, inl same) =
+    subst (λ o. LeadsToNumber sample o (codes "a" ∷ [])) (sym same) (to_int 17 label (codes "a") 2 (ty.Num (scalar.Int W2 true)) refl refl refl (2, omega arith, refl) refl)
+label_outermost outer (alone, inr (n, nests)) = let l = lower_by n outer (node 17) nests in let w = in_program n outer (node 17) nests in absurd (omega (arith, l.0, l.1, w))
+
+label-fields : All (IsField sample (node 17) label) label.fields
+label-fields = All-from_recursion (IsField sample (node 17) label) label.fields (a_field 17 label (field (codes "n") (ty.Num (scalar.Int W8 false))) refl (0, omega arith, refl) refl (ap field_type_at (ty.outs-Num (scalar.Int W8 false))) (names (λ union u e. IsFieldDesc sample (node 17) union e) (ty.Num (scalar.Int W8 false)) (ty.Num (scalar.Int W8 false)) (flat-num (scalar.Int W8 false)).inner tt tt tt) tt, (a_field 17 label (field (codes "t") (ty.Str (Some own_n))) refl (1, omega arith, refl) refl (ap field_type_at (ty.outs-Str (Some own_n))) (names (λ union u e. IsFieldDesc sample (node 17) union e) (ty.Str (Some own_n)) (ty.Str (Some own_n)) (flat-str (Some own_n)).inner tt tt tt) (an_option 17 Here (codes "n" ∷ []) (one_name (codes "n") refl) (to_int 17 label (codes "n") 0 (ty.Num (scalar.Int W8 false)) refl refl refl (0, omega arith, refl) refl)), (a_field 17 label (field (codes "a") (ty.Num (scalar.Int W2 true))) refl (2, omega arith, refl) refl (ap field_type_at (ty.outs-Num (scalar.Int W2 true))) (names (λ union u e. IsFieldDesc sample (node 17) union e) (ty.Num (scalar.Int W2 true)) (ty.Num (scalar.Int W2 true)) (flat-num (scalar.Int W2 true)).inner tt tt tt) tt, (a_field 17 label (field (codes "z") (ty.Str (Some outermost_a))) refl (3, omega arith, refl) refl (ap field_type_at (ty.outs-Str (Some outermost_a))) (names (λ union u e. IsFieldDesc sample (node 17) union e) (ty.Str (Some outermost_a)) (ty.Str (Some outermost_a)) (flat-str (Some outermost_a)).inner tt tt tt) (an_option 17 Outermost (codes "a" ∷ []) (one_name (codes "a") refl) label_outermost), tt))))
+
+label-keeps : IsStructure sample (node 17) label
+label-keeps = record {
+  name = refl;
+  some_fields = omega arith;
+  few_fields = omega arith;
+  distinct = differ (λ f g. bytes_eq f.name g.name) (λ f g. f.name ≢ g.name) names_differ label.fields refl;
+  fields = label-fields;
+  sort = record { no_desc = refl; active = All-from_recursion (λ f. f.active ≡ Always) label.fields (refl, (refl, (refl, (refl, tt)))); last_tail = refl };
+  chains = All-from_recursion (λ c. LeadsToOwnPointer sample (node 17) c.path) [] tt;
+  kinds = λ i j d lt within. absurd (omega (arith, within));
+}
+
 pub all_keep : AllFrom (λ i s. IsStructure sample (node i) s) 0 structures
 all_keep = (
   item-keeps,
@@ -499,7 +569,7 @@ all_keep = (
                     two-keeps,
                     (
                       vecb-keeps,
-                      (any-keeps, (rest-keeps, (big-keeps, (bigv-keeps, tt)))),
+                      (any-keeps, (rest-keeps, (big-keeps, (bigv-keeps, (kindv-keeps, (ever-keeps, (label-keeps, tt))))))),
                     ),
                   ),
                 ),

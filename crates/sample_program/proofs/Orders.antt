@@ -40,7 +40,7 @@ lower_by n outer inner (deeper {n = m} {next = next} c rest) =
 pub no_cycle : (node : TypeId) → ¬ ContainsAtDepth sample node node
 no_cycle node (n, nests) = let l = lower_by n node node nests in absurd (omega (arith, l.0, l.1))
 
-in_program : (n : ℕ) (outer inner : TypeId) → Nests sample n outer inner → outer.0 < length structures
+pub in_program : (n : ℕ) (outer inner : TypeId) → Nests sample n outer inner → outer.0 < length structures
 in_program n outer inner (once c) = slice_get_within structures outer.0 c.0 c.2
 in_program n outer inner (deeper c rest) = slice_get_within structures outer.0 c.0 c.2
 

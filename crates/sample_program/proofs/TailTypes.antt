@@ -1,4 +1,4 @@
--- Which of the structures are tail types: vec, vecb, bigv, and the union any.
+-- Which of the structures are tail types: vec, vecb, bigv, kindv, and the unions any and ever.
 use Rattle.std.proofs.Common.{◌≡◌, ℕ, Bool, true, false, ◌&&◌, ◌||◌, cond, ◌==◌, ap, sym, ◌∙◌, refl}
 use Rattle.std.specs.Prelude.{Option, Some, None}
 use Rattle.gt_types.specs.declared.types.TypeId.{TypeId}
@@ -13,7 +13,7 @@ use Rattle.sample_program.proofs.Lists.{all_from, at_index, place_of, both, fact
 use Rattle.sample_program.proofs.Facts.{held_of, HoldsAsTold, ends_in_tail, IsTold, all_told}
 
 abbrev pub is_tail : ℕ → Bool
-is_tail i = (i == 6) || (i == 10) || (i == 11) || (i == 14)
+is_tail i = (i == 6) || (i == 10) || (i == 11) || (i == 14) || (i == 15) || (i == 16)
 
 -- a struct that ends in an array with a length is one of them
 abbrev ends_known : ℕ → Structure → Bool

@@ -1,7 +1,7 @@
 -- A program with a form of each kind, small enough to be proved settled by hand, so that values can be tried before headers give programs.
 use Rattle.std.specs.Prelude.{ℕ, true, false, pos, List, [], ◌∷◌, Option, Some, None, codes}
 use Rattle.gt_types.specs.declared.expressions.Base.{Base}
-use Rattle.gt_types.specs.declared.expressions.Base.TheVariants.{Here, Outer}
+use Rattle.gt_types.specs.declared.expressions.Base.TheVariants.{Here, Outer, Outermost}
 use Rattle.gt_types.specs.declared.expressions.Expr.{Expr}
 use Rattle.gt_types.specs.declared.expressions.Expr.TheVariants as expr
 use Rattle.gt_types.specs.declared.types.TypeId.{TypeId}
@@ -143,8 +143,27 @@ big =
 abbrev pub bigv : Structure
 bigv = struct (codes "bigv") (field (codes "n") (ty.Num (scalar.Int W8 false)) ∷ field (codes "elem") (ty.Tail own_n (ty.Num (scalar.Int W2 true))) ∷ [])
 
+-- struct kindv { struct base b; short elem[b.kind]; }
+abbrev pub kindv : Structure
+kindv = struct (codes "kindv") (field (codes "b") (held 1) ∷ field (codes "elem") (ty.Tail own_kind (ty.Num (scalar.Int W2 true))) ∷ [])
+
+-- union ever { struct base b; (tag 1)  struct kindv v; (tag 2) }, chosen by %h.b.kind
+abbrev pub ever : Structure
+ever = union (codes "ever") (Some own_kind) (member (codes "b") (held 1) 1 ∷ member (codes "v") (held 15) 2 ∷ [])
+
+-- the number `a` of the outermost structure
+abbrev pub outermost_a : Expr
+outermost_a = path Outermost (codes "a" ∷ [])
+
+-- struct label { unsigned long n; char *t; (n characters)  short a; char *z; (%0.a characters) }
+abbrev pub label : Structure
+label =
+    struct (codes "label")
+    (field (codes "n") (ty.Num (scalar.Int W8 false)) ∷ field (codes "t") (ty.Str (Some own_n)) ∷ field (codes "a") (ty.Num (scalar.Int W2 true))
+    ∷ field (codes "z") (ty.Str (Some outermost_a)) ∷ [])
+
 abbrev pub structures : List Structure
-structures = item ∷ base ∷ wide ∷ form ∷ pay ∷ cell ∷ vec ∷ hold ∷ duo ∷ two ∷ vecb ∷ any ∷ rest ∷ big ∷ bigv ∷ []
+structures = item ∷ base ∷ wide ∷ form ∷ pay ∷ cell ∷ vec ∷ hold ∷ duo ∷ two ∷ vecb ∷ any ∷ rest ∷ big ∷ bigv ∷ kindv ∷ ever ∷ label ∷ []
 
 abbrev pub root : List ℕ → Ty → Root
 root name type = record { name = name; ty = type; deletable = false }

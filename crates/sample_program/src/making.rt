@@ -554,6 +554,59 @@ fn bigv(alloc: Global) -> Result<Structure, AllocError>
     structure(alloc, "bigv", false, None, fields)
 }
 
+fn kindv(alloc: Global) -> Result<Structure, AllocError>
+    ensures { IfOk result (λ s. s ≡ sample.kindv) }
+{
+    let mut fields = Vec::new(alloc);
+    add(alloc, &mut fields, "b", held(1, None), Active::Always)?;
+    add(
+        alloc,
+        &mut fields,
+        "elem",
+        tail(alloc, own_kind(alloc)?, Ty::Num(SHORT))?,
+        Active::Always,
+    )?;
+    structure(alloc, "kindv", false, None, fields)
+}
+
+fn ever(alloc: Global) -> Result<Structure, AllocError>
+    ensures { IfOk result (λ s. s ≡ sample.ever) }
+{
+    let mut fields = Vec::new(alloc);
+    add(alloc, &mut fields, "b", held(1, None), Active::Tag(1))?;
+    add(alloc, &mut fields, "v", held(15, None), Active::Tag(2))?;
+    structure(alloc, "ever", true, Some(own_kind(alloc)?), fields)
+}
+
+fn label(alloc: Global) -> Result<Structure, AllocError>
+    ensures { IfOk result (λ s. s ≡ sample.label) }
+{
+    let mut fields = Vec::new(alloc);
+    add(
+        alloc,
+        &mut fields,
+        "n",
+        Ty::Num(UNSIGNED_LONG),
+        Active::Always,
+    )?;
+    add(
+        alloc,
+        &mut fields,
+        "t",
+        Ty::Str(Some(path(alloc, Base::Here, "n")?)),
+        Active::Always,
+    )?;
+    add(alloc, &mut fields, "a", Ty::Num(SHORT), Active::Always)?;
+    add(
+        alloc,
+        &mut fields,
+        "z",
+        Ty::Str(Some(path(alloc, Base::Outermost, "a")?)),
+        Active::Always,
+    )?;
+    structure(alloc, "label", false, None, fields)
+}
+
 fn root(alloc: Global, name: &str, ty: Ty) -> Result<Root, AllocError>
     requires ascii { IsTrue (list_all (λ b. nat_lt b 128) name.now) }
     ensures { IfOk result (λ r. r ≡ sample.root name.now ty) }
@@ -608,6 +661,9 @@ fn structures(alloc: Global) -> Result<Vec<Structure>, AllocError>
     all.push(rest(alloc)?)?;
     all.push(big(alloc)?)?;
     all.push(bigv(alloc)?)?;
+    all.push(kindv(alloc)?)?;
+    all.push(ever(alloc)?)?;
+    all.push(label(alloc)?)?;
     Ok(all)
 }
 

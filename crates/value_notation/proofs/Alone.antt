@@ -2,14 +2,20 @@
 use Rattle.std.proofs.Common.{◌≡◌, ℕ, List, [], ◌∷◌, sym, subst, refl}
 use Rattle.std.specs.Prelude.{All, Any, codes}
 use Rattle.std.proofs.lemmas.List.Elements.{All-from_recursion, All-contains}
-use Rattle.gt_types.specs.declared.expressions.Base.TheVariants.{Here, Outer}
+use Rattle.gt_types.specs.declared.expressions.Base.TheVariants.{Here, Outer, Outermost}
 use Rattle.gt_types.specs.declared.expressions.Expr.TheVariants as expr
 use Rattle.gt_types.specs.declared.types.TypeId.{TypeId}
 use Rattle.gt_types.specs.declared.program.Structure.{Structure}
 use Rattle.gt_types.specs.Contains.{HasStructure}
 use Rattle.gt_types.specs.Paths.{Way, own_expressions, NamesOuter, IsInner, MayStand}
-use Rattle.sample_program.specs.Sample.{sample, item, base, wide, form, cell, vec, hold, two, vecb, any, big, bigv, node, own_len}
+use Rattle.sample_program.specs.Sample.{sample, item, base, wide, form, cell, vec, hold, two, vecb, any, big, bigv, kindv, ever, label, node, own_len, own_n, outermost_a}
 use Rattle.sample_program.proofs.Structures.{path-paths}
+
+from-outermost : (steps : List (List ℕ)) → ¬ NamesOuter (expr.Path Outermost steps)
+from-outermost steps names = not-outer (subst (Any {X = Way} (λ path. path.0 ≡ Outer)) (path-paths Outermost steps) names)
+  where
+    not-outer : ¬ Any {X = Way} (λ path. path.0 ≡ Outer) ((Outermost, steps) ∷ [])
+    not-outer some = All-contains {X = Way} (λ path. ¬ (path.0 ≡ Outer)) ((Outermost, steps) ∷ []) some.1 (All-from_recursion {X = Way} (λ path. ¬ (path.0 ≡ Outer)) ((Outermost, steps) ∷ []) ((λ e. absurd (cc)), tt)) (some.0, some.2, some.3) some.4
 
 from-here : (steps : List (List ℕ)) → ¬ NamesOuter (expr.Path Here steps)
 from-here steps names = not-outer (subst (Any {X = Way} (λ path. path.0 ≡ Outer)) (path-paths Here steps) names)
@@ -64,3 +70,12 @@ big_stands = (big, refl, not_inner (node 13) big refl (one (codes "n" ∷ [])), 
 
 pub bigv_stands : MayStand sample (node 14)
 bigv_stands = (bigv, refl, not_inner (node 14) bigv refl (one (codes "n" ∷ [])), λ u. absurd (cc))
+
+pub kindv_stands : MayStand sample (node 15)
+kindv_stands = (kindv, refl, not_inner (node 15) kindv refl (one (codes "b" ∷ codes "kind" ∷ [])), λ u. absurd (cc))
+
+pub ever_stands : MayStand sample (node 16)
+ever_stands = (ever, refl, not_inner (node 16) ever refl (one (codes "b" ∷ codes "kind" ∷ [])), λ u. refl)
+
+pub label_stands : MayStand sample (node 17)
+label_stands = (label, refl, not_inner (node 17) label refl (All-from_recursion (λ e. ¬ NamesOuter e) (own_n ∷ outermost_a ∷ []) (from-here (codes "n" ∷ []), (from-outermost (codes "a" ∷ []), tt))), λ u. absurd (cc))

@@ -24,6 +24,9 @@ pub enum Kind {
     Any,
     Big,
     Bigv,
+    Kindv,
+    Ever,
+    Label,
 }
 
 impl Kind {
@@ -42,6 +45,9 @@ impl Kind {
             "any" => Some(Kind::Any),
             "big" => Some(Kind::Big),
             "bigv" => Some(Kind::Bigv),
+            "kindv" => Some(Kind::Kindv),
+            "ever" => Some(Kind::Ever),
+            "label" => Some(Kind::Label),
             _ => None,
         }
     }
@@ -63,6 +69,9 @@ impl Kind {
             Kind::Any => TypeId(11),
             Kind::Big => TypeId(13),
             Kind::Bigv => TypeId(14),
+            Kind::Kindv => TypeId(15),
+            Kind::Ever => TypeId(16),
+            Kind::Label => TypeId(17),
         }
     }
 }

@@ -4,5 +4,5 @@ use Rattle.gt_leaf.specs.Writing.{StaticsStandBeside}
 use Rattle.value_notation.specs.Blocks.{blocks}
 use Rattle.leaf_table.proofs.writing.write_root.Given as goal
 
-abbrev pub invariant-loop : goal.invariant-loop
-invariant-loop l = KeepsAddresses l.fn.space l.space × (values : Trees) × StaticsStandBeside l.on.program l.on.layouts blocks l.space values
+abbrev pub invariant-loop-write : goal.invariant-loop-write
+invariant-loop-write l = KeepsAddresses l.fn.space l.space × (values : Trees) × StaticsStandBeside l.on.program l.on.layouts blocks l.space values

@@ -4,5 +4,5 @@ use Rattle.gt_leaf.specs.Writing.{StandsBeside}
 use Rattle.value_notation.specs.Blocks.{blocks}
 use Rattle.leaf_table.proofs.writing.write_times.Given as goal
 
-abbrev pub invariant-loop : goal.invariant-loop
-invariant-loop l = KeepsAddresses l.fn.space l.space × (statics : Trees) × (value : Tree) × StandsBeside l.on.program l.on.layouts blocks statics l.capacity l.ty l.space l.addr value
+abbrev pub invariant-loop-write : goal.invariant-loop-write
+invariant-loop-write l = KeepsAddresses l.fn.space l.space × (statics : Trees) × (value : Tree) × StandsBeside l.on.program l.on.layouts blocks statics l.capacity l.ty l.space l.addr value

@@ -1,4 +1,4 @@
-use Rattle.value_notation.proofs.Alone.{item_stands, base_stands, wide_stands, form_stands, cell_stands, vec_stands, hold_stands, two_stands, vecb_stands, any_stands, big_stands, bigv_stands}
+use Rattle.value_notation.proofs.Alone.{item_stands, base_stands, wide_stands, form_stands, cell_stands, vec_stands, hold_stands, two_stands, vecb_stands, any_stands, big_stands, bigv_stands, kindv_stands, ever_stands, label_stands}
 use Rattle.value_notation.proofs.structures.Kind.id.Goals as goal
 
 pub returns-in-Item : goal.returns-in-Item
@@ -36,3 +36,12 @@ returns-in-Big c = big_stands
 
 pub returns-in-Bigv : goal.returns-in-Bigv
 returns-in-Bigv c = bigv_stands
+
+pub returns-in-Kindv : goal.returns-in-Kindv
+returns-in-Kindv c = kindv_stands
+
+pub returns-in-Ever : goal.returns-in-Ever
+returns-in-Ever c = ever_stands
+
+pub returns-in-Label : goal.returns-in-Label
+returns-in-Label c = label_stands

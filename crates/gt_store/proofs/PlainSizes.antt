@@ -1,6 +1,7 @@
 -- The size of a structure without room at its end is that of its plane.
-use Rattle.std.proofs.Common.{◌≡◌, ◌≤◌, ℕ, ◌+◌, ◌*◌, List, [], ◌∷◌, refl, ap, sym, subst, ◌∙◌, arith, Some}
+use Rattle.std.proofs.Common.{◌≡◌, ◌≤◌, ◌<◌, ℕ, ◌+◌, ◌*◌, List, [], ◌∷◌, refl, ap, sym, subst, ◌∙◌, arith, Some, inl, inr, length}
 use Rattle.std.specs.Prelude.{All, slice_get}
+use Rattle.std.proofs.lemmas.Option.{slice_get_cases}
 use Rattle.std.proofs.lemmas.List.Elements.{All-nil, All-cons, All-head, All-tail}
 use Rattle.gt_types.specs.declared.expressions.Expr.{Expr}
 use Rattle.gt_types.specs.declared.types.TypeId.{TypeId}
@@ -160,3 +161,12 @@ plain-sized program layouts settled laid node s has capacity none plane got =
     let one = sizes-one program layouts settled laid 0 node s has in
     let same : one.0 ≡ plane.size = plain-size program layouts.structures laid.structures node one.0 one.1 ∙ ap (λ o. (extent_of_plane o).size) got in
     subst (λ n. SizeAt program layouts.structures n node plane.size) (sym none) (subst (λ z. SizeAt program layouts.structures 0 node z) same one.1)
+
+-- the same of a structure that is there
+pub plain-sized-there : (program : Program) (layouts : Layouts) → Settled program → IsLaidOut program layouts → (node : TypeId) → node.0 < length program.structures → (capacity : ℕ) → capacity ≡ 0 → (plane : Plane)
+    → slice_get layouts.structures node.0 ≡ Some plane → SizeAt program layouts.structures capacity node plane.size
+plain-sized-there program layouts settled laid node there capacity none plane got =
+    elim (slice_get_cases program.structures node.0).1 as (λ _. SizeAt program layouts.structures capacity node plane.size) [
+      | inl found ↦ plain-sized program layouts settled laid node found.0 found.2 capacity none plane got
+      | inr past ↦ absurd (omega (arith, there, past.0))
+    ]
