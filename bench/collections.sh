@@ -1,5 +1,5 @@
 #!/usr/bin/env bash
-# Times a collection of a list along its chain and off it, and of an array that names all nodes; each beside a tenth of the nodes. It is the mean of ten
+# Times a collection of a list along its chain and off it, and of an array that names all nodes; each beside a tenth of the nodes. It is the middle of forty
 # collections in one process, after a first one. A list with one more node for each third one, which nothing names, is timed beside a small allocator in
 # C too, and so is one of 490,000 nodes, of which a script can make no more. Then come levels of 67 objects, of which each leads to the next by its last pointer;
 # a hundred collections of one list; collections that are skipped, beside a tenth of them and beside a small heap; and collections of nothing under the greatest
@@ -8,6 +8,7 @@
 . "$(dirname "$0")/shared.sh"
 take_program
 build_small
+build_between
 cat >"$work/heap.h" <<'H'
 struct GTY((chain_next("%h.next"))) node { struct node *next; struct node *other; int key; };
 static GTY(()) struct node *head;
@@ -15,20 +16,11 @@ static GTY(()) int n;
 static GTY((length("n"))) struct node **all;
 H
 
-# A script by a program in awk that is given the number of nodes, and so many collections after it.
-script() {
-  awk -v n="$1" "BEGIN { $2 }" >"$work/s.gty"
-  for ((i = 0; i < $3; i++)); do echo '@collect force'; done >>"$work/s.gty"
-}
-
-# The seconds of a collection of so many nodes.
+# The seconds of a collection of so many nodes, which a script by a program in awk makes that is given their number.
 collects() {
-  local many one
-  script "$1" "$2" 11
-  many=$(seconds 5 "$program" --space 16384 "$work/s.gty" "$work/heap.h")
-  script "$1" "$2" 1
-  one=$(seconds 5 "$program" --space 16384 "$work/s.gty" "$work/heap.h")
-  awk -v a="$many" -v b="$one" 'BEGIN { printf "%.9f\n", (a - b) / 10 }'
+  awk -v n="$1" "BEGIN { $2 }" >"$work/s.gty"
+  for ((i = 0; i < 41; i++)); do echo 'collect force'; done >>"$work/s.gty"
+  middle 5 "$work/between" 0 "$program" --space 16384 "$work/s.gty" "$work/heap.h"
 }
 
 # A row: what the heap is, its nodes, and the times for all and for a tenth of them.
@@ -38,12 +30,12 @@ measure "a list" 200000 'print "@new $k node"; print "@set head $k"; for (i = 1;
 measure "a list off its chain" 200000 'print "@new $k node"; print "@set head $k"; for (i = 1; i < n; i++) { print "@new $n node"; print "@set $n.other $k"; print "@set head $n"; print "@get $k head" }'
 measure "an array of nodes" 100000 'print "@set n " n; print "@array $a node* " n; print "@set all $a"; for (i = 0; i < n; i++) { print "@new $n node"; print "@set $a[" i "] $n" }'
 with_others='print "@new $k node"; print "@set head $k"; for (i = 1; i < n; i++) { print "@new $n node"; print "@set $n.next $k"; print "@set head $n"; print "@get $k head"; if (i % 3 == 2) { print "@new $o node"; print "@set $o.other $k" } }'
-in_c=$(awk -v a="$(seconds 40 "$work/small" collect 100000 101)" -v b="$(seconds 40 "$work/small" collect 100000 1)" 'BEGIN { printf "%.9f\n", (a - b) / 100 }')
+in_c=$(middle 5 "$work/small" later 100000 41)
 row 'a collection: a list, a third more freed' 100000 "$(collects 100000 "$with_others")" 'in C' "$in_c" 3
 
 # Two commands for each node: as many as a script can have.
 short='print "@new $a node"; for (i = 1; i < n; i++) { x = i % 2 ? "$b" : "$a"; y = i % 2 ? "$a" : "$b"; print "@new " x " node"; print "@set " x ".next " y }; print "@set head " (n % 2 ? "$a" : "$b")'
-in_c=$(awk -v a="$(seconds 9 "$work/small" collect 490000 21)" -v b="$(seconds 9 "$work/small" collect 490000 1)" 'BEGIN { printf "%.9f\n", (a - b) / 20 }')
+in_c=$(middle 5 "$work/small" later 490000 41)
 row 'a collection: a list' 490000 "$(collects 490000 "$short")" 'in C' "$in_c" 4
 row 'a hundred collections of a list' 10000 "$(awk -v s="$(collects 10000 "$short")" 'BEGIN { print 100 * s }')" 'a tenth' "$(awk -v s="$(collects 1000 "$short")" 'BEGIN { print 100 * s }')" 12
 
@@ -87,7 +79,6 @@ awk -v n=100000 'BEGIN {
     print "@set head $n"; print "@get $p head"
     if (i % 3 == 2) { print "@new $w node"; print "@set $w.other $n" } }
   print "print head.key"; print "collect force" }' >"$work/s.gty"
-build_between
-row 'the collection of :100000' 100000 "$(middle 21 "$work/between" "$program" "$work/s.gty" "$work/heap.h")" 'in C' "$(middle 21 "$work/small" first 100000)" 3
+row 'the collection of :100000' 100000 "$(middle 21 "$work/between" 0 "$program" "$work/s.gty" "$work/heap.h")" 'in C' "$(middle 21 "$work/small" first 100000)" 3
 : >"$work/input"
 row 'the words :100000, with their commands' 100000 "$(minus "$(seconds 5 "$program" :100000)" "$idle")"

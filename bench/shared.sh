@@ -83,28 +83,36 @@ C
 cc -O2 -o "$work/spent" "$work/spent.c"
 : >"$work/input"
 
-# Builds `between`, which runs a program, and says how many seconds went by from its first line to its second one, as they came through a pipe.
+# Builds `between`, which runs a program, and says how many seconds went by from one of its lines to the next, as they came through a pipe: the
+# middle of these times, but for the first `skipped` ones. Two lines can come at once, so a time is told by many or by many runs.
 build_between() {
   cat >"$work/between.c" <<'C'
 #include <stdio.h>
+#include <stdlib.h>
 #include <sys/wait.h>
 #include <time.h>
 #include <unistd.h>
 
 static double now (void) { struct timespec t; clock_gettime (CLOCK_MONOTONIC, &t); return t.tv_sec + t.tv_nsec / 1e9; }
+static int order (const void *a, const void *b) { double x = *(const double *) a, y = *(const double *) b; return (x > y) - (x < y); }
 
 int main (int argc, char **argv)
 {
-  int ends[2], status, lines = 0; double came[2]; char text[4096]; ssize_t got;
-  if (argc < 2 || pipe (ends)) return 2;
+  enum { MOST = 1000 };
+  int ends[2], status, lines = 0, skipped; double came[MOST]; char text[4096]; ssize_t got;
+  if (argc < 3 || pipe (ends)) return 2;
+  skipped = atoi (argv[1]);
   pid_t child = fork ();
-  if (!child) { dup2 (ends[1], 1); close (ends[0]); execv (argv[1], argv + 1); _exit (127); }
+  if (!child) { dup2 (ends[1], 1); close (ends[0]); execv (argv[2], argv + 2); _exit (127); }
   close (ends[1]);
   while ((got = read (ends[0], text, sizeof text)) > 0)
     for (ssize_t i = 0; i < got; i++)
-      if (text[i] == '\n' && lines < 2) came[lines++] = now ();
-  if (waitpid (child, &status, 0) < 0 || !WIFEXITED (status) || WEXITSTATUS (status) || lines < 2) return 3;
-  printf ("%.9f\n", came[1] - came[0]);
+      if (text[i] == '\n' && lines < MOST) came[lines++] = now ();
+  if (waitpid (child, &status, 0) < 0 || !WIFEXITED (status) || WEXITSTATUS (status) || lines < skipped + 2) return 3;
+  for (int i = 0; i + 1 < lines; i++) came[i] = came[i + 1] - came[i];
+  int times = lines - 1 - skipped;
+  qsort (came + skipped, times, sizeof *came, order);
+  printf ("%.9f\n", came[skipped + times / 2]);
   return 0;
 }
 C
@@ -193,6 +201,7 @@ static int mark (void *block)
   e->bits[i >> 6] |= bit; e->free--; return 1;
 }
 static double now (void) { struct timespec t; clock_gettime (CLOCK_MONOTONIC, &t); return t.tv_sec + t.tv_nsec / 1e9; }
+static int order (const void *a, const void *b) { double x = *(const double *) a, y = *(const double *) b; return (x > y) - (x < y); }
 int main (int argc, char **argv)
 {
   long n = argc > 2 ? atol (argv[2]) : 0, times = argc > 3 ? atol (argv[3]) : 1, kept = 0; node *head = 0, **stack = malloc ((2 * n + 16) * sizeof *stack); size_t depth = 0;
@@ -204,8 +213,9 @@ int main (int argc, char **argv)
     if (i % 3 == 2) { node *y = take (5); y->other = x; }
   }
   if (!strcmp (argv[1], "make")) { printf ("%ld\n", n); return 0; }
-  double begin = now ();
+  double *each = calloc (times, sizeof *each);
   for (long t = 0; t < times; t++) {
+    double begin = now ();
     kept = 0;
     for (uint32_t p = 0; p < top; p++) { page *e = &table[p]; memset (e->bits, 0, sizeof e->bits); e->free = e->count; }
     if (head && mark (head)) stack[depth++] = head;
@@ -221,9 +231,11 @@ int main (int argc, char **argv)
       if (e->free == e->count) { e->next = empty; empty = p; }
       else if (e->free) { e->next = first[e->shift]; first[e->shift] = p; }
     }
+    each[t] = now () - begin;
   }
-  double end = now ();
-  if (!strcmp (argv[1], "first")) printf ("%.9f\n", end - begin); else printf ("%ld\n", kept);
+  if (!strcmp (argv[1], "first")) printf ("%.9f\n", each[0]);
+  else if (!strcmp (argv[1], "later")) { qsort (each + 1, times - 1, sizeof *each, order); printf ("%.9f\n", each[1 + (times - 1) / 2]); }
+  else printf ("%ld\n", kept);
   return 0;
 }
 C
