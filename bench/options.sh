@@ -41,14 +41,14 @@ contain() {
 containers() { contain "$1" "$2" "%1"; }
 outermost() { contain "$1" "$2" "%0"; }
 
-# So many fields whose length begins at the container of their structure, in so many containers, of which the last has a field of this name.
+# So many fields whose length begins at the container of their structure, in 1,000 containers, of which the last has a field of this name.
 contained() {
   awk -v n="$1" -v header="$2/0.h" -v last="$3" 'BEGIN {
     print "struct GTY(()) leaf { int k; };" >header
     print "struct GTY(()) in {" >header
     for (k = 1; k <= n; k++) print "  struct leaf *GTY((length (\"%1.n\"))) f" k ";" >header
     print "};" >header
-    for (i = 1; i <= n; i++) print "struct GTY(()) c" i " { int " (i < n ? "n" : last) "; struct in f; };" >header
+    for (i = 1; i <= 1000; i++) print "struct GTY(()) c" i " { int " (i < 1000 ? "n" : last) "; struct in f; };" >header
   }'
 }
 fields() { contained "$1" "$2" n; }
@@ -92,7 +92,7 @@ compare parts 10000 'options of 256 parts'
 compare containers 1000 'containers, a path from %1'
 compare containers 4000 'containers, a path from %1'
 compare outermost 4000 'containers, a path from %0'
-compare fields 1000 'fields in as many containers'
+compare fields 1000 'fields in 1,000 containers'
 compare failing 1000 'such fields with a bad path' 'fault 20 BadPath'
 compare skipped 80000 'options of one field, passed over'
 compare again 80000 'options of one field, each again' 'fault 17 WrongPlace'
