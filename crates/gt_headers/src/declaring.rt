@@ -14,7 +14,7 @@ use crate::sizes::lay_out;
 use gt_drafts::Draft;
 use gt_items::Items;
 use gt_layout::Layouts;
-use gt_options::{Settlement, settle};
+use gt_options::settle;
 use gt_resolve::{few, resolve};
 use gt_settled::declared_is_settled;
 use gt_sound::{read_is_well_made, resolved_is_sound};
@@ -51,9 +51,9 @@ pub fn declare(alloc: Global, texts: &[Bytes]) -> Result<Declared, Stop>
         Ok(resolution) => resolution,
         Err(stop) => return Err(stop),
     };
-    let program = match settle(alloc, &draft)? {
-        Settlement::Program(program) => program,
-        Settlement::Fault(fault) => return Err(Stop::At(fault)),
+    let program = match settle(alloc, draft) {
+        Ok(program) => program,
+        Err(stop) => return Err(stop),
     };
     match lay_out(alloc, &files, &program) {
         Ok(layouts) => Ok(Declared { program, layouts }),

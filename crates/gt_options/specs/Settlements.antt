@@ -1,4 +1,6 @@
 -- What a draft comes to.
+use Rattle.gt_types.specs.declared.faults.Stop.{Stop}
+use Rattle.gt_types.specs.declared.faults.Stop.TheVariants.{Memory, At}
 use Rattle.gt_drafts.specs.declared.draft.Draft.{Draft}
 use Rattle.gt_rules.specs.Faults.{Declares, IsFirstFault}
 use Rattle.gt_options.specs.declared.settling.Settlement.{Settlement}
@@ -8,3 +10,8 @@ use Rattle.gt_options.specs.declared.settling.Settlement.TheVariants.{Program, F
 abbrev pub IsSettlement : Draft → Settlement → Type 0
 IsSettlement draft (Program p) = Declares draft p
 IsSettlement draft (Fault f) = IsFirstFault draft f
+
+-- why a draft gives no program; nothing is said of running out of memory
+abbrev pub IsOptionStop : Draft → Stop → Type 0
+IsOptionStop draft Memory = Unit {0}
+IsOptionStop draft (At f) = IsFirstFault draft f

@@ -5,4 +5,4 @@
 pub mod laws;
 mod settling;
 
-pub use settling::{Settlement, settle};
+pub use settling::settle;

@@ -1,14 +1,15 @@
 // A draft is settled.
-ghost use Rattle.std.specs.Prelude.{◌≡◌, Some, IfOk};
+ghost use Rattle.std.specs.Prelude.{◌≡◌, Some, IfErr, IfOk};
 ghost use Rattle.gt_markers.specs.Sound.{IsSound};
+ghost use Rattle.gt_rules.specs.Faults.{Declares};
 ghost use Rattle.gt_rules.specs.Parts.{IsFirstWith};
-ghost use Rattle.gt_options.specs.Settlements.{IsSettlement};
+ghost use Rattle.gt_options.specs.Settlements.{IsOptionStop, IsSettlement};
 
 use gt_declare::declare;
 use gt_drafts::{Draft, with_fault};
 use gt_markers::{Lookup, first_draft_fault};
 use gt_rules::first_program_fault;
-use gt_types::{Fault, Program};
+use gt_types::{Fault, Program, Stop};
 use std::alloc::{AllocError, Global};
 
 /// What a draft comes to.
@@ -30,9 +31,8 @@ fn earlier(first: Option<Fault>, second: Option<Fault>) -> Option<Fault>
     }
 }
 
-/// The program that a sound draft declares, or the first fault of its options: at the earliest place, and of those at one place the lowest
-/// number. It fails only if memory runs out.
-pub fn settle(alloc: Global, draft: &Draft) -> Result<Settlement, AllocError>
+// The program that a sound draft declares, or the first fault of its options. It fails only if memory runs out.
+fn settlement_of(alloc: Global, draft: &Draft) -> Result<Settlement, AllocError>
     requires sound { IsSound draft.now }
     ensures settled { IfOk result (IsSettlement draft.now) }
 {
@@ -43,5 +43,18 @@ pub fn settle(alloc: Global, draft: &Draft) -> Result<Settlement, AllocError>
     match earlier(by_draft, by_program) {
         None => Ok(Settlement::Program(program)),
         Some(fault) => Ok(Settlement::Fault(fault)),
+    }
+}
+
+/// The program that a sound draft declares. It stops at the first fault of the options: that at the earliest place, and of those at one
+/// place that with the lowest number; or where memory runs out.
+pub fn settle(alloc: Global, draft: Draft) -> Result<Program, Stop>
+    requires sound { IsSound draft }
+    ensures declared { IfOk result (Declares draft) }
+    ensures stopped { IfErr result (IsOptionStop draft) }
+{
+    match settlement_of(alloc, &draft)? {
+        Settlement::Program(program) => Ok(program),
+        Settlement::Fault(fault) => Err(Stop::At(fault)),
     }
 }

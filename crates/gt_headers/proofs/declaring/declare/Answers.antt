@@ -1,6 +1,3 @@
-use Rattle.std.proofs.Common.{subst}
-use Rattle.gt_options.specs.Settlements.{IsSettlement}
-use Rattle.gt_rules.specs.Faults.{Declares as DeclaresProgram}
 use Rattle.gt_headers.proofs.ReadingLemmas.{read_few}
 use Rattle.gt_headers.proofs.SettlingLemmas.{declares_by, roots_in, size_stop, structures_in}
 use Rattle.gt_headers.proofs.declaring.declare.Goals as goal
@@ -12,16 +9,15 @@ lay_out-requires-clause-few c =
 pub lay_out-requires-clause-settled : goal.lay_out-requires-clause-settled
 lay_out-requires-clause-settled c =
     let draft = c.in-Ok.resolution.draft in
-    let declares : DeclaresProgram draft c.in-Program.program = subst (IsSettlement draft) c.in-Program.is c.in_ok-program.ensures.settled in
-    c.declared_is_settled.ensures.settled draft c.in-Program.program c.in-Ok.ensures.sound declares
+    c.declared_is_settled.ensures.settled draft c.in-Ok-settle.program c.in-Ok.ensures.sound c.in-Ok-settle.ensures.declared
 
 pub lay_out-requires-clause-structures : goal.lay_out-requires-clause-structures
 lay_out-requires-clause-structures c =
     let texts = c.args.texts.now in
     let files = c.in-Ok.resolution.files.items in
     let draft = c.in-Ok.resolution.draft in
-    let program = c.in-Program.program in
-    let declares : DeclaresProgram draft program = subst (IsSettlement draft) c.in-Program.is c.in_ok-program.ensures.settled in
+    let program = c.in-Ok-settle.program in
+    let declares = c.in-Ok-settle.ensures.declared in
     structures_in texts files draft c.in-Ok.ensures.read c.in-Ok.ensures.resolved program declares c.deref.result.now c.deref.ensures.value
 
 pub lay_out-requires-clause-roots : goal.lay_out-requires-clause-roots
@@ -29,8 +25,8 @@ lay_out-requires-clause-roots c =
     let texts = c.args.texts.now in
     let files = c.in-Ok.resolution.files.items in
     let draft = c.in-Ok.resolution.draft in
-    let program = c.in-Program.program in
-    let declares : DeclaresProgram draft program = subst (IsSettlement draft) c.in-Program.is c.in_ok-program.ensures.settled in
+    let program = c.in-Ok-settle.program in
+    let declares = c.in-Ok-settle.ensures.declared in
     roots_in texts files draft c.in-Ok.ensures.read c.in-Ok.ensures.resolved program declares c.deref.result.now c.deref.ensures.value
 
 pub returns-in-Ok-lay_out-clause-declared : goal.returns-in-Ok-lay_out-clause-declared
@@ -38,8 +34,8 @@ returns-in-Ok-lay_out-clause-declared c =
     let texts = c.args.texts.now in
     let files = c.in-Ok.resolution.files.items in
     let draft = c.in-Ok.resolution.draft in
-    let program = c.in-Program.program in
-    let declares : DeclaresProgram draft program = subst (IsSettlement draft) c.in-Program.is c.in_ok-program.ensures.settled in
+    let program = c.in-Ok-settle.program in
+    let declares = c.in-Ok-settle.ensures.declared in
     declares_by texts files draft c.in-Ok.ensures.read c.in-Ok.ensures.resolved program declares c.deref.result.now c.deref.ensures.value c.in-Ok-lay_out.ensures.sized
 
 pub returns-clause-stopped : goal.returns-clause-stopped
@@ -47,6 +43,6 @@ returns-clause-stopped c =
     let texts = c.args.texts.now in
     let files = c.in-Ok.resolution.files.items in
     let draft = c.in-Ok.resolution.draft in
-    let program = c.in-Program.program in
-    let declares : DeclaresProgram draft program = subst (IsSettlement draft) c.in-Program.is c.in_ok-program.ensures.settled in
+    let program = c.in-Ok-settle.program in
+    let declares = c.in-Ok-settle.ensures.declared in
     size_stop texts files draft c.in-Ok.ensures.read c.in-Ok.ensures.resolved program declares c.deref.result.now c.deref.ensures.value c.in-Err-lay_out.stop c.in-Err-lay_out.ensures.stopped

@@ -1,6 +1,6 @@
 use Rattle.std.proofs.Common.{Some, None, refl}
 use Rattle.gt_options.proofs.Settled.{declares, first_fault}
-use Rattle.gt_options.proofs.settling.settle.Goals as goal
+use Rattle.gt_options.proofs.settling.settlement_of.Goals as goal
 
 pub returns-in-None : goal.returns-in-None
 returns-in-None c = record {
