@@ -20,7 +20,7 @@ use Rattle.gt_assign.specs.Turning.{Gives, made}
 use Rattle.gt_assign.specs.Checks.{is_word_there}
 use Rattle.gt_assign.specs.Results.{IsMadeWhereFit, NoneElseIsMade, NoneIsMade, IsAssigned, IsMisfit}
 use Rattle.gt_assign.proofs.ComesUnions.{made-sound}
-use Rattle.gt_fit.proofs.CommonFound.{common-is}
+use Rattle.gt_unions.proofs.CommonFound.{common-is}
 use Rattle.gt_assign.proofs.Standing.{Stands}
 use Rattle.gt_assign.proofs.Whole.{makes}
 use Rattle.gt_assign.proofs.Nesting.{deep-block}

@@ -20,9 +20,9 @@ use Rattle.gt_tree.specs.Fits.{active_member}
 use Rattle.gt_tree.specs.Reshapes.{IsZeroOutside, OutsideOf, Reshapes, Changes}
 use Rattle.gt_tree.proofs.PathBegins.{beginning-self, same-number}
 use Rattle.gt_assign.specs.Pasts.{Was, Whole, Nothing, Begun, Past, past_inside, value_was, desc_was}
-use Rattle.gt_fit.specs.Commons.{common_of}
+use Rattle.gt_unions.specs.Commons.{common_of}
 use Rattle.gt_assign.specs.Turning.{Maker, within, begun_by, is_member, rest_by, rest_whole, rest_zero, alt_made, member_made, struct_made, stays, or_made, structure_made, node_made, tail_made, layer_made, made}
-use Rattle.gt_fit.proofs.CommonFound.{CommonIs}
+use Rattle.gt_unions.proofs.CommonFound.{CommonIs}
 use Rattle.gt_assign.proofs.Comes.{Comes, IsSound, leaf-comes, row-comes, struct-comes}
 
 some-is : {X : Type 0} (a b : X) → Some a ≡ Some b → a ≡ b

@@ -8,7 +8,7 @@ use Rattle.gt_types.specs.declared.program.Structure.{Structure}
 use Rattle.gt_types.specs.declared.program.Program.{Program}
 use Rattle.gt_tree.specs.Trees.{Tree, Alt}
 use Rattle.gt_tree.specs.Fits.{active_member}
-use Rattle.gt_fit.specs.Commons.{common_of}
+use Rattle.gt_unions.specs.Commons.{common_of}
 use Rattle.gt_fit.proofs.Endings.{equals}
 use Rattle.gt_assign.specs.Pasts.{Was, Whole, Past, past_inside, desc_was}
 use Rattle.gt_assign.specs.Turning.{Maker, stays, or_made, node_made, structure_made, member_made, member_was, begun_by, alt_made, struct_made}

@@ -22,7 +22,7 @@ use Rattle.gt_assign.specs.Turning.{Gives, made, fields_made, record_made}
 use Rattle.gt_assign.specs.Results.{RecordFits, IsRecordWhereFit, NoneElseIsRecord, NoneIsRecord}
 use Rattle.gt_assign.proofs.Comes.{checked, rec-of, each-field}
 use Rattle.gt_assign.proofs.ComesUnions.{made-sound}
-use Rattle.gt_fit.proofs.CommonFound.{common-is}
+use Rattle.gt_unions.proofs.CommonFound.{common-is}
 use Rattle.gt_assign.proofs.Standing.{Stands}
 use Rattle.gt_assign.proofs.Whole.{Deep, fields-old, fields-long, makes_fields}
 use Rattle.gt_assign.proofs.Nesting.{deep-root}

@@ -31,11 +31,11 @@ use Rattle.gt_tree.proofs.WriteAlike.{struct-old}
 use Rattle.gt_tree.proofs.WriteParts.{CameFrom, came-from, array-old, tail-old}
 use Rattle.gt_tree.proofs.WriteSame.{old-leaf}
 use Rattle.gt_assign.specs.Pasts.{Was, Whole, Nothing, Begun, Past, past_inside, value_was, desc_was}
-use Rattle.gt_fit.specs.Commons.{common_of}
+use Rattle.gt_unions.specs.Commons.{common_of}
 use Rattle.gt_assign.specs.Turning.{Maker, zero_leaf, leaf_made, field_was, has_fields, fields_made, struct_made, maybe_whole, element_was, elements_made, is_row, within, begun_by, is_member, member_was, rest_by, rest_whole, rest_zero, rest_made, alt_made, member_made, stays, or_made, structure_made, node_made, tail_made, layer_made, made}
 use Rattle.gt_assign.proofs.Comes.{Comes, not-nought, not-stays, from}
-use Rattle.gt_fit.proofs.CommonFound.{CommonIs}
-use Rattle.gt_fit.proofs.CommonFound.{common-is}
+use Rattle.gt_unions.proofs.CommonFound.{CommonIs}
+use Rattle.gt_unions.proofs.CommonFound.{common-is}
 use Rattle.gt_assign.proofs.PastReads.{Reads, reads, Opened, opened}
 use Rattle.gt_assign.proofs.Standing.{Stands, count-read, desc-read}
 

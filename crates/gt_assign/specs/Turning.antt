@@ -18,7 +18,7 @@ use Rattle.gt_value.specs.declared.values.ValueFail.{ValueFail}
 use Rattle.gt_value.specs.declared.values.ValueFail.TheVariants.{Shape, Memory}
 use Rattle.gt_value.specs.Values.{tree_of}
 use Rattle.gt_assign.specs.Pasts.{Was, Whole, Nothing, Begun, Past, past_outside, past_inside, value_was, desc_was}
-use Rattle.gt_fit.specs.Commons.{common_of}
+use Rattle.gt_unions.specs.Commons.{common_of}
 
 -- what a call gives that makes a value
 abbrev pub Gives : Result Value ValueFail → Option Tree → Type 0

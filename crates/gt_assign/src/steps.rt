@@ -7,7 +7,7 @@ ghost use Rattle.gt_tree.specs.Trees.{count};
 ghost use Rattle.gt_value.specs.Values.{trees, tree_of};
 ghost use Rattle.gt_fit.specs.Values.{maybe_tree};
 ghost use Rattle.gt_assign.specs.Pasts.{was_of, maybe_was};
-ghost use Rattle.gt_fit.specs.Commons.{common_of};
+ghost use Rattle.gt_unions.specs.Commons.{common_of};
 ghost use Rattle.gt_assign.specs.Turning.{field_was, has_fields, is_row, element_was, member_was, begun_by, stays};
 
 use crate::seeing::Seen;

@@ -22,10 +22,10 @@ use Rattle.gt_tree.specs.PathLaws.{has_room_in}
 use Rattle.gt_value.specs.declared.values.Value.{Value}
 use Rattle.gt_value.specs.Values.{trees, tree_of}
 use Rattle.gt_tree.proofs.Commons.{one-common}
-use Rattle.gt_fit.specs.Commons.{common_of}
+use Rattle.gt_unions.specs.Commons.{common_of}
 use Rattle.gt_fit.specs.Fitting.{OpaqueFits, FieldsFit, StructFits, MemberFits, CommonFits, ThereFits, ActiveFits, UnionFits, RecFits, AltFits, RowFits}
-use Rattle.gt_fit.proofs.CommonFound.{CommonIs}
-use Rattle.gt_fit.proofs.CommonFound.{common-is}
+use Rattle.gt_unions.proofs.CommonFound.{CommonIs}
+use Rattle.gt_unions.proofs.CommonFound.{common-is}
 use Rattle.gt_fit.proofs.PartsFit.{never}
 use Rattle.gt_fit.proofs.Values.{count-trees}
 

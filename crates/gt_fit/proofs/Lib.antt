@@ -1,7 +1,6 @@
 pub mod Values
 pub mod PathSteps
 pub mod Listing
-pub mod CommonFound
 pub mod PartsFit
 pub mod Layers
 pub mod Endings

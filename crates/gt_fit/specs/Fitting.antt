@@ -13,7 +13,7 @@ use Rattle.gt_tree.specs.Trees.{Tree, Rec, Trees, End, count, without_pointers}
 use Rattle.gt_tree.specs.Blocks.{Chars, Block, Blocks}
 use Rattle.gt_tree.specs.Scopes.{Scope, inside, eval_in}
 use Rattle.gt_tree.specs.Fits.{Fits, AllFit, EachFits, active_member, desc_value, types_of}
-use Rattle.gt_fit.specs.Commons.{common_of}
+use Rattle.gt_unions.specs.Commons.{common_of}
 
 -- a block of so many characters is there
 abbrev pub HasChars : Blocks → ℕ → ℕ → Type 0

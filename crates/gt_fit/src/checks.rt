@@ -10,7 +10,7 @@ ghost use Rattle.gt_tree.specs.Scopes.{eval_in};
 ghost use Rattle.gt_tree.specs.Trees.{Rec, End, without_pointers, all_without_pointers};
 ghost use Rattle.gt_tree.specs.Fits.{Fits, AllFit, EachFits, types_of};
 ghost use Rattle.gt_value.specs.Values.{trees, tree_of};
-ghost use Rattle.gt_fit.specs.Commons.{common_of};
+ghost use Rattle.gt_unions.specs.Commons.{common_of};
 ghost use Rattle.gt_fit.specs.Scoping.{scope_of};
 ghost use Rattle.gt_fit.specs.Fitting.{OpaqueFits, RecFits, AltFits, ThereFits, MemberFits, CommonFits, RowFits};
 

@@ -3,7 +3,7 @@ ghost use Rattle.std.specs.Prelude.{◌≡◌, true};
 ghost use Rattle.gt_types.specs.declared.types.TypeId.{TypeId};
 ghost use Rattle.gt_types.specs.Contains.{HasStructure};
 ghost use Rattle.gt_types.specs.Settled.{Settled};
-ghost use Rattle.gt_fit.specs.Commons.{common_of};
+ghost use Rattle.gt_unions.specs.Commons.{common_of};
 
 use gt_types::{Program, Structure, TypeId};
 

@@ -6,7 +6,7 @@ ghost use Rattle.gt_types.specs.declared.program.Program.{Program};
 ghost use Rattle.gt_types.specs.Contains.{HasStructure};
 ghost use Rattle.gt_types.specs.Settled.{Settled};
 ghost use Rattle.gt_types.specs.Unions.{IsCommon};
-ghost use Rattle.gt_fit.specs.Commons.{common_of};
+ghost use Rattle.gt_unions.specs.Commons.{common_of};
 ghost use Rattle.gt_fit.specs.InPlace.{IsInPlace, AreInPlace};
 
 /// Where the value with a leaf replaced fits, it is what the write of that leaf makes: so for an element of a block, and for the

@@ -17,6 +17,8 @@ use Rattle.gt_types.specs.Shapes.{is_field_type}
 use Rattle.gt_types.specs.Settled.{Settled}
 use Rattle.gt_fields.specs.declared.field_names.FieldNames.{FieldNames}
 use Rattle.gt_fields.specs.FieldNames.{field_names}
+use Rattle.gt_unions.specs.declared.tables.Unions.{Unions}
+use Rattle.gt_unions.specs.Tables.{union_tables}
 use Rattle.gt_layout.specs.declared.planes.Plane.{Plane}
 use Rattle.gt_layout.specs.declared.planes.Layouts.{Layouts}
 use Rattle.gt_layout.specs.declared.storages.Storage.{Storage}
@@ -182,7 +184,7 @@ ideal_laid program settled =
 
 -- the layouts of a program
 pub ideal_layouts : Program → Layouts
-ideal_layouts program = record { structures = ideal program; statics = plane_of false (root_storages (ideal program) program.roots); names = field_names program.structures }
+ideal_layouts program = record { structures = ideal program; statics = plane_of false (root_storages (ideal program) program.roots); names = field_names program.structures; unions = union_tables program }
 
 pub ideal_is : (program : Program) → Settled program → IsLaidOut program (ideal_layouts program)
 unfolding ideal_layouts
@@ -190,13 +192,15 @@ ideal_is program settled = record {
   structures = ideal_laid program settled;
   statics = plane_is false (root_storages (ideal program) program.roots) (possible_roots program (ideal program) settled (λ place. some_align program (ideal program) place (ideal_laid program settled)));
   names = refl;
+  unions = refl;
 }
 
-same_layouts : (a b : Layouts) → a.structures ≡ b.structures → a.statics ≡ b.statics → a.names ≡ b.names → a ≡ b
-same_layouts a b p q r =
-    ap (λ (ps : List Plane). let l : Layouts = record { structures = ps; statics = a.statics; names = a.names } in l) p
-    ∙ ap (λ (s : Plane). let l : Layouts = record { structures = b.structures; statics = s; names = a.names } in l) q
-    ∙ ap (λ (n : FieldNames). let l : Layouts = record { structures = b.structures; statics = b.statics; names = n } in l) r
+same_layouts : (a b : Layouts) → a.structures ≡ b.structures → a.statics ≡ b.statics → a.names ≡ b.names → a.unions ≡ b.unions → a ≡ b
+same_layouts a b p q r u =
+    ap (λ (ps : List Plane). let l : Layouts = record { structures = ps; statics = a.statics; names = a.names; unions = a.unions } in l) p
+    ∙ ap (λ (s : Plane). let l : Layouts = record { structures = b.structures; statics = s; names = a.names; unions = a.unions } in l) q
+    ∙ ap (λ (n : FieldNames). let l : Layouts = record { structures = b.structures; statics = b.statics; names = n; unions = a.unions } in l) r
+    ∙ ap (λ (t : Unions). let l : Layouts = record { structures = b.structures; statics = b.statics; names = b.names; unions = t } in l) u
 
 only_layouts : (program : Program) (a b : Layouts) → Settled program → IsLaidOut program a → IsLaidOut program b → a ≡ b
 only_layouts program a b settled is is' =
@@ -205,7 +209,7 @@ only_layouts program a b settled is is' =
     same_layouts a b same
     (plane_only false (root_storages a.structures program.roots) a.statics (possible a is.structures) is.statics
     ∙ ap (λ ps. plane_of false (root_storages ps program.roots)) same ∙ sym (plane_only false (root_storages b.structures program.roots) b.statics (possible b is'.structures) is'.statics))
-    (is.names ∙ sym is'.names)
+    (is.names ∙ sym is'.names) (is.unions ∙ sym is'.unions)
 
 pub one_layout : (program : Program) → Settled program → HasOneLayout program
 one_layout program settled = (ideal_layouts program, ideal_is program settled, λ other is. only_layouts program other (ideal_layouts program) settled is (ideal_is program settled))

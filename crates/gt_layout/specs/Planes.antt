@@ -5,6 +5,7 @@ use Rattle.gt_types.specs.declared.program.Structure.{Structure}
 use Rattle.gt_types.specs.declared.program.Root.{Root}
 use Rattle.gt_types.specs.declared.program.Program.{Program}
 use Rattle.gt_fields.specs.FieldNames.{field_names}
+use Rattle.gt_unions.specs.Tables.{union_tables}
 use Rattle.gt_layout.specs.declared.planes.TheConstants.{MAX_SIZE}
 use Rattle.gt_layout.specs.declared.planes.Plane.{Plane}
 use Rattle.gt_layout.specs.declared.planes.Layouts.{Layouts}
@@ -47,11 +48,12 @@ pub record AreLaidOut (program : Program) (planes : List Plane) : Type 0 where
 abbrev pub root_storages : List Plane → List Root → List Storage
 root_storages planes roots = map (λ r. storage_of planes r.ty) roots
 
--- the layouts of a program: its planes, that of the static record, and the names of its fields
+-- the layouts of a program: its planes, that of the static record, the names of its fields, and the tables of its unions
 pub record IsLaidOut (program : Program) (layouts : Layouts) : Type 0 where
   pub structures : AreLaidOut program layouts.structures
   pub statics : IsPlaneOf false (root_storages layouts.structures program.roots) layouts.statics
   pub names : layouts.names ≡ field_names program.structures
+  pub unions : layouts.unions ≡ union_tables program
 
 -- ---- how planes are held in 32 bits
 

@@ -15,6 +15,7 @@ use crate::planes::{LayoutStop, Layouts, MAX_SIZE, Plane};
 use crate::tails::tail_of;
 use gt_fields::FieldNames;
 use gt_types::{List, Program, Root, Structure};
+use gt_unions::Unions;
 use std::alloc::{AllocError, Global};
 
 // Whether a structure is too large without its tail elements, or one of them is.
@@ -66,7 +67,7 @@ fn lay_out_roots(alloc: Global, roots: &[Root], known: &[Plane]) -> Result<Stati
     Ok(Statics::Within(finish(alloc, draft)))
 }
 
-/// The layouts of all structures and of the static record, and the names of all fields. It stops exactly where a structure without its tail elements, one
+/// The layouts of all structures and of the static record, the names of all fields, and the tables of all unions. It stops exactly where a structure without its tail elements, one
 /// tail element of a structure, or the static record takes more than [`MAX_SIZE`](crate::MAX_SIZE) bytes.
 pub fn layout(alloc: Global, program: &Program) -> Result<Layouts, LayoutStop>
     requires { Settled program.now }
@@ -88,10 +89,12 @@ pub fn layout(alloc: Global, program: &Program) -> Result<Layouts, LayoutStop>
     match structure {
         None => {
             let names = FieldNames::of(alloc, program.structures.as_slice())?;
+            let unions = Unions::of(alloc, program)?;
             Ok(Layouts {
                 structures: List::of(known),
                 statics,
                 names,
+                unions,
             })
         }
         Some(place) => Err(LayoutStop::TooLarge {

@@ -1,6 +1,7 @@
 // The types of a layout.
 use gt_fields::FieldNames;
 use gt_types::List;
+use gt_unions::Unions;
 use std::alloc::AllocError;
 
 /// The most bytes that a structure without its tail elements, one of its tail elements, or the static record may take.
@@ -31,13 +32,14 @@ pub struct Plane {
     pub fields: List<Spot>,
 }
 
-/// The layouts of the structures of a program, by place, and of the static record, which is a struct of the roots; and the
-/// names of the fields, by which they are found.
+/// The layouts of the structures of a program, by place, and of the static record, which is a struct of the roots; the names of
+/// the fields, by which they are found; and the members of the unions, by their tags.
 #[derive(Drop)]
 pub struct Layouts {
     pub structures: List<Plane>,
     pub statics: Plane,
     pub names: FieldNames,
+    pub unions: Unions,
 }
 
 /// Why a program is not laid out: out of memory, or something is too large. That is the first structure which is too

@@ -1,15 +1,11 @@
 -- Which values fit a type.
 use Rattle.std.specs.Prelude.{◌≡◌, ◌≤◌, ◌<◌, ℕ, Bool, true, false, IsTrue, ℤ, pos, List, [], ◌∷◌, ◌++◌, Option, Some, None, length, map, slice_get, All}
-use Rattle.std.specs.Ordering.{int_eq}
-use Rattle.std.specs.List.{position_from}
 use Rattle.gt_types.specs.declared.expressions.Expr.{Expr}
 use Rattle.gt_types.specs.declared.types.TypeId.{TypeId}
 use Rattle.gt_types.specs.declared.types.Scalar.{Scalar}
 use Rattle.gt_types.specs.declared.types.Ty.{Ty, out-Ty}
 use Rattle.gt_types.specs.declared.types.Ty.TheOpen as part
 use Rattle.gt_types.specs.declared.types.Ty.TheVariants as ty
-use Rattle.gt_types.specs.declared.program.Active.{Active}
-use Rattle.gt_types.specs.declared.program.Active.TheVariants.{Tag, Other}
 use Rattle.gt_types.specs.declared.program.Field.{Field}
 use Rattle.gt_types.specs.declared.program.Structure.{Structure}
 use Rattle.gt_types.specs.declared.program.Root.{Root}
@@ -17,28 +13,13 @@ use Rattle.gt_types.specs.declared.program.Program.{Program}
 use Rattle.gt_types.specs.Shapes.{bits_of, is_pointer}
 use Rattle.gt_types.specs.Contains.{HasStructure}
 use Rattle.gt_types.specs.Unions.{IsCommon}
+pub use Rattle.gt_unions.specs.Members.{is_tag, is_default, first_place, active_member}
 use Rattle.gt_tree.specs.Trees.{Tree, Num, Null, To, Raw, Rec, Alt, Row, Trees, End, And, count, without_pointers, IsZero, AreZero, edges}
 use Rattle.gt_tree.specs.Numbers.{is_signed, has_room}
 use Rattle.gt_tree.specs.Blocks.{Kind, Chars, Blocks, MayName, element_type}
 use Rattle.gt_tree.specs.Scopes.{Scope, outside, inside, eval_in}
 
 -- ---- the active member of a union
-
-abbrev pub is_tag : Option ℤ → Active → Bool
-is_tag (Some value) (Tag tag) = int_eq value tag
-is_tag value active = false
-
-abbrev pub is_default : Active → Bool
-is_default Other = true
-is_default active = false
-
-abbrev pub first_place : Option ℕ → Option ℕ → Option ℕ
-first_place (Some place) other = Some place
-first_place None other = other
-
--- the member whose tag is the value of the `desc`, else the default, else none; without a value no tag is it
-abbrev pub active_member : Option ℤ → List Field → Option ℕ
-active_member value fields = first_place (position_from (λ f. is_tag value f.active) 0 fields) (position_from (λ f. is_default f.active) 0 fields)
 
 abbrev pub desc_value : Program → Scope → Option Expr → Option ℤ
 desc_value program scope (Some desc) = eval_in program scope desc

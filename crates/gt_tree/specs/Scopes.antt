@@ -1,5 +1,5 @@
 -- What the expressions of options read: values of structures, along paths of fields, and roots.
-use Rattle.std.specs.Prelude.{ℕ, Bool, false, cond, ◌==◌, ℤ, List, [], ◌∷◌, Option, Some, None, slice_get}
+use Rattle.std.specs.Prelude.{ℕ, Bool, false, cond, ℤ, List, [], ◌∷◌, Option, Some, None, slice_get}
 use Rattle.std.specs.Str.{bytes_eq}
 use Rattle.std.specs.List.{position_from}
 use Rattle.gt_types.specs.declared.expressions.Base.{Base}
@@ -12,6 +12,7 @@ use Rattle.gt_types.specs.declared.program.Field.{Field}
 use Rattle.gt_types.specs.declared.program.Structure.{Structure}
 use Rattle.gt_types.specs.declared.program.Program.{Program}
 use Rattle.gt_types.specs.Values.{value_of, within_i64}
+pub use Rattle.gt_unions.specs.Members.{is_node}
 use Rattle.gt_tree.specs.Trees.{Tree, Num, Rec, Alt, Trees, End, And, tree_at}
 
 -- a structure and its value
@@ -50,10 +51,6 @@ base_of scope Outer = scope.outer
 base_of scope Outermost = scope.outermost
 
 -- ---- what a union begins with
-
-abbrev pub is_node : TypeId → Ty → Bool
-is_node node (ty.Node other desc) = node.0 == other.0
-is_node node type = false
 
 abbrev pub type_of_field : Option Field → Option Ty
 type_of_field (Some f) = Some f.ty

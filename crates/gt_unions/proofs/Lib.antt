@@ -3,3 +3,6 @@ mod Starts
 mod Plains
 mod Lists
 mod Candidates
+pub mod OneCommon
+pub mod CommonFound
+pub mod TableLemmas

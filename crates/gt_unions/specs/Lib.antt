@@ -1,1 +1,4 @@
+pub mod Members
 pub mod Beginnings
+pub mod Commons
+pub mod Tables

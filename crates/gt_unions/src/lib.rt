@@ -1,10 +1,12 @@
-//! The common structure of a union: the plain struct that some member is, and with which each member begins that may be active. The
-//! layers above ask for it where no member is active.
+//! Which member of a union is active, and its common structure: the plain struct that some member is, and with which each member begins
+//! that may be active. The layers above ask for the second where no member is active.
 #![tactic(auto)]
 
 mod beginnings;
 mod commons;
 mod members;
 mod plain;
+mod tables;
 
 pub use commons::common_of;
+pub use tables::Unions;

@@ -1,4 +1,4 @@
-use Rattle.gt_fit.proofs.CommonFound.{found-is-common}
+use Rattle.gt_unions.proofs.CommonFound.{found-is-common}
 use Rattle.gt_fit.proofs.commons.common_of.Goals as goal
 
 pub returns : goal.returns

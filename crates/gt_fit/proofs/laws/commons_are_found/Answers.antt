@@ -1,4 +1,4 @@
-use Rattle.gt_fit.proofs.CommonFound.{common-found}
+use Rattle.gt_unions.proofs.CommonFound.{common-found}
 use Rattle.gt_fit.proofs.laws.commons_are_found.Goals as goal
 
 pub returns : goal.returns

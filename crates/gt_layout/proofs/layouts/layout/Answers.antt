@@ -36,19 +36,19 @@ returns-in-Beyond-clause-stop c =
     (subst (λ (ps : List Plane). IsFirst (IsLargeAt c.args.program.now ps) c.first_too_large-structure.result) c.as_slice.ensures.value c.first_too_large-structure.ensures)
     (statics_of c.as_slice-3.result.now c.in_ok-known.known.items c.as_slice-2.result.now c.args.program.now.roots c.in_ok-plane.field-0 _ c.as_slice-3.ensures.value c.as_slice-2.ensures.items c.in-Beyond.is c.in_ok-plane.ensures)
 
-pub returns-in_ok-names-in-None-clause-laid_out : goal.returns-in_ok-names-in-None-clause-laid_out
-returns-in_ok-names-in-None-clause-laid_out c =
-    all_laid_out c.args.program.now c.in_ok-known.known.items c.of-in-None.result c.in-Within.plane c.in_ok-names-in-None.names c.requires c.in_ok-known.ensures
+pub returns-in_ok-unions-in-None-clause-laid_out : goal.returns-in_ok-unions-in-None-clause-laid_out
+returns-in_ok-unions-in-None-clause-laid_out c =
+    all_laid_out c.args.program.now c.in_ok-known.known.items c.of-in-None-2.result c.in-Within.plane c.in_ok-names-in-None.names c.in_ok-unions-in-None.unions c.requires c.in_ok-known.ensures
     (subst (λ (ps : List Plane). (place : ℕ) → ¬ IsLargeAt c.args.program.now ps place) c.as_slice.ensures.value c.in-None.ensures)
     (statics_of c.as_slice-3.result.now c.in_ok-known.known.items c.as_slice-2.result.now c.args.program.now.roots c.in_ok-plane.field-0 _ c.as_slice-3.ensures.value c.as_slice-2.ensures.items c.in-Within.is c.in_ok-plane.ensures)
-    c.of-in-None.ensures.items (c.in_ok-names-in-None.ensures.made ∙ ap field_names c.as_slice-in-None.ensures.items)
+    c.of-in-None-2.ensures.items (c.in_ok-names-in-None.ensures.made ∙ ap field_names c.as_slice-in-None.ensures.items) c.in_ok-unions-in-None.ensures.made
 
-pub returns-in_ok-names-in-None-clause-within : goal.returns-in_ok-names-in-None-clause-within
-returns-in_ok-names-in-None-clause-within c =
-    all_within c.args.program.now c.in_ok-known.known.items c.of-in-None.result c.in-Within.plane c.in_ok-names-in-None.names c.in_ok-known.ensures
+pub returns-in_ok-unions-in-None-clause-within : goal.returns-in_ok-unions-in-None-clause-within
+returns-in_ok-unions-in-None-clause-within c =
+    all_within c.args.program.now c.in_ok-known.known.items c.of-in-None-2.result c.in-Within.plane c.in_ok-names-in-None.names c.in_ok-unions-in-None.unions c.in_ok-known.ensures
     (subst (λ (ps : List Plane). (place : ℕ) → ¬ IsLargeAt c.args.program.now ps place) c.as_slice.ensures.value c.in-None.ensures)
     (statics_of c.as_slice-3.result.now c.in_ok-known.known.items c.as_slice-2.result.now c.args.program.now.roots c.in_ok-plane.field-0 _ c.as_slice-3.ensures.value c.as_slice-2.ensures.items c.in-Within.is c.in_ok-plane.ensures)
-    c.of-in-None.ensures.items
+    c.of-in-None-2.ensures.items
 
 pub returns-in-Some-clause-stop : goal.returns-in-Some-clause-stop
 returns-in-Some-clause-stop c =

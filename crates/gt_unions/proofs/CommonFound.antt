@@ -1,6 +1,6 @@
 -- The common structure that is found is the common structure of a union, and where none is found there is none.
 use Rattle.std.proofs.Common.{◌≡◌, ℕ, zero, suc, ◌<◌, ◌≤◌, Bool, true, false, not, ◌&&◌, ◌||◌, cond, IsTrue, List, [], ◌∷◌, refl, ap, sym, subst, ◌∙◌, arith, Option, Some, None}
-use Rattle.std.specs.Prelude.{All, Contains, MatchOption, is_some, slice_get}
+use Rattle.std.specs.Prelude.{◌==◌, All, Contains, MatchOption, is_some, slice_get}
 use Rattle.std.specs.List.{list_all}
 use Rattle.std.proofs.lemmas.List.Elements.{All-nil, All-cons, All-contains}
 use Rattle.std.proofs.lemmas.Option.{slice_get-get_or}
@@ -15,17 +15,25 @@ use Rattle.gt_types.specs.Contains.{HasStructure, held_by, Nests, once, deeper, 
 use Rattle.gt_types.specs.Tails.{tail_of}
 use Rattle.gt_types.specs.Unions.{may_be_active, BeginsWith, is_it, by_first, IsPlainStruct, IsCommon}
 use Rattle.gt_types.specs.Settled.{Settled}
-use Rattle.gt_tree.specs.Scopes.{is_node}
-use Rattle.gt_tree.proofs.Types.{held-node}
-use Rattle.gt_tree.proofs.Commons.{one-common}
-use Rattle.gt_tree.proofs.PathBegins.{same-number}
-use Rattle.gt_tree.proofs.WriteReads.{node-type}
-use Rattle.gt_fit.specs.Commons.{held_is, is_plain_in, is_plain, first_is, struct_is, inside_is, begins_with, suits, is_common, common_by, or_else, common_among, common_of}
+use Rattle.gt_unions.specs.Members.{is_node}
+use Rattle.std.proofs.lemmas.Bool.{eqb-true, eq-eqb}
+use Rattle.gt_unions.proofs.OneCommon.{held-it, one-common}
+use Rattle.gt_unions.specs.Commons.{held_is, is_plain_in, is_plain, first_is, struct_is, inside_is, begins_with, suits, is_common, common_by, or_else, common_among, common_of}
 
 -- the answer to which structure is common to the members of a union
 abbrev pub CommonIs : Program → Structure → Option TypeId → Type 0
 CommonIs program s (Some common) = IsCommon program s common
 CommonIs program s None = (common : TypeId) → ¬ IsCommon program s common
+
+same-number : (n : ℕ) → (n == n) ≡ true
+same-number n = eq-eqb n n refl
+
+one-node : (a b : TypeId) → a.0 ≡ b.0 → a ≡ b
+one-node a b e = ap (λ n. let node : TypeId = record { 0 = n } in node) e
+
+node-type : (c : TypeId) (type : Ty) → is_node c type ≡ true → (desc : Option Expr) × (type ≡ ty.Node c desc)
+node-type c (ty.Node other desc) e = (desc, ap (λ n. ty.Node n desc) (sym (one-node c other (eqb-true c.0 other.0 e))))
+node-type c type e = absurd (cc)
 
 some-is : {X : Type 0} (a b : X) → Some a ≡ Some b → a ≡ b
 some-is a b e = cc
@@ -195,8 +203,8 @@ module _ (program : Program) where
       (λ inner d. inside inner (suc d.0, deeper c d.1))))
 
   begins-held : {type : Ty} {common : TypeId} → BeginsWith program type common → (node : TypeId) × (held_by type ≡ Some node)
-  begins-held (is_it {node} {desc}) = (node, held-node node desc)
-  begins-held (by_first {outer} {desc} has struct e rest) = (outer, held-node outer desc)
+  begins-held (is_it {node} {desc}) = (node, held-it node desc)
+  begins-held (by_first {outer} {desc} has struct e rest) = (outer, held-it outer desc)
 
   begins-true : {type : Ty} {common : TypeId} → BeginsWith program type common → (depth : ℕ) → 1 ≤ depth → ((node : TypeId) → held_by type ≡ Some node → (n : ℕ) (inner : TypeId) → Nests program n node inner → n < depth)
       → begins_with program depth common type ≡ true
@@ -206,11 +214,11 @@ module _ (program : Program) where
       let got : slice_get s.fields 0 ≡ Some f = ap (λ xs. slice_get xs 0) e in
       let held = begins-held rest in
       let c : Rattle.gt_types.specs.Contains.ContainsStructure program outer held.0 = (s, f, has, at-contains s.fields 0 f got, held.1) in
-      let first = bound outer (held-node outer desc) 1 held.0 (once c) in
+      let first = bound outer (held-it outer desc) 1 held.0 (once c) in
       let later = begins-true rest depth (omega (arith, first))
       (λ next is n inner nests.
       let d : Rattle.gt_types.specs.Contains.ContainsStructure program outer next = (s, f, has, at-contains s.fields 0 f got, is) in
-      let b = bound outer (held-node outer desc) (suc n) inner (deeper d nests) in omega (arith, b)) in
+      let b = bound outer (held-it outer desc) (suc n) inner (deeper d nests) in omega (arith, b)) in
       or-true (is_node common (ty.Node outer desc)) (inside_is program (begins_with program depth common) (ty.Node outer desc))
       (ap (struct_is (begins_with program depth common)) has
       ∙ ap (λ b. not b && first_is (begins_with program depth common) s.fields) struct

@@ -11,7 +11,7 @@ use Rattle.gt_types.specs.declared.program.Program.{Program}
 use Rattle.gt_types.specs.Contains.{held_by}
 use Rattle.gt_types.specs.Tails.{tail_of}
 use Rattle.gt_types.specs.Unions.{may_be_active}
-use Rattle.gt_tree.specs.Scopes.{is_node}
+use Rattle.gt_unions.specs.Members.{is_node}
 
 -- what a field holds passes, where it holds a structure
 abbrev pub held_is : (TypeId → Bool) → Option TypeId → Bool
