@@ -16,7 +16,7 @@ mod scoping;
 
 pub use checks::{Checking, fits, is_bare};
 pub use commons::common_of;
-pub use laws::{commons_are_found, fitting_leaves_are_written_in_place};
+pub use laws::fitting_leaves_are_written_in_place;
 pub use members::{active_member, is_active};
 pub use naming::may_name;
 pub use paths::{TypedAt, beginning, item, member_type, number_at, place_of, read_path};

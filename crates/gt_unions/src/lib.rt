@@ -4,9 +4,11 @@
 
 mod beginnings;
 mod commons;
+pub mod laws;
 mod members;
 mod plain;
 mod tables;
 
 pub use commons::common_of;
+pub use laws::commons_are_found;
 pub use tables::Unions;
