@@ -1,6 +1,7 @@
 // Writing one leaf.
 ghost use Rattle.std.specs.Prelude.{◌≡◌, ◌↔◌, IsTrue, IfOk, Err};
 ghost use Rattle.gt_types.specs.Settled.{Settled};
+ghost use Rattle.gt_layout.specs.Planes.{IsLaidOut};
 ghost use Rattle.gt_tree.specs.Trees.{End, part_at};
 ghost use Rattle.gt_tree.specs.Scopes.{outside};
 ghost use Rattle.gt_tree.specs.Fits.{Fits};
@@ -18,6 +19,7 @@ use crate::parts::{part_at, with_part};
 use crate::seeing::Around;
 use crate::turning::Making;
 use gt_fit::{Checking, Within, fits};
+use gt_layout::Layouts;
 use gt_types::{Program, Ty};
 use gt_value::{BlockNames, Value, ValueFail};
 use std::alloc::Global;
@@ -39,11 +41,13 @@ pub fn leads_to_leaf(value: &Value, path: &[u32]) -> bool
 fn make_anew(
     alloc: Global,
     program: &Program,
+    layouts: &Layouts,
     ty: &Ty,
     capacity: u32,
     old: Value,
 ) -> Result<Value, ValueFail>
     requires settled { Settled program.now }
+    requires laid { IsLaidOut program.now layouts.now }
     ensures { Gives result (made program.now capacity 256 (past_outside End) ty.now (Whole (tree_of old))) }
 {
     let around = Around {
@@ -55,6 +59,7 @@ fn make_anew(
     let on = Making {
         alloc,
         program,
+        unions: &layouts.unions,
         capacity,
     };
     let change = change(&on, ty, &old, &around, MAX_NESTING)?;
@@ -64,12 +69,14 @@ fn make_anew(
 // Whether a value fits an element of a block, where no structure is around it. Its expressions read no roots.
 fn fits_outside<N: BlockNames>(
     program: &Program,
+    layouts: &Layouts,
     ty: &Ty,
     capacity: u32,
     value: &Value,
     names: &N,
 ) -> bool
     requires settled { Settled program.now }
+    requires laid { IsLaidOut program.now layouts.now }
     ensures { IsTrue result ↔ Fits program.now (N.blocks names.now) capacity (outside End) ty.now (tree_of value.now) }
 {
     let around = Within {
@@ -80,6 +87,7 @@ fn fits_outside<N: BlockNames>(
     };
     let on = Checking {
         program,
+        unions: &layouts.unions,
         names,
         capacity,
     };
@@ -93,6 +101,7 @@ fn fits_outside<N: BlockNames>(
 pub fn reshape(
     alloc: Global,
     program: &Program,
+    layouts: &Layouts,
     ty: &Ty,
     capacity: u32,
     value: Value,
@@ -100,6 +109,7 @@ pub fn reshape(
     leaf: Value,
 ) -> Result<Value, ValueFail>
     requires settled { Settled program.now }
+    requires laid { IsLaidOut program.now layouts.now }
     requires element { IsElement program.now ty.now }
     ensures fits { IfOk result (λ v. IsMadeWhereFit program.now capacity ty.now (tree_of value) path.now (tree_of leaf) (tree_of v)) }
     ensures misfit { IfOk result (λ v. NoneElseIsMade program.now capacity ty.now (tree_of value) path.now (tree_of leaf) (tree_of v)) }
@@ -109,7 +119,7 @@ pub fn reshape(
         return Err(ValueFail::Shape);
     }
     let old = with_part(alloc, value, path, leaf)?;
-    make_anew(alloc, program, ty, capacity, old)
+    make_anew(alloc, program, layouts, ty, capacity, old)
 }
 
 /// The value that an element of a block becomes, with room for so many elements at its end, where the leaf at a path is written:
@@ -119,6 +129,7 @@ pub fn reshape(
 pub fn assign<N: BlockNames>(
     alloc: Global,
     program: &Program,
+    layouts: &Layouts,
     ty: &Ty,
     capacity: u32,
     value: Value,
@@ -127,16 +138,17 @@ pub fn assign<N: BlockNames>(
     names: &N,
 ) -> Result<Value, ValueFail>
     requires settled { Settled program.now }
+    requires laid { IsLaidOut program.now layouts.now }
     requires element { IsElement program.now ty.now }
     requires fits { FitsBeside program.now (N.blocks names.now) capacity ty.now (tree_of value) }
     ensures assigned { IfOk result (λ v. IsAssigned program.now (N.blocks names.now) capacity ty.now (tree_of value) path.now (tree_of leaf) (tree_of v)) }
     ensures shape { result ≡ Err Shape → IsMisfit program.now (N.blocks names.now) capacity ty.now (tree_of value) path.now (tree_of leaf) }
 {
-    let made = match reshape(alloc, program, ty, capacity, value, path, leaf) {
+    let made = match reshape(alloc, program, layouts, ty, capacity, value, path, leaf) {
         Ok(made) => made,
         Err(fail) => return Err(fail),
     };
-    if fits_outside(program, ty, capacity, &made, names) {
+    if fits_outside(program, layouts, ty, capacity, &made, names) {
         Ok(made)
     } else {
         Err(ValueFail::Shape)

@@ -1,9 +1,7 @@
 // What becomes of each part of a value in which a leaf was replaced: most parts stay as they are.
-ghost use Rattle.std.specs.Prelude.{◌≡◌, ◌≤◌, true, cond, Some, None, length, map, option_copied};
-ghost use Rattle.gt_types.specs.declared.types.TypeId.{TypeId};
+ghost use Rattle.std.specs.Prelude.{◌≡◌, true, cond, Some, None, map, option_copied};
 ghost use Rattle.gt_types.specs.Contains.{HasStructure};
 ghost use Rattle.gt_types.specs.Settled.{Settled};
-ghost use Rattle.gt_types.specs.declared.limits.TheConstants.{MAX_FIELDS};
 ghost use Rattle.gt_types.specs.declared.types.Ty.{out-Ty};
 ghost use Rattle.gt_tree.specs.Trees.{Rec, Alt, Row, is_leaf, without_pointers};
 ghost use Rattle.gt_tree.specs.Fits.{active_member};
@@ -95,7 +93,7 @@ fn node_change(
     };
     let inner = (&*around).inside(id, Seen::Whole(&*value));
     if structure.is_union {
-        union_change(on, desc, structure, value, &inner, depth)
+        union_change(on, id, desc, structure, value, &inner, depth)
     } else {
         struct_change(on, structure.fields.as_slice(), value, &inner, depth)
     }
@@ -221,6 +219,7 @@ fn element_change(
 #[cycle(changing)]
 fn union_change(
     on: &Making,
+    id: TypeId,
     desc: &Option<Expr>,
     structure: &Structure,
     value: &Value,
@@ -228,8 +227,7 @@ fn union_change(
     depth: usize,
 ) -> Result<Change, ValueFail>
     requires settled { Settled on.now.program.now }
-    requires few { length structure.now.fields ≤ MAX_FIELDS }
-    requires there { (node : TypeId) × HasStructure on.now.program.now node structure.now }
+    requires there { HasStructure on.now.program.now id structure.now }
     requires union { structure.now.is_union ≡ true }
     ensures { Decides result (tree_of value.now) (member_made on.now.program.now (made on.now.program.now on.now.capacity depth) (past_of inner.now) structure.now (Whole (tree_of value.now))
         (active_member (desc_was on.now.program.now (past_of inner.now) desc.now) structure.now.fields)) }
@@ -239,11 +237,12 @@ fn union_change(
             member,
             value: there,
         } if is_active(
+            on.unions,
+            id,
             desc_value(on.program, desc, inner),
-            structure.fields.as_slice(),
             *member,
         ) => there_change(on, structure, *member, there.get(), inner, depth),
-        _ => Ok(Change::New(union(on, desc, structure, Seen::Whole(value), inner, depth)?)),
+        _ => Ok(Change::New(union(on, id, desc, structure, Seen::Whole(value), inner, depth)?)),
     }
 }
 

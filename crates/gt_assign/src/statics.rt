@@ -1,6 +1,7 @@
 // Writing one leaf of the static record.
 ghost use Rattle.std.specs.Prelude.{◌≡◌, ◌↔◌, IsTrue, IfOk, Err, map};
 ghost use Rattle.gt_types.specs.Settled.{Settled};
+ghost use Rattle.gt_layout.specs.Planes.{IsLaidOut};
 ghost use Rattle.gt_tree.specs.Trees.{Trees, Rec};
 ghost use Rattle.gt_tree.specs.Fits.{AllFit, StaticsFit};
 ghost use Rattle.gt_value.specs.Values.{trees, tree_of};
@@ -19,6 +20,7 @@ use crate::parts::with_part;
 use crate::seeing::Around;
 use crate::turning::Making;
 use gt_fit::{Checking, Within, fits};
+use gt_layout::Layouts;
 use gt_types::{Program, Root};
 use gt_value::{BlockNames, Value, ValueFail};
 use std::alloc::Global;
@@ -44,8 +46,14 @@ fn roots_change(
 }
 
 // What the static record becomes, in which a leaf was replaced: mostly itself. Its expressions read the roots as they are there.
-fn record_anew(alloc: Global, program: &Program, written: Value) -> Result<Value, ValueFail>
+fn record_anew(
+    alloc: Global,
+    program: &Program,
+    layouts: &Layouts,
+    written: Value,
+) -> Result<Value, ValueFail>
     requires settled { Settled program.now }
+    requires laid { IsLaidOut program.now layouts.now }
     ensures { Gives result (record_made program.now 256 (tree_of written)) }
 {
     let Value::Rec(parts) = &written else {
@@ -61,6 +69,7 @@ fn record_anew(alloc: Global, program: &Program, written: Value) -> Result<Value
     let on = Making {
         alloc,
         program,
+        unions: &layouts.unions,
         capacity: 0,
     };
     let change = roots_change(&on, program.roots.as_slice(), parts, &around)?;
@@ -89,8 +98,14 @@ fn roots_fit<N: BlockNames>(
 }
 
 // Whether a value is a record that fits the roots, which its expressions read.
-fn record_fits<N: BlockNames>(program: &Program, value: &Value, names: &N) -> bool
+fn record_fits<N: BlockNames>(
+    program: &Program,
+    layouts: &Layouts,
+    value: &Value,
+    names: &N,
+) -> bool
     requires settled { Settled program.now }
+    requires laid { IsLaidOut program.now layouts.now }
     ensures { IsTrue result ↔ RecordFits program.now (N.blocks names.now) (tree_of value.now) }
 {
     let Value::Rec(parts) = value else {
@@ -105,6 +120,7 @@ fn record_fits<N: BlockNames>(program: &Program, value: &Value, names: &N) -> bo
     };
     let on = Checking {
         program,
+        unions: &layouts.unions,
         names,
         capacity: 0,
     };
@@ -118,11 +134,13 @@ fn record_fits<N: BlockNames>(program: &Program, value: &Value, names: &N) -> bo
 pub fn reshape_statics(
     alloc: Global,
     program: &Program,
+    layouts: &Layouts,
     values: Value,
     path: &[u32],
     leaf: Value,
 ) -> Result<Value, ValueFail>
     requires settled { Settled program.now }
+    requires laid { IsLaidOut program.now layouts.now }
     requires roots { IsRecord (tree_of values) }
     ensures fits { IfOk result (λ v. IsRecordWhereFit program.now (tree_of values) path.now (tree_of leaf) (tree_of v)) }
     ensures misfit { IfOk result (λ v. NoneElseIsRecord program.now (tree_of values) path.now (tree_of leaf) (tree_of v)) }
@@ -132,7 +150,7 @@ pub fn reshape_statics(
         return Err(ValueFail::Shape);
     }
     let written = with_part(alloc, values, path, leaf)?;
-    record_anew(alloc, program, written)
+    record_anew(alloc, program, layouts, written)
 }
 
 /// What the static record becomes where the leaf at a path is written, of which the first place is that of a root. A root may say
@@ -142,21 +160,23 @@ pub fn reshape_statics(
 pub fn assign_statics<N: BlockNames>(
     alloc: Global,
     program: &Program,
+    layouts: &Layouts,
     values: Value,
     path: &[u32],
     leaf: Value,
     names: &N,
 ) -> Result<Value, ValueFail>
     requires settled { Settled program.now }
+    requires laid { IsLaidOut program.now layouts.now }
     requires fits { (parts : Trees) × (tree_of values ≡ Rec parts) × StaticsFit program.now (N.blocks names.now) parts }
     ensures assigned { IfOk result (λ v. IsRecordAssigned program.now (N.blocks names.now) (tree_of values) path.now (tree_of leaf) (tree_of v)) }
     ensures shape { result ≡ Err Shape → IsRecordMisfit program.now (N.blocks names.now) (tree_of values) path.now (tree_of leaf) }
 {
-    let made = match reshape_statics(alloc, program, values, path, leaf) {
+    let made = match reshape_statics(alloc, program, layouts, values, path, leaf) {
         Ok(made) => made,
         Err(fail) => return Err(fail),
     };
-    if record_fits(program, &made, names) {
+    if record_fits(program, layouts, &made, names) {
         Ok(made)
     } else {
         Err(ValueFail::Shape)

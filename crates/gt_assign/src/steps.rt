@@ -1,8 +1,6 @@
 // Steps from what a value was to what its parts were.
 ghost use Rattle.std.specs.Prelude.{◌≡◌, true, map, option_copied};
-ghost use Rattle.gt_types.specs.declared.types.TypeId.{TypeId};
 ghost use Rattle.gt_types.specs.Contains.{HasStructure};
-ghost use Rattle.gt_types.specs.Settled.{Settled};
 ghost use Rattle.gt_tree.specs.Trees.{count};
 ghost use Rattle.gt_value.specs.Values.{trees, tree_of};
 ghost use Rattle.gt_fit.specs.Values.{maybe_tree};
@@ -11,8 +9,9 @@ ghost use Rattle.gt_unions.specs.Commons.{common_of};
 ghost use Rattle.gt_assign.specs.Turning.{field_was, has_fields, is_row, element_was, member_was, begun_by, stays};
 
 use crate::seeing::Seen;
-use gt_fit::{beginning, common_of, item, member_type};
-use gt_types::{Program, Structure, TypeId};
+use crate::turning::Making;
+use gt_fit::{beginning, item, member_type};
+use gt_types::{Structure, TypeId};
 use gt_value::Value;
 
 /// What the field at a place was. None where a struct had none there, or was no struct.
@@ -83,39 +82,42 @@ pub fn element_of<'a>(seen: Seen<'a>, place: usize) -> Option<Seen<'a>>
 
 // What the common structure makes of a member that was not active.
 fn begun_by<'a>(
-    program: &Program,
+    on: &Making,
+    id: TypeId,
     structure: &Structure,
     member: Option<u32>,
     value: &'a Value,
 ) -> Option<Seen<'a>>
-    requires settled { Settled program.now }
-    requires there { (node : TypeId) × HasStructure program.now node structure.now }
+    requires there { HasStructure on.now.program.now id structure.now }
     requires union { structure.now.is_union ≡ true }
-    ensures { maybe_was result ≡ begun_by program.now structure.now member (tree_of value.now) (common_of program.now structure.now) }
+    ensures { maybe_was result ≡ begun_by on.now.program.now structure.now member (tree_of value.now) (common_of on.now.program.now structure.now) }
 {
-    let Some(id) = common_of(program, structure) else {
+    let Some(common) = on.unions.common(id) else {
         return Some(Seen::Zero);
     };
     let Some(place) = member else {
-        return Some(Seen::Begins { id, value });
+        return Some(Seen::Begins { id: common, value });
     };
-    match beginning(program, id, member_type(structure, place), value) {
+    match beginning(on.program, common, member_type(structure, place), value) {
         None => None,
-        Some(part) => Some(Seen::Begins { id, value: part }),
+        Some(part) => Some(Seen::Begins {
+            id: common,
+            value: part,
+        }),
     }
 }
 
 /// What the member at a place was, which is active now. None where it was no union.
 pub fn member_of<'a>(
-    program: &Program,
+    on: &Making,
+    id: TypeId,
     structure: &Structure,
     place: u32,
     seen: Seen<'a>,
 ) -> Option<Seen<'a>>
-    requires settled { Settled program.now }
-    requires there { (node : TypeId) × HasStructure program.now node structure.now }
+    requires there { HasStructure on.now.program.now id structure.now }
     requires union { structure.now.is_union ≡ true }
-    ensures { maybe_was result ≡ member_was program.now structure.now place (was_of seen.entry) }
+    ensures { maybe_was result ≡ member_was on.now.program.now structure.now place (was_of seen.entry) }
 {
     match seen {
         Seen::Zero => Some(Seen::Zero),
@@ -126,7 +128,8 @@ pub fn member_of<'a>(
             },
         ) if *old == place => Some(Seen::Whole(value.get())),
         Seen::Whole(Value::Alt { member, value }) => begun_by(
-            program,
+            on,
+            id,
             structure,
             *member,
             value.get(),

@@ -1,11 +1,10 @@
 // A value made anew, from the outside in.
-ghost use Rattle.std.specs.Prelude.{◌≡◌, ◌≤◌, true, Some, length};
-ghost use Rattle.gt_types.specs.declared.types.TypeId.{TypeId};
+ghost use Rattle.std.specs.Prelude.{◌≡◌, true, Some};
 ghost use Rattle.gt_types.specs.Contains.{HasStructure};
 ghost use Rattle.gt_types.specs.Settled.{Settled};
-ghost use Rattle.gt_types.specs.declared.limits.TheConstants.{MAX_FIELDS};
 ghost use Rattle.gt_types.specs.declared.types.Ty.{out-Ty};
 ghost use Rattle.gt_tree.specs.Fits.{active_member};
+ghost use Rattle.gt_unions.specs.Tables.{union_tables};
 ghost use Rattle.gt_value.specs.Values.{tree_of};
 ghost use Rattle.gt_assign.specs.Pasts.{was_of, past_of, value_was, desc_was};
 ghost use Rattle.gt_assign.specs.Turning.{Gives, within, made, layer_made, tail_made, node_made, struct_made, row_made, member_made, rest_whole, rest_made};
@@ -13,18 +12,21 @@ ghost use Rattle.gt_assign.specs.Turning.{Gives, within, made, layer_made, tail_
 use crate::copies::{copy, leaf, without_pointers};
 use crate::seeing::{Around, Seen, desc_value, value_of};
 use crate::steps::{element_of, field_of, has_fields, is_row, member_of, stays};
-use gt_fit::{active_member, beginning, common_of, member_type};
+use gt_fit::{beginning, member_type};
 use gt_types::{Expr, Field, Program, Structure, Ty, TypeId};
+use gt_unions::Unions;
 use gt_value::{Value, ValueFail};
 use sqlite_items::Boxed;
 use std::alloc::Global;
 
-/// For what a value is made: its program, and how many elements have room at its end.
+/// For what a value is made: its program with the tables of its unions, and how many elements have room at its end.
 #[derive(Drop)]
 pub struct Making<'a> {
     pub alloc: Global,
     pub program: &'a Program,
+    pub unions: &'a Unions,
     pub capacity: u32,
+    ghost united: { unions.now ≡ union_tables program.now },
 }
 
 /// The value that a part of a type becomes, by what it was and what was around it. `Shape` says that there is none.
@@ -124,7 +126,7 @@ fn node(
     };
     let inner = around.inside(id, seen);
     if structure.is_union {
-        union(on, desc, structure, seen, &inner, depth)
+        union(on, id, desc, structure, seen, &inner, depth)
     } else {
         fields(on, structure.fields.as_slice(), seen, &inner, depth)
     }
@@ -185,6 +187,7 @@ fn row(
 #[cycle(turning)]
 pub fn union(
     on: &Making,
+    id: TypeId,
     desc: &Option<Expr>,
     structure: &Structure,
     seen: Seen,
@@ -192,19 +195,16 @@ pub fn union(
     depth: usize,
 ) -> Result<Value, ValueFail>
     requires settled { Settled on.now.program.now }
-    requires few { length structure.now.fields ≤ MAX_FIELDS }
-    requires there { (node : TypeId) × HasStructure on.now.program.now node structure.now }
+    requires there { HasStructure on.now.program.now id structure.now }
     requires union { structure.now.is_union ≡ true }
     ensures { Gives result (member_made on.now.program.now (made on.now.program.now on.now.capacity depth) (past_of inner.now) structure.now (was_of seen.entry)
         (active_member (desc_was on.now.program.now (past_of inner.now) desc.now) structure.now.fields)) }
 {
-    match active_member(
-        desc_value(on.program, desc, inner),
-        structure.fields.as_slice(),
-    ) {
-        Some(place) => member(on, structure, place as u32, seen, inner, depth),
+    let value = desc_value(on.program, desc, inner);
+    match on.unions.active_member(id, value) {
+        Some(place) => member(on, id, structure, place, seen, inner, depth),
         None => {
-            let value = rest(on, structure, seen, inner, depth)?;
+            let value = rest(on, id, structure, seen, inner, depth)?;
             Ok(Value::Alt {
                 member: None,
                 value: Boxed::new(on.alloc, value)?,
@@ -217,6 +217,7 @@ pub fn union(
 #[cycle(turning)]
 fn member(
     on: &Making,
+    id: TypeId,
     structure: &Structure,
     place: u32,
     seen: Seen,
@@ -224,14 +225,14 @@ fn member(
     depth: usize,
 ) -> Result<Value, ValueFail>
     requires settled { Settled on.now.program.now }
-    requires there { (node : TypeId) × HasStructure on.now.program.now node structure.now }
+    requires there { HasStructure on.now.program.now id structure.now }
     requires union { structure.now.is_union ≡ true }
     ensures { Gives result (member_made on.now.program.now (made on.now.program.now on.now.capacity depth) (past_of inner.now) structure.now (was_of seen.entry) (Some place)) }
 {
     let Some(field) = structure.fields.get(place as usize) else {
         return Err(ValueFail::Shape);
     };
-    let Some(part) = member_of(on.program, structure, place, seen) else {
+    let Some(part) = member_of(on, id, structure, place, seen) else {
         return Err(ValueFail::Shape);
     };
     let value = turn(on, &field.ty, part, inner, depth)?;
@@ -245,30 +246,36 @@ fn member(
 #[cycle(turning)]
 fn rest(
     on: &Making,
+    id: TypeId,
     structure: &Structure,
     seen: Seen,
     inner: &Around,
     depth: usize,
 ) -> Result<Value, ValueFail>
     requires settled { Settled on.now.program.now }
-    requires there { (node : TypeId) × HasStructure on.now.program.now node structure.now }
+    requires there { HasStructure on.now.program.now id structure.now }
     requires union { structure.now.is_union ≡ true }
     ensures { Gives result (rest_made on.now.program.now (made on.now.program.now on.now.capacity depth) (past_of inner.now) structure.now (was_of seen.entry)) }
 {
     match seen {
-        Seen::Zero => match common_of(on.program, structure) {
+        Seen::Zero => match on.unions.common(id) {
             None => Ok(Value::Rec(Vec::new(on.alloc))),
             Some(id) => turn(on, &Ty::Node { id, desc: None }, seen, inner, depth),
         },
-        Seen::Whole(value) => rest_of(on, structure, value),
+        Seen::Whole(value) => rest_of(on, id, structure, value),
         Seen::Begins { .. } => Err(ValueFail::Shape),
     }
 }
 
 // What stays of a union of which no member is active: its common structure without pointers.
-fn rest_of(on: &Making, structure: &Structure, value: &Value) -> Result<Value, ValueFail>
+fn rest_of(
+    on: &Making,
+    id: TypeId,
+    structure: &Structure,
+    value: &Value,
+) -> Result<Value, ValueFail>
     requires settled { Settled on.now.program.now }
-    requires there { (node : TypeId) × HasStructure on.now.program.now node structure.now }
+    requires there { HasStructure on.now.program.now id structure.now }
     requires union { structure.now.is_union ≡ true }
     ensures { Gives result (rest_whole on.now.program.now structure.now (tree_of value.now)) }
 {
@@ -282,10 +289,10 @@ fn rest_of(on: &Making, structure: &Structure, value: &Value) -> Result<Value, V
     let Some(place) = member else {
         return Ok(without_pointers(on.alloc, copy(on.alloc, there.get())?)?);
     };
-    let Some(id) = common_of(on.program, structure) else {
+    let Some(common) = on.unions.common(id) else {
         return Ok(Value::Rec(Vec::new(on.alloc)));
     };
-    match beginning(on.program, id, member_type(structure, *place), there.get()) {
+    match beginning(on.program, common, member_type(structure, *place), there.get()) {
         None => Err(ValueFail::Shape),
         Some(part) => Ok(without_pointers(on.alloc, copy(on.alloc, part)?)?),
     }

@@ -1,6 +1,5 @@
 // Whether a value fits its type.
 ghost use Rattle.std.specs.Prelude.{◌≡◌, ◌↔◌, ◌≤◌, IsTrue, length, map, pos, true, Some};
-ghost use Rattle.gt_types.specs.declared.types.TypeId.{TypeId};
 ghost use Rattle.gt_types.specs.Contains.{HasStructure};
 ghost use Rattle.gt_types.specs.Settled.{Settled};
 ghost use Rattle.gt_types.specs.Shapes.{is_pointer};
@@ -11,23 +10,27 @@ ghost use Rattle.gt_tree.specs.Trees.{Rec, End, without_pointers, all_without_po
 ghost use Rattle.gt_tree.specs.Fits.{Fits, AllFit, EachFits, types_of};
 ghost use Rattle.gt_value.specs.Values.{trees, tree_of};
 ghost use Rattle.gt_unions.specs.Commons.{common_of};
+ghost use Rattle.gt_unions.specs.Tables.{union_tables};
 ghost use Rattle.gt_fit.specs.Scoping.{scope_of};
 ghost use Rattle.gt_fit.specs.Fitting.{OpaqueFits, RecFits, AltFits, ThereFits, MemberFits, CommonFits, RowFits};
 
-use crate::commons::common_of;
 use crate::members::is_active;
 use crate::naming::may_name_within;
 use crate::rooms::number_fits;
 use crate::scoping::{Within, desc_in, eval_in};
-use gt_types::{Expr, Field, Program, Structure, Ty};
+use gt_types::{Expr, Field, Program, Structure, Ty, TypeId};
+use gt_unions::Unions;
 use gt_value::{BlockNames, Value};
 
-/// Beside what a value is checked: its program, the blocks that pointers name, and how many elements have room at its end.
+/// Beside what a value is checked: its program with the tables of its unions, the blocks that pointers name, and how many elements
+/// have room at its end.
 #[derive(Drop)]
 pub struct Checking<'a, N: BlockNames> {
     pub program: &'a Program,
+    pub unions: &'a Unions,
     pub names: &'a N,
     pub capacity: u32,
+    ghost united: { unions.now ≡ union_tables program.now },
 }
 
 // Whether a type is a pointer's.
@@ -196,32 +199,30 @@ fn alt_fits<N: BlockNames>(
     if !structure.is_union {
         return false;
     }
-    if !is_active(
-        desc_in(on.program, desc, &inner),
-        structure.fields.as_slice(),
-        member,
-    ) {
+    let value = desc_in(on.program, desc, &inner);
+    if !is_active(on.unions, *id, value, member) {
         return false;
     }
-    there_fits(there, structure, member, on, &inner)
+    there_fits(there, *id, structure, member, on, &inner)
 }
 
 // Whether a value fits the member at a place, or without one the common structure.
 #[cycle(fitting)]
 fn there_fits<N: BlockNames>(
     there: &Value,
+    union: TypeId,
     structure: &Structure,
     member: Option<u32>,
     on: &Checking<N>,
     inner: &Within,
 ) -> bool
     requires settled { Settled on.now.program.now }
-    requires there { (node : TypeId) × HasStructure on.now.program.now node structure.now }
+    requires there { HasStructure on.now.program.now union structure.now }
     requires union { structure.now.is_union ≡ true }
     ensures { IsTrue result ↔ ThereFits on.now.program.now (N.blocks on.now.names.now) on.now.capacity (scope_of inner.now) structure.now member (tree_of there.now) }
 {
     let Some(place) = member else {
-        return common_fits(there, structure, on, inner);
+        return common_fits(there, union, structure, on, inner);
     };
     match structure.fields.get(place as usize) {
         None => false,
@@ -233,16 +234,17 @@ fn there_fits<N: BlockNames>(
 #[cycle(fitting)]
 fn common_fits<N: BlockNames>(
     there: &Value,
+    union: TypeId,
     structure: &Structure,
     on: &Checking<N>,
     inner: &Within,
 ) -> bool
     requires settled { Settled on.now.program.now }
-    requires there { (node : TypeId) × HasStructure on.now.program.now node structure.now }
+    requires there { HasStructure on.now.program.now union structure.now }
     requires union { structure.now.is_union ≡ true }
     ensures { IsTrue result ↔ CommonFits on.now.program.now (N.blocks on.now.names.now) on.now.capacity (scope_of inner.now) (common_of on.now.program.now structure.now) (tree_of there.now) }
 {
-    let Some(id) = common_of(on.program, structure) else {
+    let Some(id) = on.unions.common(union) else {
         return is_nothing(there);
     };
     if !is_bare(there) {

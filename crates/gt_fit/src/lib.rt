@@ -1,12 +1,10 @@
 //! Whether a value fits its type. `fits` looks at a whole value, with the blocks that its pointers name; `may_name` and `has_room`
-//! say whether a pointer and a number fit. By laws a leaf may be written in place where what comes of it fits, and the common structure
-//! that the definitions find is that of the union.
-//! The layer that makes values anew takes from here what a value is read by: the common structure and the active member of a
-//! union, and where names of fields lead.
+//! say whether a pointer and a number fit. By a law a leaf may be written in place where what comes of it fits.
+//! The layer that makes values anew takes from here what a value is read by: the active member of a union, and where names of
+//! fields lead.
 #![tactic(auto)]
 
 mod checks;
-mod commons;
 pub mod laws;
 mod members;
 mod naming;
@@ -15,9 +13,8 @@ mod rooms;
 mod scoping;
 
 pub use checks::{Checking, fits, is_bare};
-pub use commons::common_of;
 pub use laws::fitting_leaves_are_written_in_place;
-pub use members::{active_member, is_active};
+pub use members::is_active;
 pub use naming::may_name;
 pub use paths::{TypedAt, beginning, item, member_type, number_at, place_of, read_path};
 pub use rooms::{has_room, number_fits};

@@ -1,4 +1,4 @@
-use Rattle.std.proofs.Common.{◌≡◌, ℕ, List, map, refl, ap, sym, subst, ◌∙◌, Option, Some, Err, option_copied, arith}
+use Rattle.std.proofs.Common.{rules, ◌≡◌, ℕ, List, map, refl, ap, sym, subst, ◌∙◌, Option, Some, Err, option_copied, arith}
 use Rattle.std.proofs.lemmas.Result.{err_from_is_err_and}
 use Rattle.gt_types.specs.declared.types.Ty.{Ty, out-Ty}
 use Rattle.gt_types.specs.declared.types.Ty.TheVariants as ty
@@ -19,6 +19,7 @@ use Rattle.std.specs.Prelude.{option_map}
 use Rattle.gt_assign.proofs.Decided.{parts-start, decided-stop}
 use Rattle.gt_assign.proofs.PartFields.{fields_from, fields-uneven, field-next, field-none, fields-all}
 use Rattle.gt_assign.proofs.PartElements.{elements_from, element-next, element-none, elements-all}
+use Rattle.gt_unions.specs.Tables.{union_tables}
 use Rattle.gt_assign.proofs.changing.+changing.Goals as goal
 
 pub change-returns : goal.change-returns
@@ -129,17 +130,18 @@ elements_change-returns-in_err-element_change t c =
 pub node_change-union_change-requires : goal.node_change-union_change-requires
 node_change-union_change-requires t c =
     let has = sym c.get.ensures.item ∙ ap option_copied c.in-Some.is in
-    (omega arith, (c.requires.settled, ((c.requires.settled.structures c.args.id c.in-Some.structure.now has).few_fields, ((c.args.id, has), c.if-structure.true))))
+    (omega arith, (c.requires.settled, (has, c.if-structure.true)))
 
 pub union_change-returns-in-Alt : goal.union_change-returns-in-Alt
 union_change-returns-in-Alt t c =
     let program = c.args.on.now.program.now in
     let make = made program c.args.on.now.capacity c.args.depth in
     let past = past_of c.args.inner.now in
-    let active = granted c.is_active.result _ c.is_active.ensures c.if-is_active.true in
+    let united : c.args.on.now.unions.now ≡ union_tables program = search rules in
+    let active = granted c.is_active.result _ (c.is_active.ensures.active program c.args.structure.now united c.requires.there) c.if-is_active.true in
     subst (λ (x : Tree). Decides c.there_change.result x (member_made program make past c.args.structure.now (Whole x) (active_member (desc_was program past c.args.desc.now) c.args.structure.now.fields))) (sym (ap tree_of c.in-Alt.is ∙ alt-tree c.in-Alt.member c.in-Alt.there))
     (subst (λ (a : Option ℕ). Decides c.there_change.result (Alt c.in-Alt.member (tree_of c.in-Alt.there)) (member_made program make past c.args.structure.now (Whole (Alt c.in-Alt.member (tree_of c.in-Alt.there))) a))
-    (sym active ∙ ap (λ v. active_member v c.as_slice.result.now) c.desc_value.ensures ∙ ap (active_member (desc_was program past c.args.desc.now)) c.as_slice.ensures.items)
+    (sym active ∙ ap (λ v. active_member v c.args.structure.now.fields) c.desc_value.ensures)
     (subst (λ (v : Value). Decides c.there_change.result (Alt c.in-Alt.member (tree_of v)) (member_made program make past c.args.structure.now (Whole (Alt c.in-Alt.member (tree_of v))) c.in-Alt.member)) c.get.ensures c.there_change.ensures))
 
 pub member_change-returns : goal.member_change-returns

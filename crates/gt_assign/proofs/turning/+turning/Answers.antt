@@ -78,4 +78,4 @@ layer-returns-in-Tail t c =
 pub node-union-requires : goal.node-union-requires
 node-union-requires t c =
     let has = sym c.get.ensures.item ∙ ap option_copied c.in-Some-get.is in
-    (omega arith, (c.requires.settled, ((c.requires.settled.structures c.args.id c.in-Some-get.structure.now has).few_fields, ((c.args.id, has), c.if-structure.true))))
+    (omega arith, (c.requires.settled, (has, c.if-structure.true)))
