@@ -114,6 +114,7 @@ fn write_one(
     match assign(
         on.alloc,
         &on.program,
+        &on.layouts,
         site.ty,
         site.capacity,
         again,

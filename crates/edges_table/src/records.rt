@@ -80,6 +80,7 @@ fn write_one(
     match assign_statics(
         on.alloc,
         &on.program,
+        &on.layouts,
         again,
         path.as_slice(),
         leaf,

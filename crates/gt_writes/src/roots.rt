@@ -44,7 +44,7 @@ fn rewrite_statics(
     let layouts = &schema.layouts;
     let old = read_statics(alloc, program, layouts, objects.space())?;
     let names = Names::of(objects);
-    let new = match assign_statics(alloc, program, old, path, leaf, &names) {
+    let new = match assign_statics(alloc, program, layouts, old, path, leaf, &names) {
         Ok(new) => new,
         Err(fail) => return Err(fail),
     };

@@ -118,6 +118,7 @@ fn parts_fit(
 {
     let checking = Checking {
         program: &on.program,
+        unions: &on.layouts.unions,
         names: blocks,
         capacity: o.capacity,
     };
@@ -186,6 +187,7 @@ fn statics_fit(on: &Ground, blocks: &Blocks<'_>, statics: &[Value]) -> bool
 {
     let checking = Checking {
         program: &on.program,
+        unions: &on.layouts.unions,
         names: blocks,
         capacity: 0,
     };

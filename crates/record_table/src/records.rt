@@ -48,6 +48,7 @@ fn write_root(on: &Sample, values: Value, write: &Write) -> Result<Value, Stop>
     match assign_statics(
         on.alloc,
         &on.program,
+        &on.layouts,
         values,
         write.path.as_slice(),
         leaf,

@@ -121,6 +121,7 @@ pub fn write_one(
     match assign(
         on.alloc,
         &on.program,
+        &on.layouts,
         ty,
         capacity,
         value,
