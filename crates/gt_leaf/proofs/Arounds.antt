@@ -19,15 +19,15 @@ use Rattle.gt_tree.proofs.FixedValues.{in-array, in-tail}
 use Rattle.gt_value.specs.declared.places.Holder.{Holder}
 use Rattle.gt_value.specs.declared.places.Holder.TheVariants as lies_in
 use Rattle.gt_value.specs.Places.{Part, StaticPartLies}
-use Rattle.gt_leaf.specs.Unread.{elem_of, part_at, root_at, with_itself, structures_from, structures_on, structures_in_statics, MayStandAround, IsUnread}
+use Rattle.gt_leaf.specs.Unread.{Enclosing, route, elem_of, part_at, root_at, with_itself, structures_from, structures_on, structures_in_statics, MayStandAround, IsUnread}
 use Rattle.gt_leaf.proofs.Members.{first, later, first-or-later}
 
 -- each of these structures may stand around a leaf
-pub record Covers (around : List TypeId) (active : Bool) (inner : List TypeId) : Type 0 where
-  pub each : (b : TypeId) → Contains inner b → MayStandAround around active b
+pub record Covers (around : List Enclosing) (active : Bool) (inner : List Enclosing) : Type 0 where
+  pub each : (b : Enclosing) → Contains inner b → MayStandAround around active b
 
 -- what is unread inside some structures is so inside fewer
-pub unread-inside : (program : Program) (h : Holder) (around inner : List TypeId) (active : Bool) → Covers around active inner → IsUnread program around active h → IsUnread program inner true h
+pub unread-inside : (program : Program) (h : Holder) (around inner : List Enclosing) (active : Bool) → Covers around active inner → IsUnread program around active h → IsUnread program inner true h
 unread-inside program lies_in.Element around inner active covers unread = unread
 unread-inside program (lies_in.Root i) around inner active covers unread = unread
 unread-inside program (lies_in.Field node i) around inner active covers unread = λ read. elim read [
@@ -47,48 +47,51 @@ module _ (program : Program) where
   tail-at type elem length i e = ap elem_of e
 
   -- more structures around the value are more around its parts
-  with-more : (type : Ty) (few many : List TypeId) → ((b : TypeId) → Contains few b → Contains many b) → (b : TypeId) → Contains (with_itself few type) b → Contains (with_itself many type) b
-  with-more (ty.Node node desc) few many more b c = elim (first-or-later node b few c) [ inl is ↦ subst (Contains (node ∷ many)) is (first node many) | inr d ↦ later node b many (more b d) ]
-  with-more type few many more b c = c
+  with-more : (type : Ty) (path : List ℕ) (few many : List Enclosing) → ((b : Enclosing) → Contains few b → Contains many b) → (b : Enclosing) → Contains (with_itself program few type path) b → Contains (with_itself program many type path) b
+  with-more (ty.Node node desc) path few many more b c =
+      let outer : Enclosing = (node, route program (Some node) path) in
+      elim (first-or-later outer b few c) [ inl is ↦ subst (Contains (outer ∷ many)) is (first outer many) | inr d ↦ later outer b many (more b d) ]
+  with-more type path few many more b c = c
 
-  from-more : (type : Option Ty) (path : List ℕ) (few many : List TypeId) → ((b : TypeId) → Contains few b → Contains many b) → (b : TypeId) → Contains (structures_from program few type path) b → Contains (structures_from program many type path) b
+  from-more : (type : Option Ty) (path : List ℕ) (few many : List Enclosing) → ((b : Enclosing) → Contains few b → Contains many b) → (b : Enclosing) → Contains (structures_from program few type path) b → Contains (structures_from program many type path) b
   from-more None path few many more = more
   from-more (Some type) [] few many more = more
-  from-more (Some type) (i ∷ path) few many more = from-more (part_at program type i) path (with_itself few type) (with_itself many type) (with-more type few many more)
+  from-more (Some type) (i ∷ path) few many more = from-more (part_at program type i) path (with_itself program few type (i ∷ path)) (with_itself program many type (i ∷ path)) (with-more type (i ∷ path) few many more)
 
   field-type : (node : TypeId) (desc : Option Expr) (s : Structure) (f : Field) (i : ℕ) → HasStructure program node s → slice_get s.fields i ≡ Some f → part_at program (ty.Node node desc) i ≡ Some f.ty
   field-type node desc s f i has get = ap (λ o. o then λ (x : Structure). slice_get x.fields i then λ (y : Field). Some y.ty) has ∙ ap (λ o. o then λ (y : Field). Some y.ty) get
 
-  array-alone : (type elem : Ty) (n : ℕ) (around : List TypeId) → out-Ty type ≡ part.Arr n elem → with_itself around type ≡ []
-  array-alone (ty.Node node desc) elem n around e = absurd (in-array (ty.Node node desc) elem n refl e)
-  array-alone type elem n around e = refl
+  array-alone : (type elem : Ty) (n : ℕ) (around : List Enclosing) (path : List ℕ) → out-Ty type ≡ part.Arr n elem → with_itself program around type path ≡ []
+  array-alone (ty.Node node desc) elem n around path e = absurd (in-array (ty.Node node desc) elem n refl e)
+  array-alone type elem n around path e = refl
 
-  tail-alone : (type elem : Ty) (length : Expr) (around : List TypeId) → out-Ty type ≡ part.Tail length elem → with_itself around type ≡ []
-  tail-alone (ty.Node node desc) elem length around e = absurd (in-tail (ty.Node node desc) elem length refl e)
-  tail-alone type elem length around e = refl
+  tail-alone : (type elem : Ty) (length : Expr) (around : List Enclosing) (path : List ℕ) → out-Ty type ≡ part.Tail length elem → with_itself program around type path ≡ []
+  tail-alone (ty.Node node desc) elem length around path e = absurd (in-tail (ty.Node node desc) elem length refl e)
+  tail-alone type elem length around path e = refl
 
   -- where a leaf may stand inside those on a path, it may inside those on the rest
-  module _ {around : List TypeId} {active : Bool} where
+  module _ {around : List Enclosing} {active : Bool} where
     -- those around the rest have the structure among them
-    pub inside-covers : (inner : List TypeId) (node : TypeId) (desc : Option Expr) (s : Structure) (f : Field) (i : ℕ) (path : List ℕ) → HasStructure program node s → slice_get s.fields i ≡ Some f
-        → Covers around active (structures_from program inner (Some (ty.Node node desc)) (i ∷ path)) → Covers around active (structures_from program (node ∷ inner) (Some f.ty) path)
-    inside-covers inner node desc s f i path has get covers = subst (λ o. Covers around active (structures_from program (node ∷ inner) o path)) (field-type node desc s f i has get) covers
+    pub inside-covers : (inner : List Enclosing) (node : TypeId) (desc : Option Expr) (s : Structure) (f : Field) (i : ℕ) (path : List ℕ) → HasStructure program node s → slice_get s.fields i ≡ Some f
+        → Covers around active (structures_from program inner (Some (ty.Node node desc)) (i ∷ path)) → Covers around active (structures_from program ((node, route program (Some node) (i ∷ path)) ∷ inner) (Some f.ty) path)
+    inside-covers inner node desc s f i path has get covers = subst (λ o. Covers around active (structures_from program ((node, route program (Some node) (i ∷ path)) ∷ inner) o path)) (field-type node desc s f i has get) covers
 
     pub field-covers : (node : TypeId) (desc : Option Expr) (s : Structure) (f : Field) (i : ℕ) (path : List ℕ) → HasStructure program node s → slice_get s.fields i ≡ Some f
         → Covers around active (structures_on program (Some (ty.Node node desc)) (i ∷ path)) → Covers around active (structures_on program (Some f.ty) path)
     field-covers node desc s f i path has get covers =
         let inside = inside-covers [] node desc s f i path has get covers in
-        record { each = λ b c. inside.each b (from-more (Some f.ty) path [] (node ∷ []) (λ x d. later node x [] d) b c) }
+        let outer : Enclosing = (node, route program (Some node) (i ∷ path)) in
+        record { each = λ b c. inside.each b (from-more (Some f.ty) path [] (outer ∷ []) (λ x d. later outer x [] d) b c) }
 
     pub array-covers : (type elem : Ty) (n i : ℕ) (path : List ℕ) → out-Ty type ≡ part.Arr n elem → Covers around active (structures_on program (Some type) (i ∷ path)) → Covers around active (structures_on program (Some elem) path)
     array-covers type elem n i path e covers =
-        subst (λ xs. Covers around active (structures_from program xs (Some elem) path)) (array-alone type elem n [] e)
-        (subst (λ o. Covers around active (structures_from program (with_itself [] type) o path)) (array-at type elem n i e) covers)
+        subst (λ xs. Covers around active (structures_from program xs (Some elem) path)) (array-alone type elem n [] (i ∷ path) e)
+        (subst (λ o. Covers around active (structures_from program (with_itself program [] type (i ∷ path)) o path)) (array-at type elem n i e) covers)
 
     pub tail-covers : (type elem : Ty) (length : Expr) (i : ℕ) (path : List ℕ) → out-Ty type ≡ part.Tail length elem → Covers around active (structures_on program (Some type) (i ∷ path)) → Covers around active (structures_on program (Some elem) path)
     tail-covers type elem length i path e covers =
-        subst (λ xs. Covers around active (structures_from program xs (Some elem) path)) (tail-alone type elem length [] e)
-        (subst (λ o. Covers around active (structures_from program (with_itself [] type) o path)) (tail-at type elem length i e) covers)
+        subst (λ xs. Covers around active (structures_from program xs (Some elem) path)) (tail-alone type elem length [] (i ∷ path) e)
+        (subst (λ o. Covers around active (structures_from program (with_itself program [] type (i ∷ path)) o path)) (tail-at type elem length i e) covers)
 
   -- those on a path from a root are those in the static record
   pub static-covers : {planes : List Plane} {spots : List Spot} {statics : Trees} {path : List ℕ} {p : Part} (active : Bool) (l : StaticPartLies program planes spots statics path p)

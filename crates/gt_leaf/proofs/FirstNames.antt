@@ -25,7 +25,8 @@ names-from name (f ∷ fields) i names =
     ∙ first_assoc (value_in names name) (if bytes_eq f.name name then Some i else None) later
     ∙ ap (first_some (value_in names name)) (first-here (bytes_eq f.name name) i later ∙ ap (λ n. cond (bytes_eq f.name name) (Some i) (position_from (λ f. bytes_eq f.name name) n fields)) next)
 
-get-names : (structures : List Structure) (node : ℕ) (name : List ℕ)
+-- the place that a name picks
+pub get-names : (structures : List Structure) (node : ℕ) (name : List ℕ)
     → pick (names_of_all structures) node name ≡ (slice_get structures node then λ s. position_from (λ f. bytes_eq f.name name) 0 s.fields)
 get-names [] node name = refl
 get-names (s ∷ structures) zero name = names-from name s.fields 0 []

@@ -6,6 +6,7 @@ pub mod SeekLemmas
 pub mod PlainParts
 pub mod Arounds
 pub mod Swaps
+pub mod RouteSteps
 pub mod SwapReads
 pub mod Alongs
 pub mod SwapScopes

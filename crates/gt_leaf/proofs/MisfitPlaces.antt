@@ -1,7 +1,6 @@
 -- Where a leaf does not fit at its place in the bytes, no value fits with it.
 use Rattle.std.proofs.Common.{◌≡◌, ℕ, true, List, [], refl, ap, sym, subst, ◌∙◌, ◌⊎◌, Some, inl, inr}
 use Rattle.std.specs.Prelude.{Contains}
-use Rattle.gt_types.specs.declared.types.TypeId.{TypeId}
 use Rattle.gt_types.specs.declared.types.Ty.{Ty}
 use Rattle.gt_types.specs.declared.program.Root.{Root}
 use Rattle.gt_types.specs.declared.program.Program.{Program}
@@ -21,7 +20,7 @@ use Rattle.gt_value.specs.declared.places.LeafContent.TheVariants as content
 use Rattle.gt_value.specs.declared.places.Place.{Place}
 use Rattle.gt_value.specs.Places.{Part, PartLies, IsContentOf, IsPlaceOf, IsPlaceOfPart, IsStaticPlaceOf, content_at}
 use Rattle.gt_leaf.specs.Writing.{StandsBeside, StaticsStandBeside, is_number_leaf, IsAlone}
-use Rattle.gt_leaf.specs.Unread.{structures_on, structures_in_statics}
+use Rattle.gt_leaf.specs.Unread.{Enclosing, structures_on, structures_in_statics}
 use Rattle.gt_leaf.specs.Verdicts.{IsMisfit}
 use Rattle.gt_leaf.proofs.Arounds.{static-covers}
 use Rattle.gt_leaf.proofs.Swaps.{put-swaps}
@@ -40,7 +39,7 @@ content-bare content.Null tree means e = absurd (cc)
 content-bare (content.To address) tree means e = absurd (cc)
 
 -- the leaf at a place can be looked at alone, as a tree
-tree-alone : {program : Program} {around : List TypeId} {range : Range} {address : ℕ} (p : Part) (place : Place) (leaf : LeafContent) (tree : Tree) → IsPlaceOfPart program range address p place → IsAlone program around p leaf → IsContentOf leaf tree → StandsAlone program around p tree
+tree-alone : {program : Program} {around : List Enclosing} {range : Range} {address : ℕ} (p : Part) (place : Place) (leaf : LeafContent) (tree : Tree) → IsPlaceOfPart program range address p place → IsAlone program around p leaf → IsContentOf leaf tree → StandsAlone program around p tree
 tree-alone {range} p place leaf tree at alone means =
     let bare : (p.active ≡ true) ⊎ (without_pointers tree ≡ tree) = elim alone.active [ inl active ↦ inl active | inr number ↦ inr (content-bare leaf tree means number) ] in
     record {

@@ -1,5 +1,5 @@
 -- Where a leaf that no expression reads is written and a value fits, the leaf fits its place.
-use Rattle.std.proofs.Common.{◌≡◌, ℕ, zero, suc, Bool, true, false, ◌&&◌, IsTrue, List, [], refl, ap, sym, subst, ◌∙◌, arith, Option, Some, None, inl}
+use Rattle.std.proofs.Common.{◌≡◌, ℕ, zero, suc, Bool, true, false, ◌&&◌, IsTrue, List, [], ◌∷◌, refl, ap, sym, subst, ◌∙◌, arith, Option, Some, None, inl}
 use Rattle.std.specs.Prelude.{◌==◌, pos, slice_get}
 use Rattle.gt_types.specs.declared.expressions.Expr.{Expr}
 use Rattle.gt_types.specs.declared.types.TypeId.{TypeId}
@@ -32,7 +32,7 @@ use Rattle.gt_value.specs.declared.places.LeafContent.{LeafContent}
 use Rattle.gt_value.specs.declared.places.LeafContent.TheVariants as content
 use Rattle.gt_value.specs.declared.places.LeafKind.{LeafKind}
 use Rattle.gt_value.specs.Places.{Part, PartLies, IsContentOf, leaf_kind}
-use Rattle.gt_leaf.specs.Unread.{structures_on, IsUnread, MayReplace}
+use Rattle.gt_leaf.specs.Unread.{Enclosing, route, structures_on, IsUnread, MayReplace}
 use Rattle.gt_leaf.specs.Writing.{LeafFits, has_word}
 use Rattle.gt_leaf.proofs.Arounds.{Covers, field-covers, array-covers, tail-covers}
 use Rattle.gt_leaf.proofs.Members.{first}
@@ -151,7 +151,7 @@ module _ {program : Program} where
 -- ---- the leaf in what the value becomes
 
 -- a leaf inside these structures is written that no expression reads
-pub record StandsAlone (program : Program) (around : List TypeId) (p : Part) (leaf : Tree) : Type 0 where
+pub record StandsAlone (program : Program) (around : List Enclosing) (p : Part) (leaf : Tree) : Type 0 where
   pub unread : IsUnread program around p.active p.holder
   pub may : MayReplace p leaf
   pub plain : is_structure p.type ≡ false
@@ -164,11 +164,12 @@ pub record FitsThere (program : Program) (a : Trees) (blocks : Blocks) (capacity
   pub fits : Fits program blocks capacity scope p.type leaf
 
 module _ {program : Program} (settled : Settled program) where
-  reads-new : {h : Holder} (node : TypeId) (desc : Option Expr) (v w n : Tree) → Swap program [] h (ty.Node node desc) v w → Reshapes program (ty.Node node desc) w n → ReadSame program node v n
-  reads-new {h} node desc v w n swap r = λ steps leads read. reads-swapped settled leads.1 leads.2 node read [] (first node []) h desc v w swap ∙ reads-kept settled leads.1 leads.2 desc w n r
+  reads-new : {h : Holder} {path : List ℕ} (node : TypeId) (desc : Option Expr) (v w n : Tree) → Swap program [] h (ty.Node node desc) path v w → Reshapes program (ty.Node node desc) w n → ReadSame program node v n
+  reads-new {h} {path} node desc v w n swap r =
+      λ steps leads read. reads-swapped settled leads.1 leads.2 node (λ along. along) read [] path (first (node, route program (Some node) path) []) h desc v w swap ∙ reads-kept settled leads.1 leads.2 desc w n r
 
-  pub alone-swap : {planes : List Plane} {around : List TypeId} {s : Scope} {h : Holder} {active : Bool} {bit : ℕ} {type : Ty} {tree : Tree} {path : List ℕ} {p : Part} → PartLies program planes s h active bit type tree path p → (leaf : Tree) → StandsAlone program around p leaf
-      → Covers around p.active (structures_on program (Some type) path) → Swap program [] h type tree (with_part tree path leaf)
+  pub alone-swap : {planes : List Plane} {around : List Enclosing} {s : Scope} {h : Holder} {active : Bool} {bit : ℕ} {type : Ty} {tree : Tree} {path : List ℕ} {p : Part} → PartLies program planes s h active bit type tree path p → (leaf : Tree) → StandsAlone program around p leaf
+      → Covers around p.active (structures_on program (Some type) path) → Swap program [] h type path tree (with_part tree path leaf)
   alone-swap lies leaf alone covers = swapped lies [] leaf alone.unread covers alone.may.0 alone.may.1 alone.plain
 
   -- the union has the member that it had
@@ -185,7 +186,7 @@ module _ {program : Program} (settled : Settled program) where
       (new.1, new.2 ∙ ap (λ m. Alt m new.1) is)
 
   module _ {a : Trees} where
-    pub fits-there : {planes : List Plane} {blocks : Blocks} {capacity : ℕ} {around : List TypeId} {s : Scope} {h : Holder} {active : Bool} {bit : ℕ} {type : Ty} {tree : Tree} {path : List ℕ} {p : Part} → PartLies program planes s h active bit type tree path p → Fits program blocks capacity s type tree
+    pub fits-there : {planes : List Plane} {blocks : Blocks} {capacity : ℕ} {around : List Enclosing} {s : Scope} {h : Holder} {active : Bool} {bit : ℕ} {type : Ty} {tree : Tree} {path : List ℕ} {p : Part} → PartLies program planes s h active bit type tree path p → Fits program blocks capacity s type tree
         → (t : Scope) → Along program a s type → ScopesSame program s t → (leaf : Tree) → StandsAlone program around p leaf → Covers around p.active (structures_on program (Some type) path) → (new : Tree) → Fits program blocks capacity t type new → Reshapes program type (with_part tree path leaf) new → FitsThere program a blocks capacity p leaf
     fits-there {blocks} {capacity} {type} PartLies.whole fits t along same leaf alone covers new new_fits r =
         record { scope = t; along = along; same = same; fits = subst (λ y. Fits program blocks capacity t type y) (sym (leaf-kept alone.may.1 r)) new_fits }
@@ -203,7 +204,7 @@ module _ {program : Program} (settled : Settled program) where
     fits-there {blocks} {capacity} {s} {h} (PartLies.member {i} {node} {desc} {s = x} {f} {tree} {path} has union get lies) fits t along same leaf alone covers new new_fits r =
         let v = Alt (Some i) tree in
         let w = with_part tree path leaf in
-        let swap = subst (λ y. Swap program [] h (ty.Node node desc) v y) (sym (with-member i tree path leaf)) (alone-swap (PartLies.member {scope = s} has union get lies) leaf alone covers) in
+        let swap = subst (λ y. Swap program [] h (ty.Node node desc) (i ∷ path) v y) (sym (with-member i tree path leaf)) (alone-swap (PartLies.member {scope = s} has union get lies) leaf alone covers) in
         let becomes = subst (λ y. Reshapes program (ty.Node node desc) y new) (sym (with-member i tree path leaf)) r in
         let read = reads-new {h = h} node desc v (Alt (Some i) w) new swap becomes in
         let kept = member-kept t node desc x (Some i) tree new has union along same read fits new_fits in

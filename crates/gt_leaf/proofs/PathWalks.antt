@@ -16,10 +16,10 @@ use Rattle.gt_types.specs.Shapes.{is_number}
 use Rattle.gt_tree.specs.Scopes.{◌then◌}
 use Rattle.gt_tree.proofs.PathBits.{some-same, position-get}
 use Rattle.gt_leaf.specs.declared.fields.FieldPlace.{FieldPlace}
-use Rattle.gt_leaf.specs.Seeking.{Names, names_of_all, pick, field_at, number_there, pick_number, pick_structure, end_of}
+use Rattle.gt_leaf.specs.Seeking.{Names, names_of_all, pick, field_at, number_there, pick_number, pick_structure, end_of, inner_of, inside, route_by}
 use Rattle.gt_leaf.specs.Tables.{field_place}
-use Rattle.gt_leaf.specs.Unread.{Picks, EndsAt}
-use Rattle.gt_leaf.proofs.FirstNames.{picks-first, picks-none}
+use Rattle.gt_leaf.specs.Unread.{Picks, EndsAt, inner_at, is_union, place_of, onward, route_of}
+use Rattle.gt_leaf.proofs.FirstNames.{get-names, picks-first, picks-none}
 
 module _ {program : Program} where
   -- ---- the last name
@@ -163,3 +163,34 @@ module _ (program : Program) where
       number-picked node name i g picks (subst (λ x. is_number x.ty ≡ true) one number)
   ends-back (EndsAt.at_next {node} {next} {end} {name} {names} {i} {j} {f = g} {desc} picks is rest) s f has get number =
       next-back node next end name names i (field_place end.0 i) rest (ends-back rest s f has get number) (inner-picked node name j g next desc picks is)
+
+  -- ---- the route
+
+  inner-same : (node : TypeId) (i : ℕ) → inner_of program node.0 i ≡ inner_at program node i
+  inner-same node i = at_structure (slice_get program.structures node.0)
+    where
+      at_field : (o : Option Field) → (o then λ f. itself f.ty) ≡ ((o then λ (f : Field). Some f.ty) then itself)
+      at_field (Some f) = refl
+      at_field None = refl
+
+      at_structure : (o : Option Structure) → ((o then λ s. slice_get s.fields i) then λ f. itself f.ty) ≡ ((o then λ (s : Structure). slice_get s.fields i then λ (f : Field). Some f.ty) then itself)
+      at_structure (Some s) = at_field (slice_get s.fields i)
+      at_structure None = refl
+
+  onward-each : (o : Option ℕ) (g h : ℕ → List ℕ) → ((i : ℕ) → g i ≡ h i) → onward o g ≡ onward o h
+  onward-each (Some i) g h same = ap (λ l. i ∷ l) (same i)
+  onward-each None g h same = refl
+
+  inside-each : (o : Option TypeId) (names : List (List ℕ)) → ((inner : TypeId) → route_by program index inner.0 names ≡ route_of program (Some inner) names) → inside o (λ inner. route_by program index inner.0 names) ≡ route_of program o names
+  inside-each (Some inner) names same = same inner
+  inside-each None names same = refl
+
+  -- the route that is found is that of the path
+  pub routes-same : (node : TypeId) (names : List (List ℕ)) → route_by program index node.0 names ≡ route_of program (Some node) names
+  routes-same node [] = refl
+  routes-same node (name ∷ names) =
+      let found = λ (i : ℕ). inside (inner_of program node.0 i) (λ inner. route_by program index inner.0 names) in
+      ap (λ l. if is_union program node then [] else l)
+      (ap (λ o. onward o found) (get-names program.structures node.0 name)
+      ∙ onward-each (place_of program node name) found (λ i. route_of program (inner_at program node i) names)
+      (λ i. ap (λ o. inside o (λ inner. route_by program index inner.0 names)) (inner-same node i) ∙ inside-each (inner_at program node i) names (λ inner. routes-same inner names)))

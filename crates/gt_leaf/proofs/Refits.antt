@@ -1,5 +1,5 @@
 -- A value fits a type in each scope in which the expressions of the program read the same; and so it does where a leaf is replaced that none reads.
-use Rattle.std.proofs.Common.{◌≡◌, ℕ, zero, suc, Bool, true, false, List, [], refl, ap, sym, subst, ◌∙◌, Option, Some, None, inl, inr}
+use Rattle.std.proofs.Common.{◌≡◌, ℕ, zero, suc, Bool, true, false, List, [], ◌∷◌, refl, ap, sym, subst, ◌∙◌, Option, Some, None, inl, inr}
 use Rattle.std.specs.Prelude.{pos, All, Contains, slice_get}
 use Rattle.std.proofs.lemmas.List.Elements.{All-head, All-tail, All-map, All-weaker, All-contains_itself}
 use Rattle.gt_types.specs.declared.expressions.Expr.{Expr}
@@ -24,7 +24,7 @@ use Rattle.gt_tree.proofs.Fitting.{fits-struct, fits-member, fits-common, fits-a
 use Rattle.gt_tree.proofs.PathParts.{get-map}
 use Rattle.gt_value.specs.declared.places.Holder.{Holder}
 use Rattle.gt_value.specs.Places.{Part, PartLies}
-use Rattle.gt_leaf.specs.Unread.{structures_on, IsUnread, MayReplace}
+use Rattle.gt_leaf.specs.Unread.{Enclosing, route, structures_on, IsUnread, MayReplace}
 use Rattle.gt_leaf.proofs.Arounds.{Covers, field-covers, array-covers, tail-covers}
 use Rattle.gt_leaf.proofs.Members.{first}
 use Rattle.gt_leaf.proofs.Swaps.{Swap, swapped, with-member}
@@ -42,20 +42,21 @@ long-row {program} s type elem length trees e fits =
     found.2 ∙ ap (λ y. Some (pos (count y))) same
 
 -- a leaf inside these structures that no expression reads may be replaced by this one
-pub record Replaces (program : Program) (blocks : Blocks) (capacity : ℕ) (around : List TypeId) (p : Part) (leaf : Tree) : Type 0 where
+pub record Replaces (program : Program) (blocks : Blocks) (capacity : ℕ) (around : List Enclosing) (p : Part) (leaf : Tree) : Type 0 where
   pub unread : IsUnread program around p.active p.holder
   pub may : MayReplace p leaf
   pub fits : Fits program blocks capacity p.scope p.type leaf
 
-pub swap-of : {program : Program} {planes : List Plane} {blocks : Blocks} {capacity : ℕ} {around : List TypeId} {s : Scope} {h : Holder} {active : Bool} {bit : ℕ} {type : Ty} {tree : Tree} {path : List ℕ} {p : Part} → PartLies program planes s h active bit type tree path p
-    → (leaf : Tree) → Replaces program blocks capacity around p leaf → Covers around p.active (structures_on program (Some type) path) → Swap program [] h type tree (with_part tree path leaf)
+pub swap-of : {program : Program} {planes : List Plane} {blocks : Blocks} {capacity : ℕ} {around : List Enclosing} {s : Scope} {h : Holder} {active : Bool} {bit : ℕ} {type : Ty} {tree : Tree} {path : List ℕ} {p : Part} → PartLies program planes s h active bit type tree path p
+    → (leaf : Tree) → Replaces program blocks capacity around p leaf → Covers around p.active (structures_on program (Some type) path) → Swap program [] h type path tree (with_part tree path leaf)
 swap-of lies leaf r covers = swapped lies [] leaf r.unread covers r.may.0 r.may.1 (leaf-type r.fits r.may.1)
 
 pub plain-leaf : (p : Part) (leaf : Tree) → MayReplace p leaf → p.active ≡ false → without_pointers leaf ≡ leaf
 plain-leaf p leaf may e = elim may.2 [ inl active ↦ absurd (cc) | inr plain ↦ plain ]
 
-reads : {program : Program} {h : Holder} → Settled program → (node : TypeId) (desc : Option Expr) (v w : Tree) → Swap program [] h (ty.Node node desc) v w → ReadSame program node v w
-reads {h} settled node desc v w swap = λ steps leads read. reads-swapped settled leads.1 leads.2 node read [] (first node []) h desc v w swap
+reads : {program : Program} {h : Holder} {path : List ℕ} → Settled program → (node : TypeId) (desc : Option Expr) (v w : Tree) → Swap program [] h (ty.Node node desc) path v w → ReadSame program node v w
+reads {program} {h} {path} settled node desc v w swap =
+    λ steps leads read. reads-swapped settled leads.1 leads.2 node (λ along. along) read [] path (first (node, route program (Some node) path) []) h desc v w swap
 
 self-same : {program : Program} {s t : Scope} (node : TypeId) (v : Tree) → ScopesSame program s t → ScopesSame program (inside s node v) (inside t node v)
 self-same node v same = inside-same node v v same (λ steps leads read. refl)
@@ -141,7 +142,7 @@ module _ {program : Program} (settled : Settled program) {a : Trees} where
 
   -- ---- the value with the leaf
 
-  pub changes : {planes : List Plane} {blocks : Blocks} {capacity : ℕ} {around : List TypeId} {s : Scope} {h : Holder} {active : Bool} {bit : ℕ} {type : Ty} {tree : Tree} {path : List ℕ} {p : Part} → PartLies program planes s h active bit type tree path p → Fits program blocks capacity s type tree → (t : Scope)
+  pub changes : {planes : List Plane} {blocks : Blocks} {capacity : ℕ} {around : List Enclosing} {s : Scope} {h : Holder} {active : Bool} {bit : ℕ} {type : Ty} {tree : Tree} {path : List ℕ} {p : Part} → PartLies program planes s h active bit type tree path p → Fits program blocks capacity s type tree → (t : Scope)
       → Along program a s type → ScopesSame program s t → (leaf : Tree) → Replaces program blocks capacity around p leaf → Covers around p.active (structures_on program (Some type) path) → Fits program blocks capacity t type (with_part tree path leaf)
   changes PartLies.whole fits t along same leaf r covers = stays r.fits t along same
   changes {s} {h} (PartLies.field {i} {node} {desc} {s = x} {f} {trees} {tree} {path} has struct laid get spot there lies) fits t along same leaf r covers =
@@ -154,7 +155,7 @@ module _ {program : Program} (settled : Settled program) {a : Trees} where
   changes {blocks} {capacity} {s} {h} (PartLies.member {i} {node} {desc} {s = x} {f} {tree} {path} has union get lies) fits t along same leaf r covers =
       let v = Alt (Some i) tree in
       let w = Alt (Some i) (with_part tree path leaf) in
-      let swap = subst (λ y. Swap program [] h (ty.Node node desc) v y) (sym (with-member i tree path leaf)) (swap-of (PartLies.member {scope = s} has union get lies) leaf r covers) in
+      let swap = subst (λ y. Swap program [] h (ty.Node node desc) (i ∷ path) v y) (sym (with-member i tree path leaf)) (swap-of (PartLies.member {scope = s} has union get lies) leaf r covers) in
       let read = reads {h = h} settled node desc v w swap in
       let now = inside-same node v w same read in
       let found = is-union node desc x v has union fits in

@@ -1,7 +1,6 @@
 -- The numbers in which paths from `%h` and `%1` end are what is added step by step.
-use Rattle.std.proofs.Common.{◌≡◌, ℕ, Bool, true, false, ◌&&◌, List, [], ◌∷◌, ◌++◌, refl, ap, ap₂, sym, subst, ◌∙◌, ◌⊎◌, Option, Some, None, inl, inr, if◌then◌else◌}
+use Rattle.std.proofs.Common.{◌≡◌, ℕ, Bool, true, false, List, [], ◌∷◌, ◌++◌, refl, ap, sym, subst, ◌∙◌, ◌⊎◌, Option, Some, None, inl, inr, if◌then◌else◌}
 use Rattle.std.specs.Prelude.{◌↔◌, Contains, filter_map, option_to_list, nat_eq, slice_get}
-use Rattle.std.proofs.lemmas.Bool.{eqb-true}
 use Rattle.std.proofs.lemmas.Bool.Decides.{Decides-eqb}
 use Rattle.gt_types.specs.declared.expressions.Base.{Base}
 use Rattle.gt_types.specs.declared.expressions.Base.TheVariants.{Here, Outer, Outermost}
@@ -22,8 +21,9 @@ use Rattle.gt_types.specs.Shapes.{innermost, count_of}
 use Rattle.gt_leaf.specs.declared.fields.FieldPlace.{FieldPlace}
 use Rattle.gt_leaf.specs.declared.readings.Reading.{Reading}
 use Rattle.gt_leaf.specs.declared.seeking.Start.{Start}
-use Rattle.gt_leaf.specs.Seeking.{Names, same_place, with_field, same_reading, with_reading, with_fields, with_end, end_of, same_base, starting, seek_step, seek_expr, seek_option, seek_counts, seek_own, seek_counts_of, seek_union, seek_outside, seek_desc, seek_descs, with_inner, with_inners, seek_inners, seek_structure, seek_all}
+use Rattle.gt_leaf.specs.Seeking.{Names, same_place, with_field, same_reading, with_reading, with_fields, with_end, end_of, route_by, same_base, starting, seek_step, seek_expr, seek_option, seek_counts, seek_own, seek_counts_of, seek_union, seek_outside, seek_desc, seek_descs, with_inner, with_inners, seek_inners, seek_structure, seek_all}
 use Rattle.gt_leaf.specs.Tables.{reading}
+use Rattle.gt_leaf.specs.Alike.{same-field, one-reading, same-read}
 use Rattle.gt_leaf.specs.Unread.{BeginsAt}
 use Rattle.gt_leaf.proofs.Adding.{Adds, adds-none, adds-both, adds-same, adds-fold, adds-each}
 use Rattle.gt_leaf.proofs.Alongs.{Contains-only}
@@ -31,35 +31,25 @@ use Rattle.gt_leaf.proofs.Members.{nothing, first, first-or-later, added, contai
 
 -- ---- one place
 
-pub both-true : (a b : Bool) → (a && b) ≡ true → (a ≡ true) × (b ≡ true)
-both-true true b e = (refl, e)
-both-true false b e = absurd (cc)
-
-one-place : (a b : FieldPlace) → a.structure ≡ b.structure → a.place ≡ b.place → a ≡ b
-one-place a b e h = ap₂ (λ s p. let y : FieldPlace = record { structure = s; place = p } in y) e h
-
-pub same-field : (a b : FieldPlace) → same_place a b ≡ true → a ≡ b
-same-field a b e =
-    let both = both-true _ _ e in
-    one-place a b (eqb-true a.structure b.structure both.0) (eqb-true a.place b.place both.1)
-
 pub adds-field : (x : FieldPlace) → Adds (with_field x) (λ y. x ≡ y)
 adds-field x = record { each = λ k y. added (same_place x) k x y (λ z e. sym (same-field x z e)) }
-
-one-reading : (a b : Reading) → a.from ≡ b.from → a.field ≡ b.field → a ≡ b
-one-reading a b e h = ap₂ (λ n f. let y : Reading = record { from = n; field = f } in y) e h
-
-pub same-read : (a b : Reading) → same_reading a b ≡ true → a ≡ b
-same-read a b e =
-    let both = both-true _ _ e in
-    one-reading a b (eqb-true a.from b.from both.0) (same-field a.field b.field both.1)
 
 adds-reading : (x : Reading) → Adds (with_reading x) (λ y. x ≡ y)
 adds-reading x = record { each = λ k y. added (same_reading x) k x y (λ z e. sym (same-read x z e)) }
 
-adds-end : (begin : ℕ) (o : Option FieldPlace) → Adds (with_end begin o) (λ y. (o ≡ Some y.field) × (begin ≡ y.from))
-adds-end begin None = adds-none (λ y e. let h = e.0 in cc)
-adds-end begin (Some x) = adds-same (adds-reading (reading begin x)) (λ y. (λ e. (ap (λ (z : Reading). Some z.field) e, ap (λ (z : Reading). z.from) e), λ e. let is : x ≡ y.field = (let h = e.0 in cc) in one-reading (reading begin x) y e.1 is))
+-- what is found of a path is this reading
+abbrev pub IsEnd : ℕ → List ℕ → Option FieldPlace → Reading → Type 0
+IsEnd begin along o y = (o ≡ Some y.field) × (begin ≡ y.from) × (along ≡ y.along)
+
+adds-end : (begin : ℕ) (along : List ℕ) (o : Option FieldPlace) → Adds (with_end begin along o) (IsEnd begin along o)
+adds-end begin along None = adds-none (λ y e. let h = e.0 in cc)
+adds-end begin along (Some x) = adds-same (adds-reading (reading begin x along)) (λ y. (there y, back y))
+  where
+    there : (y : Reading) → reading begin x along ≡ y → IsEnd begin along (Some x) y
+    there y e = (ap (λ (z : Reading). Some z.field) e, ap (λ (z : Reading). z.from) e, ap (λ (z : Reading). z.along) e)
+
+    back : (y : Reading) → IsEnd begin along (Some x) y → reading begin x along ≡ y
+    back y (h, from, same) = let is : x ≡ y.field = cc in one-reading (reading begin x along) y from is same
 
 -- the fields of readings are added
 pub adds-fields : (readings : List Reading) → Adds (with_fields readings) (λ y. (r : Reading) × Contains readings r × (r.field ≡ y))
@@ -96,7 +86,7 @@ append-ways P xs ys = (there, back)
 module _ (program : Program) (index : List Names) where
   -- a path from a base ends at a place, from a structure
   abbrev pub EndsThere : Start → Reading → Way → Type 0
-  EndsThere at y way = (way.0 ≡ at.base) × (end_of program index at.structure way.1 ≡ Some y.field) × (at.structure ≡ y.from)
+  EndsThere at y way = (way.0 ≡ at.base) × IsEnd at.structure (route_by program index at.structure way.1) (end_of program index at.structure way.1) y
 
   -- some path of several does
   abbrev pub EndOf : Start → List Way → Reading → Type 0
@@ -112,21 +102,21 @@ module _ (program : Program) (index : List Names) where
     none-of : Adds (λ k. k) (EndOf at [])
     none-of = adds-none (λ y (way, c, p). nothing way c)
 
-    one-path : (base : Base) (names : List (List ℕ)) (b : Bool) → same_base base at.base ≡ b → Adds (λ k. if b then with_end at.structure (end_of program index at.structure names) k else k) (EndOf at ((base, names) ∷ []))
-    one-path base names true e = adds-same (adds-end at.structure (end_of program index at.structure names)) (λ y. (there y, back y))
+    one-path : (base : Base) (names : List (List ℕ)) (b : Bool) → same_base base at.base ≡ b → Adds (λ k. if b then with_end at.structure (route_by program index at.structure names) (end_of program index at.structure names) k else k) (EndOf at ((base, names) ∷ []))
+    one-path base names true e = adds-same (adds-end at.structure (route_by program index at.structure names) (end_of program index at.structure names)) (λ y. (there y, back y))
       where
-        there : (y : Reading) → (end_of program index at.structure names ≡ Some y.field) × (at.structure ≡ y.from) → EndOf at ((base, names) ∷ []) y
-        there y h = ((base, names), first (base, names) [], (base-is base at.base e, h.0, h.1))
+        there : (y : Reading) → IsEnd at.structure (route_by program index at.structure names) (end_of program index at.structure names) y → EndOf at ((base, names) ∷ []) y
+        there y h = ((base, names), first (base, names) [], (base-is base at.base e, h))
 
-        back : (y : Reading) → EndOf at ((base, names) ∷ []) y → (end_of program index at.structure names ≡ Some y.field) × (at.structure ≡ y.from)
-        back y (way, c, (is, h, from)) = elim (first-or-later (base, names) way [] c) [
-          | inl same ↦ (ap (λ (w : Way). end_of program index at.structure w.1) same ∙ h, from)
+        back : (y : Reading) → EndOf at ((base, names) ∷ []) y → IsEnd at.structure (route_by program index at.structure names) (end_of program index at.structure names) y
+        back y (way, c, (is, h)) = elim (first-or-later (base, names) way [] c) [
+          | inl same ↦ subst (λ (w : Way). IsEnd at.structure (route_by program index at.structure w.1) (end_of program index at.structure w.1) y) (sym same) h
           | inr none ↦ absurd (nothing way none)
         ]
     one-path base names false e = adds-none not
       where
         not : (y : Reading) → ¬ EndOf at ((base, names) ∷ []) y
-        not y (way, c, (is, h, from)) = elim (first-or-later (base, names) way [] c) [
+        not y (way, c, (is, h)) = elim (first-or-later (base, names) way [] c) [
           | inl same ↦
               let equal : base ≡ at.base = ap (λ (w : Way). w.0) same ∙ is in
               let yes_is : same_base base at.base ≡ true = subst (λ b. same_base base b ≡ true) equal (base-self base) in
@@ -285,9 +275,10 @@ module _ (program : Program) (index : List Names) where
     pub there : Contains (paths_of e) (base, names)
     pub end : end_of program index begin.0 names ≡ Some y.field
     pub from : begin.0 ≡ y.from
+    pub along : route_by program index begin.0 names ≡ y.along
 
   seen : (e : Expr) (base : Base) (begin : TypeId) (y : Reading) → BeginsAt program e base begin → EndOf (starting base begin.0) (paths_of e) y → Seen y
-  seen e base begin y b (way, c, (is, h, from)) = record {
+  seen e base begin y b (way, c, (is, (h, from, along))) = record {
     e = e;
     base = base;
     begin = begin;
@@ -296,6 +287,7 @@ module _ (program : Program) (index : List Names) where
     there = subst (λ (x : Base). Contains (paths_of e) (x, way.1)) is c;
     end = h;
     from = from;
+    along = along;
   }
 
   abbrev numbered : ℕ → TypeId
@@ -330,4 +322,4 @@ module _ (program : Program) (index : List Names) where
   -- what is added is where such paths end
   pub adds-seen : Adds (seek_all program index) Seen
   adds-seen =
-      adds-same of-program (λ y. (all-seen y, λ s. seen-all y s.e s.base s.begin s.begins ((s.base, s.names), s.there, (refl, s.end, s.from))))
+      adds-same of-program (λ y. (all-seen y, λ s. seen-all y s.e s.base s.begin s.begins ((s.base, s.names), s.there, (refl, (s.end, s.from, s.along)))))

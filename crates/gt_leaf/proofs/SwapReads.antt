@@ -9,7 +9,7 @@ use Rattle.gt_types.specs.declared.program.Field.{Field}
 use Rattle.gt_types.specs.declared.program.Structure.{Structure}
 use Rattle.gt_types.specs.declared.program.Program.{Program}
 use Rattle.gt_types.specs.Shapes.{is_number, is_structure}
-use Rattle.gt_types.specs.Contains.{HasStructure}
+use Rattle.gt_types.specs.Contains.{HasStructure, itself}
 use Rattle.gt_types.specs.Unions.{IsCommon}
 use Rattle.gt_types.specs.Paths.{by_name, Leads, last_step, next_step}
 use Rattle.gt_types.specs.Settled.{Settled}
@@ -22,23 +22,25 @@ use Rattle.gt_tree.proofs.PathParts.{get-map}
 use Rattle.gt_tree.proofs.WriteReads.{named-place, step-taken, read-desc, node-type, first-types}
 use Rattle.gt_value.specs.declared.places.Holder.{Holder}
 use Rattle.gt_value.specs.declared.places.Holder.TheVariants as lies_in
-use Rattle.gt_leaf.specs.Unread.{ReadsFrom, ReadsByName, IsReadField, IsUnread, EndsAt}
+use Rattle.gt_leaf.specs.Unread.{Enclosing, route, route_of, ReadsFrom, ReadsByName, IsReadField, IsUnread, EndsAt}
 use Rattle.gt_leaf.proofs.Members.{later}
+use Rattle.gt_leaf.proofs.RouteSteps.{names-stop, names-step, names-end, places-stop, places-step, places-end}
 use Rattle.gt_leaf.proofs.Swaps.{Swap, OneSwaps}
 
--- the number in which a path of names ends from a structure on is one that expressions read, by name or from where the path began
-abbrev pub EndRead : Program → TypeId → TypeId → List (List ℕ) → Type 0
-EndRead program begin node names = (end : TypeId) (i : ℕ) (s : Structure) (f : Field) → HasStructure program end s → slice_get s.fields i ≡ Some f → is_number f.ty ≡ true → EndsAt program node names end i
-    → ReadsByName program end i ⊎ ReadsFrom program begin end i
+-- The number in which a path of names ends from a structure on is one that expressions read, by name or from where the path began, along
+-- what this makes of the route from that structure on.
+abbrev pub EndRead : Program → TypeId → (List ℕ → List ℕ) → TypeId → List (List ℕ) → Type 0
+EndRead program begin whole node names = (end : TypeId) (i : ℕ) (s : Structure) (f : Field) → HasStructure program end s → slice_get s.fields i ≡ Some f → is_number f.ty ≡ true → EndsAt program node names end i
+    → ReadsByName program end i ⊎ ReadsFrom program begin (whole (route_of program (Some node) names)) end i
 
--- where a structure around a leaf reads a number, it is read
-read-inside : (program : Program) (around : List TypeId) (begin node : TypeId) (i : ℕ) → Contains around begin → ReadsByName program node i ⊎ ReadsFrom program begin node i → IsReadField program around true node i
-read-inside program around begin node i c (inl name) = inl name
-read-inside program around begin node i c (inr from) = inr (begin, inr c, from)
+-- where a structure around a leaf reads a number along the route to it, it is read
+read-inside : (program : Program) (around : List Enclosing) (begin : TypeId) (along : List ℕ) (node : TypeId) (i : ℕ) → Contains around (begin, along) → ReadsByName program node i ⊎ ReadsFrom program begin along node i → IsReadField program around true node i
+read-inside program around begin along node i c (inl name) = inl name
+read-inside program around begin along node i c (inr from) = inr ((begin, along), inr c, from)
 
 -- ---- numbers
 
-pub number-swap : {program : Program} {around : List TypeId} {h : Holder} {type : Ty} {o n : Tree} → Swap program around h type o n → ¬ IsUnread program around true h → number_at o ≡ number_at n
+pub number-swap : {program : Program} {around : List Enclosing} {h : Holder} {type : Ty} {path : List ℕ} {o n : Tree} → Swap program around h type path o n → ¬ IsUnread program around true h → number_at o ≡ number_at n
 number-swap (Swap.replaced unread a b plain) read = absurd (read unread)
 number-swap (Swap.in_struct h u one) read = refl
 number-swap (Swap.in_member h u g swap) read = refl
@@ -48,17 +50,17 @@ number-swap (Swap.in_row plain) read = refl
 -- ---- what a value begins with
 
 -- a part of a value and that of the other are one, or they differ so
-data Kept (program : Program) (c : TypeId) (around : List TypeId) : Option Tree → Option Tree → Type 0 where
+data Kept (program : Program) (c : TypeId) (around : List Enclosing) : Option Tree → Option Tree → Type 0 where
   kept_same : {x : Option Tree} → Kept program c around x x
-  kept_swap : (inner : List TypeId) {h : Holder} {desc : Option Expr} {p q : Tree} → ((b : TypeId) → Contains around b → Contains inner b) → Swap program inner h (ty.Node c desc) p q → Kept program c around (Some p) (Some q)
+  kept_swap : (inner : List Enclosing) {path : List ℕ} {h : Holder} {desc : Option Expr} {p q : Tree} → ((b : Enclosing) → Contains around b → Contains inner b) → Swap program inner h (ty.Node c desc) path p q → Kept program c around (Some p) (Some q)
 
-kept-outside : {program : Program} {c node : TypeId} {around : List TypeId} {x y : Option Tree} → Kept program c (node ∷ around) x y → Kept program c around x y
+kept-outside : {program : Program} {c : TypeId} {outer : Enclosing} {around : List Enclosing} {x y : Option Tree} → Kept program c (outer ∷ around) x y → Kept program c around x y
 kept-outside Kept.kept_same = Kept.kept_same
-kept-outside {node} {around} (Kept.kept_swap inner grows swap) = Kept.kept_swap inner (λ b d. grows b (later node b around d)) swap
+kept-outside {outer} {around} (Kept.kept_swap inner grows swap) = Kept.kept_swap inner (λ b d. grows b (later outer b around d)) swap
 
 -- a path of names reads the same from a structure inside these in two values that differ so
-abbrev ReadsOn : Program → TypeId → List TypeId → List (List ℕ) → Type 0
-ReadsOn program c around names = (inner : List TypeId) → ((b : TypeId) → Contains around b → Contains inner b) → (h : Holder) (desc : Option Expr) (p q : Tree) → Swap program inner h (ty.Node c desc) p q
+abbrev ReadsOn : Program → TypeId → List Enclosing → List (List ℕ) → Type 0
+ReadsOn program c around names = (inner : List Enclosing) (path : List ℕ) → ((b : Enclosing) → Contains around b → Contains inner b) → (h : Holder) (desc : Option Expr) (p q : Tree) → Swap program inner h (ty.Node c desc) path p q
     → read_path program names (ty.Node c None) p ≡ read_path program names (ty.Node c None) q
 
 no-node : (c : TypeId) (type : Ty) → is_structure type ≡ false → is_node c type ≡ false
@@ -75,55 +77,67 @@ begin-leaf program c type (Alt member tree) e h = absurd (cc)
 begin-leaf program c type (Row trees) e h = absurd (cc)
 
 module _ {program : Program} (c : TypeId) where
-  kept-or : {around : List TypeId} {h : Holder} (type : Ty) (o n : Tree) (b : Bool) (x y : Option Tree) → is_node c type ≡ b → Swap program around h type o n → Kept program c around x y → Kept program c around (cond b (Some o) x) (cond b (Some n) y)
-  kept-or {around} {h} type o n true x y e swap k = Kept.kept_swap around (λ b d. d) (subst (λ t. Swap program around h t o n) (node-type c type e).1 swap)
+  kept-or : {around : List Enclosing} {h : Holder} {path : List ℕ} (type : Ty) (o n : Tree) (b : Bool) (x y : Option Tree) → is_node c type ≡ b → Swap program around h type path o n → Kept program c around x y → Kept program c around (cond b (Some o) x) (cond b (Some n) y)
+  kept-or {around} {h} {path} type o n true x y e swap k = Kept.kept_swap around (λ b d. d) (subst (λ t. Swap program around h t path o n) (node-type c type e).1 swap)
   kept-or type o n false x y e swap k = k
 
   mutual
-    kept-begin : {around : List TypeId} {h : Holder} {type : Ty} {o n : Tree} → Swap program around h type o n → Kept program c around (beginning program c (Some type) o) (beginning program c (Some type) n)
+    kept-begin : {around : List Enclosing} {h : Holder} {type : Ty} {path : List ℕ} {o n : Tree} → Swap program around h type path o n → Kept program c around (beginning program c (Some type) o) (beginning program c (Some type) n)
     kept-begin {around} (Swap.replaced {type} {a = o} {b = n} unread a b plain) =
         subst (λ x. Kept program c around x (beginning program c (Some type) n)) (sym (begin-leaf program c type o (no-node c type plain) a))
         (subst (λ x. Kept program c around None x) (sym (begin-leaf program c type n (no-node c type plain) b)) Kept.kept_same)
     kept-begin {around} (Swap.in_struct {h} {node} {desc} {s} {old} {new} has u one) =
         kept-or {h = h} (ty.Node node desc) (Rec old) (Rec new) (is_node c (ty.Node node desc)) (beginning_of program c (first_type program (ty.Node node desc)) old)
         (beginning_of program c (first_type program (ty.Node node desc)) new) refl (Swap.in_struct has u one)
-        (subst (λ t. Kept program c around (beginning_of program c t old) (beginning_of program c t new)) (sym (first-types program node desc s has)) (kept-outside {node = node} (kept-first one)))
+        (subst (λ t. Kept program c around (beginning_of program c t old) (beginning_of program c t new)) (sym (first-types program node desc s has)) (kept-outside (kept-first one)))
     kept-begin (Swap.in_member {h} {node} {desc} {i} {old} {new} has u got swap) =
         kept-or {h = h} (ty.Node node desc) (Alt (Some i) old) (Alt (Some i) new) (is_node c (ty.Node node desc)) None None refl (Swap.in_member has u got swap) Kept.kept_same
     kept-begin (Swap.in_common {h} {node} {desc} {old} {new} has is swap) =
         kept-or {h = h} (ty.Node node desc) (Alt None old) (Alt None new) (is_node c (ty.Node node desc)) None None refl (Swap.in_common has is swap) Kept.kept_same
-    kept-begin (Swap.in_row {h} {type} {old} {new} plain) = kept-or {h = h} type (Row old) (Row new) (is_node c type) None None refl (Swap.in_row plain) Kept.kept_same
+    kept-begin (Swap.in_row {h} {type} {path} {old} {new} plain) = kept-or {h = h} {path = path} type (Row old) (Row new) (is_node c type) None None refl (Swap.in_row plain) Kept.kept_same
 
-    kept-first : {around : List TypeId} {at : ℕ → Holder} {types : List Ty} {olds news : Trees} → OneSwaps program around at types olds news → Kept program c around (beginning_of program c (slice_get types 0) olds) (beginning_of program c (slice_get types 0) news)
+    kept-first : {around : List Enclosing} {at : ℕ → Holder} {types : List Ty} {i : ℕ} {path : List ℕ} {olds news : Trees} → OneSwaps program around at types i path olds news → Kept program c around (beginning_of program c (slice_get types 0) olds) (beginning_of program c (slice_get types 0) news)
     kept-first (OneSwaps.at_first swap) = kept-begin swap
     kept-first (OneSwaps.at_later one) = Kept.kept_same
 
-  kept-then : (names : List (List ℕ)) (d : Option Expr) {around : List TypeId} {x y : Option Tree} → ReadsOn program c around names → Kept program c around x y
+  kept-then : (names : List (List ℕ)) (d : Option Expr) {around : List Enclosing} {x y : Option Tree} → ReadsOn program c around names → Kept program c around x y
       → ((x then λ part. Some (typed (ty.Node c d) part)) then λ next. read_path program names next.type next.value) ≡ ((y then λ part. Some (typed (ty.Node c d) part)) then λ next. read_path program names next.type next.value)
   kept-then names d rest Kept.kept_same = refl
-  kept-then names d rest (Kept.kept_swap inner {h} {desc} {p} {q} grows swap) = read-desc program names c d p ∙ rest inner grows h desc p q swap ∙ sym (read-desc program names c d q)
+  kept-then names d rest (Kept.kept_swap inner {path} {h} {desc} {p} {q} grows swap) = read-desc program names c d p ∙ rest inner path grows h desc p q swap ∙ sym (read-desc program names c d q)
 
 -- ---- the field of a struct
 
--- the fields at a place are one value, or they differ so
-data FieldSwap (program : Program) (around : List TypeId) (h : Holder) (type : Ty) : Option Typed → Option Typed → Type 0 where
-  one_field : {x : Option Typed} → FieldSwap program around h type x x
-  two_fields : {p q : Tree} → Swap program around h type p q → FieldSwap program around h type (Some (typed type p)) (Some (typed type q))
+-- the fields at a place are one value, or they differ so, where that place is the one at which the structs differ
+data FieldSwap (program : Program) (around : List Enclosing) (h : Holder) (type : Ty) (k i : ℕ) (path : List ℕ) : Option Typed → Option Typed → Type 0 where
+  one_field : {x : Option Typed} → FieldSwap program around h type k i path x x
+  two_fields : {p q : Tree} → k ≡ i → Swap program around h type path p q → FieldSwap program around h type k i path (Some (typed type p)) (Some (typed type q))
+
+-- the fields at a place of two structs that differ at a path
+record FieldsAt (program : Program) (around : List Enclosing) (node : TypeId) (f : Field) (place : ℕ) (path : List ℕ) (o n : Tree) : Type 0 where
+  k : ℕ
+  rest : List ℕ
+  path_is : path ≡ k ∷ rest
+  swap : FieldSwap program ((node, route program (Some node) path) ∷ around) (lies_in.Field node place) f.ty k place rest (field_of f o place) (field_of f n place)
 
 module _ {program : Program} where
-  fields-swap : {around : List TypeId} {at : ℕ → Holder} {types : List Ty} {olds news : Trees} → OneSwaps program around at types olds news → (i : ℕ) (type : Ty) → slice_get types i ≡ Some type
-      → FieldSwap program around (at i) type (tree_at olds i then λ tree. Some (typed type tree)) (tree_at news i then λ tree. Some (typed type tree))
-  fields-swap {around} (OneSwaps.at_first {at} {type = first} {old} {new} swap) zero type e = let equal : first ≡ type = cc in FieldSwap.two_fields (subst (λ t. Swap program around (at zero) t old new) equal swap)
+  next-field : {around : List Enclosing} {h : Holder} {type : Ty} {k i : ℕ} {path : List ℕ} {x y : Option Typed} → FieldSwap program around h type k i path x y → FieldSwap program around h type (suc k) (suc i) path x y
+  next-field FieldSwap.one_field = FieldSwap.one_field
+  next-field (FieldSwap.two_fields e swap) = FieldSwap.two_fields (ap suc e) swap
+
+  fields-swap : {around : List Enclosing} {at : ℕ → Holder} {types : List Ty} {k : ℕ} {path : List ℕ} {olds news : Trees} → OneSwaps program around at types k path olds news → (i : ℕ) (type : Ty) → slice_get types i ≡ Some type
+      → FieldSwap program around (at i) type k i path (tree_at olds i then λ tree. Some (typed type tree)) (tree_at news i then λ tree. Some (typed type tree))
+  fields-swap {around} (OneSwaps.at_first {at} {type = first} {path} {old} {new} swap) zero type e = let equal : first ≡ type = cc in FieldSwap.two_fields refl (subst (λ t. Swap program around (at zero) t path old new) equal swap)
   fields-swap (OneSwaps.at_first swap) (suc i) type e = FieldSwap.one_field
   fields-swap (OneSwaps.at_later one) zero type e = FieldSwap.one_field
-  fields-swap (OneSwaps.at_later one) (suc i) type e = fields-swap one i type e
+  fields-swap (OneSwaps.at_later one) (suc i) type e = next-field (fields-swap one i type e)
 
-  field-swap : {around : List TypeId} (node : TypeId) (desc : Option Expr) (s : Structure) (f : Field) (place : ℕ) {h : Holder} {o n : Tree} → HasStructure program node s → s.is_union ≡ false → slice_get s.fields place ≡ Some f
-      → Swap program around h (ty.Node node desc) o n → FieldSwap program (node ∷ around) (lies_in.Field node place) f.ty (field_of f o place) (field_of f n place)
+  field-swap : {around : List Enclosing} (node : TypeId) (desc : Option Expr) (s : Structure) (f : Field) (place : ℕ) {h : Holder} {path : List ℕ} {o n : Tree} → HasStructure program node s → s.is_union ≡ false → slice_get s.fields place ≡ Some f
+      → Swap program around h (ty.Node node desc) path o n → FieldsAt program around node f place path o n
   field-swap node desc s f place has struct got (Swap.replaced unread a b plain) = absurd (cc)
-  field-swap {around} node desc s f place has struct got (Swap.in_struct {s = other} {old} {new} h u one) =
+  field-swap {around} node desc s f place has struct got (Swap.in_struct {s = other} {i} {path} {old} {new} h u one) =
       let equal : other ≡ s = some-same (slice_get program.structures node.0) other s h has in
-      fields-swap (subst (λ x. OneSwaps program (node ∷ around) (lies_in.Field node) (types_of x.fields) old new) equal one) place f.ty (get-map (λ g. g.ty) s.fields place f got)
+      let here = subst (λ x. OneSwaps program ((node, route program (Some node) (i ∷ path)) ∷ around) (lies_in.Field node) (types_of x.fields) i path old new) equal one in
+      record { k = i; rest = path; path_is = refl; swap = fields-swap here place f.ty (get-map (λ g. g.ty) s.fields place f got) }
   field-swap node desc s f place has struct got (Swap.in_member {s = other} h u g swap) = let equal : other ≡ s = some-same (slice_get program.structures node.0) other s h has in absurd (cc)
   field-swap node desc s f place has struct got (Swap.in_common {s = other} h c swap) =
       let equal : other ≡ s = some-same (slice_get program.structures node.0) other s h has in
@@ -131,70 +145,91 @@ module _ {program : Program} where
       absurd (cc)
   field-swap node desc s f place has struct got (Swap.in_row plain) = absurd (cc)
 
-  field-then : (names : List (List ℕ)) (around : List TypeId) (h : Holder) (type : Ty) {x y : Option Typed} → ((p q : Tree) → Swap program around h type p q → read_path program names type p ≡ read_path program names type q) → FieldSwap program around h type x y
-      → (x then λ next. read_path program names next.type next.value) ≡ (y then λ next. read_path program names next.type next.value)
-  field-then names around h type rest FieldSwap.one_field = refl
-  field-then names around h type rest (FieldSwap.two_fields {p} {q} swap) = rest p q swap
+  field-then : (names : List (List ℕ)) (around : List Enclosing) (h : Holder) (type : Ty) (k i : ℕ) (rest : List ℕ) {x y : Option Typed} → ((p q : Tree) → k ≡ i → Swap program around h type rest p q → read_path program names type p ≡ read_path program names type q)
+      → FieldSwap program around h type k i rest x y → (x then λ next. read_path program names next.type next.value) ≡ (y then λ next. read_path program names next.type next.value)
+  field-then names around h type k i rest same FieldSwap.one_field = refl
+  field-then names around h type k i rest same (FieldSwap.two_fields {p} {q} e swap) = same p q e swap
 
 -- ---- the common structure of a union
 
 module _ {program : Program} (settled : Settled program) where
-  union-read : (node : TypeId) (desc : Option Expr) (s : Structure) (c : TypeId) (d : Option Expr) (names : List (List ℕ)) {around : List TypeId} {h : Holder} (o n : Tree) → HasStructure program node s → IsCommon program s c → ReadsOn program c (node ∷ around) names
-      → Swap program around h (ty.Node node desc) o n
+  union-read : (node : TypeId) (desc : Option Expr) (s : Structure) (c : TypeId) (d : Option Expr) (names : List (List ℕ)) {around : List Enclosing} {h : Holder} {path : List ℕ} (o n : Tree) → HasStructure program node s → IsCommon program s c
+      → ReadsOn program c ((node, route program (Some node) path) ∷ around) names → Swap program around h (ty.Node node desc) path o n
       → (member_of program s (ty.Node c d) o then λ next. read_path program names next.type next.value) ≡ (member_of program s (ty.Node c d) n then λ next. read_path program names next.type next.value)
   union-read node desc s c d names o n has is rest (Swap.replaced unread a b plain) = absurd (cc)
   union-read node desc s c d names o n has is rest (Swap.in_struct h u one) = refl
-  union-read node desc s c d names {around} o n has is rest (Swap.in_member {s = other} {i} {f} {old} {new} h u got swap) =
+  union-read node desc s c d names {around} o n has is rest (Swap.in_member {s = other} {i} {path} {f} {old} {new} h u got swap) =
       let same : other ≡ s = some-same (slice_get program.structures node.0) other s h has in
       let get : slice_get s.fields i ≡ Some f = subst (λ x. slice_get x.fields i ≡ Some f) same got in
       kept-then c names d rest
-      (subst (λ t. Kept program c (node ∷ around) (beginning program c t old) (beginning program c t new)) (sym (ap type_of_field get)) (kept-begin c swap))
-  union-read node desc s c d names {around} o n has is rest (Swap.in_common {h} {common} {s = other} {old} {new} there found swap) =
+      (subst (λ t. Kept program c ((node, route program (Some node) (i ∷ path)) ∷ around) (beginning program c t old) (beginning program c t new)) (sym (ap type_of_field get)) (kept-begin c swap))
+  union-read node desc s c d names {around} o n has is rest (Swap.in_common {h} {common} {s = other} {i} {path} {old} {new} there found swap) =
       let same : other ≡ s = some-same (slice_get program.structures node.0) other s there has in
       let equal : common ≡ c = one-common program node s common c settled has (subst (λ x. IsCommon program x common) same found) is in
-      kept-then c names d rest (kept-begin c (subst (λ k. Swap program (node ∷ around) h (ty.Node k None) old new) equal swap))
+      kept-then c names d rest (kept-begin c (subst (λ k. Swap program ((node, route program (Some node) (i ∷ path)) ∷ around) h (ty.Node k None) path old new) equal swap))
   union-read node desc s c d names o n has is rest (Swap.in_row plain) = absurd (cc)
 
   -- ---- a path
 
-  pub reads-swapped : {node : TypeId} {steps : List (List ℕ)} {type : Ty} → Leads program by_name node steps type → IsTrue (is_number type) → (begin : TypeId) → EndRead program begin node steps → (around : List TypeId) → Contains (node ∷ around) begin → (h : Holder) (desc : Option Expr) (o n : Tree)
-      → Swap program around h (ty.Node node desc) o n → read_path program steps (ty.Node node None) o ≡ read_path program steps (ty.Node node None) n
-  reads-swapped (last_step {node} {x = name} {s} {f} has named may) number begin read around inside h desc o n r = go s.is_union refl
+  pub reads-swapped : {node : TypeId} {steps : List (List ℕ)} {type : Ty} → Leads program by_name node steps type → IsTrue (is_number type) → (begin : TypeId) (whole : List ℕ → List ℕ) → EndRead program begin whole node steps
+      → (around : List Enclosing) (path : List ℕ) → Contains ((node, route program (Some node) path) ∷ around) (begin, whole (route program (Some node) path)) → (h : Holder) (desc : Option Expr) (o n : Tree)
+      → Swap program around h (ty.Node node desc) path o n → read_path program steps (ty.Node node None) o ≡ read_path program steps (ty.Node node None) n
+  reads-swapped (last_step {node} {x = name} {s} {f} has named may) number begin whole read around path inside h desc o n r = go s.is_union refl
     where
       go : (b : Bool) → s.is_union ≡ b → read_path program (name ∷ []) (ty.Node node None) o ≡ read_path program (name ∷ []) (ty.Node node None) n
       go true union = let c = may.common union in let none = ap is_number c.2 in absurd (cc)
       go false struct =
           let found = named-place program settled node s f name has may.there named in
-          let is_read = λ (unread : IsUnread program (node ∷ around) true (lies_in.Field node found.0)).
-          unread (read-inside program (node ∷ around) begin node found.0 inside (read node found.0 s f has found.2 number (EndsAt.at_last (s, has, found.1, found.2)))) in
-          ap (λ x. x then λ next. read_path program [] next.type next.value) (step-taken program node s f name found.0 false o has struct found.1 found.2)
-          ∙ field-then [] (node ∷ around) (lies_in.Field node found.0) f.ty (λ p q swap. number-swap swap is_read) (field-swap node desc s f found.0 has struct found.2 r)
-          ∙ sym (ap (λ x. x then λ next. read_path program [] next.type next.value) (step-taken program node s f name found.0 false n has struct found.1 found.2))
-  reads-swapped (next_step {node} {next} {x = name} {xs = names} {s} {f} {desc = inner} {type} has named may is rest) number begin read around inside h desc o n r =
-      go (λ deeper. reads-swapped rest number begin after deeper) s.is_union refl
+          let place = found.0 in
+          let within : List Enclosing = (node, route program (Some node) path) ∷ around in
+          let at = field-swap node desc s f place has struct found.2 r in
+          let is_read = λ (e : at.k ≡ place) (unread : IsUnread program within true (lies_in.Field node place)).
+          let one : route program (Some node) path ≡ route_of program (Some node) (name ∷ []) = ap (route program (Some node)) (at.path_is ∙ ap (λ k. k ∷ at.rest) e)
+          ∙ places-end program node place at.rest s f has struct found.2 number
+          ∙ sym (names-end program node name place s f has struct found.1 found.2 number) in
+          unread (read-inside program within begin (whole (route_of program (Some node) (name ∷ []))) node place (subst (λ x. Contains within (begin, whole x)) one inside) (read node place s f has found.2 number (EndsAt.at_last (s, has, found.1, found.2)))) in
+          ap (λ x. x then λ next. read_path program [] next.type next.value) (step-taken program node s f name place false o has struct found.1 found.2)
+          ∙ field-then [] within (lies_in.Field node place) f.ty at.k place at.rest (λ p q e swap. number-swap swap (is_read e)) at.swap
+          ∙ sym (ap (λ x. x then λ next. read_path program [] next.type next.value) (step-taken program node s f name place false n has struct found.1 found.2))
+  reads-swapped (next_step {node} {next} {x = name} {xs = names} {s} {f} {desc = inner} {type} has named may is rest) number begin whole read around path inside h desc o n r =
+      go (λ w after deeper p c. reads-swapped rest number begin w after deeper p c) s.is_union refl
     where
-      after : EndRead program begin next names
-      after = λ end i t g there get is_number_there ends.
+      -- a route goes on behind a struct, and no further behind a union
+      after : (w : List ℕ → List ℕ) (b : Bool) → s.is_union ≡ b → whole (route_of program (Some node) (name ∷ names)) ≡ w (route_of program (Some next) names) → EndRead program begin w next names
+      after w b e same = λ end i t g there get is_number_there ends.
           let found = named-place program settled node s f name has may.there named in
-          read end i t g there get is_number_there (EndsAt.at_next (s, has, found.1, found.2) is ends)
+          subst (λ along. ReadsByName program end i ⊎ ReadsFrom program begin along end i) same (read end i t g there get is_number_there (EndsAt.at_next (s, has, found.1, found.2) is ends))
 
-      go : ((deeper : List TypeId) → Contains (next ∷ deeper) begin → (k : Holder) (d : Option Expr) (p q : Tree) → Swap program deeper k (ty.Node next d) p q → read_path program names (ty.Node next None) p ≡ read_path program names (ty.Node next None) q) → (b : Bool) → s.is_union ≡ b → read_path program (name ∷ names) (ty.Node node None) o ≡ read_path program (name ∷ names) (ty.Node node None) n
+      go : ((w : List ℕ → List ℕ) → EndRead program begin w next names → (deeper : List Enclosing) (p : List ℕ) → Contains ((next, route program (Some next) p) ∷ deeper) (begin, w (route program (Some next) p)) → (k : Holder) (d : Option Expr) (x y : Tree)
+          → Swap program deeper k (ty.Node next d) p x y → read_path program names (ty.Node next None) x ≡ read_path program names (ty.Node next None) y) → (b : Bool) → s.is_union ≡ b → read_path program (name ∷ names) (ty.Node node None) o ≡ read_path program (name ∷ names) (ty.Node node None) n
       go walk true union =
           let c = may.common union in
           let common : IsCommon program s next = let named_so : ty.Node c.0 c.1 ≡ ty.Node next inner = sym c.2 ∙ is in let same : c.0 ≡ next = cc in subst (IsCommon program s) same c.3 in
           let found = named-place program settled node s f name has may.there named in
+          let within : List Enclosing = (node, route program (Some node) path) ∷ around in
+          let stopped = subst (λ x. Contains within (begin, whole x)) (places-stop program node path s has union) inside in
+          let read_on = after (λ x. whole []) true union (ap whole (names-stop program node (name ∷ names) s has union)) in
           ap (λ x. x then λ next. read_path program names next.type next.value) (step-taken program node s f name found.0 true o has union found.1 found.2)
           ∙ subst (λ t. (member_of program s t o then λ next. read_path program names next.type next.value) ≡ (member_of program s t n then λ next. read_path program names next.type next.value)) (sym is)
-          (union-read node desc s next inner names o n has common (λ deeper grows. walk deeper (later next begin deeper (grows begin inside))) r)
+          (union-read node desc s next inner names o n has common (λ deeper p grows. walk (λ x. whole []) read_on deeper p (later (next, route program (Some next) p) (begin, whole []) deeper (grows (begin, whole []) stopped))) r)
           ∙ sym (ap (λ x. x then λ next. read_path program names next.type next.value) (step-taken program node s f name found.0 true n has union found.1 found.2))
       go walk false struct =
           let found = named-place program settled node s f name has may.there named in
-          ap (λ x. x then λ next. read_path program names next.type next.value) (step-taken program node s f name found.0 false o has struct found.1 found.2)
-          ∙ field-then names (node ∷ around) (lies_in.Field node found.0) f.ty
-          (λ p q k.
+          let place = found.0 in
+          let within : List Enclosing = (node, route program (Some node) path) ∷ around in
+          let at = field-swap node desc s f place has struct found.2 r in
+          let read_on = after (λ x. whole (place ∷ x)) false struct
+          (ap whole (names-step program node name names place s f has struct found.1 found.2 ∙ ap (λ t. place ∷ route_of program (itself t) names) is)) in
+          let goes_on = λ (e : at.k ≡ place). subst (λ x. Contains within (begin, whole x)) (ap (route program (Some node)) (at.path_is ∙ ap (λ k. k ∷ at.rest) e)
+          ∙ places-step program node place at.rest s f has struct found.2
+          ∙ ap (λ t. place ∷ route program (itself t) at.rest) is) inside in
+          ap (λ x. x then λ next. read_path program names next.type next.value) (step-taken program node s f name place false o has struct found.1 found.2)
+          ∙ field-then names within (lies_in.Field node place) f.ty at.k place at.rest
+          (λ p q e k.
           ap (λ t. read_path program names t p) is
           ∙ read-desc program names next inner p
-          ∙ walk (node ∷ around) (later next begin (node ∷ around) inside) (lies_in.Field node found.0) inner p q (subst (λ t. Swap program (node ∷ around) (lies_in.Field node found.0) t p q) is k)
+          ∙ walk (λ x. whole (place ∷ x)) read_on within at.rest (later (next, route program (Some next) at.rest) (begin, whole (place ∷ route program (Some next) at.rest)) within (goes_on e)) (lies_in.Field node place) inner p q
+          (subst (λ t. Swap program within (lies_in.Field node place) t at.rest p q) is k)
           ∙ sym (ap (λ t. read_path program names t q) is ∙ read-desc program names next inner q))
-          (field-swap node desc s f found.0 has struct found.2 r)
-          ∙ sym (ap (λ x. x then λ next. read_path program names next.type next.value) (step-taken program node s f name found.0 false n has struct found.1 found.2))
+          at.swap
+          ∙ sym (ap (λ x. x then λ next. read_path program names next.type next.value) (step-taken program node s f name place false n has struct found.1 found.2))

@@ -28,7 +28,7 @@ use Rattle.gt_leaf.proofs.Alongs.{Along, IsMet, count-met, desc-met}
 -- paths that expressions read lead to the same numbers in two values of a structure
 abbrev pub ReadSame : Program → TypeId → Tree → Tree → Type 0
 ReadSame program node v w =
-    (steps : List (List ℕ)) → LeadsToNumber program node steps → EndRead program node node steps → read_path program steps (ty.Node node None) v ≡ read_path program steps (ty.Node node None) w
+    (steps : List (List ℕ)) → LeadsToNumber program node steps → EndRead program node (λ along. along) node steps → read_path program steps (ty.Node node None) v ≡ read_path program steps (ty.Node node None) w
 
 -- two values of one structure in which they do; or none twice
 pub data HeldSame (program : Program) : Option Held → Option Held → Type 0 where
@@ -55,16 +55,16 @@ module _ {program : Program} where
 
   -- ---- the numbers in which paths end
 
-  end-read : (e : Expr) (base : Base) (begin : TypeId) (names : List (List ℕ)) → BeginsAt program e base begin → Contains (paths_of e) (base, names) → EndRead program begin begin names
-  end-read e base begin names begins c = λ end i s f has get number ends. inr (record { s = s; f = f; has = has; get = get; number = number; e = e; base = base; names = names; begins = begins; there = c; ends = ends })
+  end-read : (e : Expr) (base : Base) (begin : TypeId) (names : List (List ℕ)) → BeginsAt program e base begin → Contains (paths_of e) (base, names) → EndRead program begin (λ along. along) begin names
+  end-read e base begin names begins c = λ end i s f has get number ends. inr (record { s = s; f = f; has = has; get = get; number = number; e = e; base = base; names = names; begins = begins; there = c; ends = ends; takes = refl })
 
-  name-read : (e : Expr) (begin : TypeId) (names : List (List ℕ)) → IsExpressionOf program e → Contains (paths_of e) (Outermost, names) → EndRead program begin begin names
+  name-read : (e : Expr) (begin : TypeId) (names : List (List ℕ)) → IsExpressionOf program e → Contains (paths_of e) (Outermost, names) → EndRead program begin (λ along. along) begin names
   name-read e begin names known c = λ end i s f has get number ends. let found = ends-named ends s f has get in
       inl (record { s = s; f = f; has = has; get = get; number = number; read = (e, known, (c.0, (Outermost, names), c.1, c.2, (refl, found.0, found.1))) })
 
   -- ---- what is read
 
-  base-same : {x y : Option Held} → HeldSame program x y → (steps : List (List ℕ)) → ((held : Held) → x ≡ Some held → LeadsToNumber program held.node steps) → ((held : Held) → x ≡ Some held → EndRead program held.node held.node steps)
+  base-same : {x y : Option Held} → HeldSame program x y → (steps : List (List ℕ)) → ((held : Held) → x ≡ Some held → LeadsToNumber program held.node steps) → ((held : Held) → x ≡ Some held → EndRead program held.node (λ along. along) held.node steps)
       → (x then λ held. read_path program steps (ty.Node held.node None) held.value) ≡ (y then λ held. read_path program steps (ty.Node held.node None) held.value)
   base-same HeldSame.neither steps leads read = refl
   base-same (HeldSame.both {node} {v} {w} r) steps leads read = r steps (leads (record { node = node; value = v }) refl) (read (record { node = node; value = v }) refl)

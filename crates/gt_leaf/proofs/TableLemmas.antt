@@ -1,5 +1,5 @@
 -- The places that are collected are the table of the program, and what the table says of a holder.
-use Rattle.std.proofs.Common.{◌≡◌, ℕ, Bool, true, false, not, cond, ◌&&◌, IsTrue, List, [], ◌∷◌, refl, ap, sym, subst, ◌∙◌, Option, Some, None, inl, inr, if◌then◌else◌}
+use Rattle.std.proofs.Common.{◌≡◌, ℕ, Bool, true, false, not, ◌||◌, ◌&&◌, IsTrue, List, [], ◌∷◌, refl, ap, sym, subst, ◌∙◌, Option, Some, None, inl, inr, if◌then◌else◌}
 use Rattle.std.specs.Prelude.{◌↔◌, Contains, nat_eq, slice_get, position, is_some}
 use Rattle.std.specs.List.{list_any}
 use Rattle.std.specs.Str.{bytes_eq}
@@ -22,13 +22,14 @@ use Rattle.gt_leaf.specs.declared.reads.Reads.{Reads}
 use Rattle.gt_leaf.specs.Collecting.{ends_of}
 use Rattle.gt_leaf.specs.Seeking.{Names, same_place, same_reading, with_field, with_fields, with_named, with_named_fields, with_all_named, names_of_all, seek_all}
 use Rattle.gt_leaf.specs.Tables.{field_place, reading, IsTableOf}
-use Rattle.gt_leaf.specs.Around.{any_around}
-use Rattle.gt_leaf.specs.Unread.{root_at, part_at, structures_from, structures_on, structures_in_statics, ReadsFrom, ReadsByName, MayStandAround, IsReadField, IsReadRoot, IsUnread}
+use Rattle.gt_leaf.specs.Around.{from_there, any_around}
+use Rattle.gt_leaf.specs.Alike.{both-true, same-field, same-read}
+use Rattle.gt_leaf.specs.Unread.{Enclosing, route, root_at, part_at, structures_from, structures_on, structures_in_statics, ReadsFrom, ReadsByName, MayStandAround, IsReadField, IsReadRoot, IsUnread}
 use Rattle.gt_leaf.proofs.Adding.{Adds, adds-none, adds-same, adds-each}
 use Rattle.gt_leaf.proofs.EndLemmas.{names-read, roots-read}
 use Rattle.gt_leaf.proofs.Members.{nothing, any-found, found-there, there-found}
-use Rattle.gt_leaf.proofs.PathWalks.{ends-there, ends-back}
-use Rattle.gt_leaf.proofs.SeekLemmas.{both-true, same-field, same-read, adds-field, adds-fields, Seen, adds-seen}
+use Rattle.gt_leaf.proofs.PathWalks.{ends-there, ends-back, routes-same}
+use Rattle.gt_leaf.proofs.SeekLemmas.{adds-field, adds-fields, Seen, adds-seen}
 
 -- ---- numbers of the names that are read
 
@@ -109,45 +110,62 @@ names-there program node i = (there, back)
 
 -- ---- numbers that are read from structures
 
-from-at : (program : Program) (begin outer node other : TypeId) (i j : ℕ) → outer.0 ≡ begin.0 → field_place node.0 i ≡ field_place other.0 j → ReadsFrom program outer other j → ReadsFrom program begin node i
-from-at program begin outer node other i j h e read =
+from-at : (program : Program) (begin outer node other : TypeId) (along : List ℕ) (i j : ℕ) → outer.0 ≡ begin.0 → field_place node.0 i ≡ field_place other.0 j → ReadsFrom program outer along other j → ReadsFrom program begin along node i
+from-at program begin outer node other along i j h e read =
     let one : outer ≡ begin = one-number outer.0 begin.0 h in
     let same : other ≡ node = ap (λ (y : FieldPlace). numbered y.structure) (sym e) in
     let place : j ≡ i = ap (λ (y : FieldPlace). y.place) (sym e) in
-    subst (λ b. ReadsFrom program b node i) one (subst (λ n. ReadsFrom program outer n i) same (subst (λ k. ReadsFrom program outer other k) place read))
+    subst (λ b. ReadsFrom program b along node i) one (subst (λ n. ReadsFrom program outer along n i) same (subst (λ k. ReadsFrom program outer along other k) place read))
 
-readings-there : (program : Program) (begin node : TypeId) (i : ℕ) → Contains (all_readings program) (reading begin.0 (field_place node.0 i)) ↔ ReadsFrom program begin node i
-readings-there program begin node i = (there, back)
+readings-there : (program : Program) (begin node : TypeId) (along : List ℕ) (i : ℕ) → Contains (all_readings program) (reading begin.0 (field_place node.0 i) along) ↔ ReadsFrom program begin along node i
+readings-there program begin node along i = (there, back)
   where
-    there : Contains (all_readings program) (reading begin.0 (field_place node.0 i)) → ReadsFrom program begin node i
+    there : Contains (all_readings program) (reading begin.0 (field_place node.0 i) along) → ReadsFrom program begin along node i
     there c =
-        let seen = (sought-at program (reading begin.0 (field_place node.0 i))).0 c in
+        let seen = (sought-at program (reading begin.0 (field_place node.0 i) along)).0 c in
         let found = ends-there program seen.names seen.begin (field_place node.0 i) seen.end in
-        from-at program begin seen.begin node found.node i found.i seen.from found.is
-        (record { s = found.s; f = found.f; has = found.has; get = found.get; number = found.number; e = seen.e; base = seen.base; names = seen.names; begins = seen.begins; there = seen.there; ends = found.ends })
+        from-at program begin seen.begin node found.node along i found.i seen.from found.is
+        (record {
+          s = found.s;
+          f = found.f;
+          has = found.has;
+          get = found.get;
+          number = found.number;
+          e = seen.e;
+          base = seen.base;
+          names = seen.names;
+          begins = seen.begins;
+          there = seen.there;
+          ends = found.ends;
+          takes = sym (routes-same program seen.begin seen.names) ∙ seen.along;
+        })
 
-    back : ReadsFrom program begin node i → Contains (all_readings program) (reading begin.0 (field_place node.0 i))
+    back : ReadsFrom program begin along node i → Contains (all_readings program) (reading begin.0 (field_place node.0 i) along)
     back r =
-        (sought-at program (reading begin.0 (field_place node.0 i))).1
-        (record { e = r.e; base = r.base; begin = begin; begins = r.begins; names = r.names; there = r.there; end = ends-back program r.ends r.s r.f r.has r.get r.number; from = refl })
+        (sought-at program (reading begin.0 (field_place node.0 i) along)).1
+        (record { e = r.e; base = r.base; begin = begin; begins = r.begins; names = r.names; there = r.there; end = ends-back program r.ends r.s r.f r.has r.get r.number; from = refl; along = routes-same program begin r.names ∙ r.takes })
 
-ended-there : (program : Program) (node : TypeId) (i : ℕ) → Contains (with_fields (all_readings program) []) (field_place node.0 i) ↔ ((begin : TypeId) × ReadsFrom program begin node i)
+-- some path leads to the number from some structure
+abbrev IsEnded : Program → TypeId → ℕ → Type 0
+IsEnded program node i = (begin : TypeId) × (along : List ℕ) × ReadsFrom program begin along node i
+
+ended-there : (program : Program) (node : TypeId) (i : ℕ) → Contains (with_fields (all_readings program) []) (field_place node.0 i) ↔ IsEnded program node i
 ended-there program node i = (there, back)
   where
-    there : Contains (with_fields (all_readings program) []) (field_place node.0 i) → (begin : TypeId) × ReadsFrom program begin node i
+    there : Contains (with_fields (all_readings program) []) (field_place node.0 i) → IsEnded program node i
     there c =
         let all = adds-fields (all_readings program) in
         elim ((all.each [] (field_place node.0 i)).0 c) [
           | inl none ↦ absurd (nothing (field_place node.0 i) none)
           | inr (r, d, is) ↦
-              let same : r ≡ reading r.from (field_place node.0 i) = ap (reading r.from) is in
-              (numbered r.from, (readings-there program (numbered r.from) node i).0 (subst (Contains (all_readings program)) same d))
+              let same : r ≡ reading r.from (field_place node.0 i) r.along = ap (λ f. reading r.from f r.along) is in
+              (numbered r.from, r.along, (readings-there program (numbered r.from) node r.along i).0 (subst (Contains (all_readings program)) same d))
         ]
 
-    back : (begin : TypeId) × ReadsFrom program begin node i → Contains (with_fields (all_readings program) []) (field_place node.0 i)
-    back (begin, read) =
+    back : IsEnded program node i → Contains (with_fields (all_readings program) []) (field_place node.0 i)
+    back (begin, along, read) =
         let all = adds-fields (all_readings program) in
-        (all.each [] (field_place node.0 i)).1 (inr (reading begin.0 (field_place node.0 i), (readings-there program begin node i).1 read, refl))
+        (all.each [] (field_place node.0 i)).1 (inr (reading begin.0 (field_place node.0 i) along, (readings-there program begin node along i).1 read, refl))
 
 -- ---- the table
 
@@ -172,8 +190,8 @@ table-of program p index ends structures named ended no_named no_ended from no_f
     let roots : table.roots ≡ (ends_of program).roots = ap (λ (t : Reads). t.roots) is ∙ ap (λ (x : Ends). x.roots) same_ends in
     record {
       named = λ node i. subst (λ places. Contains places (field_place node.0 i) ↔ ReadsByName program node i) (sym names) (names-there program node i);
-      ended = λ node i. subst (λ places. Contains places (field_place node.0 i) ↔ ((begin : TypeId) × ReadsFrom program begin node i)) (sym ends_at) (ended-there program node i);
-      from = λ begin node i. subst (λ places. Contains places (reading begin.0 (field_place node.0 i)) ↔ ReadsFrom program begin node i) (sym reads_from) (readings-there program begin node i);
+      ended = λ node i. subst (λ places. Contains places (field_place node.0 i) ↔ IsEnded program node i) (sym ends_at) (ended-there program node i);
+      from = λ begin node along i. subst (λ places. Contains places (reading begin.0 (field_place node.0 i) along) ↔ ReadsFrom program begin along node i) (sym reads_from) (readings-there program begin node along i);
       roots = λ i. subst (λ places. Contains places i ↔ IsReadRoot program i) (sym roots) (roots-read program i);
     }
 
@@ -191,7 +209,10 @@ same-self : (x : FieldPlace) → same_place x x ≡ true
 same-self x = ap (λ b. b && nat_eq x.place x.place) ((Decides-eqb x.structure x.structure).1 refl) ∙ (Decides-eqb x.place x.place).1 refl
 
 same-reading-self : (x : Reading) → same_reading x x ≡ true
-same-reading-self x = ap (λ b. b && same_place x.field x.field) ((Decides-eqb x.from x.from).1 refl) ∙ same-self x.field
+same-reading-self x =
+    ap (λ b. b && (same_place x.field x.field && bytes_eq x.along x.along)) ((Decides-eqb x.from x.from).1 refl)
+    ∙ ap (λ b. b && bytes_eq x.along x.along) (same-self x.field)
+    ∙ (bytes_eq-Decides x.along x.along).1 refl
 
 -- a place is found in a list where the list contains it
 in-places : (x : FieldPlace) (places : List FieldPlace) → (list_any (same_place x) places ≡ true) ↔ Contains places x
@@ -200,7 +221,7 @@ in-places x places = (λ e. found-there (same_place x) places x (λ z h. sym (sa
 in-readings : (x : Reading) (readings : List Reading) → (list_any (same_reading x) readings ≡ true) ↔ Contains readings x
 in-readings x readings = (λ e. found-there (same_reading x) readings x (λ z h. sym (same-read x z h)) e, λ c. there-found (same_reading x) readings x (same-reading-self x) c)
 
-root-unread : (program : Program) (table : Reads) (around : List TypeId) (active : Bool) (place : ℕ) → IsTableOf program table → IsTrue (not (list_any (nat_eq place) table.roots)) ↔ IsUnread program around active (lies_in.Root place)
+root-unread : (program : Program) (table : Reads) (around : List Enclosing) (active : Bool) (place : ℕ) → IsTableOf program table → IsTrue (not (list_any (nat_eq place) table.roots)) ↔ IsUnread program around active (lies_in.Root place)
 root-unread program table around active place t = (there, back)
   where
     there : IsTrue (not (list_any (nat_eq place) table.roots)) → IsUnread program around active (lies_in.Root place)
@@ -212,73 +233,80 @@ root-unread program table around active place t = (there, back)
         (λ e. unread ((t.roots place).0 (found-there (nat_eq place) table.roots place (λ z h. sym ((Decides-eqb place z).0 h)) e)))
 
 -- what the table says of a field inside these structures
-abbrev pub read_there : Reads → List TypeId → Bool → FieldPlace → Bool
-read_there table around active field =
-    cond (list_any (same_place field) table.named) true
-    (cond active (list_any (λ (node : TypeId). list_any (same_reading (reading node.0 field)) table.from) around) (list_any (same_place field) table.ended))
+abbrev pub read_there : Reads → List Enclosing → Bool → FieldPlace → Bool
+read_there table around active field = list_any (same_place field) table.named || (list_any (same_place field) table.ended && (not active || list_any (from_there table field) around))
 
 module _ (program : Program) (table : Reads) (t : IsTableOf program table) (node : TypeId) (i : ℕ) where
   abbrev field : FieldPlace
   field = field_place node.0 i
 
-  abbrev from_there : TypeId → Bool
-  from_there begin = list_any (same_reading (reading begin.0 field)) table.from
+  -- some structure around it reads the field along the route to it
+  abbrev IsReadInside : List Enclosing → Bool → Type 0
+  IsReadInside around active = (outer : Enclosing) × MayStandAround around active outer × ReadsFrom program outer.0 outer.1 node i
 
-  inside : (around : List TypeId) (active : Bool) → (cond active (list_any from_there around) (list_any (same_place field) table.ended) ≡ true) ↔ ((begin : TypeId) × MayStandAround around active begin × ReadsFrom program begin node i)
+  -- what is read from some structure is found
+  ended-found : (begin : TypeId) (along : List ℕ) → ReadsFrom program begin along node i → list_any (same_place field) table.ended ≡ true
+  ended-found begin along read = (in-places field table.ended).1 ((t.ended node i).1 (begin, along, read))
+
+  inside : (around : List Enclosing) (active : Bool) → ((list_any (same_place field) table.ended && (not active || list_any (from_there table field) around)) ≡ true) ↔ IsReadInside around active
   inside around true = (there, back)
     where
-      there : list_any from_there around ≡ true → (begin : TypeId) × MayStandAround around true begin × ReadsFrom program begin node i
+      there : (list_any (same_place field) table.ended && list_any (from_there table field) around) ≡ true → IsReadInside around true
       there e =
-          let found = any-found from_there around e in
-          (found.0, inr found.1, (t.from found.0 node i).0 ((in-readings (reading found.0.0 field) table.from).0 found.2))
+          let found = any-found (from_there table field) around (both-true (list_any (same_place field) table.ended) (list_any (from_there table field) around) e).1 in
+          (found.0, inr found.1, (t.from found.0.0 node found.0.1 i).0 ((in-readings (reading found.0.0.0 field found.0.1) table.from).0 found.2))
 
-      back : (begin : TypeId) × MayStandAround around true begin × ReadsFrom program begin node i → list_any from_there around ≡ true
-      back (begin, stands, read) = elim stands [
+      back : IsReadInside around true → (list_any (same_place field) table.ended && list_any (from_there table field) around) ≡ true
+      back (outer, stands, read) = elim stands [
         | inl e ↦ absurd (cc)
-        | inr c ↦ there-found from_there around begin ((in-readings (reading begin.0 field) table.from).1 ((t.from begin node i).1 read)) c
+        | inr c ↦
+            ap (λ b. b && list_any (from_there table field) around) (ended-found outer.0 outer.1 read)
+            ∙ there-found (from_there table field) around outer ((in-readings (reading outer.0.0 field outer.1) table.from).1 ((t.from outer.0 node outer.1 i).1 read)) c
       ]
-  inside around false = (λ e. let found = (t.ended node i).0 ((in-places field table.ended).0 e) in (found.0, inl refl, found.1), λ (begin, stands, read). (in-places field table.ended).1 ((t.ended node i).1 (begin, read)))
+  inside around false = (there, λ (outer, stands, read). ap (λ b. b && true) (ended-found outer.0 outer.1 read))
+    where
+      there : (list_any (same_place field) table.ended && true) ≡ true → IsReadInside around false
+      there e = let found = (t.ended node i).0 ((in-places field table.ended).0 (both-true (list_any (same_place field) table.ended) true e).0) in ((found.0, found.1), inl refl, found.2)
 
-  either : (around : List TypeId) (active b c : Bool) → (b ≡ true) ↔ ReadsByName program node i → (c ≡ true) ↔ ((begin : TypeId) × MayStandAround around active begin × ReadsFrom program begin node i) → (cond b true c ≡ true) ↔ IsReadField program around active node i
+  either : (around : List Enclosing) (active b c : Bool) → (b ≡ true) ↔ ReadsByName program node i → (c ≡ true) ↔ IsReadInside around active → ((b || c) ≡ true) ↔ IsReadField program around active node i
   either around active true c p q = (λ e. inl (p.0 refl), λ read. refl)
   either around active false c p q = (λ e. inr (q.0 e), λ read. elim read [ inl n ↦ let none = p.1 n in absurd (cc) | inr r ↦ q.1 r ])
 
-  read-iff : (around : List TypeId) (active : Bool) → (read_there table around active field ≡ true) ↔ IsReadField program around active node i
+  read-iff : (around : List Enclosing) (active : Bool) → (read_there table around active field ≡ true) ↔ IsReadField program around active node i
   read-iff around active =
-      either around active (list_any (same_place field) table.named) (cond active (list_any from_there around) (list_any (same_place field) table.ended))
+      either around active (list_any (same_place field) table.named) (list_any (same_place field) table.ended && (not active || list_any (from_there table field) around))
       (λ e. (t.named node i).0 ((in-places field table.named).0 e), λ r. (in-places field table.named).1 ((t.named node i).1 r)) (inside around active)
 
-  pub field-unread : (around : List TypeId) (active : Bool) → IsTrue (not (read_there table around active field)) ↔ IsUnread program around active (lies_in.Field node i)
+  pub field-unread : (around : List Enclosing) (active : Bool) → IsTrue (not (read_there table around active field)) ↔ IsUnread program around active (lies_in.Field node i)
   field-unread around active =
       (λ h read. not-true (read_there table around active field) h ((read-iff around active).1 read), λ unread. true-or-not (read_there table around active field) (λ e. unread ((read-iff around active).0 e)))
 
 -- ---- the answers
 
-answer : (program : Program) (around : List TypeId) (active told b : Bool) (h holder : Holder) → told ≡ b → holder ≡ h → IsTrue (not b) ↔ IsUnread program around active h → IsTrue (not told) ↔ IsUnread program around active holder
+answer : (program : Program) (around : List Enclosing) (active told b : Bool) (h holder : Holder) → told ≡ b → holder ≡ h → IsTrue (not b) ↔ IsUnread program around active h → IsTrue (not told) ↔ IsUnread program around active holder
 answer program around active told b h holder e is said =
     subst (λ x. IsTrue (not x) ↔ IsUnread program around active holder) (sym e) (subst (λ y. IsTrue (not b) ↔ IsUnread program around active y) (sym is) said)
 
-pub root-answer : (program : Program) (table : Reads) (around : List TypeId) (active : Bool) (place : ℕ) (told : Bool) (holder : Holder) → told ≡ list_any (nat_eq place) table.roots → holder ≡ lies_in.Root place → IsTableOf program table
+pub root-answer : (program : Program) (table : Reads) (around : List Enclosing) (active : Bool) (place : ℕ) (told : Bool) (holder : Holder) → told ≡ list_any (nat_eq place) table.roots → holder ≡ lies_in.Root place → IsTableOf program table
     → IsTrue (not told) ↔ IsUnread program around active holder
 root-answer program table around active place told holder e is t =
     answer program around active told (list_any (nat_eq place) table.roots) (lies_in.Root place) holder e is (root-unread program table around active place t)
 
 -- what the code finds from a structure around a leaf is what one of those around it says
-any-there : (test : TypeId → Bool) (program : Program) (around : List TypeId) (type : Option Ty) (path : List ℕ) → any_around test program (list_any test around) type path ≡ list_any test (structures_from program around type path)
+any-there : (test : Enclosing → Bool) (program : Program) (around : List Enclosing) (type : Option Ty) (path : List ℕ) → any_around test program (list_any test around) type path ≡ list_any test (structures_from program around type path)
 any-there test program around None path = refl
 any-there test program around (Some type) [] = refl
-any-there test program around (Some (ty.Node node desc)) (i ∷ path) = any-there test program (node ∷ around) (part_at program (ty.Node node desc) i) path
+any-there test program around (Some (ty.Node node desc)) (i ∷ path) = any-there test program ((node, route program (Some node) (i ∷ path)) ∷ around) (part_at program (ty.Node node desc) i) path
 any-there test program around (Some type) (i ∷ path) = any-there test program [] (part_at program type i) path
 
 pub field-answer : (program : Program) (table : Reads) (type : Option Ty) (path : List ℕ) (active : Bool) (node : TypeId) (place : ℕ) (told : Bool) (holder : Holder)
-    → told ≡ cond (list_any (same_place (field_place node.0 place)) table.named) true
-    (cond active (any_around (λ begin. list_any (same_reading (reading begin.0 (field_place node.0 place))) table.from) program false type path) (list_any (same_place (field_place node.0 place)) table.ended))
+    → told ≡ list_any (same_place (field_place node.0 place)) table.named || (list_any (same_place (field_place node.0 place)) table.ended && (not active || any_around (from_there table (field_place node.0 place)) program false type path))
     → holder ≡ lies_in.Field node place → IsTableOf program table → IsTrue (not told) ↔ IsUnread program (structures_on program type path) active holder
 field-answer program table type path active node place told holder e is t =
     let field = field_place node.0 place in
-    let test : TypeId → Bool = λ begin. list_any (same_reading (reading begin.0 field)) table.from in
     let around = structures_on program type path in
-    let says : told ≡ read_there table around active field = e ∙ ap (λ b. cond (list_any (same_place field) table.named) true (cond active b (list_any (same_place field) table.ended))) (any-there test program [] type path) in
+    let says : told ≡ read_there table around active field = e
+    ∙ ap (λ b. list_any (same_place field) table.named || (list_any (same_place field) table.ended && (not active || b))) (any-there (from_there table field) program [] type path) in
     answer program around active told (read_there table around active field) (lies_in.Field node place) holder says is (field-unread program table t node place around active)
 
 -- so in the static record, from a root on

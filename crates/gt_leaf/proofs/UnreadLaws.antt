@@ -2,7 +2,6 @@
 use Rattle.std.proofs.Common.{◌≡◌, ℕ, zero, suc, true, List, [], refl, ap, sym, subst, ◌∙◌, inr}
 use Rattle.std.specs.Prelude.{All, Contains}
 use Rattle.std.proofs.lemmas.List.Elements.{All-map, All-weaker, All-contains_itself}
-use Rattle.gt_types.specs.declared.types.TypeId.{TypeId}
 use Rattle.gt_types.specs.declared.types.Ty.{Ty}
 use Rattle.gt_types.specs.declared.program.Root.{Root}
 use Rattle.gt_types.specs.declared.program.Program.{Program}
@@ -16,7 +15,7 @@ use Rattle.gt_tree.specs.Fits.{StaticsFit, root_types}
 use Rattle.gt_tree.proofs.PathParts.{get-map}
 use Rattle.gt_value.specs.declared.places.Holder.{Holder}
 use Rattle.gt_value.specs.declared.places.Holder.TheVariants as lies_in
-use Rattle.gt_leaf.specs.Unread.{structures_in_statics, IsUnread, UnreadElementsFit, UnreadStaticsFit}
+use Rattle.gt_leaf.specs.Unread.{Enclosing, structures_in_statics, IsUnread, UnreadElementsFit, UnreadStaticsFit}
 use Rattle.gt_leaf.proofs.Arounds.{static-covers}
 use Rattle.gt_leaf.proofs.Swaps.{OneSwaps, put-swaps}
 use Rattle.gt_leaf.proofs.SwapReads.{number-swap}
@@ -31,7 +30,7 @@ unread-elements program planes settled blocks statics kind capacity value leaf p
 
 -- ---- the static record
 
-pub root-swap : {program : Program} {around : List TypeId} {at : ℕ → Holder} {types : List Ty} {olds news : Trees} → OneSwaps program around at types olds news → (i : ℕ) → ¬ IsUnread program around true (at i) → (tree_at olds i then number_at) ≡ (tree_at news i then number_at)
+pub root-swap : {program : Program} {around : List Enclosing} {at : ℕ → Holder} {types : List Ty} {k : ℕ} {path : List ℕ} {olds news : Trees} → OneSwaps program around at types k path olds news → (i : ℕ) → ¬ IsUnread program around true (at i) → (tree_at olds i then number_at) ≡ (tree_at news i then number_at)
 root-swap (OneSwaps.at_first swap) zero read = number-swap swap read
 root-swap (OneSwaps.at_first swap) (suc i) read = refl
 root-swap (OneSwaps.at_later one) zero read = refl

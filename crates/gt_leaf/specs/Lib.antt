@@ -2,6 +2,7 @@ pub mod Unread
 pub mod Tables
 pub mod Collecting
 pub mod Seeking
+pub mod Alike
 pub mod HeldTypes
 pub mod Writing
 pub mod Verdicts

@@ -24,6 +24,7 @@ use Rattle.gt_leaf.specs.declared.readings.Reading.{Reading}
 use Rattle.gt_leaf.specs.declared.seeking.Start.{Start}
 use Rattle.gt_leaf.specs.Collecting.{with_place}
 use Rattle.gt_leaf.specs.Tables.{field_place, reading}
+use Rattle.gt_leaf.specs.Unread.{is_union_in, onward}
 
 -- what is made step by step of the items of a list, each with its place
 abbrev pub with_each : {X S : Type 0} → (ℕ → X → S → S) → ℕ → List X → S → S
@@ -56,16 +57,16 @@ with_field x places = if list_any (same_place x) places then places else places 
 
 -- two readings are one
 abbrev pub same_reading : Reading → Reading → Bool
-same_reading a b = (a.from == b.from) && same_place a.field b.field
+same_reading a b = (a.from == b.from) && (same_place a.field b.field && bytes_eq a.along b.along)
 
 -- distinct readings with one more, where it is new
 abbrev pub with_reading : Reading → List Reading → List Reading
 with_reading x readings = if list_any (same_reading x) readings then readings else readings ++ x ∷ []
 
--- with that of a number from a structure
-abbrev pub with_end : ℕ → Option FieldPlace → List Reading → List Reading
-with_end begin (Some x) readings = with_reading (reading begin x) readings
-with_end begin None readings = readings
+-- with that of a number from a structure along a route
+abbrev pub with_end : ℕ → List ℕ → Option FieldPlace → List Reading → List Reading
+with_end begin along (Some x) readings = with_reading (reading begin x along) readings
+with_end begin along None readings = readings
 
 -- with the places of the fields of readings
 abbrev pub with_fields : List Reading → List FieldPlace → List FieldPlace
@@ -102,15 +103,28 @@ number_there node i type = if is_number type then Some (field_place node i) else
 abbrev pub pick_number : Program → List Names → ℕ → List ℕ → Option FieldPlace
 pick_number program index node name = pick index node name then λ i. field_at program node i then λ f. number_there node i f.ty
 
+-- the structure by value at a place of a structure
+abbrev pub inner_of : Program → ℕ → ℕ → Option TypeId
+inner_of program node i = field_at program node i then λ f. itself f.ty
+
 -- the structure by value that a name picks
 abbrev pub pick_structure : Program → List Names → ℕ → List ℕ → Option TypeId
-pick_structure program index node name = pick index node name then λ i. field_at program node i then λ f. itself f.ty
+pick_structure program index node name = pick index node name then λ i. inner_of program node i
 
 -- the number in which a path of names ends
 abbrev pub end_of : Program → List Names → ℕ → List (List ℕ) → Option FieldPlace
 end_of program index node [] = None
 end_of program index node (name ∷ []) = pick_number program index node name
 end_of program index node (name ∷ next ∷ names) = pick_structure program index node name then λ inner. end_of program index inner.0 (next ∷ names)
+
+abbrev pub inside : Option TypeId → (TypeId → List ℕ) → List ℕ
+inside (Some inner) rest = rest inner
+inside None rest = []
+
+-- the route of a path of names
+abbrev pub route_by : Program → List Names → ℕ → List (List ℕ) → List ℕ
+route_by program index node [] = []
+route_by program index node (name ∷ names) = if is_union_in (slice_get program.structures node) then [] else onward (pick index node name) (λ i. inside (inner_of program node i) (λ inner. route_by program index inner.0 names))
 
 -- ---- the ends of the paths of expressions
 
@@ -126,7 +140,7 @@ starting base node = record { base = base; structure = node }
 
 abbrev pub seek_step : Program → List Names → Start → Expr-F (List Reading → List Reading) → List Reading → List Reading
 seek_step program index at (Int n) old = old
-seek_step program index at (Path base steps) old = if same_base base at.base then with_end at.structure (end_of program index at.structure steps) old else old
+seek_step program index at (Path base steps) old = if same_base base at.base then with_end at.structure (route_by program index at.structure steps) (end_of program index at.structure steps) old else old
 seek_step program index at (Root i) old = old
 seek_step program index at (One op a) old = a old
 seek_step program index at (Two op a b) old = b (a old)

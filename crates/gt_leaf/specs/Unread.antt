@@ -1,5 +1,5 @@
 -- Which leaves no expression reads, and what follows for writing them.
-use Rattle.std.specs.Prelude.{◌≡◌, ◌⊎◌, ℕ, Bool, ◌∷◌, List, [], ◌++◌, Option, Some, None, true, false, IsTrue, Contains, option_to_list, slice_get, Any}
+use Rattle.std.specs.Prelude.{◌≡◌, ◌⊎◌, ℕ, Bool, ◌∷◌, List, [], ◌++◌, Option, Some, None, true, false, IsTrue, Contains, option_to_list, slice_get, Any, if◌then◌else◌}
 use Rattle.std.specs.List.{position_from}
 use Rattle.std.specs.Str.{bytes_eq}
 use Rattle.gt_types.specs.declared.expressions.Base.{Base}
@@ -18,7 +18,7 @@ use Rattle.gt_types.specs.declared.program.Field.{Field}
 use Rattle.gt_types.specs.declared.program.Root.{Root as RootOf}
 use Rattle.gt_types.specs.declared.program.Program.{Program}
 use Rattle.gt_types.specs.Shapes.{innermost, is_number, count_of}
-use Rattle.gt_types.specs.Contains.{HasStructure, ContainsStructure}
+use Rattle.gt_types.specs.Contains.{HasStructure, ContainsStructure, itself}
 use Rattle.gt_types.specs.Paths.{Way, paths_of, roots_of, own_expressions}
 use Rattle.gt_layout.specs.declared.planes.Plane.{Plane}
 use Rattle.gt_layout.specs.declared.planes.Spot.{Spot}
@@ -80,8 +80,44 @@ pub data EndsAt (program : Program) : TypeId → List (List ℕ) → TypeId → 
   at_next : {node next end : TypeId} {name : List ℕ} {names : List (List ℕ)} {i j : ℕ} {f : Field} {desc : Option Expr} → Picks program node name j f → f.ty ≡ ty.Node next desc
       → EndsAt program next names end i → EndsAt program node (name ∷ names) end i
 
--- some path from `%h` or `%1` that begins at a structure ends in the number at a place of a structure
-pub record ReadsFrom (program : Program) (begin node : TypeId) (i : ℕ) : Type 0 where
+-- the type of the field at a place of a structure
+abbrev pub field_at : Program → TypeId → ℕ → Option Ty
+field_at program node i = slice_get program.structures node.0 then λ s. slice_get s.fields i then λ f. Some f.ty
+
+-- the structure by value at a place of a structure
+abbrev pub inner_at : Program → TypeId → ℕ → Option TypeId
+inner_at program node i = field_at program node i then itself
+
+abbrev pub is_union_in : Option Structure → Bool
+is_union_in (Some s) = s.is_union
+is_union_in None = false
+
+-- a structure is a union
+abbrev pub is_union : Program → TypeId → Bool
+is_union program node = is_union_in (slice_get program.structures node.0)
+
+-- the place of the first field of a name in a structure
+abbrev pub place_of : Program → TypeId → List ℕ → Option ℕ
+place_of program node name = slice_get program.structures node.0 then λ s. position_from (λ g. bytes_eq g.name name) 0 s.fields
+
+-- a place, where there is one, and those that follow it
+abbrev pub onward : Option ℕ → (ℕ → List ℕ) → List ℕ
+onward (Some i) rest = i ∷ rest i
+onward None rest = []
+
+-- The route of a path of names, from a structure on: the places of the fields that the names pick, as far as the first union. What a
+-- path reads behind a union may lie at other places in each of its members.
+abbrev pub route_of : Program → Option TypeId → List (List ℕ) → List ℕ
+route_of program (Some node) (name ∷ names) = if is_union program node then [] else onward (place_of program node name) (λ i. route_of program (inner_at program node i) names)
+route_of program begin names = []
+
+-- the same of a path of places
+abbrev pub route : Program → Option TypeId → List ℕ → List ℕ
+route program (Some node) (i ∷ path) = if is_union program node then [] else i ∷ route program (inner_at program node i) path
+route program begin path = []
+
+-- some path from `%h` or `%1` that begins at a structure takes this route, and ends in the number at a place of a structure
+pub record ReadsFrom (program : Program) (begin : TypeId) (along : List ℕ) (node : TypeId) (i : ℕ) : Type 0 where
   pub s : Structure
   pub f : Field
   pub has : HasStructure program node s
@@ -93,6 +129,7 @@ pub record ReadsFrom (program : Program) (begin node : TypeId) (i : ℕ) : Type 
   pub begins : BeginsAt program e base begin
   pub there : Contains (paths_of e) (base, names)
   pub ends : EndsAt program begin names node i
+  pub takes : route_of program (Some begin) names ≡ along
 
 -- a path from `%0` ends in a name
 abbrev pub EndsIn : List ℕ → Way → Type 0
@@ -119,10 +156,6 @@ elem_of (part.Arr n elem) = Some elem
 elem_of (part.Tail length elem) = Some elem
 elem_of type = None
 
--- the type of the field at a place of a structure
-abbrev pub field_at : Program → TypeId → ℕ → Option Ty
-field_at program node i = slice_get program.structures node.0 then λ s. slice_get s.fields i then λ f. Some f.ty
-
 -- the type of the root at a place
 abbrev pub root_at : Program → ℕ → Option Ty
 root_at program i = slice_get program.roots i then λ r. Some r.ty
@@ -132,36 +165,41 @@ abbrev pub part_at : Program → Ty → ℕ → Option Ty
 part_at program (ty.Node node desc) i = field_at program node i
 part_at program type i = elem_of (out-Ty type)
 
--- Those around a part of a value of this type, where these are around the value: with the structure itself, where it is one. An array has none
--- around its elements, since no path of an expression leads into an array.
-abbrev pub with_itself : List TypeId → Ty → List TypeId
-with_itself around (ty.Node node desc) = node ∷ around
-with_itself around type = []
+-- a structure around a leaf, and the route of the rest of the path from it on
+abbrev pub Enclosing : Type 0
+Enclosing = TypeId × List ℕ
+
+-- Those around a part of a value of this type, where these are around the value, and this path leads on: with the structure itself,
+-- where it is one. An array has none around its elements, since no path of an expression leads into an array.
+abbrev pub with_itself : Program → List Enclosing → Ty → List ℕ → List Enclosing
+with_itself program around (ty.Node node desc) path = (node, route program (Some node) path) ∷ around
+with_itself program around type path = []
 
 -- the structures around the part at a path, where these are around the value and each union on the way has an active member
-abbrev pub structures_from : Program → List TypeId → Option Ty → List ℕ → List TypeId
-structures_from program around (Some type) (i ∷ path) = structures_from program (with_itself around type) (part_at program type i) path
+abbrev pub structures_from : Program → List Enclosing → Option Ty → List ℕ → List Enclosing
+structures_from program around (Some type) (i ∷ path) = structures_from program (with_itself program around type (i ∷ path)) (part_at program type i) path
 structures_from program around type path = around
 
 -- so where none is around the value: those from the innermost array on the way inwards, from the inside out
-abbrev pub structures_on : Program → Option Ty → List ℕ → List TypeId
+abbrev pub structures_on : Program → Option Ty → List ℕ → List Enclosing
 structures_on program type path = structures_from program [] type path
 
 -- so in the static record, of which the first place of a path is that of a root
-abbrev pub structures_in_statics : Program → List ℕ → List TypeId
+abbrev pub structures_in_statics : Program → List ℕ → List Enclosing
 structures_in_statics program [] = []
 structures_in_statics program (i ∷ path) = structures_on program (root_at program i) path
 
--- A structure may stand around a leaf: it is one of those around it, or some union around it has no active member, which hides what is
--- inside it.
-abbrev pub MayStandAround : List TypeId → Bool → TypeId → Type 0
-MayStandAround around active node = (active ≡ false) ⊎ Contains around node
+-- A structure may stand around a leaf, with this route to it: it is one of those around it, or some union around it has no active
+-- member, which hides what is inside it.
+abbrev pub MayStandAround : List Enclosing → Bool → Enclosing → Type 0
+MayStandAround around active outer = (active ≡ false) ⊎ Contains around outer
 
 -- ---- what is read
 
--- Expressions read the number at a place of a structure, inside these: by its name from `%0`, or from a structure around it.
-abbrev pub IsReadField : Program → List TypeId → Bool → TypeId → ℕ → Type 0
-IsReadField program around active node i = ReadsByName program node i ⊎ ((begin : TypeId) × MayStandAround around active begin × ReadsFrom program begin node i)
+-- Expressions read the number at a place of a structure, inside these: by its name from `%0`, or from a structure around it, along the
+-- route from that one to it.
+abbrev pub IsReadField : Program → List Enclosing → Bool → TypeId → ℕ → Type 0
+IsReadField program around active node i = ReadsByName program node i ⊎ ((outer : Enclosing) × MayStandAround around active outer × ReadsFrom program outer.0 outer.1 node i)
 
 -- some expression of the program names this root
 abbrev pub IsReadRoot : Program → ℕ → Type 0
@@ -169,7 +207,7 @@ IsReadRoot program i = (e : Expr) × IsExpressionOf program e × Contains (roots
 
 -- No expression reads a leaf that lies in this, inside these structures. What is no number is never read. An element of a block lies in
 -- neither a field nor a root.
-abbrev pub IsUnread : Program → List TypeId → Bool → Holder → Type 0
+abbrev pub IsUnread : Program → List Enclosing → Bool → Holder → Type 0
 IsUnread program around active lies_in.Element = Unit {0}
 IsUnread program around active (lies_in.Root i) = ¬ IsReadRoot program i
 IsUnread program around active (lies_in.Field node i) = ¬ IsReadField program around active node i

@@ -1,8 +1,10 @@
 // The fields of structures by their names.
-ghost use Rattle.gt_leaf.specs.Seeking.{names_of, names_of_all, pick, field_at, pick_number, pick_structure, end_of};
-ghost use Rattle.std.specs.Prelude.{◌≡◌, IfOk, option_copied};
+ghost use Rattle.gt_leaf.specs.Seeking.{names_of, names_of_all, pick, field_at, pick_number, pick_structure, end_of, inner_of, route_by};
+ghost use Rattle.gt_leaf.specs.Unread.{is_union_in};
+ghost use Rattle.std.specs.Prelude.{◌≡◌, ◌++◌, IfOk, OnOk, option_copied, slice_get};
 
 use crate::fields::FieldPlace;
+use crate::routes::Route;
 use crate::types::is_number;
 use gt_names::Table;
 use gt_types::{Field, List, Program, Structure, Ty, TypeId, Word};
@@ -32,6 +34,7 @@ fn names_of_all(alloc: Global, structures: &[Structure]) -> Result<List<Table<us
 /// A program, and the names of the fields of each of its structures.
 #[derive(Drop)]
 pub struct Index<'a> {
+    alloc: Global,
     pub program: &'a Program,
     pub names: List<Table<usize>>,
 }
@@ -43,7 +46,11 @@ impl<'a> Index<'a> {
         ensures names { IfOk result (λ made. made.names ≡ names_of_all program.now.structures) }
     {
         let names = names_of_all(alloc, program.structures.as_slice())?;
-        Ok(Index { program, names })
+        Ok(Index {
+            alloc,
+            program,
+            names,
+        })
     }
 
     // The place of the field that a name picks in a structure.
@@ -73,16 +80,23 @@ impl<'a> Index<'a> {
         }
     }
 
-    // The structure by value that a name picks in a structure.
-    fn pick_structure(&self, structure: usize, name: &Word) -> Option<TypeId>
-        ensures { result ≡ pick_structure self.now.program.now self.now.names structure name.now }
+    // The structure by value at a place of a structure.
+    fn inner_of(&self, structure: usize, place: usize) -> Option<TypeId>
+        ensures { result ≡ inner_of self.now.program.now structure place }
     {
-        let place = self.pick(structure, name)?;
         let field = self.field_at(structure, place)?;
         match field.ty {
             Ty::Node { id, .. } => Some(id),
             _ => None,
         }
+    }
+
+    // The structure by value that a name picks in a structure.
+    fn pick_structure(&self, structure: usize, name: &Word) -> Option<TypeId>
+        ensures { result ≡ pick_structure self.now.program.now self.now.names structure name.now }
+    {
+        let place = self.pick(structure, name)?;
+        self.inner_of(structure, place)
     }
 
     /// The number in which a path of names ends, from a structure on. It takes no memory, and its time grows with the path alone.
@@ -96,6 +110,50 @@ impl<'a> Index<'a> {
                 let inner = self.pick_structure(structure, name)?;
                 self.end_of(inner.0 as usize, rest)
             }
+        }
+    }
+
+    // Whether the structure at a place is a union.
+    fn is_union(&self, structure: usize) -> bool
+        ensures { result ≡ is_union_in (slice_get self.now.program.now.structures structure) }
+    {
+        match self.program.structures.get(structure) {
+            Some(s) => s.is_union,
+            None => false,
+        }
+    }
+
+    /// The route of a path of names, from a structure on. Its only error is out of memory.
+    pub fn route_of(&self, structure: usize, names: &[Word]) -> Result<Route, AllocError>
+        ensures route { IfOk result (λ made. made ≡ route_by self.now.program.now self.now.names structure names.now) }
+    {
+        let mut route = Route::new(self.alloc);
+        self.add_route(&mut route, structure, names)?;
+        Ok(route)
+    }
+
+    // Adds the route of a path of names to the way to a structure.
+    fn add_route(
+        &self,
+        route: &mut Route,
+        structure: usize,
+        names: &[Word],
+    ) -> Result<(), AllocError>
+        ensures added { OnOk result (route.new ≡ route.old ++ route_by self.now.program.now self.now.names structure names.now) }
+    {
+        let [name, rest @ ..] = names else {
+            return Ok(());
+        };
+        if self.is_union(structure) {
+            return Ok(());
+        }
+        let Some(place) = self.pick(structure, name) else {
+            return Ok(());
+        };
+        route.push(place)?;
+        match self.inner_of(structure, place) {
+            Some(inner) => self.add_route(route, inner.0 as usize, rest),
+            None => Ok(()),
         }
     }
 }

@@ -10,6 +10,7 @@ pub mod laws;
 mod places;
 mod readings;
 mod reads;
+mod routes;
 mod seeking;
 mod types;
 mod writing;

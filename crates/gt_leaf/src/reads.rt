@@ -1,16 +1,17 @@
 // Which fields and roots the expressions of a program read.
-ghost use Rattle.gt_leaf.specs.Seeking.{same_place, same_reading, with_named, with_named_fields, with_all_named};
-ghost use Rattle.gt_leaf.specs.Tables.{reading, IsTableOf};
-ghost use Rattle.gt_leaf.specs.Around.{any_around, any_with_itself};
+ghost use Rattle.gt_leaf.specs.Seeking.{same_place, with_named, with_named_fields, with_all_named};
+ghost use Rattle.gt_leaf.specs.Tables.{IsTableOf};
+ghost use Rattle.gt_leaf.specs.Around.{from_there, any_around, any_with_itself};
 ghost use Rattle.gt_leaf.specs.Unread.{structures_on, structures_in_statics, IsUnread};
 ghost use Rattle.std.specs.List.{list_any};
-ghost use Rattle.std.specs.Prelude.{◌≡◌, ◌↔◌, true, IsTrue, IfOk, OnOk, cond, false, option_copied};
+ghost use Rattle.std.specs.Prelude.{◌≡◌, ◌↔◌, ◌||◌, ◌&&◌, not, IsTrue, IfOk, OnOk, false, option_copied};
 
 use crate::ends::Ends;
 use crate::fields::{FieldPlace, FieldSet};
 use crate::index::Index;
 use crate::places::PlaceSet;
-use crate::readings::{Reading, ReadingSet};
+use crate::readings::ReadingSet;
+use crate::routes::route_on;
 use crate::types::{is_number, part_at, root_at};
 use gt_names::NameIndex;
 use gt_types::{Field, Program, Structure, Ty};
@@ -18,8 +19,8 @@ use gt_value::{Holder, Place};
 use std::alloc::{AllocError, Global};
 
 /// Which fields and roots the expressions of a program read: the numbers in whose names paths from `%0` end, those in which other
-/// paths end, also with the structures at which these begin, and roots. It has an entry for each path of an expression and each
-/// structure at which the path begins, and one for each number of such a name.
+/// paths end, also with the structures at which these begin and their routes from there, and roots. It has an entry for each path of
+/// an expression and each structure at which the path begins, and one for each number of such a name.
 #[derive(Drop)]
 pub struct Reads {
     named: FieldSet,
@@ -50,8 +51,9 @@ impl Reads {
         })
     }
 
-    /// Whether no expression reads the leaf at a place, at a path from a value of the type `ty`. It takes no memory, and its time
-    /// grows with the path alone.
+    /// Whether no expression reads the leaf at a place, at a path from a value of the type `ty`. It takes no memory. Where no path of
+    /// an expression ends in the leaf's field, one look-up says so. Else the route from each structure on the path is looked up, which
+    /// ends at the next array: its time grows with the path, for each step at most by the depth `MAX_DEPTH` to which structures nest.
     pub fn is_unread(&self, program: &Program, ty: Option<&Ty>, path: &[u32], place: Place) -> bool
         ensures unread { IsTableOf program.now self.now → IsTrue result ↔ IsUnread program.now (structures_on program.now (option_copied ty.entry) path.now) place.active place.holder }
     {
@@ -81,7 +83,7 @@ impl Reads {
         }
     }
 
-    // Whether a field is read by name, or from a structure around it.
+    // Whether a field is read by name, or from a structure around it along the route from there.
     fn is_read(
         &self,
         program: &Program,
@@ -90,15 +92,11 @@ impl Reads {
         active: bool,
         field: FieldPlace,
     ) -> bool
-        ensures { result ≡ cond (list_any (same_place field) self.now.named) true (cond active (any_around (λ node. list_any (same_reading (reading node.0 field)) self.now.from) program.now false (option_copied ty.entry) path.now) (list_any (same_place field) self.now.ended)) }
+        ensures { result ≡ list_any (same_place field) self.now.named || (list_any (same_place field) self.now.ended && (not active || any_around (from_there self.now field) program.now false (option_copied ty.entry) path.now)) }
     {
-        if self.named.has(field) {
-            true
-        } else if active {
-            self.is_read_around(program, ty, path, field, false)
-        } else {
-            self.ended.has(field)
-        }
+        self.named.has(field)
+            || (self.ended.has(field)
+                && (!active || self.is_read_around(program, ty, path, field, false)))
     }
 
     // Whether a field is read from a structure around the part at a path, where it is read from one around the value or not.
@@ -110,7 +108,7 @@ impl Reads {
         field: FieldPlace,
         is_read: bool,
     ) -> bool
-        ensures { result ≡ any_around (λ node. list_any (same_reading (reading node.0 field)) self.now.from) program.now is_read (option_copied ty.entry) path.now }
+        ensures { result ≡ any_around (from_there self.now field) program.now is_read (option_copied ty.entry) path.now }
     {
         let Some(ty) = ty else {
             return is_read;
@@ -118,18 +116,27 @@ impl Reads {
         let [i, rest @ ..] = path else {
             return is_read;
         };
-        let is_read = self.is_read_in(ty, field, is_read);
+        let is_read = self.is_read_in(program, ty, path, field, is_read);
         self.is_read_around(program, part_at(program, ty, *i), rest, field, is_read)
     }
 
-    // Whether a field is read from a structure around a part of a value of a type. From outside an array none is read in its elements.
-    fn is_read_in(&self, ty: &Ty, field: FieldPlace, is_read: bool) -> bool
-        ensures { result ≡ any_with_itself (λ node. list_any (same_reading (reading node.0 field)) self.now.from) is_read ty.now }
+    // Whether a field is read from a structure around the part at a path from a value of a type, where it is read from one around
+    // the value or not. From outside an array none is read in its elements.
+    fn is_read_in(
+        &self,
+        program: &Program,
+        ty: &Ty,
+        path: &[u32],
+        field: FieldPlace,
+        is_read: bool,
+    ) -> bool
+        ensures { result ≡ any_with_itself (from_there self.now field) program.now is_read ty.now path.now }
     {
         match ty {
             Ty::Node { id, .. } => {
-                let from = id.0 as usize;
-                self.from.has(Reading { from, field }) || is_read
+                self.from
+                    .has(id.0 as usize, field, route_on(program, *id, path))
+                    || is_read
             }
             _ => false,
         }

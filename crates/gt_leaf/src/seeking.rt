@@ -1,16 +1,15 @@
 // The numbers in which the paths of expressions from `%h` and `%1` end, and the structures at which those begin.
-ghost use Rattle.gt_leaf.specs.Seeking.{starting, with_end, same_base, seek_expr, seek_option, seek_counts, seek_own, seek_counts_of, seek_union, seek_outside, seek_desc, seek_descs, with_inner, with_inners, seek_inners, seek_structure, seek_structures, seek_roots, seek_all};
+ghost use Rattle.gt_leaf.specs.Seeking.{starting, with_end, same_base, seek_expr, seek_option, seek_counts, seek_own, seek_counts_of, seek_union, seek_outside, seek_desc, seek_descs, with_inner, with_inners, seek_inners, seek_structure, seek_structures, seek_roots, seek_all, end_of, route_by};
 ghost use Rattle.std.specs.Prelude.{◌≡◌, [], IfOk, OnOk, slice_get};
 ghost use Rattle.gt_types.specs.declared.expressions.Base.TheVariants.{Here, Outer};
 ghost use Rattle.gt_types.specs.Contains.{held_by};
 ghost use Rattle.gt_types.specs.Shapes.{count_of, innermost};
 
-use crate::fields::FieldPlace;
 use crate::index::Index;
 use crate::places::PlaceSet;
 use crate::readings::{Reading, ReadingSet};
 use crate::types::innermost;
-use gt_types::{Base, Expr, Field, PtrKind, Root, Structure, Ty, TypeId};
+use gt_types::{Base, Expr, Field, PtrKind, Root, Structure, Ty, TypeId, Word};
 use std::alloc::{AllocError, Global};
 
 /// Where the paths of an expression from a base begin: at the structure of this place.
@@ -262,10 +261,7 @@ impl ReadingSet {
             Expr::Int(_) | Expr::Root(_) => Ok(()),
             Expr::Path { base, steps } => {
                 if is_same(*base, start.base) {
-                    self.add_end(
-                        start.structure,
-                        index.end_of(start.structure, steps.as_slice()),
-                    )
+                    self.add_path(index, start.structure, steps.as_slice())
                 } else {
                     Ok(())
                 }
@@ -283,11 +279,15 @@ impl ReadingSet {
         }
     }
 
-    fn add_end(&mut self, from: usize, end: Option<FieldPlace>) -> Result<(), AllocError>
-        ensures added { OnOk result (self.new ≡ with_end from end self.old) }
+    // The number in which a path ends from a structure on, with its route.
+    fn add_path(&mut self, index: &Index<'_>, from: usize, names: &[Word]) -> Result<(), AllocError>
+        ensures added { OnOk result (self.new ≡ with_end from (route_by index.now.program.now index.now.names from names.now) (end_of index.now.program.now index.now.names from names.now) self.old) }
     {
-        match end {
-            Some(field) => self.add(Reading { from, field }),
+        match index.end_of(from, names) {
+            Some(field) => {
+                let along = index.route_of(from, names)?;
+                self.add(Reading { from, field, along })
+            }
             None => Ok(()),
         }
     }

@@ -2,7 +2,7 @@
 ghost use Rattle.std.specs.Prelude.{◌≡◌, option_copied};
 ghost use Rattle.gt_types.specs.Shapes.{innermost, is_number};
 ghost use Rattle.gt_leaf.specs.HeldTypes.{field_type, root_type, held_type};
-ghost use Rattle.gt_leaf.specs.Unread.{field_at, root_at, part_at};
+ghost use Rattle.gt_leaf.specs.Unread.{field_at, inner_at, root_at, part_at};
 
 use gt_types::{Program, Ty, TypeId};
 use gt_value::Holder;
@@ -63,6 +63,16 @@ fn field_at<'a>(program: &'a Program, id: TypeId, i: u32) -> Option<&'a Ty>
     let structure = program.structures.get(id.0 as usize)?;
     let field = structure.fields.get(i as usize)?;
     Some(&field.ty)
+}
+
+/// The structure by value at a place of a structure. It takes no memory.
+pub fn inner_at(program: &Program, id: TypeId, i: u32) -> Option<TypeId>
+    ensures { result ≡ inner_at program.now id i }
+{
+    match field_at(program, id, i)? {
+        Ty::Node { id, .. } => Some(*id),
+        _ => None,
+    }
 }
 
 /// The type of the root at a place, of an array too.
