@@ -2,6 +2,7 @@
 ghost use Rattle.std.specs.Prelude.{IfOk};
 ghost use Rattle.std.specs.Bool.{Decides};
 ghost use Rattle.gt_types.specs.Settled.{Settled};
+ghost use Rattle.gt_layout.specs.Planes.{IsLaidOut};
 ghost use Rattle.gt_tree.specs.Trees.{Trees};
 ghost use Rattle.gt_tree.specs.Blocks.{Blocks, element_type};
 ghost use Rattle.gt_tree.specs.FixedLaws.{MayHold};
@@ -11,6 +12,7 @@ ghost use Rattle.gt_held.specs.Types.{AreElementTypesOf};
 ghost use Rattle.gt_held.specs.Zeros.{HasZero, HasZeroElement};
 
 use crate::types::ElementTypes;
+use gt_layout::Layouts;
 use gt_types::Program;
 use gt_value::{BlockKind, ValueFail, zero};
 use std::alloc::{AllocError, Global};
@@ -19,16 +21,18 @@ use std::alloc::{AllocError, Global};
 fn has_zero_element(
     alloc: Global,
     program: &Program,
+    layouts: &Layouts,
     types: &ElementTypes,
     kind: BlockKind,
     capacity: u32,
 ) -> Result<bool, AllocError>
     requires settled { Settled program.now }
+    requires laid { IsLaidOut program.now layouts.now }
     requires types { AreElementTypesOf program.now types.now }
     requires kind { MayHold program.now (kind_of kind) }
     ensures zero { IfOk result (λ has. (blocks : Blocks) (statics : Trees) → Decides has (HasZeroElement program.now blocks statics capacity (element_type program.now (kind_of kind)))) }
 {
-    match zero(alloc, program, types.get(kind), capacity) {
+    match zero(alloc, program, layouts, types.get(kind), capacity) {
         Ok(_) => Ok(true),
         Err(ValueFail::Shape) => Ok(false),
         Err(ValueFail::Memory) => Err(AllocError),
@@ -41,18 +45,22 @@ fn has_zero_element(
 pub fn has_zero(
     alloc: Global,
     program: &Program,
+    layouts: &Layouts,
     types: &ElementTypes,
     kind: BlockKind,
     count: u32,
     capacity: u32,
 ) -> Result<bool, AllocError>
     requires settled { Settled program.now }
+    requires laid { IsLaidOut program.now layouts.now }
     requires types { AreElementTypesOf program.now types.now }
     requires kind { MayHold program.now (kind_of kind) }
     ensures zero { IfOk result (λ has. (g : Graph) → Decides has (HasZero program.now g (kind_of kind) count capacity)) }
 {
     match kind {
-        BlockKind::Nodes(_) if count > 0 => has_zero_element(alloc, program, types, kind, capacity),
+        BlockKind::Nodes(_) if count > 0 => has_zero_element(
+            alloc, program, layouts, types, kind, capacity,
+        ),
         BlockKind::Nodes(_) => Ok(true),
         BlockKind::Pointers(_) => Ok(true),
         BlockKind::Strings => Ok(true),

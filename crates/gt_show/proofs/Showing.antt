@@ -1,5 +1,5 @@
 -- The text of a value, by what is added for its parts.
-use Rattle.std.proofs.Common.{◌≡◌, ℕ, inl, inr, ℤ, IsTrue, List, ◌++◌, Option, Some, None, refl, ap, sym, subst, ◌∙◌, append_assoc}
+use Rattle.std.proofs.Common.{◌≡◌, ℕ, inl, inr, ℤ, IsTrue, true, List, ◌++◌, Option, Some, None, refl, ap, sym, subst, ◌∙◌, append_assoc}
 use Rattle.std.specs.Prelude.{slice_get, codes, encode_utf8_all}
 use Rattle.std.specs.List.{flat_map}
 use Rattle.gt_types.specs.declared.types.TypeId.{TypeId}
@@ -9,7 +9,7 @@ use Rattle.gt_types.specs.declared.program.Field.{Field}
 use Rattle.gt_types.specs.declared.program.Structure.{Structure}
 use Rattle.gt_types.specs.declared.program.Program.{Program}
 use Rattle.gt_types.specs.Shapes.{is_pointer}
-use Rattle.gt_types.specs.Contains.{HasStructure}
+use Rattle.gt_types.specs.Contains.{HasStructure, itself}
 use Rattle.gt_types.specs.Settled.{Settled}
 use Rattle.gt_types.specs.Unions.{IsCommon}
 use Rattle.gt_tree.specs.Trees.{Tree, Num, Null, To, Raw, Rec, Alt, Row, Trees}
@@ -114,12 +114,18 @@ module _ (program : Program) (blocks : Blocks) where
         is ∙ ap (λ (t : List ℕ). old ++ t) same_text,
       )
 
-  pub common_parts : (type : Ty) (tree inner : Tree) (s : Structure) → tree ≡ Alt None inner → FitsSomewhere program blocks type tree → structure_in program type ≡ Some s
-      → ((node : TypeId) × HasStructure program node s) × CommonFits program blocks s inner
-  common_parts type tree inner s e fits there =
+  pub common_node : (type : Ty) (tree inner : Tree) → tree ≡ Alt None inner → FitsSomewhere program blocks type tree → (node : TypeId) × (itself type ≡ Some node)
+  common_node type tree inner e fits = let found = common-fits type inner (subst (FitsSomewhere program blocks type) e fits) in (found.node, ap itself found.is)
+
+  pub common_parts : (type : Ty) (tree inner : Tree) (s : Structure) (node : TypeId) → tree ≡ Alt None inner → FitsSomewhere program blocks type tree → structure_in program type ≡ Some s → itself type ≡ Some node
+      → HasStructure program node s × ((s.is_union ≡ true) × CommonFits program blocks s inner)
+  common_parts type tree inner s node e fits there it =
       let found = common-fits type inner (subst (FitsSomewhere program blocks type) e fits) in
       let same : found.s ≡ s = some_is found.s s (sym (ap (structure_in program) found.is ∙ found.there) ∙ there) in
-      ((found.node, subst (HasStructure program found.node) same found.there), subst (λ (x : Structure). CommonFits program blocks x inner) same found.fits)
+      let here : found.node ≡ node = some_is found.node node (sym (ap itself found.is) ∙ it) in (
+        subst (λ (n : TypeId). HasStructure program n s) here (subst (HasStructure program found.node) same found.there),
+        (ap (λ (x : Structure). x.is_union) (sym same) ∙ found.kind, subst (λ (x : Structure). CommonFits program blocks x inner) same found.fits),
+      )
 
   pub common_added : (type : Ty) (tree inner : Tree) (s : Structure) (old new : List ℕ) → tree ≡ Alt None inner → FitsSomewhere program blocks type tree → structure_in program type ≡ Some s
       → IsAdded (ShowsCommon program blocks s inner) old new → IsAdded (Shows program blocks type tree) old new

@@ -2,6 +2,7 @@
 ghost use Rattle.std.specs.Prelude.{◌≡◌, ◌++◌, map, codes, All, IfOk, OnOk};
 ghost use Rattle.std.specs.List.{flat_map};
 ghost use Rattle.gt_types.specs.Settled.{Settled};
+ghost use Rattle.gt_layout.specs.Planes.{IsLaidOut};
 ghost use Rattle.gt_tree.specs.Blocks.{Nodes, Pointers, element_type};
 ghost use Rattle.gt_value.specs.declared.values.Value.{Value};
 ghost use Rattle.gt_value.specs.Names.{kind_of};
@@ -14,6 +15,7 @@ ghost use Rattle.gt_show.specs.BlockParts.{IsByte, IsSomeByte, ShowsNodes};
 use crate::numbers::push_bytes;
 use crate::strings::push_quoted;
 use crate::values::{Context, push_row, push_value};
+use gt_layout::Layouts;
 use gt_types::{Bytes, Copied, Program, PtrKind, Target, Ty, TypeId};
 use gt_value::{BlockKind, BlockNames, Value};
 use std::alloc::{AllocError, Global};
@@ -23,11 +25,13 @@ use std::alloc::{AllocError, Global};
 pub fn show_block<N: BlockNames>(
     alloc: Global,
     program: &Program,
+    layouts: &Layouts,
     kind: BlockKind,
     elements: &[Value],
     names: &N,
 ) -> Result<Bytes, AllocError>
     requires settled { Settled program.now }
+    requires laid { IsLaidOut program.now layouts.now }
     requires fits { ElementsFit program.now (N.blocks names.now) (kind_of kind) (trees (map tree_of elements.now)) }
     ensures shown { IfOk result (λ text. ShowsBlock program.now (N.blocks names.now) (kind_of kind) (trees (map tree_of elements.now)) text) }
 {
@@ -35,6 +39,7 @@ pub fn show_block<N: BlockNames>(
     let context = Context {
         alloc,
         program,
+        unions: &layouts.unions,
         names,
     };
     push_block(&mut text, kind, elements, &context)?;

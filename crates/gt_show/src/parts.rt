@@ -1,8 +1,9 @@
 // What the type of a value is made of.
 ghost use Rattle.std.specs.Prelude.{◌≡◌, Some};
+ghost use Rattle.gt_types.specs.declared.types.TypeId.{TypeId};
 ghost use Rattle.gt_types.specs.declared.types.Ty.{Ty};
 ghost use Rattle.gt_types.specs.declared.program.Structure.{Structure};
-ghost use Rattle.gt_types.specs.Contains.{HasStructure};
+ghost use Rattle.gt_types.specs.Contains.{HasStructure, itself};
 ghost use Rattle.gt_show.specs.Parts.{structure_in, element_in};
 
 use gt_types::{Program, Structure, Ty, TypeId};
@@ -24,6 +25,17 @@ pub fn structure_of<'a>(program: &'a Program, ty: &Ty) -> &'a Structure
         unreachable!()
     };
     structure_at(program, *id)
+}
+
+/// The number of the structure that a type is.
+pub fn node_of(ty: &Ty) -> TypeId
+    requires node { (id : TypeId) × (itself ty.now ≡ Some id) }
+    ensures { itself ty.now ≡ Some result }
+{
+    match ty {
+        Ty::Node { id, .. } => *id,
+        _ => unreachable!(),
+    }
 }
 
 /// What an array has as elements.

@@ -1,6 +1,7 @@
 // The text of the static record.
 ghost use Rattle.std.specs.Prelude.{◌≡◌, map, IfOk, OnOk};
 ghost use Rattle.gt_types.specs.Settled.{Settled};
+ghost use Rattle.gt_layout.specs.Planes.{IsLaidOut};
 ghost use Rattle.gt_tree.specs.Trees.{Rec, Trees};
 ghost use Rattle.gt_tree.specs.Fits.{StaticsFit};
 ghost use Rattle.gt_value.specs.Values.{trees, tree_of};
@@ -8,6 +9,7 @@ ghost use Rattle.gt_show.specs.Parts.{IsAdded};
 ghost use Rattle.gt_show.specs.StaticTexts.{ShowsStatics};
 
 use crate::values::{Context, push_label, push_value};
+use gt_layout::Layouts;
 use gt_types::{Bytes, Program};
 use gt_value::{BlockNames, Value};
 use std::alloc::{AllocError, Global};
@@ -17,10 +19,12 @@ use std::alloc::{AllocError, Global};
 pub fn show_statics<N: BlockNames>(
     alloc: Global,
     program: &Program,
+    layouts: &Layouts,
     values: &Value,
     names: &N,
 ) -> Result<Bytes, AllocError>
     requires settled { Settled program.now }
+    requires laid { IsLaidOut program.now layouts.now }
     requires fits { (parts : Trees) × (tree_of values.now ≡ Rec parts) × StaticsFit program.now (N.blocks names.now) parts }
     ensures shown { IfOk result (λ text. (parts : Trees) → tree_of values.now ≡ Rec parts → ShowsStatics program.now (N.blocks names.now) parts text) }
 {
@@ -31,6 +35,7 @@ pub fn show_statics<N: BlockNames>(
     let context = Context {
         alloc,
         program,
+        unions: &layouts.unions,
         names,
     };
     push_roots(&mut text, parts, &context)?;

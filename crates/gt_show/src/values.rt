@@ -1,8 +1,9 @@
 // The text of a value, piece by piece.
-ghost use Rattle.std.specs.Prelude.{◌≡◌, ◌++◌, map, codes, encode_utf8_all, IfOk, OnOk};
-ghost use Rattle.gt_types.specs.declared.types.TypeId.{TypeId};
+ghost use Rattle.std.specs.Prelude.{◌≡◌, ◌++◌, true, map, codes, encode_utf8_all, IfOk, OnOk};
 ghost use Rattle.gt_types.specs.Contains.{HasStructure};
 ghost use Rattle.gt_types.specs.Settled.{Settled};
+ghost use Rattle.gt_layout.specs.Planes.{IsLaidOut};
+ghost use Rattle.gt_unions.specs.Tables.{union_tables};
 ghost use Rattle.gt_tree.specs.Fits.{types_of};
 ghost use Rattle.gt_value.specs.Values.{trees, tree_of};
 ghost use Rattle.gt_show.specs.Shown.{Shows};
@@ -10,10 +11,11 @@ ghost use Rattle.gt_show.specs.Parts.{FitsSomewhere, AllFitSomewhere, EachFitsSo
 
 use crate::names::push_name;
 use crate::numbers::{push_bytes, push_number};
-use crate::parts::{element_of, structure_at, structure_of};
+use crate::parts::{element_of, node_of, structure_at, structure_of};
 use crate::pointers::push_target;
-use gt_types::{Bytes, Program, Structure, Ty, Word};
-use gt_unions::common_of;
+use gt_layout::Layouts;
+use gt_types::{Bytes, Program, Structure, Ty, TypeId, Word};
+use gt_unions::Unions;
 use gt_value::{BlockNames, Value};
 use std::alloc::{AllocError, Global};
 
@@ -22,11 +24,13 @@ use std::alloc::{AllocError, Global};
 pub fn show<N: BlockNames>(
     alloc: Global,
     program: &Program,
+    layouts: &Layouts,
     ty: &Ty,
     value: &Value,
     names: &N,
 ) -> Result<Bytes, AllocError>
     requires settled { Settled program.now }
+    requires laid { IsLaidOut program.now layouts.now }
     requires fits { FitsSomewhere program.now (N.blocks names.now) ty.now (tree_of value.now) }
     ensures shown { IfOk result (λ text. Shows program.now (N.blocks names.now) ty.now (tree_of value.now) text) }
 {
@@ -34,18 +38,21 @@ pub fn show<N: BlockNames>(
     let context = Context {
         alloc,
         program,
+        unions: &layouts.unions,
         names,
     };
     push_value(&mut text, value, ty, &context)?;
     Ok(text)
 }
 
-/// What values are shown beside: the program, and the blocks that pointers name.
+/// What values are shown beside: the program, the tables of its unions, and the blocks that pointers name.
 #[derive(Drop)]
 pub struct Context<'a, N: BlockNames> {
     pub alloc: Global,
     pub program: &'a Program,
+    pub unions: &'a Unions,
     pub names: &'a N,
+    ghost united: { unions.now ≡ union_tables program.now },
 }
 
 /// Adds the text of a value of a type.
@@ -80,7 +87,7 @@ pub fn push_value<N: BlockNames>(
             let s = structure_of(context.program, ty);
             match member {
                 Some(place) => push_member(text, value.get(), s, *place, context),
-                None => push_common(text, value.get(), s, context),
+                None => push_common(text, value.get(), node_of(ty), s, context),
             }
         }
         Value::Row(parts) => push_row(text, parts, element_of(ty), context),
@@ -155,16 +162,18 @@ fn push_member<N: BlockNames>(
 fn push_common<N: BlockNames>(
     text: &mut Bytes,
     value: &Value,
+    id: TypeId,
     s: &Structure,
     context: &Context<N>,
 ) -> Result<(), AllocError>
     requires settled { Settled context.now.program.now }
-    requires there { (node : TypeId) × HasStructure context.now.program.now node s.now }
+    requires there { HasStructure context.now.program.now id s.now }
+    requires union { s.now.is_union ≡ true }
     requires fits { CommonFits context.now.program.now (N.blocks context.now.names.now) s.now (tree_of value.now) }
     ensures added { OnOk result (IsAdded (ShowsCommon context.now.program.now (N.blocks context.now.names.now) s.now (tree_of value.now)) text.old text.new) }
 {
     text.append(b"none")?;
-    let Some(common) = common_of(context.program, s) else {
+    let Some(common) = context.unions.common(id) else {
         return Ok(());
     };
     text.push(b':')?;

@@ -172,7 +172,7 @@ fn store_member(
         store_value(value, program, layouts, space, &field.ty, at);
         return;
     }
-    if let Some(id) = common_structure(program, id, structure) {
+    if let Some(id) = common_structure(program, layouts, id, structure) {
         let ty = Ty::Node { id, desc: None };
         store_value(value, program, layouts, space, &ty, at);
     }

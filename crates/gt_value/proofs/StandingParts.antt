@@ -318,10 +318,10 @@ fields-as source around inner fields others spots places at trees a f s h =
     subst (λ x. FieldsStand source x (types_of fields) spots at trees) (sym a)
     (subst (λ x. FieldsStand source inner (types_of x) spots at trees) (sym f) (subst (λ x. FieldsStand source inner (types_of others) x at trees) (sym s) h))
 
-pub active-is : (source : Source) (around inner : Around) (desc : Option Expr) (worth : Option ℤ) (fields others : List Field) (member : Option ℕ) → around ≡ inner → worth ≡ worth_of source around desc → fields ≡ others
-    → member ≡ active_member worth fields → active_member (worth_of source inner desc) others ≡ member
-active-is source around inner desc worth fields others member a w f m =
-    ap (λ x. active_member (worth_of source x desc) others) (sym a) ∙ ap (λ x. active_member x others) (sym w) ∙ ap (active_member worth) (sym f) ∙ sym m
+pub active-is : (source : Source) (around inner : Around) (desc : Option Expr) (worth : Option ℤ) (fields : List Field) (member : Option ℕ) → around ≡ inner → worth ≡ worth_of source around desc
+    → member ≡ active_member worth fields → active_member (worth_of source inner desc) fields ≡ member
+active-is source around inner desc worth fields member a w m =
+    ap (λ x. active_member (worth_of source x desc) fields) (sym a) ∙ ap (λ x. active_member x fields) (sym w) ∙ sym m
 
 module _ (source : Source) (around : Around) (node : TypeId) (desc : Option Expr) (at : ℕ) (y : Structure) (has : HasStructure source.program.now node y) (union : y.is_union ≡ true) where
   union-in : (member : Option ℕ) (scope : Scope) (value : Tree) → active_member (worth_of source (entered around node at) desc) y.fields ≡ member → StandsIn source around scope (ty.Node node desc) at value

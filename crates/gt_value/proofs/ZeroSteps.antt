@@ -197,24 +197,22 @@ module _ {program : Program} {capacity : ℕ} where
 
 -- ---- at a union
 
-union-value : (desc : Option Expr) (s : Structure) (fields : List Field) (value : Option ℤ) (o : Option ℕ) → fields ≡ s.fields → value ≡ zero_desc desc → o ≡ active_member value fields
-    → active_member (zero_desc desc) s.fields ≡ o
-union-value desc s fields value o items v e = sym (e ∙ ap (λ x. active_member x fields) v ∙ ap (active_member (zero_desc desc)) items)
+union-value : (desc : Option Expr) (s : Structure) (value : Option ℤ) (o : Option ℕ) → value ≡ zero_desc desc → o ≡ active_member value s.fields → active_member (zero_desc desc) s.fields ≡ o
+union-value desc s value o v e = sym (e ∙ ap (λ x. active_member x s.fields) v)
 
-pub union-at : (desc : Option Expr) (s : Structure) (fields : List Field) (value : Option ℤ) (place : ℕ) (d : Field) → fields ≡ s.fields → value ≡ zero_desc desc → active_member value fields ≡ Some place
+pub union-at : (desc : Option Expr) (s : Structure) (fields : List Field) (value : Option ℤ) (place : ℕ) (d : Field) → fields ≡ s.fields → value ≡ zero_desc desc → active_member value s.fields ≡ Some place
     → (active_member (zero_desc desc) s.fields ≡ Some place) × (slice_get s.fields place ≡ Some (get_or fields place d))
 union-at desc s fields value place d items v e = (
-  union-value desc s fields value (Some place) items v (sym e),
-  subst (λ xs. slice_get xs place ≡ Some (get_or fields place d)) items (slice_get-get_or fields place d (active-within value fields place e)),
+  union-value desc s value (Some place) v (sym e),
+  slice_get-get_or s.fields place d (active-within value s.fields place e) ∙ ap (λ xs. Some (get_or xs place d)) (sym items),
 )
 
 none-by : (o : Option ℕ) → ((x : ℕ) → o ≡ Some x → ⊥) → o ≡ None
 none-by None h = refl
 none-by (Some x) h = absurd (h x refl)
 
-pub union-none : (desc : Option Expr) (s : Structure) (fields : List Field) (value : Option ℤ) (o : Option ℕ) → fields ≡ s.fields → value ≡ zero_desc desc → o ≡ active_member value fields → ((x : ℕ) → o ≡ Some x → ⊥)
-    → active_member (zero_desc desc) s.fields ≡ None
-union-none desc s fields value o items v e none = union-value desc s fields value o items v e ∙ none-by o none
+pub union-none : (desc : Option Expr) (s : Structure) (value : Option ℤ) (o : Option ℕ) → value ≡ zero_desc desc → o ≡ active_member value s.fields → ((x : ℕ) → o ≡ Some x → ⊥) → active_member (zero_desc desc) s.fields ≡ None
+union-none desc s value o v e none = union-value desc s value o v e ∙ none-by o none
 
 pub common-within : (program : Program) → Settled program → (id : TypeId) (s : Structure) (common : TypeId) (depth : ℕ) → HasStructure program id s → IsWithinDepth program id.0 depth → IsCommon program s common
     → (common.0 < length program.structures) × (1 ≤ depth) × IsWithinDepth program common.0 (depth - 1)

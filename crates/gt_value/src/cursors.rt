@@ -175,7 +175,7 @@ impl<'a> Cursor<'a> {
         requires stands { (value : Tree) × Stands self.now.source self.now.site.around (Node id desc.now) self.now.at value }
         ensures { StepAnswers self.now.source self.now.site (Node id desc.now) self.now.at place result }
     {
-        let program = self.source.program;
+        let (program, layouts) = (self.source.program, self.source.layouts);
         let structure = &program.structures.as_slice()[id.0 as usize];
         let inner = self.site.around.enter(id, self.at);
         let own = Site {
@@ -187,20 +187,20 @@ impl<'a> Cursor<'a> {
         };
         let fields = structure.fields.as_slice();
         if !structure.is_union {
-            let layouts = self.source.layouts;
             let plane = &layouts.structures.as_slice()[id.0 as usize];
             let field = structure.fields.get(place as usize)?;
             let spot = plane.fields.get(place as usize)?;
             let begin = self.at as u64 + begin_at(spot);
             return Some(self.moved(own, &field.ty, begin as u32));
         }
-        if let Some(active) = active_member(worth_of(desc, &self.source, inner), fields) {
-            if active != place as usize {
+        let worth = worth_of(desc, &self.source, inner);
+        if let Some(active) = active_member(program, layouts, id, structure, worth) {
+            if active != place {
                 return None;
             }
-            return Some(self.moved(own, &fields[active].ty, self.at));
+            return Some(self.moved(own, &fields[active as usize].ty, self.at));
         }
-        let common = common_structure(program, id, structure)?;
+        let common = common_structure(program, layouts, id, structure)?;
         let member = find_node(common, fields)?;
         let bare = Site {
             around: inner.without_pointers(),
@@ -239,16 +239,14 @@ impl<'a> Cursor<'a> {
         requires stands { (value : Tree) × Stands self.now.source self.now.site.around (Node id desc.now) self.now.at value }
         ensures { (value : Tree) → Stands self.now.source self.now.site.around (Node id desc.now) self.now.at value → result ≡ member_of value }
     {
-        let structure = &self.source.program.structures.as_slice()[id.0 as usize];
+        let (program, layouts) = (self.source.program, self.source.layouts);
+        let structure = &program.structures.as_slice()[id.0 as usize];
         if !structure.is_union {
             return None;
         }
         let inner = self.site.around.enter(id, self.at);
-        let fields = structure.fields.as_slice();
-        match active_member(worth_of(desc, &self.source, inner), fields) {
-            Some(place) => Some(place as u32),
-            None => None,
-        }
+        let worth = worth_of(desc, &self.source, inner);
+        active_member(program, layouts, id, structure, worth)
     }
 
     /// How many elements an array has; 0 where the part is no array.

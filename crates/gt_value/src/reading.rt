@@ -259,11 +259,13 @@ fn read_union(
 {
     let inner = around.enter(id, at);
     let fields = structure.fields.as_slice();
-    if let Some(place) = active_member(worth_of(desc, source, inner), fields) {
-        let value = read_type(alloc, source, inner, &fields[place].ty, at, depth)?;
-        return make_alt(alloc, Some(place as u32), value);
+    let (program, layouts) = (source.program, source.layouts);
+    let worth = worth_of(desc, source, inner);
+    if let Some(place) = active_member(program, layouts, id, structure, worth) {
+        let value = read_type(alloc, source, inner, &fields[place as usize].ty, at, depth)?;
+        return make_alt(alloc, Some(place), value);
     }
-    let Some(common) = common_structure(source.program, id, structure) else {
+    let Some(common) = common_structure(program, layouts, id, structure) else {
         return make_alt(alloc, None, Value::Rec(Vec::new(alloc)));
     };
     let value = read_structure(

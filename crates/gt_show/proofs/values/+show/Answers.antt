@@ -9,7 +9,7 @@ use Rattle.gt_show.specs.Shown.{number_text}
 use Rattle.gt_show.proofs.TreesOf.{tree-num, tree-null, tree-to, tree-raw, tree-rec, tree-alt, tree-row, rec_if_tree}
 use Rattle.gt_show.proofs.FitParts.{field-fits, element-fits}
 use Rattle.gt_show.proofs.Adding.{no_field, field_more, fields_end, no_element, element_more, elements_end, value_at, field_there, as_many_parts}
-use Rattle.gt_show.proofs.Showing.{number_added, null_added, target_there, target_added, opaque_added, struct_there, struct_parts, struct_added, union_there, member_parts, member_added, common_parts, common_added, common_is_struct, common_shown, nothing_shown, member_shown, row_there, row_parts, row_added}
+use Rattle.gt_show.proofs.Showing.{number_added, null_added, target_there, target_added, opaque_added, struct_there, struct_parts, struct_added, union_there, member_parts, member_added, common_node, common_parts, common_added, common_is_struct, common_shown, nothing_shown, member_shown, row_there, row_parts, row_added}
 use Rattle.gt_show.proofs.values.+show.Goals as goal
 
 -- ---- a struct
@@ -61,17 +61,17 @@ push_member-returns g t c = record {
 
 pub push_common-returns-in_default : goal.push_common-returns-in_default
 push_common-returns-in_default g t c = record {
-  added = nothing_shown _ _ c.args.s.now (tree_of c.args.value.now) c.args.text.now c.append.new.self c.in_default.ensures.common c.requires.fits c.in_ok-append.ensures.added;
+  added = nothing_shown _ _ c.args.s.now (tree_of c.args.value.now) c.args.text.now c.append.new.self (c.in_default.ensures.common c.args.context.now.program.now c.args.s.now c.args.context.now.united c.requires.settled c.requires.there c.requires.union) c.requires.fits c.in_ok-append.ensures.added;
 }
 
 pub push_common-unreachable-requires : goal.push_common-unreachable-requires
 push_common-unreachable-requires g t c =
-    let found = common_is_struct _ _ c.args.s.now (tree_of c.args.value.now) c.in-Some.common c.requires.settled c.requires.there c.in-Some.ensures.common c.requires.fits in
+    let found = common_is_struct _ _ c.args.s.now (tree_of c.args.value.now) c.in-Some.common c.requires.settled (c.args.id, c.requires.there) (c.in-Some.ensures.common c.args.context.now.program.now c.args.s.now c.args.context.now.united c.requires.settled c.requires.there c.requires.union) c.requires.fits in
     rec_if_tree c.args.value.now found.0 found.1 c.in_default-value.not-Rec
 
 pub push_common-push_struct-requires : goal.push_common-push_struct-requires
 push_common-push_struct-requires g t c κs within =
-    let found = common_is_struct _ _ c.args.s.now (tree_of c.args.value.now) c.in-Some.common c.requires.settled c.requires.there c.in-Some.ensures.common c.requires.fits in (
+    let found = common_is_struct _ _ c.args.s.now (tree_of c.args.value.now) c.in-Some.common c.requires.settled (c.args.id, c.requires.there) (c.in-Some.ensures.common c.args.context.now.program.now c.args.s.now c.args.context.now.united c.requires.settled c.requires.there c.requires.union) c.requires.fits in (
       search (rules, the_lemmas),
       (
         within,
@@ -88,7 +88,7 @@ push_common-returns g t c = record {
   added =
       on_ok_weaker c.push_struct.result
       (common_shown _ _ c.args.s.now (tree_of c.args.value.now) (trees (map tree_of c.deref.result.now)) c.in-Some.common c.structure_at.result.now c.args.text.now c.append.new.self c.push.new.self c.push_struct.new.text
-      (ap tree_of c.in-Rec.is ∙ tree-rec c.in-Rec.parts ∙ ap (λ (vs : List Value). Rec (trees (map tree_of vs))) (sym c.deref.ensures.value)) c.in-Some.ensures.common c.structure_at.ensures
+      (ap tree_of c.in-Rec.is ∙ tree-rec c.in-Rec.parts ∙ ap (λ (vs : List Value). Rec (trees (map tree_of vs))) (sym c.deref.ensures.value)) (c.in-Some.ensures.common c.args.context.now.program.now c.args.s.now c.args.context.now.united c.requires.settled c.requires.there c.requires.union) c.structure_at.ensures
       c.in_ok-append.ensures.added c.in_ok-push.ensures.added)
       c.push_struct.ensures.added;
 }
@@ -205,6 +205,13 @@ push_value-returns-in-Some g t c = record {
       c.push_member.ensures.added;
 }
 
+pub push_value-node_of-requires : goal.push_value-node_of-requires
+push_value-node_of-requires g t c = record {
+  node =
+      common_node _ _ c.args.ty.now (tree_of c.args.value.now) (tree_of c.get-in-None.result.now)
+      (ap tree_of c.in-Alt.is ∙ tree-alt c.in-Alt.member c.in-Alt.value ∙ ap₂ Alt c.in-None.is (ap tree_of (sym c.get-in-None.ensures))) c.requires.fits;
+}
+
 pub push_value-push_common-requires : goal.push_value-push_common-requires
 push_value-push_common-requires g t c κs within = (
   search (rules, the_lemmas),
@@ -212,8 +219,8 @@ push_value-push_common-requires g t c κs within = (
     within,
     (
       c.requires.settled,
-      common_parts _ _ c.args.ty.now (tree_of c.args.value.now) (tree_of c.get-in-None.result.now) c.structure_of-s.result.now
-          (ap tree_of c.in-Alt.is ∙ tree-alt c.in-Alt.member c.in-Alt.value ∙ ap₂ Alt c.in-None.is (ap tree_of (sym c.get-in-None.ensures))) c.requires.fits c.structure_of-s.ensures,
+      common_parts _ _ c.args.ty.now (tree_of c.args.value.now) (tree_of c.get-in-None.result.now) c.structure_of-s.result.now c.node_of.result
+          (ap tree_of c.in-Alt.is ∙ tree-alt c.in-Alt.member c.in-Alt.value ∙ ap₂ Alt c.in-None.is (ap tree_of (sym c.get-in-None.ensures))) c.requires.fits c.structure_of-s.ensures c.node_of.ensures,
     ),
   ),
 )

@@ -141,17 +141,16 @@ read_type-returns-in_ok-parts-in-Tail t c value stands =
     ∙ ap Row (c.in_ok-parts-in-Tail.ensures found.row.trees (subst (λ k. EachStands c.args.source.now c.args.around elem c.args.at k found.row.trees) (sym many) found.row.stand))
     ∙ sym found.row.is
 
-pub read_union-worth_of-requires : goal.read_union-worth_of-requires
-read_union-worth_of-requires t c = record { laid = c.requires.stands.1.context.laid }
+pub read_union-worth_of-worth-requires : goal.read_union-worth_of-worth-requires
+read_union-worth_of-worth-requires t c = record { laid = c.requires.stands.1.context.laid }
+
+pub read_union-active_member-requires-clause-laid : goal.read_union-active_member-requires-clause-laid
+read_union-active_member-requires-clause-laid t c = c.requires.stands.1.context.laid
 
 pub read_union-bounds-fields-place : goal.read_union-bounds-fields-place
-read_union-bounds-fields-place t c = active-within c.worth_of.result c.as_slice-fields.result.now c.in-Some.place (sym c.in-Some.ensures)
-
-pub read_union-offset_bounds-fields-place : goal.read_union-offset_bounds-fields-place
-read_union-offset_bounds-fields-place t c =
-    let lt = active-within c.worth_of.result c.as_slice-fields.result.now c.in-Some.place (sym c.in-Some.ensures) in
-    let few = (c.requires.stands.1.context.settled.structures c.args.id c.args.structure.now c.requires.has).few_fields in
-    omega (arith, lt, few, ap length c.as_slice-fields.ensures.items)
+read_union-bounds-fields-place t c =
+    let within = active-within c.worth_of-worth.result c.args.structure.now.fields c.in-Some.place (sym c.in-Some.ensures) in
+    omega (arith, within, ap length c.as_slice-fields.ensures.items)
 
 pub read_fields-overflow_cast-begin-in-loop-i : goal.read_fields-overflow_cast-begin-in-loop-i
 read_fields-overflow_cast-begin-in-loop-i t c =
@@ -229,10 +228,10 @@ read_union-read_type-requires t c =
     let y = c.args.structure.now in
     let inner = entered c.args.around c.args.id c.args.at in
     let f = c.index-fields-place.result in
-    let lt = active-within c.worth_of.result c.as_slice-fields.result.now c.in-Some.place (sym c.in-Some.ensures) in
-    let within : c.in-Some.place < length y.fields = omega (arith, lt, ap length c.as_slice-fields.ensures.items) in
+    let within = active-within c.worth_of-worth.result y.fields c.in-Some.place (sym c.in-Some.ensures) in
+    let lt : c.in-Some.place < length c.as_slice-fields.result.now = omega (arith, within, ap length c.as_slice-fields.ensures.items) in
     let got = read_at c.as_slice-fields.result.now y.fields c.in-Some.place f c.as_slice-fields.ensures.items within c.index-fields-place.is in
-    let active = active-is c.args.source.now c.enter-inner.result inner c.args.desc.now c.worth_of.result c.as_slice-fields.result.now y.fields (Some c.in-Some.place) c.enter-inner.ensures c.worth_of.ensures c.as_slice-fields.ensures.items c.in-Some.ensures in
+    let active = active-is c.args.source.now c.enter-inner.result inner c.args.desc.now c.worth_of-worth.result y.fields (Some c.in-Some.place) c.enter-inner.ensures c.worth_of-worth.ensures c.in-Some.ensures in
     let found = member-read c.args.source.now c.args.around c.args.id c.args.desc.now c.args.at y c.requires.has c.requires.union c.in-Some.place f c.requires.stands.0 active got c.requires.stands.1 in
     let here = subst (λ g. Stands c.args.source.now c.enter-inner.result g.ty c.args.at found.0) c.index-fields-place.is (subst (λ x. Stands c.args.source.now x f.ty c.args.at found.0) (sym c.enter-inner.ensures) found.2) in
     let settled = c.requires.stands.1.context.settled in
@@ -241,21 +240,14 @@ read_union-read_type-requires t c =
     (shallow_fields c.args.source.now.program.now c.args.id.0 c.args.depth y c.as_slice-fields.result.now settled c.requires.has c.requires.shallow c.as_slice-fields.ensures.items) in
     (omega (arith, flat), ((found.0, here), (shallow, flat)))
 
-pub read_union-overflow_cast-place : goal.read_union-overflow_cast-place
-read_union-overflow_cast-place t c =
-    let lt = active-within c.worth_of.result c.as_slice-fields.result.now c.in-Some.place (sym c.in-Some.ensures) in
-    let few = (c.requires.stands.1.context.settled.structures c.args.id c.args.structure.now c.requires.has).few_fields in
-    omega (arith, lt, few, ap length c.as_slice-fields.ensures.items)
-
 pub read_union-returns-in-Some : goal.read_union-returns-in-Some
 read_union-returns-in-Some t c =
     let y = c.args.structure.now in
     let inner = entered c.args.around c.args.id c.args.at in
     let f = c.index-fields-place.result in
-    let lt = active-within c.worth_of.result c.as_slice-fields.result.now c.in-Some.place (sym c.in-Some.ensures) in
-    let within : c.in-Some.place < length y.fields = omega (arith, lt, ap length c.as_slice-fields.ensures.items) in
+    let within = active-within c.worth_of-worth.result y.fields c.in-Some.place (sym c.in-Some.ensures) in
     let got = read_at c.as_slice-fields.result.now y.fields c.in-Some.place f c.as_slice-fields.ensures.items within c.index-fields-place.is in
-    let active = active-is c.args.source.now c.enter-inner.result inner c.args.desc.now c.worth_of.result c.as_slice-fields.result.now y.fields (Some c.in-Some.place) c.enter-inner.ensures c.worth_of.ensures c.as_slice-fields.ensures.items c.in-Some.ensures in
+    let active = active-is c.args.source.now c.enter-inner.result inner c.args.desc.now c.worth_of-worth.result y.fields (Some c.in-Some.place) c.enter-inner.ensures c.worth_of-worth.ensures c.in-Some.ensures in
     let found = λ (value : Tree) (stands : Stands c.args.source.now c.args.around (ty.Node c.args.id c.args.desc.now) c.args.at value). member-read c.args.source.now c.args.around c.args.id c.args.desc.now c.args.at y c.requires.has c.requires.union c.in-Some.place f value active got stands in
     let here = λ (value : Tree) (stands : Stands c.args.source.now c.args.around (ty.Node c.args.id c.args.desc.now) c.args.at value). subst (λ g. Stands c.args.source.now c.enter-inner.result g.ty c.args.at (found value stands).0) c.index-fields-place.is (subst (λ x. Stands c.args.source.now x f.ty c.args.at (found value stands).0) (sym c.enter-inner.ensures) (found value stands).2) in
     IfOk-weaker c.make_alt.result _ (λ v. (value : Tree) → Stands c.args.source.now c.args.around (ty.Node c.args.id c.args.desc.now) c.args.at value → tree_of v ≡ value)
@@ -266,7 +258,7 @@ read_union-returns-in_default-common_structure t c =
     let y = c.args.structure.now in
     let inner = entered c.args.around c.args.id c.args.at in
     let none : c.active_member.result ≡ None = search rules in
-    let active = active-is c.args.source.now c.enter-inner.result inner c.args.desc.now c.worth_of.result c.as_slice-fields.result.now y.fields None c.enter-inner.ensures c.worth_of.ensures c.as_slice-fields.ensures.items (sym none ∙ c.active_member.ensures) in
+    let active = active-is c.args.source.now c.enter-inner.result inner c.args.desc.now c.worth_of-worth.result y.fields None c.enter-inner.ensures c.worth_of-worth.ensures (sym none ∙ c.active_member.ensures) in
     let no_common : (common : TypeId) → ¬ IsCommon c.args.source.now.program.now y common = search rules in
     let empty : tree_of (value.Rec c.new.result) ≡ Rec End = tree-rec c.new.result ∙ ap (λ xs. Rec (trees (map tree_of xs))) c.new.ensures.items in
     IfOk-weaker c.make_alt-in_default-common_structure.result _ (λ v. (value : Tree) → Stands c.args.source.now c.args.around (ty.Node c.args.id c.args.desc.now) c.args.at value → tree_of v ≡ value)
@@ -277,7 +269,7 @@ read_union-overflow_sub-depth t c =
     let y = c.args.structure.now in
     let inner = entered c.args.around c.args.id c.args.at in
     let none : c.active_member.result ≡ None = search rules in
-    let active = active-is c.args.source.now c.enter-inner.result inner c.args.desc.now c.worth_of.result c.as_slice-fields.result.now y.fields None c.enter-inner.ensures c.worth_of.ensures c.as_slice-fields.ensures.items (sym none ∙ c.active_member.ensures) in
+    let active = active-is c.args.source.now c.enter-inner.result inner c.args.desc.now c.worth_of-worth.result y.fields None c.enter-inner.ensures c.worth_of-worth.ensures (sym none ∙ c.active_member.ensures) in
     let common = c.in-Some-common_structure.common in
     let is : IsCommon c.args.source.now.program.now y common = search rules in
     let changed : c.without_pointers.result ≡ without_pointers inner = c.without_pointers.ensures ∙ ap without_pointers c.enter-inner.ensures in
@@ -291,7 +283,7 @@ read_union-read_structure-requires t c =
     let y = c.args.structure.now in
     let inner = entered c.args.around c.args.id c.args.at in
     let none : c.active_member.result ≡ None = search rules in
-    let active = active-is c.args.source.now c.enter-inner.result inner c.args.desc.now c.worth_of.result c.as_slice-fields.result.now y.fields None c.enter-inner.ensures c.worth_of.ensures c.as_slice-fields.ensures.items (sym none ∙ c.active_member.ensures) in
+    let active = active-is c.args.source.now c.enter-inner.result inner c.args.desc.now c.worth_of-worth.result y.fields None c.enter-inner.ensures c.worth_of-worth.ensures (sym none ∙ c.active_member.ensures) in
     let common = c.in-Some-common_structure.common in
     let is : IsCommon c.args.source.now.program.now y common = search rules in
     let changed : c.without_pointers.result ≡ without_pointers inner = c.without_pointers.ensures ∙ ap without_pointers c.enter-inner.ensures in
@@ -306,7 +298,7 @@ read_union-returns t c =
     let y = c.args.structure.now in
     let inner = entered c.args.around c.args.id c.args.at in
     let none : c.active_member.result ≡ None = search rules in
-    let active = active-is c.args.source.now c.enter-inner.result inner c.args.desc.now c.worth_of.result c.as_slice-fields.result.now y.fields None c.enter-inner.ensures c.worth_of.ensures c.as_slice-fields.ensures.items (sym none ∙ c.active_member.ensures) in
+    let active = active-is c.args.source.now c.enter-inner.result inner c.args.desc.now c.worth_of-worth.result y.fields None c.enter-inner.ensures c.worth_of-worth.ensures (sym none ∙ c.active_member.ensures) in
     let common = c.in-Some-common_structure.common in
     let is : IsCommon c.args.source.now.program.now y common = search rules in
     let changed : c.without_pointers.result ≡ without_pointers inner = c.without_pointers.ensures ∙ ap without_pointers c.enter-inner.ensures in

@@ -1,4 +1,4 @@
 use Rattle.gt_value.proofs.unions.common_structure.Goals as goal
 
-pub common_of-requires-clause-there : goal.common_of-requires-clause-there
-common_of-requires-clause-there c = (c.args.id, c.requires.has)
+pub returns : goal.returns
+returns c = c.common.ensures.common c.args.program.now c.args.structure.now c.requires.laid.unions c.requires.settled c.requires.has c.requires.union

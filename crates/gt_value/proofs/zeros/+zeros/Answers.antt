@@ -1,4 +1,4 @@
-use Rattle.std.proofs.Common.{◌≡◌, ◌∙◌, ◌+◌, ◌≤◌, ap, sym, subst, refl, arith, Some, None, Err, inl, inr, IsTrue, get_or, length, map, take}
+use Rattle.std.proofs.Common.{◌≡◌, ◌∙◌, ◌+◌, ◌<◌, ◌≤◌, ap, sym, subst, refl, arith, Some, None, Err, inl, inr, IsTrue, get_or, length, map, take}
 use Rattle.std.specs.Prelude.{pos}
 use Rattle.std.proofs.lemmas.Result.{err_from_is_err_and}
 use Rattle.std.proofs.lemmas.List.Elements.{All-get_or}
@@ -61,7 +61,7 @@ zero_of-overflow_sub-depth t c = (node_within c.args.program.now c.args.ty.now c
 pub zero_of-zero_structure-requires : goal.zero_of-zero_structure-requires
 zero_of-zero_structure-requires t c =
     let inner = node_within c.args.program.now c.args.ty.now c.in-Node.id c.in-Node.desc c.args.depth c.requires.shallow c.in-Node.is in
-    (omega (arith, inner.1), (c.requires.settled, (inner.0, inner.2)))
+    (omega (arith, inner.1), (c.requires.settled, (c.requires.laid, (inner.0, inner.2))))
 
 pub zero_of-returns-in_ok-bytes-in-Opaque-clause-zero : goal.zero_of-returns-in_ok-bytes-in-Opaque-clause-zero
 zero_of-returns-in_ok-bytes-in-Opaque-clause-zero t c =
@@ -100,8 +100,11 @@ zero_structure-zero_fields-requires t c =
       (
         c.requires.settled,
         (
-          shallow_fields c.args.program.now c.args.id.0 c.args.depth c.index-as_slice-id.result c.as_slice-2.result.now c.requires.settled there c.requires.shallow c.as_slice-2.ensures.items,
-          fields-flat c.args.program.now c.args.id c.index-as_slice-id.result c.as_slice-2.result.now c.requires.settled there c.as_slice-2.ensures.items,
+          c.requires.laid,
+          (
+            shallow_fields c.args.program.now c.args.id.0 c.args.depth c.index-as_slice-id.result c.as_slice-2.result.now c.requires.settled there c.requires.shallow c.as_slice-2.ensures.items,
+            fields-flat c.args.program.now c.args.id c.index-as_slice-id.result c.as_slice-2.result.now c.requires.settled there c.as_slice-2.ensures.items,
+          ),
         ),
       ),
     )
@@ -123,41 +126,32 @@ zero_structure-returns-clause-zero t c =
     (subst (λ fs. AreNoughts c.args.program.now c.args.capacity (types_of fs) (trees (map tree_of c.in_ok-parts.parts.items))) c.as_slice-2.ensures.items c.in_ok-parts.ensures.zero))
 
 pub zero_union-bounds-fields-place : goal.zero_union-bounds-fields-place
-zero_union-bounds-fields-place t c = active-within c.zero_desc.result c.as_slice-fields.result.now c.in-Some.place (sym c.in-Some.ensures)
-
-pub zero_union-offset_bounds-fields-place : goal.zero_union-offset_bounds-fields-place
-zero_union-offset_bounds-fields-place t c =
-    let lt = active-within c.zero_desc.result c.as_slice-fields.result.now c.in-Some.place (sym c.in-Some.ensures) in
-    let few = (c.requires.settled.structures c.args.id c.args.structure.now c.requires.has).few_fields in
-    omega (arith, lt, few, ap length c.as_slice-fields.ensures.items)
+zero_union-bounds-fields-place t c =
+    let within = active-within c.zero_desc-worth.result c.args.structure.now.fields c.in-Some.place (sym c.in-Some.ensures) in
+    omega (arith, within, ap length c.as_slice-fields.ensures.items)
 
 pub zero_union-zero_of-requires : goal.zero_union-zero_of-requires
 zero_union-zero_of-requires t c =
-    let lt = active-within c.zero_desc.result c.as_slice-fields.result.now c.in-Some.place (sym c.in-Some.ensures) in
+    let within = active-within c.zero_desc-worth.result c.args.structure.now.fields c.in-Some.place (sym c.in-Some.ensures) in
+    let lt : c.in-Some.place < length c.as_slice-fields.result.now = omega (arith, within, ap length c.as_slice-fields.ensures.items) in
     let flat = All-get_or (λ f. dimensions f.ty ≤ 4) c.as_slice-fields.result.now c.in-Some.place c.index-fields-place.result lt
     (fields-flat c.args.program.now c.args.id c.args.structure.now c.as_slice-fields.result.now c.requires.settled c.requires.has c.as_slice-fields.ensures.items) in
     let shallow = All-get_or (λ f. HoldsWithinDepth c.args.program.now f.ty c.args.depth) c.as_slice-fields.result.now c.in-Some.place c.index-fields-place.result lt
     (shallow_fields c.args.program.now c.args.id.0 c.args.depth c.args.structure.now c.as_slice-fields.result.now c.requires.settled c.requires.has c.requires.shallow c.as_slice-fields.ensures.items) in
-    (omega (arith, flat), (c.requires.settled, (shallow, flat)))
+    (omega (arith, flat), (c.requires.settled, (c.requires.laid, (shallow, flat))))
 
 pub zero_union-returns-in_err-value-clause-shape : goal.zero_union-returns-in_err-value-clause-shape
 zero_union-returns-in_err-value-clause-shape t c fail tree h =
     let p = err_from_is_err_and c.from_residual.result c.from_residual.ensures.1 in
     let q = p.2 in
     let is : c.in_err-value.field-0.0 ≡ Shape = cc in
-    let at = union-at c.args.desc.now c.args.structure.now c.as_slice-fields.result.now c.zero_desc.result c.in-Some.place c.index-fields-place.result c.as_slice-fields.ensures.items c.zero_desc.ensures (sym c.in-Some.ensures) in
+    let at = union-at c.args.desc.now c.args.structure.now c.as_slice-fields.result.now c.zero_desc-worth.result c.in-Some.place c.index-fields-place.result c.as_slice-fields.ensures.items c.zero_desc-worth.ensures (sym c.in-Some.ensures) in
     let found = nought-member c.args.id c.args.desc.now c.args.structure.now c.in-Some.place (get_or c.as_slice-fields.result.now c.in-Some.place c.index-fields-place.result) tree c.requires.has c.requires.union at.0 at.1 h in
     c.in_err-value.ensures.shape (ap Err is) found.0 found.1
 
-pub zero_union-overflow_cast-result : goal.zero_union-overflow_cast-result
-zero_union-overflow_cast-result t c =
-    let lt = active-within c.zero_desc.result c.as_slice-fields.result.now c.in-Some.place (sym c.in-Some.ensures) in
-    let few = (c.requires.settled.structures c.args.id c.args.structure.now c.requires.has).few_fields in
-    omega (arith, lt, few, ap length c.as_slice-fields.ensures.items)
-
 pub zero_union-returns-in-Some-clause-zero : goal.zero_union-returns-in-Some-clause-zero
 zero_union-returns-in-Some-clause-zero t c =
-    let at = union-at c.args.desc.now c.args.structure.now c.as_slice-fields.result.now c.zero_desc.result c.in-Some.place c.index-fields-place.result c.as_slice-fields.ensures.items c.zero_desc.ensures (sym c.in-Some.ensures) in
+    let at = union-at c.args.desc.now c.args.structure.now c.as_slice-fields.result.now c.zero_desc-worth.result c.in-Some.place c.index-fields-place.result c.as_slice-fields.ensures.items c.zero_desc-worth.ensures (sym c.in-Some.ensures) in
     subst (IsNought c.args.program.now c.args.capacity (ty.Node c.args.id c.args.desc.now)) (sym (tree-alt (Some c.in-Some.place) c.in_ok-new.field-0))
     (member c.requires.has c.requires.union at.0 at.1
     (subst (λ v. IsNought c.args.program.now c.args.capacity (get_or c.as_slice-fields.result.now c.in-Some.place c.index-fields-place.result).ty (tree_of v)) (sym c.in_ok-new.ensures) c.in_ok-value.ensures.zero))
@@ -169,20 +163,20 @@ zero_union-overflow_sub-depth t c =
 pub zero_union-zero_structure-requires : goal.zero_union-zero_structure-requires
 zero_union-zero_structure-requires t c =
     let inner = common-within c.args.program.now c.requires.settled c.args.id c.args.structure.now c.in-Some-common_structure.common c.args.depth c.requires.has c.requires.shallow c.in-Some-common_structure.ensures in
-    (omega (arith, inner.1), (c.requires.settled, (inner.0, inner.2)))
+    (omega (arith, inner.1), (c.requires.settled, (c.requires.laid, (inner.0, inner.2))))
 
 pub zero_union-returns-in_err-value-in-Some-common_structure-clause-shape : goal.zero_union-returns-in_err-value-in-Some-common_structure-clause-shape
 zero_union-returns-in_err-value-in-Some-common_structure-clause-shape t c fail tree h =
     let p = err_from_is_err_and c.from_residual-in_err-value-in-Some-common_structure.result c.from_residual-in_err-value-in-Some-common_structure.ensures.1 in
     let q = p.2 in
     let is : (c.in_err-value-in-Some-common_structure).field-0.0 ≡ Shape = cc in
-    let none = union-none c.args.desc.now c.args.structure.now c.as_slice-fields.result.now c.zero_desc.result c.active_member.result c.as_slice-fields.ensures.items c.zero_desc.ensures c.active_member.ensures c.in_default.not-Some in
+    let none = union-none c.args.desc.now c.args.structure.now c.zero_desc-worth.result c.active_member.result c.zero_desc-worth.ensures c.active_member.ensures c.in_default.not-Some in
     let found = nought-common c.args.id c.in-Some-common_structure.common c.args.desc.now c.args.structure.now tree c.requires.settled c.requires.has c.requires.union none c.in-Some-common_structure.ensures h in
     c.in_err-value-in-Some-common_structure.ensures.shape (ap Err is) found.0 found.1
 
 pub zero_union-returns-clause-zero : goal.zero_union-returns-clause-zero
 zero_union-returns-clause-zero t c =
-    let none = union-none c.args.desc.now c.args.structure.now c.as_slice-fields.result.now c.zero_desc.result c.active_member.result c.as_slice-fields.ensures.items c.zero_desc.ensures c.active_member.ensures c.in_default.not-Some in
+    let none = union-none c.args.desc.now c.args.structure.now c.zero_desc-worth.result c.active_member.result c.zero_desc-worth.ensures c.active_member.ensures c.in_default.not-Some in
     subst (IsNought c.args.program.now c.args.capacity (ty.Node c.args.id c.args.desc.now)) (sym (tree-alt None c.in_ok-new-2.field-0))
     (elim c.match-common_structure.branch [
       | zero_union-in-Some-common_structure+in_ok-value-in-Some-common_structure w ↦

@@ -17,8 +17,8 @@ use Rattle.gt_value.proofs.CursorSteps.{site, answers-none, struct-step, struct-
 use Rattle.gt_value.proofs.CursorCommons.{common-at, common-missing, common-within}
 use Rattle.gt_value.proofs.cursors.Cursor.inside.Goals as goal
 
-pub worth_of-requires : goal.worth_of-requires
-worth_of-requires c = record { laid = c.requires.stands.1.context.laid }
+pub worth_of-worth-requires : goal.worth_of-worth-requires
+worth_of-worth-requires c = record { laid = c.requires.stands.1.context.laid }
 
 pub bounds-as_slice-id : goal.bounds-as_slice-id
 bounds-as_slice-id c =
@@ -118,6 +118,21 @@ returns-then-not-structure c =
     struct-step source self.site c.args.id c.args.desc.now self.at y has plane c.args.place f spot c.moved.result struct laid got spot_of
     (subst (λ x. IsMoved c.moved.result source (site x (lies_in.Field c.args.id c.args.place)) f.ty (self.at + begin_at spot)) c.enter-inner.ensures moved)
 
+pub active_member-requires-clause-laid : goal.active_member-requires-clause-laid
+active_member-requires-clause-laid c = c.requires.stands.1.context.laid
+
+pub active_member-requires-clause-has : goal.active_member-requires-clause-has
+active_member-requires-clause-has c =
+    let self = c.args.self.now in
+    let source = self.source in
+    let planes = source.layouts.now.structures in
+    let y = c.index-as_slice-id.result in
+    let value = c.requires.stands.0 in
+    let known = node-has c.args.id c.args.desc.now value c.requires.stands.1.fits in
+    let there = slice_get_within source.program.now.structures c.args.id.0 known.0 known.1 in
+    let has = read_at c.as_slice.result.now source.program.now.structures c.args.id.0 y c.as_slice.ensures.items there c.index-as_slice-id.is in
+    has
+
 pub returns-then-active-place : goal.returns-then-active-place
 returns-then-active-place c =
     let self = c.args.self.now in
@@ -130,15 +145,16 @@ returns-then-active-place c =
     let has = read_at c.as_slice.result.now source.program.now.structures c.args.id.0 y c.as_slice.ensures.items there c.index-as_slice-id.is in
     let inner = entered self.site.around c.args.id self.at in
     let union : y.is_union ≡ true = search rules in
-    let active = active-is source c.enter-inner.result inner c.args.desc.now c.worth_of.result c.as_slice-fields.result.now y.fields (Some c.in-Some.active) c.enter-inner.ensures c.worth_of.ensures c.as_slice-fields.ensures.items c.in-Some.ensures in
-    let lt = active-within c.worth_of.result c.as_slice-fields.result.now c.in-Some.active (sym c.in-Some.ensures) in
-    let within : c.in-Some.active < length y.fields = omega (arith, lt, ap length c.as_slice-fields.ensures.items) in
+    let active = active-is source c.enter-inner.result inner c.args.desc.now c.worth_of-worth.result y.fields (Some c.in-Some.active) c.enter-inner.ensures c.worth_of-worth.ensures c.in-Some.ensures in
+    let within = active-within c.worth_of-worth.result y.fields c.in-Some.active (sym c.in-Some.ensures) in
     let f = get_or y.fields c.in-Some.active (record { name = []; ty = ty.Str None; active = Never }) in
     let got = slice_get-get_or y.fields c.in-Some.active (record { name = []; ty = ty.Str None; active = Never }) within in
     member-none source self.site c.args.id c.args.desc.now self.at y has union c.in-Some.active c.args.place f active got c.if-active-place.true
 
 pub bounds-fields-active : goal.bounds-fields-active
-bounds-fields-active c = active-within c.worth_of.result c.as_slice-fields.result.now c.in-Some.active (sym c.in-Some.ensures)
+bounds-fields-active c =
+    let within = active-within c.worth_of-worth.result c.index-as_slice-id.result.fields c.in-Some.active (sym c.in-Some.ensures) in
+    omega (arith, within, ap length c.as_slice-fields.ensures.items)
 
 pub returns-in-Some : goal.returns-in-Some
 returns-in-Some c =
@@ -152,9 +168,8 @@ returns-in-Some c =
     let has = read_at c.as_slice.result.now source.program.now.structures c.args.id.0 y c.as_slice.ensures.items there c.index-as_slice-id.is in
     let inner = entered self.site.around c.args.id self.at in
     let union : y.is_union ≡ true = search rules in
-    let active = active-is source c.enter-inner.result inner c.args.desc.now c.worth_of.result c.as_slice-fields.result.now y.fields (Some c.in-Some.active) c.enter-inner.ensures c.worth_of.ensures c.as_slice-fields.ensures.items c.in-Some.ensures in
-    let lt = active-within c.worth_of.result c.as_slice-fields.result.now c.in-Some.active (sym c.in-Some.ensures) in
-    let within : c.in-Some.active < length y.fields = omega (arith, lt, ap length c.as_slice-fields.ensures.items) in
+    let active = active-is source c.enter-inner.result inner c.args.desc.now c.worth_of-worth.result y.fields (Some c.in-Some.active) c.enter-inner.ensures c.worth_of-worth.ensures c.in-Some.ensures in
+    let within = active-within c.worth_of-worth.result y.fields c.in-Some.active (sym c.in-Some.ensures) in
     let f = c.index-fields-active.result in
     let got = read_at c.as_slice-fields.result.now y.fields c.in-Some.active f c.as_slice-fields.ensures.items within c.index-fields-active.is in
     let got_place = subst (λ k. slice_get y.fields k ≡ Some f) c.if-active-place.false got in
@@ -188,7 +203,7 @@ returns-in_err-common c =
     let inner = entered self.site.around c.args.id self.at in
     let union : y.is_union ≡ true = search rules in
     let none : c.active_member.result ≡ None = search rules in
-    let active = active-is source c.enter-inner.result inner c.args.desc.now c.worth_of.result c.as_slice-fields.result.now y.fields None c.enter-inner.ensures c.worth_of.ensures c.as_slice-fields.ensures.items (sym none ∙ c.active_member.ensures) in
+    let active = active-is source c.enter-inner.result inner c.args.desc.now c.worth_of-worth.result y.fields None c.enter-inner.ensures c.worth_of-worth.ensures (sym none ∙ c.active_member.ensures) in
     let no_common : (common : TypeId) → ¬ IsCommon source.program.now y common = search rules in
     answers-none source self.site (ty.Node c.args.id c.args.desc.now) self.at c.args.place c.from_residual-in_err-common.result c.from_residual-in_err-common.ensures (nothing-none source self.site c.args.id c.args.desc.now self.at y has union c.args.place active no_common)
 
@@ -248,7 +263,7 @@ returns c =
     let inner = entered self.site.around c.args.id self.at in
     let union : y.is_union ≡ true = search rules in
     let none : c.active_member.result ≡ None = search rules in
-    let active = active-is source c.enter-inner.result inner c.args.desc.now c.worth_of.result c.as_slice-fields.result.now y.fields None c.enter-inner.ensures c.worth_of.ensures c.as_slice-fields.ensures.items (sym none ∙ c.active_member.ensures) in
+    let active = active-is source c.enter-inner.result inner c.args.desc.now c.worth_of-worth.result y.fields None c.enter-inner.ensures c.worth_of-worth.ensures (sym none ∙ c.active_member.ensures) in
     let common = c.in_ok-common.common in
     let is : IsCommon source.program.now y common = search rules in
     let found : c.find_node.result ≡ Some c.in_ok-member.member = search rules in
