@@ -59,7 +59,7 @@ pub fn try_element(
         capacity: row.capacity,
         room,
     };
-    let nothing = zero(on.alloc, &on.program, ty, row.capacity)?;
+    let nothing = zero(on.alloc, &on.program, &on.layouts, ty, row.capacity)?;
     let value = write_all(on, site, nothing, row.writes, random, &mut space)?;
     see(on, kind, site, &value, &mut space)
 }

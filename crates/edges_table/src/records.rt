@@ -26,7 +26,7 @@ pub fn try_record(on: &Ground, writes: u32, random: &mut Random) -> Result<Seen,
     requires ground { IsGround on.now.program on.now.layouts }
 {
     let mut space = record_space(on)?;
-    let nothing = zero_statics(on.alloc, &on.program)?;
+    let nothing = zero_statics(on.alloc, &on.program, &on.layouts)?;
     let values = write_all(on, nothing, writes, random, &mut space)?;
     see(on, &values, &mut space)
 }

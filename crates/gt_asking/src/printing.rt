@@ -63,6 +63,7 @@ fn show_object(
     show_block(
         alloc,
         &schema.program,
+        &schema.layouts,
         known.kind,
         elements.as_slice(),
         &names,
@@ -93,5 +94,12 @@ fn show_end(
         End::Value(cursor) => cursor,
     };
     let value = cursor.read(alloc)?;
-    show(alloc, &schema.program, cursor.ty(), &value, &names)
+    show(
+        alloc,
+        &schema.program,
+        &schema.layouts,
+        cursor.ty(),
+        &value,
+        &names,
+    )
 }

@@ -88,6 +88,7 @@ fn bind_single(
     if !has_zero(
         alloc,
         &s.schema.program,
+        &s.schema.layouts,
         &s.schema.types,
         kind,
         1,

@@ -6,6 +6,7 @@ ghost use Rattle.gt_types.specs.Unions.{BeginsWith};
 ghost use Rattle.gt_types.specs.declared.expressions.Expr.{Expr};
 ghost use Rattle.gt_types.specs.declared.program.Structure.{Structure};
 ghost use Rattle.gt_types.specs.declared.types.Ty.TheVariants.{Node};
+ghost use Rattle.gt_layout.specs.Planes.{IsLaidOut};
 ghost use Rattle.gt_fields.specs.FieldNames.{AreNamesOf};
 ghost use Rattle.gt_script.specs.declared.command.Hop.TheVariants.{Name};
 ghost use Rattle.gt_tree.specs.Scopes.{is_node};
@@ -17,6 +18,7 @@ ghost use Rattle.gt_routes.specs.Steps.{IsIn, StandsAt, IsInactive, IsBegin, Lea
 use crate::field_places::place_of_field;
 use crate::steps::{Step, made};
 use gt_fields::FieldNames;
+use gt_layout::Layouts;
 use gt_next::Why;
 use gt_types::{MAX_DEPTH, Program, Ty, TypeId, Word};
 use gt_value::{Cursor, common_structure};
@@ -60,12 +62,14 @@ fn begin_of<'a>(program: &Program, at: Cursor<'a>, member: u32, common: TypeId) 
 /// begin of the active member, or, where none is active, to the common structure that is kept. Else it is refused.
 pub fn common_step<'a>(
     program: &Program,
+    layouts: &Layouts,
     fields: &FieldNames,
     at: Cursor<'a>,
     node: TypeId,
     name: &Word,
 ) -> Result<Step<'a>, Why>
     requires settled { Settled program.now }
+    requires laid { IsLaidOut program.now layouts.now }
     requires fields { AreNamesOf program.now.structures fields.now }
     requires stands { IsIn program.now at }
     requires node { (desc : Option Expr) × (at.ty.now ≡ Node node desc) }
@@ -83,7 +87,7 @@ pub fn common_step<'a>(
     let Some(field) = structure.fields.get(place as usize) else {
         unreachable!()
     };
-    let Some(common) = common_structure(program, node, structure) else {
+    let Some(common) = common_structure(program, layouts, node, structure) else {
         return Err(Why::Inactive);
     };
     if !is_node(common, &field.ty) {

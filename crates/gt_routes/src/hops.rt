@@ -4,6 +4,7 @@ ghost use Rattle.gt_types.specs.Settled.{Settled};
 ghost use Rattle.gt_types.specs.Contains.{itself};
 ghost use Rattle.gt_types.specs.declared.expressions.Expr.{Expr};
 ghost use Rattle.gt_types.specs.declared.types.Ty.TheVariants.{Node};
+ghost use Rattle.gt_layout.specs.Planes.{IsLaidOut};
 ghost use Rattle.gt_fields.specs.FieldNames.{AreNamesOf};
 ghost use Rattle.gt_script.specs.declared.command.Hop.TheVariants.{Name};
 ghost use Rattle.gt_next.specs.Spots.{element_of};
@@ -14,6 +15,7 @@ ghost use Rattle.gt_routes.specs.Steps.{IsIn, LeadsFrom, RefusedFrom};
 use crate::commons::common_step;
 use crate::steps::{Step, element_step, field_step, member_step};
 use gt_fields::FieldNames;
+use gt_layout::Layouts;
 use gt_next::Why;
 use gt_script::Hop;
 use gt_types::{Program, Ty, TypeId, Word};
@@ -45,12 +47,14 @@ fn structure_of(ty: &Ty) -> Option<TypeId>
 /// A step by a name in a value of a structure.
 pub fn name_step<'a>(
     program: &Program,
+    layouts: &Layouts,
     fields: &FieldNames,
     at: Cursor<'a>,
     node: TypeId,
     name: &Word,
 ) -> Result<Step<'a>, Why>
     requires settled { Settled program.now }
+    requires laid { IsLaidOut program.now layouts.now }
     requires fields { AreNamesOf program.now.structures fields.now }
     requires stands { IsIn program.now at }
     requires node { (desc : Option Expr) × (at.ty.now ≡ Node node desc) }
@@ -65,7 +69,7 @@ pub fn name_step<'a>(
     }
     match member_step(program, fields, at, node, name) {
         Ok(Some(step)) => Ok(step),
-        Ok(None) => common_step(program, fields, at, node, name),
+        Ok(None) => common_step(program, layouts, fields, at, node, name),
         Err(why) => Err(why),
     }
 }
@@ -73,11 +77,13 @@ pub fn name_step<'a>(
 /// A step in a value. One that does not suit the type is refused.
 pub fn local_step<'a>(
     program: &Program,
+    layouts: &Layouts,
     fields: &FieldNames,
     at: Cursor<'a>,
     hop: &Hop,
 ) -> Result<Step<'a>, Why>
     requires settled { Settled program.now }
+    requires laid { IsLaidOut program.now layouts.now }
     requires fields { AreNamesOf program.now.structures fields.now }
     requires stands { IsIn program.now at }
     ensures leads { IfOk result (λ to. LeadsFrom program.now at.entry hop.now to) }
@@ -91,7 +97,7 @@ pub fn local_step<'a>(
             element_step(program, at, *place)
         }
         Hop::Name(name) => match structure_of(at.ty()) {
-            Some(node) => name_step(program, fields, at, node, name),
+            Some(node) => name_step(program, layouts, fields, at, node, name),
             None => Err(Why::WrongType),
         },
     }

@@ -213,7 +213,7 @@ fn value_step<'a>(
     ensures first { IfOk result (λ to. (heap : Heap) → IsHeapOf schema.now.program schema.now.layouts objects.now heap → IsFirstIn schema.now.program schema.now.layouts objects.now heap to) }
     ensures refused { (why : Why) → result ≡ Err (Refused why) → (heap : Heap) → IsHeapOf schema.now.program schema.now.layouts objects.now heap → StopsWithin schema.now.program heap (spot (owner_of owner) places.items) hop.now why }
 {
-    let step = match local_step(&schema.program, &schema.fields, at, hop) {
+    let step = match local_step(&schema.program, &schema.layouts, &schema.fields, at, hop) {
         Ok(step) => step,
         Err(why) => return Err(WalkFail::Refused(why)),
     };

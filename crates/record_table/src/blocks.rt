@@ -73,7 +73,7 @@ fn element_of(on: &Sample, kind: BlockKind, ty: &Ty, text: &str) -> Result<Value
     ensures fits { IfOk result (λ v. FitsBeside on.now.program blocks 0 ty.now (tree_of v)) }
 {
     let writes = read_element(on.alloc, kind, text)?;
-    let nothing = zero(on.alloc, &on.program, ty, 0)?;
+    let nothing = zero(on.alloc, &on.program, &on.layouts, ty, 0)?;
     write_element(on, ty, nothing, writes.as_slice())
 }
 
@@ -126,6 +126,7 @@ fn text_of(on: &Sample, kind: BlockKind, elements: Vec<Value>) -> Result<Bytes, 
         _ => show_block(
             on.alloc,
             &on.program,
+            &on.layouts,
             kind,
             elements.as_slice(),
             &TableBlocks,
@@ -142,6 +143,7 @@ fn text_of_chars(on: &Sample, mut elements: Vec<Value>) -> Result<Bytes, AllocEr
     show_block(
         on.alloc,
         &on.program,
+        &on.layouts,
         BlockKind::Chars,
         elements.as_slice(),
         &TableBlocks,

@@ -18,7 +18,7 @@ pub fn last_record(on: &Sample, writes: &[RootWrite]) -> Result<Value, Stop>
     requires ready { IsReady on.now.program on.now.layouts }
     ensures fits { IfOk result (λ v. (parts : Trees) × (tree_of v ≡ Rec parts) × StaticsFit on.now.program blocks parts) }
 {
-    let nothing = zero_statics(on.alloc, &on.program)?;
+    let nothing = zero_statics(on.alloc, &on.program, &on.layouts)?;
     write_roots(on, nothing, writes)
 }
 

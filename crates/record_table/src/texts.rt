@@ -16,7 +16,7 @@ pub fn record_text(on: &Sample, values: &Value) -> Result<String, AllocError>
     requires ready { IsReady on.now.program on.now.layouts }
     requires fits { (parts : Trees) × (tree_of values.now ≡ Rec parts) × StaticsFit on.now.program blocks parts }
 {
-    let shown = show_statics(on.alloc, &on.program, values, &TableBlocks)?;
+    let shown = show_statics(on.alloc, &on.program, &on.layouts, values, &TableBlocks)?;
     let mut text = String::new(on.alloc);
     push_ascii(&mut text, shown.as_slice())?;
     Ok(text)

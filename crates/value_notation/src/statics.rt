@@ -23,7 +23,7 @@ pub fn zero_space(on: &Sample) -> Result<Space, Stop>
     let Some(room) = room_in(&space, 0, size) else {
         return Err(Stop::TooLarge);
     };
-    let values = zero_statics(on.alloc, &on.program)?;
+    let values = zero_statics(on.alloc, &on.program, &on.layouts)?;
     space.fill(room.addr, size, FILLED);
     store_statics(&on.program, &on.layouts, &mut space, &values);
     Ok(space)

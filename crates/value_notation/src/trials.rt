@@ -78,7 +78,7 @@ pub fn last_value(on: &Sample, row: &Row, ty: &Ty) -> Result<Value, Stop>
     requires element { IsElement on.now.program ty.now }
     ensures fits { IfOk result (λ v. FitsBeside on.now.program blocks row.now.capacity ty.now (tree_of v)) }
 {
-    let nothing = zero(on.alloc, &on.program, ty, row.capacity)?;
+    let nothing = zero(on.alloc, &on.program, &on.layouts, ty, row.capacity)?;
     write_all(on, ty, row.capacity, nothing, row.writes.as_slice())
 }
 

@@ -124,7 +124,7 @@ fn try_pointer(on: &Sample, ty: &Ty, write: &Write) -> Result<Option<Seen>, Stop
     requires ready { IsReady on.now.program on.now.layouts }
     requires pointer { ty.now ≡ pointer_to 0 }
 {
-    let nothing = zero(on.alloc, &on.program, ty, 0)?;
+    let nothing = zero(on.alloc, &on.program, &on.layouts, ty, 0)?;
     let value = write_one(on, ty, 0, nothing, write, true)?;
     find_stored(on, ty, 0, &value, POINTER_BYTES, write.path.as_slice())
 }

@@ -106,7 +106,7 @@ fn show_times(on: &Sample, ty: &Ty, value: &Value, times: u32) -> Result<(), All
     requires fits { FitsSomewhere on.now.program blocks ty.now (tree_of value.now) }
 {
     for _ in 0..times {
-        let _ = show(on.alloc, &on.program, ty, value, &TableBlocks)?;
+        let _ = show(on.alloc, &on.program, &on.layouts, ty, value, &TableBlocks)?;
     }
     Ok(())
 }

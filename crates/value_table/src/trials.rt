@@ -35,7 +35,14 @@ pub fn try_row(on: &Sample, row: &Row) -> Result<Trial, Stop>
     let node = row.kind.id();
     let ty = element(on, node)?;
     let value = last_value(on, row, &ty)?;
-    let text = show(on.alloc, &on.program, &ty, &value, &TableBlocks)?;
+    let text = show(
+        on.alloc,
+        &on.program,
+        &on.layouts,
+        &ty,
+        &value,
+        &TableBlocks,
+    )?;
     let (bytes, reread) = store_and_show(on, node, &ty, row.capacity, &value)?;
     Ok(Trial {
         text,
@@ -63,7 +70,14 @@ fn store_and_show(
         return Err(Stop::TooLarge);
     };
     let reread = store_and_read(on, ty, capacity, value, &mut space, room)?;
-    let text = show(on.alloc, &on.program, ty, &reread, &TableBlocks)?;
+    let text = show(
+        on.alloc,
+        &on.program,
+        &on.layouts,
+        ty,
+        &reread,
+        &TableBlocks,
+    )?;
     let mut bytes = vec![in on.alloc; 0u8; size as usize]?;
     space.copy_out(room.addr, &mut bytes);
     Ok((bytes, text))
