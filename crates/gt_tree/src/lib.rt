@@ -2,10 +2,10 @@
 //! definitions that the layers of values, walks and the heap speak of, and laws on them; there is nothing to call.
 #![tactic(auto)]
 
-mod fixed;
+pub mod fixed;
 pub mod laws;
-mod paths;
-mod writes;
+pub mod paths;
+pub mod writes;
 
 pub use fixed::{leaves_are_read, numbers_are_fixed, values_are_fixed};
 pub use laws::{
