@@ -4,5 +4,5 @@
 set -eu
 root=$(cd "$(dirname "$0")/.." && pwd)
 stored=$root/crates/refusals_table/stdout
-lines=$(wc -l <"$stored")
-grep -F -x -A $((lines - 1)) "    $(head -n 1 "$stored")" "$root/docs/SCRIPT.md" | sed 's/^    //' | diff - "$stored"
+first=$(head -n 1 "$stored")
+awk -v first="    $first" '$0 == first { on = 1 } on && !/^    / { exit } on' "$root/docs/SCRIPT.md" | sed 's/^    //' | diff - "$stored"

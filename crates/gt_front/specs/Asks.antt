@@ -21,12 +21,13 @@ pub record Calls (words : List (List ℕ)) (call : Call) (name : List ℕ) : Typ
 abbrev pub generated_texts : ℕ → Texts
 generated_texts n = record { headers = header_text ∷ []; script = script_text n }
 
--- the texts of a script and its headers: each of the files was read with its text, or the script is generated with its header
+-- the texts of a script and its headers: each of the files holds its text, where files are told, or the script is generated with its header
 abbrev pub AreTextsFor : Option Held → ScriptWord → (headers : List (List ℕ)) → Texts → Type 0
 AreTextsFor told (File name) headers texts = AreTexts told name headers texts
 AreTextsFor told (Generated word n) headers texts = texts ≡ generated_texts n
 
--- the words ask for a script with its headers, and these are their texts
+-- the words ask for a script with its headers, and these are their texts, as `AreTextsFor` says it; what was read of a store is said by
+-- `IsReadAs`
 pub record Reads (words : List (List ℕ)) (told : Option Held) (call : Call) (texts : Texts) : Type 0 where
   pub called : call_of words ≡ Some call
   pub texts_are : AreTextsFor told call.script call.headers texts

@@ -24,7 +24,8 @@ use Rattle.gt_lines.specs.declared.lines.LinesEnd.TheVariants as lines
 use Rattle.gt_run.specs.Comes.{IsRefusedFirst}
 use Rattle.gt_run.specs.Endings.{ending_of}
 use Rattle.gt_run.specs.Runs.{Opens, Runs}
-use Rattle.gt_run.specs.Ended.{Ended, Ends, Refuses, WasRead, refusal_of, status_of}
+use Rattle.gt_run.specs.Ended.{Ended, Ends, WasRead, refusal_of, status_of}
+use Rattle.gt_run.specs.Refusing.{Refuses}
 use Rattle.gt_run.specs.declared.ending.Ending.{Ending}
 use Rattle.gt_run.specs.declared.ending.Ending.TheVariants.{Finished, Refused, SinkFailed, NoMemory}
 use Rattle.gt_run.specs.declared.outcome.Outcome.{Outcome}

@@ -3,7 +3,8 @@ use Rattle.std.proofs.Common.{◌≡◌, ◌≤◌, ◌⊎◌, ℕ, List, [], Op
 use Rattle.gt_front.specs.declared.refusal.Refusal.{Refusal}
 use Rattle.gt_front.specs.declared.refusal.Refusal.TheVariants.{Words, Header, Script, NotBuilt, File as InFile}
 use Rattle.gt_next.specs.declared.answer.Answer.{Answer}
-use Rattle.gt_run.specs.Ended.{Refuses, refusal_status, status_of}
+use Rattle.gt_run.specs.Ended.{refusal_status, status_of}
+use Rattle.gt_run.specs.Refusing.{Refuses}
 use Rattle.gt_run.specs.declared.ending.Ending.{Ending}
 use Rattle.gt_run.specs.declared.ending.Ending.TheVariants.{Finished, Refused, SinkFailed, NoMemory}
 

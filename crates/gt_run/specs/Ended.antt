@@ -19,13 +19,6 @@ use Rattle.gt_run.specs.declared.ending.Ending.{Ending}
 use Rattle.gt_run.specs.declared.ending.Ending.TheVariants.{Finished, Refused, SinkFailed, NoMemory}
 use Rattle.gt_run.specs.declared.outcome.Outcome.{Outcome}
 
--- the refusal's line is written; or a prefix of it, where the sink failed; or nothing, for out of memory
-abbrev pub Refuses : Refusal → List ℕ → (taken takes : Option (List ℕ)) → Ending → Type 0
-Refuses refusal line taken takes (Refused told) = (told ≡ refusal) × Adds taken line takes
-Refuses refusal line taken takes SinkFailed = AddsFront taken line takes
-Refuses refusal line taken takes NoMemory = takes ≡ taken
-Refuses refusal line taken takes Finished = ⊥
-
 -- this was read, by the reads of a store; where nothing is named, nothing is said
 abbrev pub WasRead : {F : Type 0} → (F → List ℕ → ℕ → Result (Option (List ℕ)) ReadFail → F → Type 0) → List (List ℕ) → F → Option Extent → F → Type 0
 WasRead reads words store (Some extent) last = HasRead reads words store extent last

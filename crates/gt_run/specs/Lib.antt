@@ -3,3 +3,4 @@ pub mod Runs
 pub mod Ended
 pub mod Complete
 pub mod Endings
+pub mod Refusing

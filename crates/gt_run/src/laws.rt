@@ -4,6 +4,7 @@ ghost use Rattle.std.specs.Prelude.{◌≡◌, ℕ, List, Some};
 ghost use Rattle.gt_words.specs.declared.TheConstants.{DEFAULT_PAGES, MIN_PAGES, MAX_PAGES, DEFAULT_MIN_EXPAND, MAX_MIN_EXPAND, DEFAULT_MIN_HEAPSIZE, MAX_MIN_HEAPSIZE, MAX_GENERATED, MAX_GENERATED_DIGITS, MAX_HEADERS};
 ghost use Rattle.gt_front.specs.declared.TheConstants.{MAX_HEADER_BYTES, MAX_SCRIPT_BYTES, SCRIPT_SYNTAX, SCRIPT_TOO_LONG};
 ghost use Rattle.gt_space.specs.declared.TheConstants.{PAGE_BYTES, HEAP_START, MAX_STATICS, MIN_PAGES as least_pages, MAX_PAGES as most_pages};
+ghost use Rattle.gt_graph.specs.Good.{MAX_PAIRS};
 ghost use Rattle.gt_io.specs.Held.{Held};
 ghost use Rattle.gt_space.specs.Range.{Range};
 ghost use Rattle.gt_front.specs.Texts.{Texts};
@@ -17,7 +18,7 @@ use gt_next::Answer;
 
 /// The ranges and defaults of the arguments, the limits of files in bytes, the numbers of the faults of a script, where the
 /// pages begin, how large they are and how many a space has, how large the static record may be, how many variables may be
-/// bound, and the limits of a good state.
+/// bound and how many pairs caches may have, and the limits of a good state.
 pub fn numbers()
     ensures pages { (MIN_PAGES ≡ 16) × (MAX_PAGES ≡ 16384) × (DEFAULT_PAGES ≡ 4096) }
     ensures min_expand { (MAX_MIN_EXPAND ≡ 1000) × (DEFAULT_MIN_EXPAND ≡ 30) }
@@ -29,6 +30,7 @@ pub fn numbers()
     ensures space { (HEAP_START ≡ 268435456) × (PAGE_BYTES ≡ 4096) × (MAX_STATICS ≡ 1048576) }
     ensures space_pages { (least_pages ≡ 16) × (most_pages ≡ 16384) }
     ensures variables { MAX_VARIABLES ≡ 65536 }
+    ensures pairs { MAX_PAIRS ≡ 1048576 }
     ensures settings { (most_expand ≡ 1000) × (most_heapsize ≡ 1048576) × (MAX_ALLOCATED ≡ 67108864) }
 {}
 

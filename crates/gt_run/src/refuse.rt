@@ -1,7 +1,7 @@
 // The one line that is written where no command is run.
 ghost use Rattle.std.specs.Prelude.{◌≡◌, ◌≤◌};
 ghost use Rattle.gt_io.specs.Counts.{Rose};
-ghost use Rattle.gt_run.specs.Ended.{Refuses};
+ghost use Rattle.gt_run.specs.Refusing.{Refuses};
 
 use crate::ending::Ending;
 use gt_front::Refusal;
