@@ -12,7 +12,7 @@ use Rattle.gt_value.specs.Values.{trees, tree_of}
 use Rattle.gt_fit.proofs.Values.{null-tree}
 use Rattle.gt_assign.specs.declared.changes.Change.{Change}
 use Rattle.gt_assign.specs.declared.changes.Change.TheVariants as change
-use Rattle.gt_assign.specs.declared.changes.Change.TheVariants.{Kept, New, Parts as PartsOf, Bare, There}
+use Rattle.gt_assign.specs.declared.changes.Change.TheVariants.{Kept, New, Parts as PartsOf, Bare, There, OfFirst, Begins}
 use Rattle.gt_assign.specs.declared.changes.Change.TheOpen as open_part
 use Rattle.gt_assign.specs.declared.changes.Change.TheOpen.{Change-F}
 use Rattle.gt_assign.specs.declared.changes.Change.TheFolds.{fold-Change, fold-roll-Change}
@@ -112,8 +112,14 @@ new-changed value tree = ap (λ (f : Tree → Tree). f tree) (ap changed (sym (c
 pub bare-changed : (tree : Tree) → changed Bare tree ≡ without_pointers tree
 bare-changed tree = ap (λ (f : Tree → Tree). f tree) (ap changed (sym change.rolls-Bare) ∙ fold-roll-Change (Tree → Tree) change_step open_part.Bare)
 
-pub there-changed : (change : Change) (member : Option ℕ) (tree : Tree) → changed (There change) (Alt member tree) ≡ Alt member (changed change tree)
-there-changed c member tree = ap (λ (f : Tree → Tree). f (Alt member tree)) (ap changed (sym (change.rolls-There c)) ∙ fold-roll-Change (Tree → Tree) change_step (open_part.There c))
+pub there-changed : (member : Option ℕ) (change : Change) (old : Option ℕ) (tree : Tree) → changed (There member change) (Alt old tree) ≡ Alt member (changed change tree)
+there-changed member c old tree = ap (λ (f : Tree → Tree). f (Alt old tree)) (ap changed (sym (change.rolls-There member c)) ∙ fold-roll-Change (Tree → Tree) change_step (open_part.There member c))
+
+pub first-changed : (change : Change) (trees : Trees) → changed (OfFirst change) (Rec trees) ≡ changed change (or_null (tree_at trees 0))
+first-changed c trees = ap (λ (f : Tree → Tree). f (Rec trees)) (ap changed (sym (change.rolls-OfFirst c)) ∙ fold-roll-Change (Tree → Tree) change_step (open_part.OfFirst c))
+
+pub begins-changed : (first : Change) (rest : Vec Value Global) (tree : Tree) → changed (Begins first rest) tree ≡ Rec (And (changed first tree) (trees (map tree_of rest.items)))
+begins-changed c rest tree = ap (λ (f : Tree → Tree). f tree) (ap changed (sym (change.rolls-Begins c rest)) ∙ fold-roll-Change (Tree → Tree) change_step (open_part.Begins c rest))
 
 module _ (kept : ℕ) (changes : Vec Change Global) (old : Trees) where
   pub rec-changed : changed (PartsOf kept changes) (Rec old) ≡ Rec (parts_changed kept (map changed changes.items) old)
@@ -285,7 +291,9 @@ levels_step open_part.Kept = 0
 levels_step (open_part.New value) = 0
 levels_step (open_part.Parts kept changes) = suc (most changes.items)
 levels_step open_part.Bare = 0
-levels_step (open_part.There inner) = suc inner
+levels_step (open_part.There member inner) = suc inner
+levels_step (open_part.OfFirst inner) = suc inner
+levels_step (open_part.Begins inner rest) = suc inner
 
 abbrev pub levels : Change → ℕ
 levels = fold-Change ℕ levels_step
@@ -293,8 +301,14 @@ levels = fold-Change ℕ levels_step
 pub parts-levels : (kept : ℕ) (changes : Vec Change Global) → levels (PartsOf kept changes) ≡ suc (most (map levels changes.items))
 parts-levels kept changes = ap levels (sym (change.rolls-Parts kept changes)) ∙ fold-roll-Change ℕ levels_step (open_part.Parts kept changes)
 
-pub there-levels : (change : Change) → levels (There change) ≡ suc (levels change)
-there-levels c = ap levels (sym (change.rolls-There c)) ∙ fold-roll-Change ℕ levels_step (open_part.There c)
+pub there-levels : (member : Option ℕ) (change : Change) → levels (There member change) ≡ suc (levels change)
+there-levels member c = ap levels (sym (change.rolls-There member c)) ∙ fold-roll-Change ℕ levels_step (open_part.There member c)
+
+pub first-levels : (change : Change) → levels (OfFirst change) ≡ suc (levels change)
+first-levels c = ap levels (sym (change.rolls-OfFirst c)) ∙ fold-roll-Change ℕ levels_step (open_part.OfFirst c)
+
+pub begins-levels : (first : Change) (rest : Vec Value Global) → levels (Begins first rest) ≡ suc (levels first)
+begins-levels c rest = ap levels (sym (change.rolls-Begins c rest)) ∙ fold-roll-Change ℕ levels_step (open_part.Begins c rest)
 
 -- nothing comes of an iterator that has nothing
 pub olds-none : (r : Option Value) (olds : List Value) (len : ℕ) → len ≡ length olds → (IsSome r ↔ (0 < len)) → r ≡ None → olds ≡ []
@@ -304,3 +318,8 @@ olds-none None olds len e variant is = list-none olds (go (length olds) e)
     go zero e = refl
     go (suc n) e = let some = variant.1 (omega (arith, e)) in absurd (cc)
 olds-none (Some x) olds len e variant is = absurd (cc)
+
+-- the first of some values, or null
+pub first-is : (r : Option Value) (values olds left : List Value) → olds ≡ values → olds ≡ option_to_list r ++ left → (r ≡ None → olds ≡ []) → tree_of (unwrap_or r NullOf) ≡ or_null (tree_at (trees (map tree_of values)) 0)
+first-is (Some x) values olds left same items none = ap (λ (vs : List Value). or_null (tree_at (trees (map tree_of vs)) 0)) (sym items ∙ same)
+first-is None values olds left same items none = null-tree ∙ ap (λ (vs : List Value). or_null (tree_at (trees (map tree_of vs)) 0)) (sym (none refl) ∙ same)

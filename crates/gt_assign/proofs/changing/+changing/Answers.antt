@@ -132,20 +132,8 @@ node_change-union_change-requires t c =
     let has = sym c.get.ensures.item ∙ ap option_copied c.in-Some.is in
     (omega arith, (c.requires.settled, (has, c.if-structure.true)))
 
-pub union_change-returns-in-Alt : goal.union_change-returns-in-Alt
-union_change-returns-in-Alt t c =
-    let program = c.args.on.now.program.now in
-    let make = made program c.args.on.now.capacity c.args.depth in
-    let past = past_of c.args.inner.now in
-    let united : c.args.on.now.unions.now ≡ union_tables program = search rules in
-    let active = granted c.is_active.result _ (c.is_active.ensures.active program c.args.structure.now united c.requires.there) c.if-is_active.true in
-    subst (λ (x : Tree). Decides c.there_change.result x (member_made program make past c.args.structure.now (Whole x) (active_member (desc_was program past c.args.desc.now) c.args.structure.now.fields))) (sym (ap tree_of c.in-Alt.is ∙ alt-tree c.in-Alt.member c.in-Alt.there))
-    (subst (λ (a : Option ℕ). Decides c.there_change.result (Alt c.in-Alt.member (tree_of c.in-Alt.there)) (member_made program make past c.args.structure.now (Whole (Alt c.in-Alt.member (tree_of c.in-Alt.there))) a))
-    (sym active ∙ ap (λ v. active_member v c.args.structure.now.fields) c.desc_value.ensures)
-    (subst (λ (v : Value). Decides c.there_change.result (Alt c.in-Alt.member (tree_of v)) (member_made program make past c.args.structure.now (Whole (Alt c.in-Alt.member (tree_of v))) c.in-Alt.member)) c.get.ensures c.there_change.ensures))
-
 pub member_change-returns : goal.member_change-returns
 member_change-returns t c =
     let make = made c.args.on.now.program.now c.args.on.now.capacity c.args.depth in
     member-same c.args.on.now.program.now make (past_of c.args.inner.now) c.args.structure.now c.args.place c.in-Some.field.now (tree_of c.args.there.now) (sym c.get.ensures.item ∙ ap option_copied c.in-Some.is)
-    ∙ ap (option_map (Alt (Some c.args.place))) c.in_ok-change.ensures ∙ ap Some (sym (c.in_ok-inside.ensures (Some c.args.place) (tree_of c.args.there.now)))
+    ∙ ap (option_map (Alt (Some c.args.place))) c.in_ok-change.ensures ∙ ap Some (sym (c.in_ok-inside.ensures (tree_of c.args.there.now)))
