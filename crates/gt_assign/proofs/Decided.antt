@@ -3,7 +3,7 @@ use Rattle.std.proofs.Common.{◌≡◌, ℕ, zero, suc, ◌+◌, ◌<◌, ◌�
 use Rattle.std.specs.Option.{option_to_list, unwrap_or}
 use Rattle.std.proofs.Math.Nat.{min-eq_left, min-eq_right, min-le_right}
 use Rattle.std.proofs.lemmas.List.{map-append, length-map, length-append}
-use Rattle.gt_tree.specs.Trees.{Tree, Null, Rec, Alt, Row, Trees, End, And, count, tree_at, without_pointers}
+use Rattle.gt_tree.specs.Trees.{Tree, Null, Rec, Trees, End, And, count, tree_at}
 use Rattle.gt_tree.specs.Scopes.{◌then◌}
 use Rattle.gt_value.specs.declared.values.Value.{Value, Null as NullOf}
 use Rattle.gt_value.specs.declared.values.ValueFail.{ValueFail}
@@ -109,24 +109,8 @@ kept-changed tree = ap (λ (f : Tree → Tree). f tree) (ap changed (sym change.
 pub new-changed : (value : Value) (tree : Tree) → changed (New value) tree ≡ tree_of value
 new-changed value tree = ap (λ (f : Tree → Tree). f tree) (ap changed (sym (change.rolls-New value)) ∙ fold-roll-Change (Tree → Tree) change_step (open_part.New value))
 
-pub bare-changed : (tree : Tree) → changed Bare tree ≡ without_pointers tree
-bare-changed tree = ap (λ (f : Tree → Tree). f tree) (ap changed (sym change.rolls-Bare) ∙ fold-roll-Change (Tree → Tree) change_step open_part.Bare)
-
-pub there-changed : (member : Option ℕ) (change : Change) (old : Option ℕ) (tree : Tree) → changed (There member change) (Alt old tree) ≡ Alt member (changed change tree)
-there-changed member c old tree = ap (λ (f : Tree → Tree). f (Alt old tree)) (ap changed (sym (change.rolls-There member c)) ∙ fold-roll-Change (Tree → Tree) change_step (open_part.There member c))
-
-pub first-changed : (change : Change) (trees : Trees) → changed (OfFirst change) (Rec trees) ≡ changed change (or_null (tree_at trees 0))
-first-changed c trees = ap (λ (f : Tree → Tree). f (Rec trees)) (ap changed (sym (change.rolls-OfFirst c)) ∙ fold-roll-Change (Tree → Tree) change_step (open_part.OfFirst c))
-
 pub begins-changed : (first : Change) (rest : Vec Value Global) (tree : Tree) → changed (Begins first rest) tree ≡ Rec (And (changed first tree) (trees (map tree_of rest.items)))
 begins-changed c rest tree = ap (λ (f : Tree → Tree). f tree) (ap changed (sym (change.rolls-Begins c rest)) ∙ fold-roll-Change (Tree → Tree) change_step (open_part.Begins c rest))
-
-module _ (kept : ℕ) (changes : Vec Change Global) (old : Trees) where
-  pub rec-changed : changed (PartsOf kept changes) (Rec old) ≡ Rec (parts_changed kept (map changed changes.items) old)
-  rec-changed = ap (λ (f : Tree → Tree). f (Rec old)) (ap changed (sym (change.rolls-Parts kept changes)) ∙ fold-roll-Change (Tree → Tree) change_step (open_part.Parts kept changes))
-
-  pub row-changed : changed (PartsOf kept changes) (Row old) ≡ Row (parts_changed kept (map changed changes.items) old)
-  row-changed = ap (λ (f : Tree → Tree). f (Row old)) (ap changed (sym (change.rolls-Parts kept changes)) ∙ fold-roll-Change (Tree → Tree) change_step (open_part.Parts kept changes))
 
 module _ (rest : ℕ → Option Trees) (old : Trees) (i : ℕ) (parts : Parts) where
   far-more : (change : Change) (next : Parts) → IsNext parts change next → SoFar rest old i parts → so_far next old ≡ append (so_far parts old) (And (changed change (or_null (tree_at old i))) End)
@@ -304,12 +288,6 @@ parts-levels kept changes = ap levels (sym (change.rolls-Parts kept changes)) �
 pub there-levels : (member : Option ℕ) (change : Change) → levels (There member change) ≡ suc (levels change)
 there-levels member c = ap levels (sym (change.rolls-There member c)) ∙ fold-roll-Change ℕ levels_step (open_part.There member c)
 
-pub first-levels : (change : Change) → levels (OfFirst change) ≡ suc (levels change)
-first-levels c = ap levels (sym (change.rolls-OfFirst c)) ∙ fold-roll-Change ℕ levels_step (open_part.OfFirst c)
-
-pub begins-levels : (first : Change) (rest : Vec Value Global) → levels (Begins first rest) ≡ suc (levels first)
-begins-levels c rest = ap levels (sym (change.rolls-Begins c rest)) ∙ fold-roll-Change ℕ levels_step (open_part.Begins c rest)
-
 -- nothing comes of an iterator that has nothing
 pub olds-none : (r : Option Value) (olds : List Value) (len : ℕ) → len ≡ length olds → (IsSome r ↔ (0 < len)) → r ≡ None → olds ≡ []
 olds-none None olds len e variant is = list-none olds (go (length olds) e)
@@ -318,8 +296,3 @@ olds-none None olds len e variant is = list-none olds (go (length olds) e)
     go zero e = refl
     go (suc n) e = let some = variant.1 (omega (arith, e)) in absurd (cc)
 olds-none (Some x) olds len e variant is = absurd (cc)
-
--- the first of some values, or null
-pub first-is : (r : Option Value) (values olds left : List Value) → olds ≡ values → olds ≡ option_to_list r ++ left → (r ≡ None → olds ≡ []) → tree_of (unwrap_or r NullOf) ≡ or_null (tree_at (trees (map tree_of values)) 0)
-first-is (Some x) values olds left same items none = ap (λ (vs : List Value). or_null (tree_at (trees (map tree_of vs)) 0)) (sym items ∙ same)
-first-is None values olds left same items none = null-tree ∙ ap (λ (vs : List Value). or_null (tree_at (trees (map tree_of vs)) 0)) (sym (none refl) ∙ same)

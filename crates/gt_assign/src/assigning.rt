@@ -15,9 +15,9 @@ ghost use Rattle.gt_assign.specs.Results.{FitsBeside, IsAssigned, IsMisfit, IsMa
 
 use crate::changing::change;
 use crate::leaves::is_word;
+use crate::making::Making;
 use crate::parts::{part_at, with_part};
 use crate::seeing::Around;
-use crate::making::Making;
 use gt_fit::{Checking, Within, fits};
 use gt_layout::Layouts;
 use gt_types::{Program, Ty};

@@ -1,4 +1,4 @@
-// What becomes of the common structure of a union of which another member becomes active: it stays, and is moved.
+// What becomes of the common structure of a union where another member becomes active, or none: it is moved.
 ghost use Rattle.std.specs.Prelude.{◌≡◌, IfOk, Option, Some, option_copied};
 ghost use Rattle.gt_types.specs.Settled.{Settled};
 ghost use Rattle.gt_types.specs.declared.expressions.Expr.{Expr};
@@ -60,7 +60,7 @@ fn first_type_of<'a>(program: &'a Program, ty: Option<&Ty>) -> Option<&'a Ty>
     Some(&field.ty)
 }
 
-// What becomes of a value of a type of which only the structure stays with which it begins, where this becomes of that.
+// The change of a value, by that of the structure with which it begins. The rest of the value goes.
 fn beginning_change(
     alloc: Global,
     program: &Program,
@@ -80,13 +80,20 @@ fn beginning_change(
     match parts.as_slice() {
         [] => Ok(change),
         [first, ..] => {
-            let made = beginning_change(alloc, program, id, first_type_of(program, ty), first, change)?;
+            let made = beginning_change(
+                alloc,
+                program,
+                id,
+                first_type_of(program, ty),
+                first,
+                change,
+            )?;
             Ok(Change::OfFirst(Boxed::new(alloc, made)?))
         }
     }
 }
 
-/// What becomes of what is there in a union of which only the common structure stays, where this becomes of that.
+/// The change of what is there in a union, by that of its common structure. The rest of what is there goes.
 pub fn common_change(
     alloc: Global,
     program: &Program,
@@ -113,8 +120,8 @@ pub fn common_change(
 
 // ---- the common structure where it goes
 
-/// What becomes of the value of a structure, where a part of this type is to begin with it and be zero elsewhere. `Shape` says that
-/// there is no value.
+/// What becomes of the value of a structure where it is put at the beginning of a part of this type, which is zero elsewhere. `Shape`
+/// says that there is no value.
 #[cycle(begin)]
 pub fn begin(
     on: &Making,
@@ -158,8 +165,21 @@ fn begin_node(
     if structure.is_union {
         return Err(ValueFail::Shape);
     }
-    let inner = (&*around).inside(id, Seen::Begins { id: common, value: &*value });
-    begin_struct(on, structure.fields.as_slice(), common, value, &inner, depth)
+    let inner = (&*around).inside(
+        id,
+        Seen::Begins {
+            id: common,
+            value: &*value,
+        },
+    );
+    begin_struct(
+        on,
+        structure.fields.as_slice(),
+        common,
+        value,
+        &inner,
+        depth,
+    )
 }
 
 // The same for a struct.

@@ -18,7 +18,10 @@ pub enum Change {
     /// It becomes this value.
     New(Value),
     /// So many of its first parts stay, and then each becomes what its change says. The parts after them go.
-    Parts { kept: usize, changes: Vec<Change> },
+    Parts {
+        kept: usize,
+        changes: Vec<Change>,
+    },
     /// Its pointers become null, and the rest of it stays.
     Bare,
     /// It is a union. This member is active then, or none, and what is there becomes what the change says.
@@ -29,7 +32,10 @@ pub enum Change {
     /// It is a struct, and becomes what this says of its first field. Its other fields go.
     OfFirst(Boxed<Change>),
     /// It becomes a struct: what the change says of it is the first field, and these are the other fields.
-    Begins { first: Boxed<Change>, rest: Vec<Value> },
+    Begins {
+        first: Boxed<Change>,
+        rest: Vec<Value>,
+    },
 }
 
 impl Change {
@@ -68,7 +74,7 @@ impl Change {
         }
     }
 
-    /// What becomes of a union, of which this member was active and stays it, where this becomes of what is there.
+    /// The change of a union of which this member stays active, by that of what is there.
     pub fn inside(self, alloc: Global, member: Option<u32>) -> Result<Change, AllocError>
         ensures { IfOk result (λ made. (tree : Tree) → changed made (Alt member tree) ≡ Alt member (changed self tree)) }
     {
@@ -78,7 +84,7 @@ impl Change {
         }
     }
 
-    /// What becomes of a union, of which this member becomes active, where this becomes of what is there.
+    /// The change of a union of which this member becomes active, or none, by that of what is there.
     pub fn there(self, alloc: Global, member: Option<u32>) -> Result<Change, AllocError>
         ensures { IfOk result (λ made. (old : Option ℕ) (tree : Tree) → changed made (Alt old tree) ≡ Alt member (changed self tree)) }
     {

@@ -243,7 +243,10 @@ fn union_change(
     else {
         return Err(ValueFail::Shape);
     };
-    match on.unions.active_member(id, desc_value(on.program, desc, inner)) {
+    let active = on
+        .unions
+        .active_member(id, desc_value(on.program, desc, inner));
+    match active {
         None => rest_change(on, id, structure, *member, there.get()),
         Some(place) => place_change(on, id, structure, *member, place, there.get(), inner, depth),
     }
@@ -364,7 +367,9 @@ fn turned_change(
         return Err(ValueFail::Shape);
     };
     let first = begin(on, &field.ty, common, part, inner, depth)?;
-    let change = common_change(on.alloc, on.program, common, structure, member, there, first)?;
+    let change = common_change(
+        on.alloc, on.program, common, structure, member, there, first,
+    )?;
     Ok(change.there(on.alloc, Some(place))?)
 }
 

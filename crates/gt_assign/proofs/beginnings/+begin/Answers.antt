@@ -1,6 +1,5 @@
-use Rattle.std.proofs.Common.{rules, ◌≡◌, ℕ, ◌-◌, List, refl, ap, sym, subst, ◌∙◌, Some, Err, arith, option_copied}
+use Rattle.std.proofs.Common.{rules, ◌≡◌, ◌-◌, List, ap, sym, subst, ◌∙◌, Some, Err, arith, option_copied}
 use Rattle.std.proofs.lemmas.Result.{err_from_is_err_and}
-use Rattle.gt_types.specs.declared.expressions.Expr.{Expr}
 use Rattle.gt_types.specs.declared.types.Ty.{out-Ty}
 use Rattle.gt_types.specs.declared.types.Ty.TheVariants as ty
 use Rattle.gt_types.specs.declared.program.Field.{Field}
@@ -30,7 +29,7 @@ begin_node-returns t c desc =
     subst (Decides c.begin_struct.result (tree_of c.args.value.now))
     (ap (λ (fs : List Field). struct_made make (past_of c.inside-inner.result) fs was) c.as_slice.ensures.items
     ∙ node-struct c.args.on.now.program.now make (past_of c.args.around.now) (past_of c.inside-inner.result) c.args.id desc was
-    c.in-Some.structure.now (other-stays c.args.on.now.program.now make (past_of c.args.around.now) c.args.id c.args.common (tree_of c.args.value.now) (search rules)) (sym c.get.ensures.item ∙ ap option_copied c.in-Some.is) c.if-structure.false c.inside-inner.ensures)
+    c.in-Some.structure.now (other-stays c.args.id c.args.common (tree_of c.args.value.now) (search rules)) (sym c.get.ensures.item ∙ ap option_copied c.in-Some.is) c.if-structure.false c.inside-inner.ensures)
     c.begin_struct.ensures
 
 pub begin_struct-returns-in-empty : goal.begin_struct-returns-in-empty
@@ -43,8 +42,9 @@ begin_struct-returns-in_err-rest-in-len1-up t c =
     let p = err_from_is_err_and c.from_residual-in_err-rest-in-len1-up.result c.from_residual-in_err-rest-in-len1-up.ensures.1 in
     let q = p.2 in
     let is : c.from_residual-in_err-rest-in-len1-up.result ≡ Err c.in_err-rest-in-len1-up.field-0.0 = cc in
-    subst (λ r. Decides r (tree_of c.args.value.now) (struct_made make (past_of c.args.inner.now) c.args.fields.now (Begun c.args.common (tree_of c.args.value.now)))) (sym is)
-    (all-stop c.in_err-rest-in-len1-up.field-0.0 (tree_of c.args.value.now) _ _ c.in_err-rest-in-len1-up.ensures
+    let whole = struct_made make (past_of c.args.inner.now) c.args.fields.now (Begun c.args.common (tree_of c.args.value.now)) in
+    subst (λ r. Decides r (tree_of c.args.value.now) whole) (sym is)
+    (all-stop c.in_err-rest-in-len1-up.field-0.0 (tree_of c.args.value.now) _ whole c.in_err-rest-in-len1-up.ensures
     (struct-rest make (past_of c.args.inner.now) c.args.common (tree_of c.args.value.now) c.args.fields.now c.field-item.result c.in-len1-up.len_at_least c.field-item.is))
 
 pub begin_struct-returns-in_ok-new-in-len1-up : goal.begin_struct-returns-in_ok-new-in-len1-up

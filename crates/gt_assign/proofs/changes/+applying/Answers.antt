@@ -1,7 +1,7 @@
 use Rattle.std.proofs.Common.{map, ap, sym, ◌∙◌, arith, min}
 use Rattle.gt_value.specs.Values.{trees, tree_of}
 use Rattle.gt_assign.specs.Changes.{changed, parts_changed}
-use Rattle.gt_assign.proofs.Decided.{apply-start, apply-next, apply-end, list-none, olds-none, levels, parts-levels, there-levels, first-levels, begins-levels}
+use Rattle.gt_assign.proofs.Decided.{apply-start, apply-next, apply-end, list-none, olds-none, levels, parts-levels, there-levels}
 use Rattle.gt_assign.proofs.Nested.{same-most, first-most, next-most}
 use Rattle.gt_assign.proofs.changes.+applying.Goals as goal
 

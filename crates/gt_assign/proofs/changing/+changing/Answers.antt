@@ -1,25 +1,22 @@
-use Rattle.std.proofs.Common.{rules, ◌≡◌, ℕ, List, map, refl, ap, sym, subst, ◌∙◌, Option, Some, Err, option_copied, arith}
+use Rattle.std.proofs.Common.{◌≡◌, ℕ, List, map, refl, ap, sym, subst, ◌∙◌, Option, Some, Err, option_copied, arith}
 use Rattle.std.proofs.lemmas.Result.{err_from_is_err_and}
 use Rattle.gt_types.specs.declared.types.Ty.{Ty, out-Ty}
 use Rattle.gt_types.specs.declared.types.Ty.TheVariants as ty
 use Rattle.gt_types.specs.declared.program.Field.{Field}
 use Rattle.gt_tree.specs.Trees.{Tree, Rec, Alt, Row}
-use Rattle.gt_tree.specs.Fits.{active_member}
 use Rattle.gt_value.specs.declared.values.Value.{Value}
 use Rattle.gt_value.specs.Values.{trees, tree_of}
-use Rattle.gt_assign.specs.Pasts.{Whole, past_of, desc_was}
-use Rattle.gt_assign.specs.Turning.{made, layer_made, struct_made, row_made, tail_made, member_made, maybe_whole}
+use Rattle.gt_assign.specs.Pasts.{Whole, past_of}
+use Rattle.gt_assign.specs.Turning.{made, layer_made, struct_made, row_made, tail_made, maybe_whole}
 use Rattle.gt_assign.specs.Changes.{Decides, changed, or_null}
 use Rattle.gt_fit.specs.Values.{maybe_tree}
-use Rattle.gt_fit.proofs.Values.{rec-tree, row-tree, alt-tree, count-trees}
+use Rattle.gt_fit.proofs.Values.{rec-tree, row-tree, count-trees}
 use Rattle.gt_assign.proofs.Depths.{made_at}
 use Rattle.gt_assign.proofs.Nodes.{node-union, node-struct, member-same}
-use Rattle.gt_fit.proofs.Layers.{granted}
 use Rattle.std.specs.Prelude.{option_map}
 use Rattle.gt_assign.proofs.Decided.{parts-start, decided-stop}
 use Rattle.gt_assign.proofs.PartFields.{fields_from, fields-uneven, field-next, field-none, fields-all}
 use Rattle.gt_assign.proofs.PartElements.{elements_from, element-next, element-none, elements-all}
-use Rattle.gt_unions.specs.Tables.{union_tables}
 use Rattle.gt_assign.proofs.changing.+changing.Goals as goal
 
 pub change-returns : goal.change-returns

@@ -16,14 +16,14 @@ use Rattle.gt_assign.proofs.zeros.+zeros.Goals as goal
 pub zero_fields-loop-field-preserved : goal.zero_fields-loop-field-preserved
 zero_fields-loop-field-preserved t c =
     let make = made c.args.on.now.program.now c.args.on.now.capacity c.args.depth in
-    subst (λ (vs : List Value). FieldsSoFar make (past_of c.args.inner.now) Nothing (λ (f : Field). f.ty) c.args.fields.now (c.loop-field.field-index + 1) vs) (sym c.in_ok-push.ensures.items)
+    subst (λ (vs : List Value). FieldsSoFar make (past_of c.args.inner.now) Nothing (λ (f : Field). f.ty) c.args.fields.now (c.loop-field.field-index + 1) vs) (sym {A = List Value} c.in_ok-push.ensures.items)
     (fields-more make (past_of c.args.inner.now) Nothing (λ (f : Field). f.ty) c.args.fields.now c.loop-field.field-index c.field-item.result c.loop-field.parts.items c.loop-field-test.true c.field-item.is c.loop-field.invariant
     Nothing c.in_ok-zero.field-0 refl c.in_ok-zero.ensures)
 
 pub zero_row-loop-i-preserved : goal.zero_row-loop-i-preserved
 zero_row-loop-i-preserved t c =
     let make = made c.args.on.now.program.now c.args.on.now.capacity c.args.depth in
-    subst (λ (vs : List Value). ElementsSoFar make (past_of c.args.around.now) Nothing c.args.ty.now c.args.n (c.loop-i.i + 1) vs) (sym c.in_ok-push.ensures.items)
+    subst (λ (vs : List Value). ElementsSoFar make (past_of c.args.around.now) Nothing c.args.ty.now c.args.n (c.loop-i.i + 1) vs) (sym {A = List Value} c.in_ok-push.ensures.items)
     (elements-more make (past_of c.args.around.now) Nothing c.args.ty.now c.args.n c.loop-i.i c.loop-i.parts.items c.loop-i-test.true c.loop-i.invariant
     Nothing c.in_ok-zero.field-0 refl c.in_ok-zero.ensures)
 
