@@ -3,7 +3,7 @@ use Rattle.std.proofs.Common.{◌≡◌, ℕ, zero, suc, ◌+◌, ◌<◌, ◌�
 use Rattle.std.specs.Option.{option_to_list, unwrap_or}
 use Rattle.std.proofs.Math.Nat.{min-eq_left, min-eq_right, min-le_right}
 use Rattle.std.proofs.lemmas.List.{map-append, length-map, length-append}
-use Rattle.gt_tree.specs.Trees.{Tree, Null, Rec, Alt, Row, Trees, End, And, count, tree_at, without_pointers}
+use Rattle.gt_tree.specs.Trees.{Tree, Null, Rec, Trees, End, And, count, tree_at}
 use Rattle.gt_tree.specs.Scopes.{◌then◌}
 use Rattle.gt_value.specs.declared.values.Value.{Value, Null as NullOf}
 use Rattle.gt_value.specs.declared.values.ValueFail.{ValueFail}
@@ -12,7 +12,7 @@ use Rattle.gt_value.specs.Values.{trees, tree_of}
 use Rattle.gt_fit.proofs.Values.{null-tree}
 use Rattle.gt_assign.specs.declared.changes.Change.{Change}
 use Rattle.gt_assign.specs.declared.changes.Change.TheVariants as change
-use Rattle.gt_assign.specs.declared.changes.Change.TheVariants.{Kept, New, Parts as PartsOf, Bare, There}
+use Rattle.gt_assign.specs.declared.changes.Change.TheVariants.{Kept, New, Parts as PartsOf, Bare, There, OfFirst, Begins}
 use Rattle.gt_assign.specs.declared.changes.Change.TheOpen as open_part
 use Rattle.gt_assign.specs.declared.changes.Change.TheOpen.{Change-F}
 use Rattle.gt_assign.specs.declared.changes.Change.TheFolds.{fold-Change, fold-roll-Change}
@@ -109,18 +109,8 @@ kept-changed tree = ap (λ (f : Tree → Tree). f tree) (ap changed (sym change.
 pub new-changed : (value : Value) (tree : Tree) → changed (New value) tree ≡ tree_of value
 new-changed value tree = ap (λ (f : Tree → Tree). f tree) (ap changed (sym (change.rolls-New value)) ∙ fold-roll-Change (Tree → Tree) change_step (open_part.New value))
 
-pub bare-changed : (tree : Tree) → changed Bare tree ≡ without_pointers tree
-bare-changed tree = ap (λ (f : Tree → Tree). f tree) (ap changed (sym change.rolls-Bare) ∙ fold-roll-Change (Tree → Tree) change_step open_part.Bare)
-
-pub there-changed : (change : Change) (member : Option ℕ) (tree : Tree) → changed (There change) (Alt member tree) ≡ Alt member (changed change tree)
-there-changed c member tree = ap (λ (f : Tree → Tree). f (Alt member tree)) (ap changed (sym (change.rolls-There c)) ∙ fold-roll-Change (Tree → Tree) change_step (open_part.There c))
-
-module _ (kept : ℕ) (changes : Vec Change Global) (old : Trees) where
-  pub rec-changed : changed (PartsOf kept changes) (Rec old) ≡ Rec (parts_changed kept (map changed changes.items) old)
-  rec-changed = ap (λ (f : Tree → Tree). f (Rec old)) (ap changed (sym (change.rolls-Parts kept changes)) ∙ fold-roll-Change (Tree → Tree) change_step (open_part.Parts kept changes))
-
-  pub row-changed : changed (PartsOf kept changes) (Row old) ≡ Row (parts_changed kept (map changed changes.items) old)
-  row-changed = ap (λ (f : Tree → Tree). f (Row old)) (ap changed (sym (change.rolls-Parts kept changes)) ∙ fold-roll-Change (Tree → Tree) change_step (open_part.Parts kept changes))
+pub begins-changed : (first : Change) (rest : Vec Value Global) (tree : Tree) → changed (Begins first rest) tree ≡ Rec (And (changed first tree) (trees (map tree_of rest.items)))
+begins-changed c rest tree = ap (λ (f : Tree → Tree). f tree) (ap changed (sym (change.rolls-Begins c rest)) ∙ fold-roll-Change (Tree → Tree) change_step (open_part.Begins c rest))
 
 module _ (rest : ℕ → Option Trees) (old : Trees) (i : ℕ) (parts : Parts) where
   far-more : (change : Change) (next : Parts) → IsNext parts change next → SoFar rest old i parts → so_far next old ≡ append (so_far parts old) (And (changed change (or_null (tree_at old i))) End)
@@ -285,7 +275,9 @@ levels_step open_part.Kept = 0
 levels_step (open_part.New value) = 0
 levels_step (open_part.Parts kept changes) = suc (most changes.items)
 levels_step open_part.Bare = 0
-levels_step (open_part.There inner) = suc inner
+levels_step (open_part.There member inner) = suc inner
+levels_step (open_part.OfFirst inner) = suc inner
+levels_step (open_part.Begins inner rest) = suc inner
 
 abbrev pub levels : Change → ℕ
 levels = fold-Change ℕ levels_step
@@ -293,8 +285,8 @@ levels = fold-Change ℕ levels_step
 pub parts-levels : (kept : ℕ) (changes : Vec Change Global) → levels (PartsOf kept changes) ≡ suc (most (map levels changes.items))
 parts-levels kept changes = ap levels (sym (change.rolls-Parts kept changes)) ∙ fold-roll-Change ℕ levels_step (open_part.Parts kept changes)
 
-pub there-levels : (change : Change) → levels (There change) ≡ suc (levels change)
-there-levels c = ap levels (sym (change.rolls-There c)) ∙ fold-roll-Change ℕ levels_step (open_part.There c)
+pub there-levels : (member : Option ℕ) (change : Change) → levels (There member change) ≡ suc (levels change)
+there-levels member c = ap levels (sym (change.rolls-There member c)) ∙ fold-roll-Change ℕ levels_step (open_part.There member c)
 
 -- nothing comes of an iterator that has nothing
 pub olds-none : (r : Option Value) (olds : List Value) (len : ℕ) → len ≡ length olds → (IsSome r ↔ (0 < len)) → r ≡ None → olds ≡ []

@@ -12,5 +12,6 @@ pub mod Assigned
 pub mod Records
 pub mod Nested
 pub mod Decided
+pub mod Begun
 pub mod PartFields
 pub mod PartElements

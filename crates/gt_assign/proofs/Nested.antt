@@ -1,11 +1,10 @@
 -- How deep values nest.
-use Rattle.std.proofs.Common.{◌≡◌, ℕ, suc, ◌≤◌, Vec, Global, List, [], ◌∷◌, map, max, Option, ap, sym, subst, ◌∙◌, arith}
+use Rattle.std.proofs.Common.{◌≡◌, ℕ, suc, ◌≤◌, List, [], ◌∷◌, map, max, ap, subst, arith}
 use Rattle.std.proofs.Math.Nat.{le-max_left, le-max_right}
-use Rattle.gt_value.specs.declared.values.Value.{Value, Rec, Alt, Row}
-use Rattle.gt_value.specs.declared.values.Value.TheVariants as value
+use Rattle.gt_value.specs.declared.values.Value.{Value}
 use Rattle.gt_value.specs.declared.values.Value.TheOpen as part
 use Rattle.gt_value.specs.declared.values.Value.TheOpen.{Value-F}
-use Rattle.gt_value.specs.declared.values.Value.TheFolds.{fold-Value, fold-roll-Value}
+use Rattle.gt_value.specs.declared.values.Value.TheFolds.{fold-Value}
 
 abbrev pub most : List ℕ → ℕ
 most [] = 0
@@ -34,12 +33,3 @@ depth_step layer = 0
 
 abbrev pub depth_of : Value → ℕ
 depth_of = fold-Value ℕ depth_step
-
-pub rec-depth : (parts : Vec Value Global) → depth_of (Rec parts) ≡ suc (most (map depth_of parts.items))
-rec-depth parts = ap depth_of (sym (value.rolls-Rec parts)) ∙ fold-roll-Value ℕ depth_step (part.Rec parts)
-
-pub row-depth : (parts : Vec Value Global) → depth_of (Row parts) ≡ suc (most (map depth_of parts.items))
-row-depth parts = ap depth_of (sym (value.rolls-Row parts)) ∙ fold-roll-Value ℕ depth_step (part.Row parts)
-
-pub alt-depth : (member : Option ℕ) (v : Value) → depth_of (Alt member v) ≡ suc (depth_of v)
-alt-depth member v = ap depth_of (sym (value.rolls-Alt member v)) ∙ fold-roll-Value ℕ depth_step (part.Alt member v)

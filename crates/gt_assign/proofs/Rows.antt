@@ -1,14 +1,12 @@
 -- Fields and elements, made one after another.
-use Rattle.std.proofs.Common.{◌≡◌, ℕ, suc, ◌+◌, ◌-◌, ◌<◌, ◌≤◌, List, [], ◌∷◌, ◌++◌, length, map, drop, get_or, refl, ap, sym, ◌∙◌, arith, add-one, Option, Some, None, Err}
+use Rattle.std.proofs.Common.{◌≡◌, ℕ, suc, ◌+◌, ◌-◌, ◌<◌, ◌≤◌, List, [], ◌∷◌, ◌++◌, length, map, drop, get_or, refl, ap, sym, ◌∙◌, arith, add-one, Option, Some, None}
 use Rattle.gt_types.specs.declared.types.Ty.{Ty}
 use Rattle.gt_tree.specs.Trees.{Tree, Trees, End, And}
 use Rattle.gt_tree.specs.Scopes.{◌then◌}
 use Rattle.gt_value.specs.declared.values.Value.{Value}
-use Rattle.gt_value.specs.declared.values.ValueFail.{ValueFail}
-use Rattle.gt_value.specs.declared.values.ValueFail.TheVariants.{Shape, Memory}
 use Rattle.gt_value.specs.Values.{trees, tree_of}
 use Rattle.gt_assign.specs.Pasts.{Was, Past}
-use Rattle.gt_assign.specs.Turning.{Gives, Maker, field_was, fields_made, element_was, elements_made}
+use Rattle.gt_assign.specs.Turning.{Maker, field_was, fields_made, element_was, elements_made}
 use Rattle.gt_fit.proofs.Listing.{drop-item, drop-none}
 
 -- values before others
@@ -23,11 +21,6 @@ before-one (first ∷ values) value rest = ap (And (tree_of first)) (before-one 
 pub before-end : (values : List Value) → before values End ≡ trees (map tree_of values)
 before-end [] = refl
 before-end (first ∷ values) = ap (And (tree_of first)) (before-end values)
-
--- without a part there is no whole
-pub given-stop : (fail : ValueFail) (one all : Option Tree) → Gives (Err fail) one → (one ≡ None → all ≡ None) → Gives (Err fail) all
-given-stop Shape one all none so = so none
-given-stop Memory one all none so = tt
 
 -- some were made, and the others are left
 abbrev pub following : List Value → Option Trees → Option Trees
@@ -50,9 +43,6 @@ module _ (make : Maker) (past : Past) (was : Was) where
   one-made i type types part tree e f =
       ap (λ o. o then λ p. make past type p then λ t. fields_made make past was (suc i) types then λ rest. Some (And t rest)) e
       ∙ ap (λ o. o then λ t. fields_made make past was (suc i) types then λ rest. Some (And t rest)) f
-
-  no-part : (i : ℕ) (type : Ty) (types : List Ty) → field_was was i ≡ None → fields_made make past was i (type ∷ types) ≡ None
-  no-part i type types e = ap (λ o. o then λ p. make past type p then λ t. fields_made make past was (suc i) types then λ rest. Some (And t rest)) e
 
   pub no-tree : (i : ℕ) (type : Ty) (types : List Ty) (part : Was) → field_was was i ≡ Some part → make past type part ≡ None → fields_made make past was i (type ∷ types) ≡ None
   no-tree i type types part e f =
@@ -77,12 +67,6 @@ module _ (make : Maker) (past : Past) (was : Was) where
           ∙ after-more values value (fields_made make past was (suc i) (map type_of (drop (i + 1) fields)))
           ∙ ap (λ n. following (values ++ value ∷ []) (fields_made make past was n (map type_of (drop (i + 1) fields)))) (sym (add-one i))
 
-      pub fields-part : field_was was i ≡ None → fields_made make past was 0 (map type_of fields) ≡ None
-      fields-part e = here ∙ ap (following values) (no-part i (type_of f) (map type_of (drop (i + 1) fields)) e)
-
-      pub fields-stop : (part : Was) → field_was was i ≡ Some part → make past (type_of f) part ≡ None → fields_made make past was 0 (map type_of fields) ≡ None
-      fields-stop part e g = here ∙ ap (following values) (no-tree i (type_of f) (map type_of (drop (i + 1) fields)) part e g)
-
     pub fields-end : (fields : List X) (i : ℕ) (values : List Value) → length fields ≤ i → FieldsSoFar fields i values → fields_made make past was 0 (map type_of fields) ≡ Some (trees (map tree_of values))
     fields-end fields i values h so =
         so ∙ ap (λ fs. following values (fields_made make past was i (map type_of fs))) (drop-none fields i h) ∙ ap Some (before-end values)
@@ -106,15 +90,6 @@ module _ (make : Maker) (past : Past) (was : Was) where
         ∙ ap (λ o. following values (o then λ t. elements_made make past type was (suc i) (n - (i + 1)) then λ rest. Some (And t rest))) g
         ∙ after-more values value (elements_made make past type was (suc i) (n - (i + 1)))
         ∙ ap (λ k. following (values ++ value ∷ []) (elements_made make past type was k (n - (i + 1)))) (sym (add-one i))
-
-    pub elements-part : element_was was i ≡ None → elements_made make past type was 0 n ≡ None
-    elements-part e = there ∙ ap (λ o. following values (o then λ p. make past type p then λ t. elements_made make past type was (suc i) (n - (i + 1)) then λ rest. Some (And t rest))) e
-
-    pub elements-stop : (part : Was) → element_was was i ≡ Some part → make past type part ≡ None → elements_made make past type was 0 n ≡ None
-    elements-stop part e g =
-        there
-        ∙ ap (λ o. following values (o then λ p. make past type p then λ t. elements_made make past type was (suc i) (n - (i + 1)) then λ rest. Some (And t rest))) e
-        ∙ ap (λ o. following values (o then λ t. elements_made make past type was (suc i) (n - (i + 1)) then λ rest. Some (And t rest))) g
 
   pub elements-end : (type : Ty) (n i : ℕ) (values : List Value) → n ≤ i → ElementsSoFar type n i values → elements_made make past type was 0 n ≡ Some (trees (map tree_of values))
   elements-end type n i values h so =

@@ -14,10 +14,10 @@ ghost use Rattle.gt_assign.specs.Turning.{Gives, made};
 ghost use Rattle.gt_assign.specs.Results.{FitsBeside, IsAssigned, IsMisfit, IsMadeWhereFit, NoneElseIsMade, NoneIsMade};
 
 use crate::changing::change;
-use crate::copies::is_word;
+use crate::leaves::is_word;
+use crate::making::Making;
 use crate::parts::{part_at, with_part};
 use crate::seeing::Around;
-use crate::turning::Making;
 use gt_fit::{Checking, Within, fits};
 use gt_layout::Layouts;
 use gt_types::{Program, Ty};

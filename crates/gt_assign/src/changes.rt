@@ -1,11 +1,11 @@
 // What becomes of a value in which a leaf was replaced. It is decided while the value is read; then its parts are moved.
 ghost use Rattle.std.specs.Prelude.{◌≡◌, IfOk, OnOk, ℕ, Option, true, [], map};
-ghost use Rattle.gt_tree.specs.Trees.{Tree, Trees, Rec, Alt, Row, count};
+ghost use Rattle.gt_tree.specs.Trees.{Tree, Trees, Rec, Alt, Row, And, count, tree_at};
 ghost use Rattle.gt_value.specs.Values.{trees, tree_of};
 ghost use Rattle.gt_assign.specs.declared.changes.Change.TheVariants.{Kept};
-ghost use Rattle.gt_assign.specs.Changes.{changed, parts_changed, IsNext};
+ghost use Rattle.gt_assign.specs.Changes.{changed, parts_changed, or_null, IsNext};
 
-use crate::copies::without_pointers;
+use crate::leaves::without_pointers;
 use gt_value::Value;
 use sqlite_items::Boxed;
 use std::alloc::{AllocError, Global};
@@ -18,11 +18,24 @@ pub enum Change {
     /// It becomes this value.
     New(Value),
     /// So many of its first parts stay, and then each becomes what its change says. The parts after them go.
-    Parts { kept: usize, changes: Vec<Change> },
+    Parts {
+        kept: usize,
+        changes: Vec<Change>,
+    },
     /// Its pointers become null, and the rest of it stays.
     Bare,
-    /// It is a union of which the same member stays active, and what is there becomes what this says.
-    There(Boxed<Change>),
+    /// It is a union. This member is active then, or none, and what is there becomes what the change says.
+    There {
+        member: Option<u32>,
+        change: Boxed<Change>,
+    },
+    /// It is a struct, and becomes what this says of its first field. Its other fields go.
+    OfFirst(Boxed<Change>),
+    /// It becomes a struct: what the change says of it is the first field, and these are the other fields.
+    Begins {
+        first: Boxed<Change>,
+        rest: Vec<Value>,
+    },
 }
 
 impl Change {
@@ -40,11 +53,8 @@ impl Change {
                 other => Ok(other),
             },
             Change::Bare => without_pointers(alloc, value),
-            Change::There(change) => match value {
-                Value::Alt {
-                    member,
-                    value: there,
-                } => {
+            Change::There { member, change } => match value {
+                Value::Alt { value: there, .. } => {
                     let made = change.into_inner().apply(alloc, there.into_inner())?;
                     Ok(Value::Alt {
                         member,
@@ -53,17 +63,35 @@ impl Change {
                 }
                 other => Ok(other),
             },
+            Change::OfFirst(change) => match value {
+                Value::Rec(parts) => change.into_inner().apply(alloc, first_of(parts)),
+                other => Ok(other),
+            },
+            Change::Begins { first, rest } => {
+                let made = first.into_inner().apply(alloc, value)?;
+                Ok(Value::Rec(before(made, rest)?))
+            }
         }
     }
 
-    /// What becomes of a union, of which the same member stays active, where this becomes of what is there.
-    pub fn inside(self, alloc: Global) -> Result<Change, AllocError>
-        ensures { IfOk result (λ made. (member : Option ℕ) (tree : Tree) → changed made (Alt member tree) ≡ Alt member (changed self tree)) }
+    /// The change of a union of which this member stays active, by that of what is there.
+    pub fn inside(self, alloc: Global, member: Option<u32>) -> Result<Change, AllocError>
+        ensures { IfOk result (λ made. (tree : Tree) → changed made (Alt member tree) ≡ Alt member (changed self tree)) }
     {
         match self {
             Change::Kept => Ok(Change::Kept),
-            change => Ok(Change::There(Boxed::new(alloc, change)?)),
+            change => change.there(alloc, member),
         }
+    }
+
+    /// The change of a union of which this member becomes active, or none, by that of what is there.
+    pub fn there(self, alloc: Global, member: Option<u32>) -> Result<Change, AllocError>
+        ensures { IfOk result (λ made. (old : Option ℕ) (tree : Tree) → changed made (Alt old tree) ≡ Alt member (changed self tree)) }
+    {
+        Ok(Change::There {
+            member,
+            change: Boxed::new(alloc, self)?,
+        })
     }
 
     fn is_kept(&self) -> bool
@@ -71,7 +99,7 @@ impl Change {
     {
         match self {
             Change::Kept => true,
-            Change::New(_) | Change::Parts { .. } | Change::Bare | Change::There(_) => false,
+            _ => false,
         }
     }
 }
@@ -124,6 +152,21 @@ impl Parts {
             }
         }
     }
+}
+
+// The first field of a struct, or null where it has none.
+fn first_of(parts: Vec<Value>) -> Value
+    ensures { tree_of result ≡ or_null (tree_at (trees (map tree_of parts.items)) 0) }
+{
+    parts.into_iter().next().unwrap_or(Value::Null)
+}
+
+// The fields of a struct, by the first of them and the others.
+fn before(first: Value, mut rest: Vec<Value>) -> Result<Vec<Value>, AllocError>
+    ensures { IfOk result (λ made. trees (map tree_of made.items) ≡ And (tree_of first) (trees (map tree_of rest.items))) }
+{
+    rest.insert(0, first)?;
+    Ok(rest)
 }
 
 // What the parts of a value become.

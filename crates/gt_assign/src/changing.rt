@@ -1,23 +1,27 @@
 // What becomes of each part of a value in which a leaf was replaced: most parts stay as they are.
-ghost use Rattle.std.specs.Prelude.{◌≡◌, true, cond, Some, None, map, option_copied};
+ghost use Rattle.std.specs.Prelude.{◌≡◌, IfOk, true, cond, Some, None, map, option_copied, option_map};
 ghost use Rattle.gt_types.specs.Contains.{HasStructure};
 ghost use Rattle.gt_types.specs.Settled.{Settled};
 ghost use Rattle.gt_types.specs.declared.types.Ty.{out-Ty};
-ghost use Rattle.gt_tree.specs.Trees.{Rec, Alt, Row, is_leaf, without_pointers};
+ghost use Rattle.gt_tree.specs.Trees.{Rec, Alt, Row, End, is_leaf, without_pointers};
 ghost use Rattle.gt_tree.specs.Fits.{active_member};
 ghost use Rattle.gt_value.specs.Values.{trees, tree_of};
 ghost use Rattle.gt_fit.specs.Values.{maybe_tree};
 ghost use Rattle.gt_assign.specs.Pasts.{Whole, past_of, desc_was};
-ghost use Rattle.gt_assign.specs.Turning.{made, layer_made, tail_made, node_made, struct_made, row_made, member_made, maybe_whole};
-ghost use Rattle.gt_assign.specs.Changes.{changed, Decides, or_null};
+ghost use Rattle.gt_assign.specs.Turning.{made, layer_made, tail_made, node_made, struct_made, row_made, member_made, maybe_whole, is_member, rest_whole};
+ghost use Rattle.gt_assign.specs.Changes.{changed, Decides, or_null, turned_made};
 
+use crate::beginnings::{begin, common_change, common_part};
 use crate::changes::{Change, Parts};
-use crate::copies::is_leaf;
+use crate::leaves::is_leaf;
+use crate::making::{Making, tail_length};
 use crate::seeing::{Around, Seen, desc_value};
-use crate::turning::{Making, tail_length, turn, union};
-use gt_fit::{is_active, is_bare, item};
+use crate::zeros::{zero, zero_member};
+use gt_fit::{is_bare, item};
 use gt_types::{Expr, Field, Structure, Ty, TypeId};
 use gt_value::{Value, ValueFail};
+use sqlite_items::Boxed;
+use std::alloc::{AllocError, Global};
 
 /// What becomes of a part, by what was around it. `Shape` says that there is no value.
 #[cycle(changing)]
@@ -210,12 +214,12 @@ fn element_change(
     ensures { Decides result (or_null (maybe_tree (option_copied part.entry))) (made on.now.program.now on.now.capacity depth (past_of around.now) ty.now (maybe_whole (maybe_tree (option_copied part.entry)))) }
 {
     match part {
-        None => Ok(Change::New(turn(on, ty, Seen::Zero, around, depth)?)),
+        None => Ok(Change::New(zero(on, ty, around, depth)?)),
         Some(part) => change(on, ty, part, around, depth),
     }
 }
 
-// A union: its active member stays active, or it is made anew.
+// A union.
 #[cycle(changing)]
 fn union_change(
     on: &Making,
@@ -232,48 +236,141 @@ fn union_change(
     ensures { Decides result (tree_of value.now) (member_made on.now.program.now (made on.now.program.now on.now.capacity depth) (past_of inner.now) structure.now (Whole (tree_of value.now))
         (active_member (desc_was on.now.program.now (past_of inner.now) desc.now) structure.now.fields)) }
 {
-    match value {
-        Value::Alt {
-            member,
-            value: there,
-        } if is_active(
-            on.unions,
-            id,
-            desc_value(on.program, desc, inner),
-            *member,
-        ) => there_change(on, structure, *member, there.get(), inner, depth),
-        _ => Ok(Change::New(union(on, id, desc, structure, Seen::Whole(value), inner, depth)?)),
+    let Value::Alt {
+        member,
+        value: there,
+    } = value
+    else {
+        return Err(ValueFail::Shape);
+    };
+    let active = on
+        .unions
+        .active_member(id, desc_value(on.program, desc, inner));
+    match active {
+        None => rest_change(on, id, structure, *member, there.get()),
+        Some(place) => place_change(on, id, structure, *member, place, there.get(), inner, depth),
     }
 }
 
-// A union of which the same member is active as before, or none.
-#[cycle(changing)]
-fn there_change(
+// A union of which no member is active: its common structure is left, without pointers.
+fn rest_change(
     on: &Making,
+    id: TypeId,
     structure: &Structure,
     member: Option<u32>,
+    there: &Value,
+) -> Result<Change, ValueFail>
+    requires settled { Settled on.now.program.now }
+    requires there { HasStructure on.now.program.now id structure.now }
+    requires union { structure.now.is_union ≡ true }
+    ensures { Decides result (Alt member (tree_of there.now)) (option_map (Alt None) (rest_whole on.now.program.now structure.now (Alt member (tree_of there.now)))) }
+{
+    if member.is_none() {
+        return Ok(bare_change(there).inside(on.alloc, None)?);
+    }
+    let Some(common) = on.unions.common(id) else {
+        return Ok(Change::New(nothing_there(on.alloc)?));
+    };
+    let Some(part) = common_part(on.program, common, structure, member, there) else {
+        return Err(ValueFail::Shape);
+    };
+    let change = common_change(
+        on.alloc,
+        on.program,
+        common,
+        structure,
+        member,
+        there,
+        bare_change(part),
+    )?;
+    Ok(change.there(on.alloc, None)?)
+}
+
+// A union of which no member is active, and that has no common structure.
+fn nothing_there(alloc: Global) -> Result<Value, AllocError>
+    ensures { IfOk result (λ v. tree_of v ≡ Alt None (Rec End)) }
+{
+    Ok(Value::Alt {
+        member: None,
+        value: Boxed::new(alloc, Value::Rec(Vec::new(alloc)))?,
+    })
+}
+
+// The common structure of a union of which no member is active: its pointers become null.
+fn bare_change(part: &Value) -> Change
+    ensures { changed result (tree_of part.now) ≡ without_pointers (tree_of part.now) }
+{
+    if is_bare(part) {
+        Change::Kept
+    } else {
+        Change::Bare
+    }
+}
+
+// Whether this member of a union was the active one.
+fn was_active(member: Option<u32>, place: u32) -> bool
+    ensures { result ≡ is_member member place }
+{
+    match member {
+        Some(old) => old == place,
+        None => false,
+    }
+}
+
+// A union of which the member at a place is active.
+#[cycle(changing)]
+fn place_change(
+    on: &Making,
+    id: TypeId,
+    structure: &Structure,
+    member: Option<u32>,
+    place: u32,
     there: &Value,
     inner: &Around,
     depth: usize,
 ) -> Result<Change, ValueFail>
     requires settled { Settled on.now.program.now }
-    ensures { Decides result (Alt member (tree_of there.now)) (member_made on.now.program.now (made on.now.program.now on.now.capacity depth) (past_of inner.now) structure.now (Whole (Alt member (tree_of there.now))) member) }
+    requires there { HasStructure on.now.program.now id structure.now }
+    requires union { structure.now.is_union ≡ true }
+    ensures { Decides result (Alt member (tree_of there.now)) (member_made on.now.program.now (made on.now.program.now on.now.capacity depth) (past_of inner.now) structure.now (Whole (Alt member (tree_of there.now))) (Some place)) }
 {
-    match member {
-        None => Ok(bare_change(there)),
-        Some(place) => member_change(on, structure, place as usize, there, inner, depth),
+    if was_active(member, place) {
+        member_change(on, structure, place, there, inner, depth)
+    } else {
+        turned_change(on, id, structure, member, place, there, inner, depth)
     }
 }
 
-// The common structure of a union, where no member is active: its pointers become null.
-fn bare_change(there: &Value) -> Change
-    ensures { changed result (Alt None (tree_of there.now)) ≡ Alt None (without_pointers (tree_of there.now)) }
+// A union of which the member at a place becomes active: it begins with the common structure, and is zero elsewhere.
+fn turned_change(
+    on: &Making,
+    id: TypeId,
+    structure: &Structure,
+    member: Option<u32>,
+    place: u32,
+    there: &Value,
+    inner: &Around,
+    depth: usize,
+) -> Result<Change, ValueFail>
+    requires settled { Settled on.now.program.now }
+    requires there { HasStructure on.now.program.now id structure.now }
+    requires union { structure.now.is_union ≡ true }
+    ensures { Decides result (Alt member (tree_of there.now)) (turned_made on.now.program.now (made on.now.program.now on.now.capacity depth) (past_of inner.now) structure.now member place (tree_of there.now)) }
 {
-    if is_bare(there) {
-        Change::Kept
-    } else {
-        Change::Bare
-    }
+    let Some(common) = on.unions.common(id) else {
+        return Ok(Change::New(zero_member(on, structure, place, inner, depth)?));
+    };
+    let Some(field) = structure.fields.get(place as usize) else {
+        return Err(ValueFail::Shape);
+    };
+    let Some(part) = common_part(on.program, common, structure, member, there) else {
+        return Err(ValueFail::Shape);
+    };
+    let first = begin(on, &field.ty, common, part, inner, depth)?;
+    let change = common_change(
+        on.alloc, on.program, common, structure, member, there, first,
+    )?;
+    Ok(change.there(on.alloc, Some(place))?)
 }
 
 // The active member of a union.
@@ -281,7 +378,7 @@ fn bare_change(there: &Value) -> Change
 fn member_change(
     on: &Making,
     structure: &Structure,
-    place: usize,
+    place: u32,
     there: &Value,
     inner: &Around,
     depth: usize,
@@ -289,9 +386,9 @@ fn member_change(
     requires settled { Settled on.now.program.now }
     ensures { Decides result (Alt (Some place) (tree_of there.now)) (member_made on.now.program.now (made on.now.program.now on.now.capacity depth) (past_of inner.now) structure.now (Whole (Alt (Some place) (tree_of there.now))) (Some place)) }
 {
-    let Some(field) = structure.fields.get(place) else {
+    let Some(field) = structure.fields.get(place as usize) else {
         return Err(ValueFail::Shape);
     };
     let change = change(on, &field.ty, there, inner, depth)?;
-    Ok(change.inside(on.alloc)?)
+    Ok(change.inside(on.alloc, Some(place))?)
 }

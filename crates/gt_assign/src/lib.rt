@@ -4,14 +4,15 @@
 #![tactic(auto)]
 
 mod assigning;
+mod beginnings;
 mod changes;
 mod changing;
-mod copies;
+mod leaves;
+mod making;
 mod parts;
 mod seeing;
 mod statics;
-mod steps;
-mod turning;
+mod zeros;
 
 pub use assigning::{assign, reshape};
 pub use statics::{assign_statics, reshape_statics};

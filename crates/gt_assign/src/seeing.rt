@@ -103,8 +103,8 @@ fn begun_next<'a>(program: &'a Program, name: &Word, ty: &Ty) -> Option<Option<&
     }
 }
 
-// Whether a type is a structure by value, and this one.
-fn is_node(id: TypeId, ty: &Ty) -> bool
+/// Whether a type is a structure by value, and this one.
+pub fn is_node(id: TypeId, ty: &Ty) -> bool
     ensures { result ≡ is_node id ty.now }
 {
     match ty {

@@ -15,10 +15,10 @@ ghost use Rattle.gt_assign.specs.Results.{IsRecord, RecordFits, IsRecordAssigned
 use crate::assigning::{MAX_NESTING, leads_to_leaf};
 use crate::changes::{Change, Parts};
 use crate::changing::change;
-use crate::copies::is_word;
+use crate::leaves::is_word;
+use crate::making::Making;
 use crate::parts::with_part;
 use crate::seeing::Around;
-use crate::turning::Making;
 use gt_fit::{Checking, Within, fits};
 use gt_layout::Layouts;
 use gt_types::{Program, Root};

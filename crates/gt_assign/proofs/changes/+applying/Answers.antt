@@ -40,6 +40,6 @@ Change::apply-apply_all-requires-in-Row t c = let h = ap levels c.in-Parts.is �
 
 pub Change::apply-apply-requires : goal.Change::apply-apply-requires
 Change::apply-apply-requires t c =
-    let h = ap levels c.in-There.is ∙ there-levels c.in-There.change in
+    let h = ap levels c.in-There.is ∙ there-levels c.in-There.member c.in-There.change in
     let same = ap levels c.into_inner.ensures in
     (omega (arith, h, same), tt)

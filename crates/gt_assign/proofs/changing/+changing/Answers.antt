@@ -1,25 +1,22 @@
-use Rattle.std.proofs.Common.{rules, ◌≡◌, ℕ, List, map, refl, ap, sym, subst, ◌∙◌, Option, Some, Err, option_copied, arith}
+use Rattle.std.proofs.Common.{◌≡◌, ℕ, List, map, refl, ap, sym, subst, ◌∙◌, Option, Some, Err, option_copied, arith}
 use Rattle.std.proofs.lemmas.Result.{err_from_is_err_and}
 use Rattle.gt_types.specs.declared.types.Ty.{Ty, out-Ty}
 use Rattle.gt_types.specs.declared.types.Ty.TheVariants as ty
 use Rattle.gt_types.specs.declared.program.Field.{Field}
 use Rattle.gt_tree.specs.Trees.{Tree, Rec, Alt, Row}
-use Rattle.gt_tree.specs.Fits.{active_member}
 use Rattle.gt_value.specs.declared.values.Value.{Value}
 use Rattle.gt_value.specs.Values.{trees, tree_of}
-use Rattle.gt_assign.specs.Pasts.{Whole, past_of, desc_was}
-use Rattle.gt_assign.specs.Turning.{made, layer_made, struct_made, row_made, tail_made, member_made, maybe_whole}
+use Rattle.gt_assign.specs.Pasts.{Whole, past_of}
+use Rattle.gt_assign.specs.Turning.{made, layer_made, struct_made, row_made, tail_made, maybe_whole}
 use Rattle.gt_assign.specs.Changes.{Decides, changed, or_null}
 use Rattle.gt_fit.specs.Values.{maybe_tree}
-use Rattle.gt_fit.proofs.Values.{rec-tree, row-tree, alt-tree, count-trees}
+use Rattle.gt_fit.proofs.Values.{rec-tree, row-tree, count-trees}
 use Rattle.gt_assign.proofs.Depths.{made_at}
 use Rattle.gt_assign.proofs.Nodes.{node-union, node-struct, member-same}
-use Rattle.gt_fit.proofs.Layers.{granted}
 use Rattle.std.specs.Prelude.{option_map}
 use Rattle.gt_assign.proofs.Decided.{parts-start, decided-stop}
 use Rattle.gt_assign.proofs.PartFields.{fields_from, fields-uneven, field-next, field-none, fields-all}
 use Rattle.gt_assign.proofs.PartElements.{elements_from, element-next, element-none, elements-all}
-use Rattle.gt_unions.specs.Tables.{union_tables}
 use Rattle.gt_assign.proofs.changing.+changing.Goals as goal
 
 pub change-returns : goal.change-returns
@@ -132,20 +129,8 @@ node_change-union_change-requires t c =
     let has = sym c.get.ensures.item ∙ ap option_copied c.in-Some.is in
     (omega arith, (c.requires.settled, (has, c.if-structure.true)))
 
-pub union_change-returns-in-Alt : goal.union_change-returns-in-Alt
-union_change-returns-in-Alt t c =
-    let program = c.args.on.now.program.now in
-    let make = made program c.args.on.now.capacity c.args.depth in
-    let past = past_of c.args.inner.now in
-    let united : c.args.on.now.unions.now ≡ union_tables program = search rules in
-    let active = granted c.is_active.result _ (c.is_active.ensures.active program c.args.structure.now united c.requires.there) c.if-is_active.true in
-    subst (λ (x : Tree). Decides c.there_change.result x (member_made program make past c.args.structure.now (Whole x) (active_member (desc_was program past c.args.desc.now) c.args.structure.now.fields))) (sym (ap tree_of c.in-Alt.is ∙ alt-tree c.in-Alt.member c.in-Alt.there))
-    (subst (λ (a : Option ℕ). Decides c.there_change.result (Alt c.in-Alt.member (tree_of c.in-Alt.there)) (member_made program make past c.args.structure.now (Whole (Alt c.in-Alt.member (tree_of c.in-Alt.there))) a))
-    (sym active ∙ ap (λ v. active_member v c.args.structure.now.fields) c.desc_value.ensures)
-    (subst (λ (v : Value). Decides c.there_change.result (Alt c.in-Alt.member (tree_of v)) (member_made program make past c.args.structure.now (Whole (Alt c.in-Alt.member (tree_of v))) c.in-Alt.member)) c.get.ensures c.there_change.ensures))
-
 pub member_change-returns : goal.member_change-returns
 member_change-returns t c =
     let make = made c.args.on.now.program.now c.args.on.now.capacity c.args.depth in
     member-same c.args.on.now.program.now make (past_of c.args.inner.now) c.args.structure.now c.args.place c.in-Some.field.now (tree_of c.args.there.now) (sym c.get.ensures.item ∙ ap option_copied c.in-Some.is)
-    ∙ ap (option_map (Alt (Some c.args.place))) c.in_ok-change.ensures ∙ ap Some (sym (c.in_ok-inside.ensures (Some c.args.place) (tree_of c.args.there.now)))
+    ∙ ap (option_map (Alt (Some c.args.place))) c.in_ok-change.ensures ∙ ap Some (sym (c.in_ok-inside.ensures (tree_of c.args.there.now)))

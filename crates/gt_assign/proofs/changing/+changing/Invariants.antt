@@ -29,8 +29,8 @@ decreases-row_change l = 8 * l.depth + 5
 abbrev pub decreases-union_change : goal.decreases-union_change
 decreases-union_change l = 8 * l.depth + 5
 
-abbrev pub decreases-there_change : goal.decreases-there_change
-decreases-there_change l = 8 * l.depth + 4
+abbrev pub decreases-place_change : goal.decreases-place_change
+decreases-place_change l = 8 * l.depth + 4
 
 abbrev pub decreases-member_change : goal.decreases-member_change
 decreases-member_change l = 8 * l.depth + 3

@@ -3,7 +3,7 @@ use Rattle.gt_tree.specs.Trees.{without_pointers}
 use Rattle.gt_value.specs.declared.values.Value.{Value}
 use Rattle.gt_value.specs.Values.{tree_of}
 use Rattle.gt_assign.proofs.Nested.{most, depth_of}
-use Rattle.gt_assign.proofs.copies.+bare.Given as goal
+use Rattle.gt_assign.proofs.leaves.+bare.Given as goal
 
 abbrev pub decreases-without_pointers : goal.decreases-without_pointers
 decreases-without_pointers l = 2 * depth_of l.value

@@ -4,7 +4,7 @@ use Rattle.gt_value.specs.declared.values.Value.{Value}
 use Rattle.gt_value.specs.Values.{trees, tree_of}
 use Rattle.gt_fit.proofs.Values.{all_without_trees}
 use Rattle.gt_assign.proofs.Decided.{list-none}
-use Rattle.gt_assign.proofs.copies.+bare.Goals as goal
+use Rattle.gt_assign.proofs.leaves.+bare.Goals as goal
 
 nothing-after : (xs : List Tree) → xs ≡ xs ++ []
 nothing-after [] = refl
