@@ -10,12 +10,7 @@ use gt_types::TypeId;
 use gt_unions::Unions;
 
 /// Whether this member of a union is the active one, by the value of its `desc`.
-pub fn is_active(
-    unions: &Unions,
-    union: TypeId,
-    value: Option<i64>,
-    member: Option<u32>,
-) -> bool
+pub fn is_active(unions: &Unions, union: TypeId, value: Option<i64>, member: Option<u32>) -> bool
     ensures active { (program : Program) (s : Structure) → unions.now ≡ union_tables program → HasStructure program union s → IsTrue result ↔ (active_member value s.fields ≡ member) }
 {
     match (unions.active_member(union, value), member) {

@@ -55,7 +55,9 @@ fn rewrite_element(
     let Element { addr, capacity, .. } = element;
     let old = read(alloc, program, layouts, objects.space(), ty, addr, capacity)?;
     let names = Names::of(objects);
-    let new = match assign(alloc, program, layouts, ty, capacity, old, path, leaf, &names) {
+    let new = match assign(
+        alloc, program, layouts, ty, capacity, old, path, leaf, &names,
+    ) {
         Ok(new) => new,
         Err(fail) => return Err(fail),
     };
