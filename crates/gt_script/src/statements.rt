@@ -158,9 +158,9 @@ fn line(names: &mut Names, words: &[Piece<'_>]) -> Result<Option<Line>, AllocErr
 fn verb_of(word: &[u8]) -> (bool, &[u8])
     ensures { (words : List Piece) → told_at result.0 words result.1.now ≡ option_map_or (told_at true words) (following (codes "@") word.now) (told_at false words word.now) }
 {
-    match word.strip_prefix(b"@") {
-        Some(verb) => (true, verb),
-        None => (false, word),
+    match word {
+        [b'@', verb @ ..] => (true, verb),
+        _ => (false, word),
     }
 }
 
