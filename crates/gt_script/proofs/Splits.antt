@@ -3,16 +3,29 @@ use Rattle.std.proofs.Common.{◌≡◌, ℕ, suc, ◌+◌, ◌-◌, ◌<◌, Bo
 use Rattle.std.specs.Option.{option_map_or}
 use Rattle.std.specs.List.{position, position_or_len, list_all, slice_split, onto_first}
 use Rattle.std.proofs.lemmas.Bool.Decides.{nat_tests}
-use Rattle.std.proofs.lemmas.Bool.{eqb-true}
+use Rattle.std.proofs.lemmas.Bool.{eqb-true, false_from_ne_true}
 use Rattle.std.proofs.lemmas.Option.{cond_some, same_Some}
 use Rattle.std.proofs.lemmas.List.{length-append, length-drop, take_all}
 use Rattle.std.proofs.lemmas.List.Splits.{length-slice_split}
+use Rattle.std.proofs.lemmas.List.Sums.{position_or_len_is}
+use Rattle.memchr.specs.Find.{IsFirstByte, is_byte}
 use Rattle.gt_script.specs.Texts.{◌>>=◌, parts_at, without_empty_last, lines_of}
 use Rattle.gt_script.proofs.Options.{bind_some, both}
 
 -- the first place of the byte, as `position` finds it
 abbrev first : ℕ → List ℕ → ℕ
 first byte text = position_or_len (λ c. eqb c byte) text
+
+-- the same, as it is searched
+pub place_is : (byte : ℕ) (text : List ℕ) (r : Option ℕ) → IsFirstByte (is_byte byte) text r → r ≡ position (λ c. eqb c byte) text
+place_is byte text None h =
+    let all : first byte text ≡ length text = position_or_len_is (λ c. eqb c byte) text (length text) 0 (omega arith) (λ k l. false_from_ne_true _ (h k (omega arith) l)) (λ l. absurd (omega arith)) in
+    let none : ltb (first byte text) (length text) ≡ false = grind (arith, nat_tests) in
+    rw none refl
+place_is byte text (Some k) h =
+    let here : first byte text ≡ k = position_or_len_is (λ c. eqb c byte) text k 0 (omega (arith, h.0.high)) (λ j l. false_from_ne_true _ (h.0.before j (omega arith) l)) (λ l. h.1) in
+    let inside : ltb (first byte text) (length text) ≡ true = grind (arith, nat_tests, h.0.high) in
+    rw inside (ap Some (sym here))
 
 -- the parts round a place, where it is in the text
 abbrev parts_round : ℕ → List ℕ → Option (List ℕ × List ℕ)

@@ -15,7 +15,6 @@ mod parsing;
 mod parts;
 mod pieces;
 mod place_forms;
-mod places;
 mod quotes;
 mod routes;
 mod short_lists;

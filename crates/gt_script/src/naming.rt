@@ -41,7 +41,7 @@ fn all_continue(text: &str) -> bool
 pub fn variable(names: &mut Names, text: &[u8]) -> Result<Option<Word>, AllocError>
     ensures { IfOk result (λ found. found ≡ variable_at text.now) }
 {
-    let Some(text) = text.strip_prefix(b"$") else {
+    let [b'$', text @ ..] = text else {
         return Ok(None);
     };
     names.name(text)

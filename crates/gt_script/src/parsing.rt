@@ -1,5 +1,6 @@
 // The lines of a script.
-ghost use Rattle.std.specs.Prelude.{◌≡◌, ◌<◌, ◌^◌, length, IfOk, IfErr, MatchResult, Ok, Err};
+ghost use Rattle.std.specs.Prelude.{◌≡◌, ◌<◌, ◌^◌, length, IfOk, IfErr, IsTrue, MatchResult, Ok, Err};
+ghost use Rattle.std.specs.Str.{IsUtf8};
 ghost use Rattle.gt_script.specs.Outcome.{Parsed, IsScriptStop};
 ghost use Rattle.gt_script.specs.Scanning.{outcome_of, IsOutcomeUnlessMemory};
 
@@ -7,7 +8,7 @@ use crate::Line;
 use crate::names::Names;
 use crate::parts::first_line;
 use crate::pieces::Piece;
-use crate::statements::statement;
+use crate::statements::{is_utf8, statement};
 use crate::stop::{MAX_COMMANDS, ScriptStop};
 use gt_types::List;
 use std::alloc::Global;
@@ -44,19 +45,21 @@ pub fn parse_script(alloc: Global, text: &[u8]) -> Result<List<Line>, ScriptStop
 {
     let mut names = Names::new(alloc)?;
     let mut words = Vec::new(alloc);
-    match read_script(&mut names, &mut words, text) {
+    match read_script(&mut names, &mut words, is_utf8(text), text) {
         Ok(lines) => Ok(lines),
         Err(stop) => Err(stop),
     }
 }
 
-// The same, as the outcome of reading line by line.
+// The same, as the outcome of reading line by line. It may be known that the script is UTF-8.
 fn read_script<'a>(
     names: &mut Names,
     words: &mut Vec<Piece<'a>>,
+    known: bool,
     text: &'a [u8],
 ) -> Result<List<Line>, ScriptStop>
-    requires { length text.now < 2 ^ 32 }
+    requires short { length text.now < 2 ^ 32 }
+    requires utf8 { IsTrue known → IsUtf8 text.now }
     ensures { IsOutcomeUnlessMemory result (outcome_of text.now) }
 {
     let mut lines = List::new(names.alloc());
@@ -66,7 +69,7 @@ fn read_script<'a>(
         let (text, after) = first_line(rest);
         number += 1;
         rest = after;
-        let Some(said) = statement(names, words, text)? else {
+        let Some(said) = statement(names, words, known, text)? else {
             return Err(ScriptStop::ScriptSyntax { line: number });
         };
         let Some(line) = said else {

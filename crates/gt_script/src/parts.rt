@@ -1,6 +1,9 @@
 ghost use Rattle.std.specs.Prelude.{◌≡◌, ◌<◌, ◌==◌, ◌∷◌, length, position};
 ghost use Rattle.std.specs.Option.{option_map};
+ghost use Rattle.std.specs.Str.{IsUtf8};
 ghost use Rattle.gt_script.specs.Texts.{parts_at, lines_of};
+
+use memchr::memchr;
 
 /// What stands before and after the first of a byte.
 #[inline(always)]
@@ -17,7 +20,7 @@ pub fn split_once(text: &[u8], byte: u8) -> Option<(&[u8], &[u8])>
 fn place_of(text: &[u8], byte: u8) -> Option<usize>
     ensures { result ≡ position (λ c. c == byte) text.now }
 {
-    text.iter().position(|c| *c == byte)
+    memchr(byte, text)
 }
 
 // The first line, without its newline, and what follows it.
@@ -26,6 +29,7 @@ pub fn first_line(text: &[u8]) -> (&[u8], &[u8])
     requires { 0 < length text.now }
     ensures line { lines_of text.now ≡ result.0.now ∷ lines_of result.1.now }
     ensures shorter { length result.1.now < length text.now }
+    ensures utf8 { IsUtf8 text.now → IsUtf8 result.0.now × IsUtf8 result.1.now }
 {
     match split_once(text, b'\n') {
         None => (text, &[]),

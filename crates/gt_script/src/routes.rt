@@ -37,9 +37,9 @@ fn step_place(text: &[u8]) -> usize
 pub fn path(names: &mut Names, text: &[u8]) -> Result<Option<Route>, AllocError>
     ensures { IfOk result (λ found. found ≡ path_at text.now) }
 {
-    match text.strip_prefix(b"$") {
-        Some(text) => route(names, true, text),
-        None => route(names, false, text),
+    match text {
+        [b'$', text @ ..] => route(names, true, text),
+        _ => route(names, false, text),
     }
 }
 
@@ -116,9 +116,9 @@ fn hops(names: &mut Names, text: &[u8]) -> Result<Option<List<Hop>>, AllocError>
 fn hop(names: &mut Names, text: &[u8]) -> Result<Option<Hop>, AllocError>
     ensures { IfOk result (λ found. found ≡ hop_at text.now) }
 {
-    match text.strip_prefix(b".") {
-        Some(text) => field(names, text),
-        None => Ok(index(text)),
+    match text {
+        [b'.', text @ ..] => field(names, text),
+        _ => Ok(index(text)),
     }
 }
 
@@ -151,9 +151,9 @@ pub fn given(names: &mut Names, text: &[u8]) -> Result<Option<Given>, AllocError
     if text == b"null".as_slice() {
         return Ok(Some(Given::Null));
     }
-    match text.strip_prefix(b"$") {
-        Some(text) => given_variable(names, text),
-        None => Ok(given_integer(text)),
+    match text {
+        [b'$', text @ ..] => given_variable(names, text),
+        _ => Ok(given_integer(text)),
     }
 }
 

@@ -1,7 +1,11 @@
 // What a line of a script says.
-ghost use Rattle.std.specs.Prelude.{◌≡◌, IfOk};
+ghost use Rattle.std.specs.Prelude.{◌≡◌, true, false, List, codes, IfOk, IsTrue};
+ghost use Rattle.std.specs.Option.{option_map_or};
 ghost use Rattle.std.specs.List.{list_all};
+ghost use Rattle.std.specs.Str.{IsUtf8, is_utf8};
 ghost use Rattle.std.specs.Str.Lines.{strip_carriage_return};
+ghost use Rattle.gt_script.specs.declared.pieces.Piece.{Piece};
+ghost use Rattle.gt_script.specs.Texts.{following};
 ghost use Rattle.gt_script.specs.Cutting.{is_blank};
 ghost use Rattle.gt_script.specs.Commands.{told_at, line_of};
 ghost use Rattle.gt_script.specs.Language.{is_comment_of, is_passed_over};
@@ -14,19 +18,40 @@ use crate::names::Names;
 use crate::pieces::{Piece, is_blank, read_words};
 use std::alloc::AllocError;
 
-/// What a line says: None where it is refused, and no line in it where it is passed over.
+// Whether a text is UTF-8.
+pub fn is_utf8(text: &[u8]) -> bool
+    ensures { result ≡ is_utf8 text.now }
+{
+    let Ok(_) = str::from_utf8(text) else {
+        return false;
+    };
+    true
+}
+
+/// What a line says: None where it is refused, and no line in it where it is passed over. A line of a script that is known to be UTF-8
+/// is not tried again.
 #[tactic(auto, unfolding(crate::specs::Scanning::line_at))]
 #[inline(always)]
 pub fn statement<'a>(
     names: &mut Names,
     words: &mut Vec<Piece<'a>>,
+    known: bool,
     text: &'a [u8],
 ) -> Result<Option<Option<Line>>, AllocError>
+    requires { IsTrue known → IsUtf8 text.now }
     ensures { IfOk result (λ found. found ≡ line_at text.now) }
 {
+    said(names, words, known, without_return(text))
+}
+
+// A line without its carriage return.
+#[inline(always)]
+fn without_return(text: &[u8]) -> &[u8]
+    ensures { result.now ≡ strip_carriage_return text.now }
+{
     match text {
-        [before @ .., b'\r'] => said(names, words, before),
-        _ => said(names, words, text),
+        [before @ .., b'\r'] => before,
+        _ => text,
     }
 }
 
@@ -36,13 +61,15 @@ pub fn statement<'a>(
 fn said<'a>(
     names: &mut Names,
     words: &mut Vec<Piece<'a>>,
+    known: bool,
     text: &'a [u8],
 ) -> Result<Option<Option<Line>>, AllocError>
+    requires { IsTrue known → IsUtf8 text.now }
     ensures { IfOk result (λ found. found ≡ said_at text.now) }
 {
-    let Ok(_) = str::from_utf8(text) else {
+    if !is_readable(known, text) {
         return Ok(None);
-    };
+    }
     if is_passed_over(text) {
         return Ok(Some(None));
     }
@@ -50,6 +77,18 @@ fn said<'a>(
         None => Ok(None),
         Some(line) => Ok(Some(Some(line))),
     }
+}
+
+// Whether a text is UTF-8, which may be known.
+#[inline(always)]
+fn is_readable(known: bool, text: &[u8]) -> bool
+    requires { IsTrue known → IsUtf8 text.now }
+    ensures { result ≡ is_utf8 text.now }
+{
+    if known {
+        return true;
+    }
+    is_utf8(text)
 }
 
 #[tactic(auto, unfolding(crate::specs::Language::is_passed_over))]
@@ -109,9 +148,19 @@ fn line(names: &mut Names, words: &[Piece<'_>]) -> Result<Option<Line>, AllocErr
     let Piece::Plain(word) = word else {
         return Ok(None);
     };
-    match word.as_slice().strip_prefix(b"@") {
-        Some(verb) => told(names, true, verb, words),
-        None => told(names, false, word.as_slice(), words),
+    let (quiet, verb) = verb_of(word.as_slice());
+    told(names, quiet, verb, words)
+}
+
+// Whether a first word makes its line quiet, and the word without the mark of that.
+#[tactic(auto, unfolding(crate::specs::Texts::following))]
+#[inline(always)]
+fn verb_of(word: &[u8]) -> (bool, &[u8])
+    ensures { (words : List Piece) → told_at result.0 words result.1.now ≡ option_map_or (told_at true words) (following (codes "@") word.now) (told_at false words word.now) }
+{
+    match word {
+        [b'@', verb @ ..] => (true, verb),
+        _ => (false, word),
     }
 }
 

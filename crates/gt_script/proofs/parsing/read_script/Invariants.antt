@@ -1,9 +1,13 @@
-use Rattle.std.proofs.Common.{length}
+use Rattle.std.proofs.Common.{length, IsTrue}
+use Rattle.std.specs.Str.{IsUtf8}
 use Rattle.gt_script.proofs.Outcomes.{SoFar}
 use Rattle.gt_script.proofs.parsing.read_script.Given as goal
 
 abbrev pub invariant-loop-rest : goal.invariant-loop-rest
-invariant-loop-rest l = SoFar l.text l.lines l.number l.rest
+invariant-loop-rest l = record {
+  so_far : SoFar l.text l.lines l.number l.rest;
+  utf8 : IsTrue l.known → IsUtf8 l.rest;
+}
 
 abbrev pub decreases-loop-rest : goal.decreases-loop-rest
 decreases-loop-rest l = length l.rest
