@@ -1,5 +1,6 @@
 -- What structures begin with, and what is inside one, looked at step by step.
-use Rattle.std.specs.Prelude.{◌≡◌, ◌≢◌, ◌≤◌, ℕ, if◌then◌else◌, List, [], ◌∷◌, Option, Some, None, slice_get, All, Any}
+use Rattle.std.specs.Prelude.{◌≡◌, ◌≢◌, ◌≤◌, ℕ, ◌-◌, Bool, if◌then◌else◌, List, [], ◌∷◌, Option, Some, None, slice_get, All, Any}
+use Rattle.std.specs.Bool.{Decides}
 use Rattle.gt_types.specs.declared.types.TypeId.{TypeId}
 use Rattle.gt_types.specs.declared.types.Ty.TheVariants as ty
 use Rattle.gt_types.specs.declared.program.Field.{Field}
@@ -29,21 +30,25 @@ first_of program node = first_inside (slice_get program.structures node.0)
 
 -- ---- plain structs
 
--- a structure contains another, at most so deep
-abbrev pub NestsWithin : Program → ℕ → TypeId → TypeId → Type 0
-NestsWithin program depth outer inner = (n : ℕ) × (n ≤ depth) × Nests program n outer inner
-
--- a structure, and all that it contains so deep, are structs that end in no array with a length
-abbrev pub PlainWithin : Program → ℕ → TypeId → Type 0
-PlainWithin program depth node = IsPlainStruct program node × ((inner : TypeId) → NestsWithin program depth node inner → IsPlainStruct program inner)
-
--- what a field holds is such a struct
-abbrev pub HoldsPlain : Program → ℕ → Field → Type 0
-HoldsPlain program depth f = (next : TypeId) → held_by f.ty ≡ Some next → PlainWithin program depth next
-
 -- a structure, and all that it contains, are structs that end in no array with a length
 abbrev pub IsPlain : Program → TypeId → Type 0
 IsPlain program node = IsPlainStruct program node × ((inner : TypeId) → ContainsAtDepth program node inner → IsPlainStruct program inner)
+
+-- what a field holds is such a struct
+abbrev pub HoldsPlain : Program → Field → Type 0
+HoldsPlain program f = (next : TypeId) → held_by f.ty ≡ Some next → IsPlain program next
+
+-- structures nest at most so deep inside one
+abbrev pub IsShallow : Program → ℕ → TypeId → Type 0
+IsShallow program depth node = (n : ℕ) (inner : TypeId) → Nests program n node inner → n ≤ depth
+
+-- so inside what a field holds, and this is one of them
+abbrev pub HoldsShallow : Program → ℕ → Field → Type 0
+HoldsShallow program depth f = (next : TypeId) → held_by f.ty ≡ Some next → (depth ≢ 0) × IsShallow program (depth - 1) next
+
+-- what is noted of structures is so: whether they are plain
+abbrev pub AreKnown : Program → List (Option Bool) → Type 0
+AreKnown program known = (node : TypeId) (plain : Bool) → slice_get known node.0 ≡ Some (Some plain) → Decides plain (IsPlain program node)
 
 -- ---- members
 

@@ -6,7 +6,7 @@ ghost use Rattle.gt_types.specs.declared.program.Field.{Field};
 ghost use Rattle.gt_types.specs.Contains.{HasStructure};
 ghost use Rattle.gt_types.specs.Settled.{Settled};
 ghost use Rattle.gt_types.specs.Unions.{may_be_active, BeginsWith, IsCommon};
-ghost use Rattle.gt_unions.specs.Beginnings.{active_structure, BeginsIfActive, IsFoundAmong};
+ghost use Rattle.gt_unions.specs.Beginnings.{active_structure, AreKnown, BeginsIfActive, IsFoundAmong};
 
 use crate::beginnings::begins_with;
 use crate::members::{active_structure, itself, may_be_active};
@@ -15,11 +15,17 @@ use gt_types::{Field, Program, Structure, TypeId};
 
 /// The common structure of a union: the plain struct that some member is, and with which each member begins that may be active.
 /// None where there is none, as where the structure is a struct. It takes no memory. For each member it takes at most about twice
-/// MAX_DEPTH steps; then it looks at the fields of the one structure that it found, and of those inside it, each as often as it is
-/// contained.
-pub fn common_of(program: &Program, structure: &Structure) -> Option<TypeId>
+/// MAX_DEPTH steps; then it looks at the fields of the one structure that it found, and of those inside it, where it is not noted yet
+/// whether they are plain.
+pub fn common_of(
+    program: &Program,
+    known: &mut Vec<Option<bool>>,
+    structure: &Structure,
+) -> Option<TypeId>
     requires settled { Settled program.now }
     requires there { (node : TypeId) × HasStructure program.now node structure.now }
+    requires known { AreKnown program.now known.old.items }
+    ensures known { AreKnown program.now known.new.items }
     ensures common { MatchOption result ((common : TypeId) → ¬ IsCommon program.now structure.now common) (λ common. IsCommon program.now structure.now common) }
 {
     if !structure.is_union {
@@ -28,7 +34,7 @@ pub fn common_of(program: &Program, structure: &Structure) -> Option<TypeId>
     let Some(common) = candidate(program, structure) else {
         return None;
     };
-    if is_common(program, structure, common) {
+    if is_common(program, known, structure, common) {
         Some(common)
     } else {
         None
@@ -68,16 +74,23 @@ fn earlier(program: &Program, found: Option<TypeId>, f: &Field) -> Option<TypeId
     }
 }
 
-fn is_common(program: &Program, structure: &Structure, common: TypeId) -> bool
+fn is_common(
+    program: &Program,
+    known: &mut Vec<Option<bool>>,
+    structure: &Structure,
+    common: TypeId,
+) -> bool
     requires settled { Settled program.now }
+    requires known { AreKnown program.now known.old.items }
     requires union { structure.now.is_union ≡ true }
     requires member { Any (λ f. active_structure f ≡ Some common) structure.now.fields }
-    ensures { Decides result (IsCommon program.now structure.now common) }
+    ensures known { AreKnown program.now known.new.items }
+    ensures common { Decides result (IsCommon program.now structure.now common) }
 {
     if !are_begun(program, structure.fields.as_slice(), common) {
         return false;
     }
-    is_plain(program, common)
+    is_plain(program, known, common)
 }
 
 fn are_begun(program: &Program, fields: &[Field], node: TypeId) -> bool

@@ -9,6 +9,5 @@ mod members;
 mod plain;
 mod tables;
 
-pub use commons::common_of;
 pub use laws::commons_are_found;
 pub use tables::Unions;

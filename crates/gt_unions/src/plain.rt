@@ -1,24 +1,70 @@
 // Structs that contain no union and no array with a length.
-ghost use Rattle.std.specs.Prelude.{All};
+ghost use Rattle.std.specs.Prelude.{◌≡◌, Bool, Some, All, slice_get};
 ghost use Rattle.std.specs.Bool.{Decides};
 ghost use Rattle.gt_types.specs.Settled.{Settled};
-ghost use Rattle.gt_unions.specs.Beginnings.{IsPlain, PlainWithin, HoldsPlain};
+ghost use Rattle.gt_types.specs.Unions.{IsPlainStruct};
+ghost use Rattle.gt_unions.specs.Beginnings.{AreKnown, HoldsPlain, HoldsShallow, IsPlain, IsShallow};
 
 use crate::members::{held_by, structure_of, tail_of};
 use gt_types::{Field, MAX_DEPTH, Program, TypeId};
 
-/// Whether a structure and all that it contains are structs that end in no array with a length. It looks at each field of these.
-pub fn is_plain(program: &Program, node: TypeId) -> bool
-    requires { Settled program.now }
-    ensures { Decides result (IsPlain program.now node) }
+/// Whether a structure and all that it contains are structs that end in no array with a length. What is found of each structure is noted,
+/// so that the fields of each are looked at once, however often it is contained and asked for.
+pub fn is_plain(program: &Program, known: &mut Vec<Option<bool>>, node: TypeId) -> bool
+    requires settled { Settled program.now }
+    requires known { AreKnown program.now known.old.items }
+    ensures known { AreKnown program.now known.new.items }
+    ensures plain { Decides result (IsPlain program.now node) }
 {
-    is_plain_within(program, MAX_DEPTH, node)
+    find_plain(program, known, MAX_DEPTH, node)
 }
 
-// Whether a structure and all that it contains, so deep, are structs that end in no array with a length.
+// The same, where structures nest at most so deep inside it.
 #[cycle(plain)]
-fn is_plain_within(program: &Program, depth: usize, node: TypeId) -> bool
-    ensures { Decides result (PlainWithin program.now depth node) }
+fn find_plain(program: &Program, known: &mut Vec<Option<bool>>, depth: usize, node: TypeId) -> bool
+    requires shallow { IsShallow program.now depth node }
+    requires known { AreKnown program.now known.old.items }
+    ensures known { AreKnown program.now known.new.items }
+    ensures plain { Decides result (IsPlain program.now node) }
+{
+    if let Some(plain) = noted(known, node) {
+        return plain;
+    }
+    let plain = look_inside(program, known, depth, node);
+    note(program, known, node, plain);
+    plain
+}
+
+// What is noted of a structure.
+fn noted(known: &[Option<bool>], node: TypeId) -> Option<bool>
+    ensures noted { (plain : Bool) → result ≡ Some plain → slice_get known.now node.0 ≡ Some (Some plain) }
+{
+    match known.get(node.0 as usize) {
+        Some(plain) => *plain,
+        None => None,
+    }
+}
+
+// Notes what was found of a structure.
+fn note(program: &Program, known: &mut Vec<Option<bool>>, node: TypeId, plain: bool)
+    requires known { AreKnown program.now known.old.items }
+    requires plain { Decides plain (IsPlain program.now node) }
+    ensures known { AreKnown program.now known.new.items }
+{
+    let _ = program;
+    let place = node.0 as usize;
+    if place < known.len() {
+        known[place] = Some(plain);
+    }
+}
+
+// Whether a structure is a struct that ends in no array with a length, as all are that it contains.
+#[cycle(plain)]
+fn look_inside(program: &Program, known: &mut Vec<Option<bool>>, depth: usize, node: TypeId) -> bool
+    requires shallow { IsShallow program.now depth node }
+    requires known { AreKnown program.now known.old.items }
+    ensures known { AreKnown program.now known.new.items }
+    ensures plain { Decides result (IsPlain program.now node) }
 {
     let Some(s) = structure_of(program, node) else {
         return false;
@@ -26,18 +72,23 @@ fn is_plain_within(program: &Program, depth: usize, node: TypeId) -> bool
     if s.is_union || tail_of(s.fields.as_slice()).is_some() {
         return false;
     }
-    if depth == 0 {
-        return true;
-    }
-    all_hold_plain(program, depth - 1, s.fields.as_slice())
+    all_hold_plain(program, known, depth, s.fields.as_slice())
 }
 
 #[cycle(plain)]
-fn all_hold_plain(program: &Program, depth: usize, fields: &[Field]) -> bool
-    ensures { Decides result (All (HoldsPlain program.now depth) fields.now) }
+fn all_hold_plain(
+    program: &Program,
+    known: &mut Vec<Option<bool>>,
+    depth: usize,
+    fields: &[Field],
+) -> bool
+    requires shallow { All (HoldsShallow program.now depth) fields.now }
+    requires known { AreKnown program.now known.old.items }
+    ensures known { AreKnown program.now known.new.items }
+    ensures plain { Decides result (All (HoldsPlain program.now) fields.now) }
 {
     for f in fields {
-        if !holds_plain(program, depth, f) {
+        if !holds_plain(program, known, depth, f) {
             return false;
         }
     }
@@ -45,11 +96,14 @@ fn all_hold_plain(program: &Program, depth: usize, fields: &[Field]) -> bool
 }
 
 #[cycle(plain)]
-fn holds_plain(program: &Program, depth: usize, f: &Field) -> bool
-    ensures { Decides result (HoldsPlain program.now depth f.now) }
+fn holds_plain(program: &Program, known: &mut Vec<Option<bool>>, depth: usize, f: &Field) -> bool
+    requires shallow { HoldsShallow program.now depth f.now }
+    requires known { AreKnown program.now known.old.items }
+    ensures known { AreKnown program.now known.new.items }
+    ensures plain { Decides result (HoldsPlain program.now f.now) }
 {
     match held_by(&f.ty) {
         None => true,
-        Some(next) => is_plain_within(program, depth, next),
+        Some(next) => find_plain(program, known, depth - 1, next),
     }
 }

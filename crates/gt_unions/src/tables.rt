@@ -11,6 +11,7 @@ ghost use Rattle.gt_types.specs.Contains.{HasStructure};
 ghost use Rattle.gt_types.specs.Settled.{Settled};
 ghost use Rattle.gt_types.specs.Unions.{IsCommon};
 ghost use Rattle.gt_unions.specs.Commons.{common_of};
+ghost use Rattle.gt_unions.specs.Beginnings.{AreKnown};
 ghost use Rattle.gt_unions.specs.Members.{active_member, first_place, is_default};
 ghost use Rattle.gt_unions.specs.Tables.{place_at, place_by, tags_from, with_tag, table_of, union_tables};
 
@@ -117,9 +118,16 @@ pub struct Unions {
 }
 
 impl UnionTable {
-    fn of(alloc: Global, program: &Program, structure: &Structure) -> Result<UnionTable, AllocError>
+    fn of(
+        alloc: Global,
+        program: &Program,
+        known: &mut Vec<Option<bool>>,
+        structure: &Structure,
+    ) -> Result<UnionTable, AllocError>
         requires settled { Settled program.now }
+        requires known { AreKnown program.now known.old.items }
         requires there { (node : TypeId) × HasStructure program.now node structure.now }
+        ensures known { AreKnown program.now known.new.items }
         ensures made { IfOk result (λ made. made ≡ table_of program.now structure.now) }
     {
         let fields = structure.fields.as_slice();
@@ -127,7 +135,7 @@ impl UnionTable {
         Ok(UnionTable {
             tags,
             other: default_of(fields),
-            common: common_of(program, structure),
+            common: common_of(program, known, structure),
         })
     }
 
@@ -146,14 +154,16 @@ impl UnionTable {
 }
 
 impl Unions {
-    /// The tables of a program. Its time grows with the number of the fields and its logarithm. Its only error is out of memory.
+    /// The tables of a program. Its time grows with the number of the fields, each times the logarithm of the number of tags, or a few
+    /// times MAX_DEPTH. Its only error is out of memory.
     pub fn of(alloc: Global, program: &Program) -> Result<Unions, AllocError>
         requires settled { Settled program.now }
         ensures made { IfOk result (λ made. made ≡ union_tables program.now) }
     {
+        let mut known = vec![in alloc; None; program.structures.len()]?;
         let mut structures = Vec::new(alloc);
         for structure in program.structures.as_slice() {
-            structures.push(UnionTable::of(alloc, program, structure)?)?;
+            structures.push(UnionTable::of(alloc, program, &mut known, structure)?)?;
         }
         Ok(Unions {
             structures: List::of(structures),

@@ -7,10 +7,11 @@ use Rattle.gt_unions.proofs.commons.common_of.Goals as goal
 
 pub returns-else-is_common : goal.returns-else-is_common
 returns-else-is_common c = record {
+  known = c.is_common.ensures.known;
   common = λ common is.
-      not_from_Decides c.is_common.result c.is_common.ensures c.if-is_common.false
+      not_from_Decides c.is_common.result c.is_common.ensures.common c.if-is_common.false
       (subst (λ (n : TypeId). IsCommon c.args.program.now c.args.structure.now n) (sym (some_is c.in-Some.common common (c.in-Some.ensures.only common is))) is);
 }
 
 pub returns-in_default : goal.returns-in_default
-returns-in_default c = record { common = λ common is. let never : None ≡ Some common = c.in_default.ensures.only common is in cc }
+returns-in_default c = record { known = c.requires.known; common = λ common is. let never : None ≡ Some common = c.in_default.ensures.only common is in cc }

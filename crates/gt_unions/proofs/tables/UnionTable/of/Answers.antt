@@ -16,5 +16,6 @@ default_of-requires c = record {
 
 pub returns : goal.returns
 returns c = record {
+  known = c.common_of.ensures.known;
   made = same-table c.args.program.now c.requires.there.0 c.args.structure.now c.as_slice-fields.result.now c.in_ok-tags.tags c.default_of.result c.common_of.result c.requires.settled c.requires.there.1 c.as_slice-fields.ensures.items c.in_ok-tags.ensures.made c.default_of.ensures c.common_of.ensures.common;
 }
