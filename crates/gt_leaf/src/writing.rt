@@ -145,8 +145,8 @@ fn judge_at<N: BlockNames>(
 }
 
 /// Judges the write of the leaf at a path of an element of a block, with room for so many elements at its end, before it is done:
-/// `write_leaf` is this and `store_leaf`. It takes no memory, and its time grows with the path alone; where a string is written, with
-/// its characters too.
+/// `write_leaf` is this and `store_leaf`. It takes no memory, and its time grows with the path alone, but for two things: a union on it
+/// without an active member is looked through, and where a string is written, so are its characters.
 pub fn judge_leaf<N: BlockNames>(
     program: &Program,
     layouts: &Layouts,
@@ -217,7 +217,7 @@ pub fn judge_static_leaf<N: BlockNames>(
 /// Writes the leaf at a path in the bytes of an element of a block with room for so many elements at its end, where no expression
 /// reads it and it fits: what the element becomes is then what the write of this leaf makes, and no other bit changes. A path names
 /// places of fields, of the active member and of elements, from the outside in; eight bytes that are never scanned take a number. It
-/// takes no memory, and its time grows with the path alone; where a string is written, with its characters too.
+/// takes no memory, and its time grows as that of [`judge_leaf`] does.
 pub fn write_leaf<N: BlockNames>(
     program: &Program,
     layouts: &Layouts,

@@ -1,4 +1,4 @@
--- No promise: the tables of unions, by which active members and common structures are found.
+-- The tables of unions, as they are made; what is found in them is said by the clauses of `Unions`.
 use Rattle.std.specs.Prelude.{ℕ, ◌+◌, ℤ, cond, if◌then◌else◌, List, [], ◌∷◌, Option, Some, None, is_some, map}
 use Rattle.std.specs.Ordering.{int_cmp}
 use Rattle.std.specs.List.{position_from}
