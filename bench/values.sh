@@ -1,7 +1,8 @@
 #!/usr/bin/env bash
 # Times zero, a write, showing, storing, reading back and showing again of 50 values by the program value_table, which is built first: structures that
 # end in so many pointers, with ten times as many from row to row; then showing, storing and reading alone, so many times; and `print` of a structure with
-# so many unions by the program gtyheap, where reading finds the number that chooses each member by its name. Run by hand, from any folder, after
+# so many unions by the program gtyheap, where reading finds the number that chooses each member by its name, and of unions of so many members; and the
+# header of so many unions that begin with a large struct. Run by hand, from any folder, after
 # ./gtyheap. The values of the last row of the first table no longer fit the caches: it took 12.4 to 13.2 times as long as the one before, on a busy machine,
 # on 27 November 2026.
 . "$(dirname "$0")/shared.sh"
@@ -54,3 +55,33 @@ prints() {
 large=$(prints 1000)
 small=$(prints 100)
 row 'print, unions chosen by name' 1000 "$large" 'a tenth' "$small" 12
+
+# The seconds of 2,000 lines `print`, of an array of 200 unions of so many members, the last of which is active in each.
+members() {
+  awk -v n="$1" 'BEGIN {
+    print "union GTY(()) arm {"
+    for (i = 0; i < n; i++) printf "  int GTY((tag (\"%d\"))) m%d;\n", i, i
+    print "};\nstruct GTY(()) many { int kind; union arm GTY((desc (\"%1.kind\"))) u[200]; };" }' >"$work/members.h"
+  { echo '@new $m many'; echo "@set \$m.kind $(($1 - 1))"; awk 'BEGIN { for (i = 0; i < 2000; i++) print "@print $m" }'; } >"$work/prints.gty"
+  echo '@new $m many' >"$work/none.gty"
+  wants 0 0 "$work/prints.gty" "$work/members.h"
+  minus "$(seconds 5 "$program" "$work/prints.gty" "$work/members.h")" "$(seconds 5 "$program" "$work/none.gty" "$work/members.h")"
+}
+large=$(members 1000)
+small=$(members 100)
+row 'print of 200 unions, members of each' 1000 "$large" 'a tenth' "$small" 2
+
+# The seconds in which a header of so many unions is read, each of which may begin with one large struct that holds small ones very often.
+begin() {
+  awk -v n="$1" 'BEGIN {
+    print "struct GTY(()) s0 { char c; };"
+    for (i = 1; i < 12; i++) printf "struct GTY(()) s%d { struct s%d a; };\n", i, i - 1
+    for (; i < 32; i++) printf "struct GTY(()) s%d { struct s%d a; struct s%d b; };\n", i, i - 1, i - 1
+    for (i = 0; i < n; i++) printf "union GTY((desc (\"0\"))) u%d { struct s31 GTY((tag (\"0\"))) a; };\n", i }' >"$work/begin.h"
+  : >"$work/none.gty"
+  wants 0 0 "$work/none.gty" "$work/begin.h"
+  seconds 5 "$program" "$work/none.gty" "$work/begin.h"
+}
+large=$(begin 4000)
+small=$(begin 400)
+row 'unions that begin with a large struct' 4000 "$large" 'a tenth' "$small" 12
