@@ -6,7 +6,7 @@
 # where all of it does not, so what is held to a ratio of 12 is the instructions, which are the same each time and are counted where valgrind is there.
 # All runs have a stack of 16 MiB. Run by hand, from any folder; the program around gt_mark is written and built in a copy of the crates that it needs.
 . "$(dirname "$0")/shared.sh"
-crates="gt_types gt_names gt_fields gt_layout gt_space gt_tree gt_unions gt_value gt_walk gt_links gt_bits gt_entries gt_pages gt_mark sample_heap"
+crates="gt_types gt_unions gt_names gt_fields gt_layout gt_space gt_tree gt_value gt_walk gt_links gt_bits gt_entries gt_pages gt_mark sample_heap"
 copy_crates $crates
 program=$work/crates/time_mark
 mkdir -p "$program/src"

@@ -6,7 +6,7 @@
 . "$(dirname "$0")/shared.sh"
 program=$work/crates/time_walks
 mkdir -p "$program/src" "$program/proofs/visit_times"
-crates="gt_types gt_names gt_fields gt_layout gt_space gt_tree gt_unions gt_value gt_walk"
+crates="gt_types gt_unions gt_names gt_fields gt_layout gt_space gt_tree gt_value gt_walk"
 copy_crates $crates
 echo 'time_walks: gt_types gt_space gt_walk' >>"$work/crates.txt"
 cat >"$program/proofs/visit_times/Answers.antt" <<'END'
