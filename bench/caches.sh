@@ -44,7 +44,7 @@ ours=$work/crates/time_caches
 mkdir -p "$ours/src" "$ours/proofs/put" "$ours/proofs/put_all" "$ours/proofs/collect" "$ours/proofs/keep_often"
 echo 'time_caches: gt_next gt_caches' >>"$work/crates.txt"
 cat >"$ours/src/main.rt" <<'RT'
-//! Puts pairs into one cache, finds them, and lets a collection keep or drop them. The words are `put`, `find`, `keep` or `drop`, how many pairs,
+//! Puts pairs into one cache, finds them, and lets a collection keep or drop them. The arguments are `put`, `find`, `keep` or `drop`, how many pairs,
 //! and how many times; what is printed is how many pairs were put, found, kept or dropped, the last time.
 #![tactic(auto)]
 

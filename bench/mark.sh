@@ -12,7 +12,7 @@ program=$work/crates/time_mark
 mkdir -p "$program/src"
 echo 'time_mark: gt_types gt_walk sample_heap' >>"$work/crates.txt"
 cat >"$program/src/main.rt" <<'RT'
-//! Makes a heap, and marks and sweeps it. The words are `check` or `collect`, the shape of the heap, how many blocks it has, and how
+//! Makes a heap, and marks and sweeps it. The arguments are `check` or `collect`, the shape of the heap, how many blocks it has, and how
 //! many times this is done; what is printed is whether blocks can be marked, or how many blocks the last collection freed and how many rounds
 //! the marker needed.
 #![tactic(auto)]
