@@ -81,4 +81,4 @@ awk -v n=100000 'BEGIN {
   print "print head.key"; print "collect force" }' >"$work/s.gty"
 row 'the collection of :100000' 100000 "$(middle 21 "$work/between" 0 "$program" "$work/s.gty" "$work/heap.h")" 'in C' "$(middle 21 "$work/small" first 100000)" 3
 : >"$work/input"
-row 'the words :100000, with their commands' 100000 "$(minus "$(seconds 5 "$program" :100000)" "$idle")"
+row 'the argument :100000, with its commands' 100000 "$(minus "$(seconds 5 "$program" :100000)" "$idle")"

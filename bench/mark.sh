@@ -6,13 +6,13 @@
 # where all of it does not, so what is held to a ratio of 12 is the instructions, which are the same each time and are counted where valgrind is there.
 # All runs have a stack of 16 MiB. Run by hand, from any folder; the program around gt_mark is written and built in a copy of the crates that it needs.
 . "$(dirname "$0")/shared.sh"
-crates="gt_types gt_names gt_fields gt_layout gt_space gt_tree gt_unions gt_value gt_walk gt_links gt_bits gt_entries gt_pages gt_mark sample_heap"
+crates="gt_types gt_unions gt_names gt_fields gt_layout gt_space gt_tree gt_value gt_walk gt_links gt_bits gt_entries gt_pages gt_mark sample_heap"
 copy_crates $crates
 program=$work/crates/time_mark
 mkdir -p "$program/src"
 echo 'time_mark: gt_types gt_walk sample_heap' >>"$work/crates.txt"
 cat >"$program/src/main.rt" <<'RT'
-//! Makes a heap, and marks and sweeps it. The words are `check` or `collect`, the shape of the heap, how many blocks it has, and how
+//! Makes a heap, and marks and sweeps it. The arguments are `check` or `collect`, the shape of the heap, how many blocks it has, and how
 //! many times this is done; what is printed is whether blocks can be marked, or how many blocks the last collection freed and how many rounds
 //! the marker needed.
 #![tactic(auto)]

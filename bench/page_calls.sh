@@ -27,7 +27,7 @@ pub marked-requires : goal.marked-requires
 marked-requires c = record { start = owner_starts c.args.pages.now.slots c.args.byte c.in-Some.start c.in-Some._size (sym c.owner.ensures.owner ∙ c.in-Some.is) }
 END
 cat >"$program/src/main.rt" <<'RT'
-//! Calls of the pages. The words are what is called, how many times, and how many blocks or pages there are; what is printed is how many of the calls
+//! Calls of the pages. The arguments are what is called, how many times, and how many blocks or pages there are; what is printed is how many of the calls
 //! gave what was asked for.
 #![tactic(auto)]
 
@@ -242,7 +242,7 @@ fn run(pages: &mut Pages, what: &str, times: u64, count: u64) -> u64 {
     }
 }
 
-// A number, or 0 where the word is missing or is no number.
+// A number, or 0 where the argument is missing or is no number.
 fn number(word: Option<String>) -> u64 {
     match word {
         Some(word) => word.as_str().parse::<u64>().unwrap_or(0),

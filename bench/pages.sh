@@ -8,7 +8,7 @@
 . "$(dirname "$0")/shared.sh"
 start_pages time_pages
 cat >"$program/src/main.rt" <<'RT'
-//! Makes nodes in pages and collects them. The words are `make`, `collect`, `pages`, `bytes`, `again` or `none`, and how many there are;
+//! Makes nodes in pages and collects them. The arguments are `make`, `collect`, `pages`, `bytes`, `again` or `none`, and how many there are;
 //! what is printed is how many blocks a collection keeps, or how many were made.
 #![tactic(auto)]
 

@@ -137,7 +137,7 @@ impl Space {
 }
 END
 cat >"$work/main.rt" <<'END'
-//! Calls one call of a space so many times: the words are its name and the number.
+//! Calls one call of a space so many times: the arguments are its name and the number.
 #![tactic(auto)]
 
 ghost use Rattle.std.specs.Prelude.{ℕ, ◌≡◌, ◌≤◌, length};

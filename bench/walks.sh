@@ -6,7 +6,7 @@
 . "$(dirname "$0")/shared.sh"
 program=$work/crates/time_walks
 mkdir -p "$program/src" "$program/proofs/visit_times"
-crates="gt_types gt_names gt_fields gt_layout gt_space gt_tree gt_unions gt_value gt_walk"
+crates="gt_types gt_unions gt_names gt_fields gt_layout gt_space gt_tree gt_value gt_walk"
 copy_crates $crates
 echo 'time_walks: gt_types gt_space gt_walk' >>"$work/crates.txt"
 cat >"$program/proofs/visit_times/Answers.antt" <<'END'
@@ -21,7 +21,7 @@ visit-requires c =
     record { can = can-all (λ (s : Sum) (e : Edge). Unit {0}) (λ (s : Sum) (e : Edge) (t : Sum). Unit {0}) (λ s e. tt) c.loop.sum (edges_of c.args.tables.now 0 c.args.count c.args.space.now HEAP_START); }
 END
 cat >"$program/src/main.rt" <<'END'
-//! Visits nodes of two pointers, or a tail of pointers, so many times. The words are `nodes` or `tail`, how many there are, and how
+//! Visits nodes of two pointers, or a tail of pointers, so many times. The arguments are `nodes` or `tail`, how many there are, and how
 //! many times; what is printed is the sum of the edges.
 #![tactic(auto)]
 

@@ -30,6 +30,7 @@ example chain 1 chain.h expr.h
 example cycle 1 cycle.h
 example list 1 node.h
 example collect 1 node.h
+example rtl 1 rtl.h
 example values 1 values.h
 ./picture.sh tree.gty tree.h scope.h | diff tree.dot - && echo 'the picture of tree: as it should be' || failed=1
 exit "$failed"

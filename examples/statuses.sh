@@ -1,6 +1,6 @@
 #!/usr/bin/env bash
 # Runs the program so that it ends with each of its statuses, and says which it ended with: some of these runs no stored run can make, as
-# a word that is not UTF-8, a full disk, which /dev/full stands for, a pipe that nobody reads, with its signal ignored, and too little
+# an argument that is not UTF-8, a full disk, which /dev/full stands for, a pipe that nobody reads, with its signal ignored, and too little
 # memory. The status of this script is 0 where all are as they should be. Run by hand, from any folder; GTYHEAP may name another program than
 # ./gtyheap.
 set -u
@@ -37,7 +37,7 @@ ends() {
 ends 'all answered' 0 one.gty node.h
 ends 'a command refused' 1 refused.gty node.h
 ends 'an unknown option' 2 --nothing one.gty node.h
-ends 'a word that is not UTF-8' 2 one.gty $'node\xff.h'
+ends 'an argument that is not UTF-8' 2 one.gty $'node\xff.h'
 ends 'a fault of a header' 2 one.gty fault.h
 ends 'a fault of the script' 2 wrong.gty node.h
 ends 'a missing file' 3 one.gty missing.h
