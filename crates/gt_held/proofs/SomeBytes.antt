@@ -1,5 +1,5 @@
 -- Structures of no tail type take one byte at least.
-use Rattle.std.proofs.Common.{◌≡◌, ◌<◌, ◌≤◌, ℕ, zero, suc, ◌+◌, ◌-◌, ◌*◌, Bool, true, false, ◌&&◌, nat_le, IsTrue, get_or, List, [], ◌∷◌, length, All, Option, Some, None, refl, sym, ap, subst, ◌∙◌, arith}
+use Rattle.std.proofs.Common.{◌≡◌, ◌<◌, ◌≤◌, ℕ, zero, suc, ◌+◌, ◌-◌, ◌*◌, Bool, true, false, ◌&&◌, nat_le, IsTrue, get_or, List, [], ◌∷◌, length, All, Option, Some, refl, sym, ap, subst, ◌∙◌, arith}
 use Rattle.std.specs.Prelude.{slice_get, is_some, Contains}
 use Rattle.std.proofs.lemmas.Bool.{leb-true}
 use Rattle.std.proofs.lemmas.List.Elements.{All-head, All-tail, All-contains}
@@ -18,7 +18,7 @@ use Rattle.gt_types.specs.declared.types.Ty.TheVariants.{outs-Num, outs-Bits, ou
 use Rattle.gt_types.specs.declared.program.Field.{Field}
 use Rattle.gt_types.specs.declared.program.Structure.{Structure}
 use Rattle.gt_types.specs.declared.program.Program.{Program}
-use Rattle.gt_types.specs.Shapes.{dimensions, is_element, is_element_step, is_bound, may_repeat, is_opaque, is_structure, field_type_at, is_field_type}
+use Rattle.gt_types.specs.Shapes.{dimensions, is_element, is_element_step, is_bound, is_opaque, is_structure, field_type_at, is_field_type}
 use Rattle.gt_types.specs.Contains.{HasStructure, held_by}
 use Rattle.gt_types.specs.Tails.{IsTailType, elements_at, tail_of}
 use Rattle.gt_types.specs.Settled.{Settled, IsField, IsStruct, IsUnion, IsOfItsKind}
@@ -26,8 +26,8 @@ use Rattle.gt_layout.specs.declared.planes.Plane.{Plane}
 use Rattle.gt_layout.specs.declared.planes.Spot.{Spot}
 use Rattle.gt_layout.specs.declared.storages.Storage.{Storage}
 use Rattle.gt_layout.specs.Storages.{bytes_of, extent_at, extent_of, extent_of_plane, storage_of, storages_of}
-use Rattle.gt_layout.specs.Places.{end_of, end_at, begin_at, ends, Lie, Follow, Overlap}
-use Rattle.gt_layout.specs.Planes.{AreLaidOut, IsSize}
+use Rattle.gt_layout.specs.Places.{end_of, end_at, begin_at, ends, Lie}
+use Rattle.gt_layout.specs.Planes.{AreLaidOut}
 use Rattle.gt_layout.specs.Capacity.{SizeAt, MemberEnds, last_offset}
 use Rattle.gt_layout.specs.Progress.{IsWithinDepth, HoldsWithinDepth}
 use Rattle.gt_layout.proofs.Capacities.{shallow_fields}
