@@ -41,31 +41,33 @@ for what in show store read; do
   row "$what, pointers of each" 32000 "$large" 'a tenth' "$small" 14
 done
 
-# The seconds of 2,000 lines `print`, of a structure with so many unions before the number that chooses their members.
+# The seconds of 2,000 lines `print` of a structure `many` of the header `many.h`, of which the number `kind` is this.
 prints() {
+  printf '@new $m many\n@set $m.kind %d\n' "$1" >"$work/none.gty"
+  { cat "$work/none.gty"; awk 'BEGIN { for (i = 0; i < 2000; i++) print "@print $m" }'; } >"$work/prints.gty"
+  wants 0 0 "$work/prints.gty" "$work/many.h"
+  minus "$(seconds 5 "$program" "$work/prints.gty" "$work/many.h")" "$(seconds 5 "$program" "$work/none.gty" "$work/many.h")"
+}
+
+# The same, with so many unions before the number that chooses their members.
+unions() {
   awk -v n="$1" 'BEGIN {
     print "union GTY(()) arm { int GTY((tag (\"0\"))) number; char *GTY((tag (\"1\"))) text; };\nstruct GTY(()) many {"
     for (i = 0; i < n; i++) printf "  union arm GTY((desc (\"%%1.kind\"))) u%d;\n", i
     print "  int kind;\n};" }' >"$work/many.h"
-  { echo '@new $m many'; awk 'BEGIN { for (i = 0; i < 2000; i++) print "@print $m" }'; } >"$work/prints.gty"
-  echo '@new $m many' >"$work/none.gty"
-  wants 0 0 "$work/prints.gty" "$work/many.h"
-  minus "$(seconds 5 "$program" "$work/prints.gty" "$work/many.h")" "$(seconds 5 "$program" "$work/none.gty" "$work/many.h")"
+  prints 0
 }
-large=$(prints 1000)
-small=$(prints 100)
+large=$(unions 1000)
+small=$(unions 100)
 row 'print, unions chosen by name' 1000 "$large" 'a tenth' "$small" 12
 
-# The seconds of 2,000 lines `print`, of an array of 200 unions of so many members, the last of which is active in each.
+# The same, with an array of 200 unions of so many members, the last of which is active in each.
 members() {
   awk -v n="$1" 'BEGIN {
     print "union GTY(()) arm {"
     for (i = 0; i < n; i++) printf "  int GTY((tag (\"%d\"))) m%d;\n", i, i
-    print "};\nstruct GTY(()) many { int kind; union arm GTY((desc (\"%1.kind\"))) u[200]; };" }' >"$work/members.h"
-  { echo '@new $m many'; echo "@set \$m.kind $(($1 - 1))"; awk 'BEGIN { for (i = 0; i < 2000; i++) print "@print $m" }'; } >"$work/prints.gty"
-  echo '@new $m many' >"$work/none.gty"
-  wants 0 0 "$work/prints.gty" "$work/members.h"
-  minus "$(seconds 5 "$program" "$work/prints.gty" "$work/members.h")" "$(seconds 5 "$program" "$work/none.gty" "$work/members.h")"
+    print "};\nstruct GTY(()) many { int kind; union arm GTY((desc (\"%1.kind\"))) u[200]; };" }' >"$work/many.h"
+  prints $(($1 - 1))
 }
 large=$(members 1000)
 small=$(members 100)
