@@ -1,10 +1,10 @@
 #!/usr/bin/env bash
 # Times zero, a write, showing, storing, reading back and showing again of 50 values by the program value_table, which is built first: structures that
-# end in so many pointers, with ten times as many from row to row; then showing, storing and reading alone, so many times; and `print` of a structure with
-# so many unions by the program gtyheap, where reading finds the number that chooses each member by its name, and of unions of so many members; and the
-# header of so many unions that begin with a large struct. Run by hand, from any folder, after
-# ./gtyheap. The values of the last row of the first table no longer fit the caches: it took 12.4 to 13.2 times as long as the one before, on a busy machine,
-# on 27 November 2026.
+# end in so many pointers, with ten times as many from row to row; then showing, storing and reading alone, so many times; and, by the program gtyheap,
+# `print` of a structure with so many unions, where reading finds the number that chooses each member by its name, and of unions of so many members; the
+# header of so many unions that begin with a large struct; and `set` in a union of so many members, one of which ends in an array. Run by hand, from any
+# folder, after ./gtyheap. The values of the last row of the first table no longer fit the caches: it took 12.4 to 13.2 times as long as the one before,
+# on a busy machine, on 27 November 2026.
 . "$(dirname "$0")/shared.sh"
 take_program
 (cd "$root/crates/value_table" && quiet rt run </dev/null)
@@ -87,3 +87,20 @@ begin() {
 large=$(begin 4000)
 small=$(begin 400)
 row 'unions that begin with a large struct' 4000 "$large" 'a tenth' "$small" 12
+
+# The seconds of 2,000 lines `set` of a length in a union of so many members, of which one alone ends in an array of that length: each of them stores
+# the whole value.
+sets() {
+  awk -v n="$1" 'BEGIN {
+    print "struct GTY(()) vec { int n; struct vec *GTY((length (\"%h.n\"))) elt[1]; };"
+    print "union GTY((desc (\"0\"))) many {\n  struct vec GTY((tag (\"0\"))) v;"
+    for (i = 1; i < n; i++) printf "  int GTY((tag (\"%d\"))) m%d;\n", i, i
+    print "};" }' >"$work/many.h"
+  printf '@new $m many 4\n' >"$work/none.gty"
+  { cat "$work/none.gty"; awk 'BEGIN { for (i = 0; i < 2000; i++) print "@set $m.v.n " i % 5 }'; } >"$work/sets.gty"
+  wants 0 0 "$work/sets.gty" "$work/many.h"
+  minus "$(seconds 5 "$program" "$work/sets.gty" "$work/many.h")" "$(seconds 5 "$program" "$work/none.gty" "$work/many.h")"
+}
+large=$(sets 1000)
+small=$(sets 100)
+row 'set in a union, members' 1000 "$large" 'a tenth' "$small" 2

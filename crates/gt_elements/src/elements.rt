@@ -13,8 +13,7 @@ use gt_layout::Layouts;
 use gt_objects::{Known, Objects, element_size};
 use gt_types::Program;
 
-/// The element at a place of the object at an address; None where there is no such element. It takes constant time but for
-/// unions, whose size is found from their members.
+/// The element at a place of the object at an address; None where there is no such element. It takes constant time.
 pub fn element(
     objects: &Objects,
     program: &Program,
@@ -36,8 +35,7 @@ pub fn element(
     Some(element_of(objects, program, layouts, addr, known, place))
 }
 
-/// The element at a place of the object at an address, of which this is known. The first one is found in constant time, the others
-/// as `element` finds them.
+/// The element at a place of the object at an address, of which this is known. It takes constant time.
 pub fn element_of(
     objects: &Objects,
     program: &Program,

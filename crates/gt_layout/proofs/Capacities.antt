@@ -1,13 +1,11 @@
 -- Sizes with room for elements at the end.
-use Rattle.std.proofs.Common.{◌≡◌, ◌≢◌, ℕ, ◌+◌, ◌-◌, ◌*◌, ◌/◌, ◌^◌, ◌≤◌, ◌<◌, max, Bool, true, false, Option, Some, None, List, [], ◌∷◌, ◌++◌, length, take, get_or, set, replicate, length-set, sym, ap, subst, ◌∙◌, refl, ◌⊎◌, inl, inr, arith}
+use Rattle.std.proofs.Common.{◌≡◌, ℕ, ◌+◌, ◌-◌, ◌*◌, ◌/◌, ◌≤◌, ◌<◌, Bool, true, false, Option, Some, List, [], ◌∷◌, ◌++◌, length, get_or, sym, ap, subst, ◌∙◌, refl, ◌⊎◌, inl, inr, arith}
 use Rattle.std.specs.List.{All}
 use Rattle.std.specs.Prelude.{slice_get}
-use Rattle.std.proofs.lemmas.Bool.{cases_lt, cases_eq}
-use Rattle.std.proofs.lemmas.List.{take_more, length-replicate, get_or-replicate}
-use Rattle.std.proofs.lemmas.Option.{get_or_from_slice_get, slice_get-get_or, slice_get_within, none-some, same_Some}
-use Rattle.std.proofs.lemmas.List.Elements.{All-nil, All-cons, All-head, All-tail, All-push}
+use Rattle.std.proofs.lemmas.Bool.{cases_lt}
+use Rattle.std.proofs.lemmas.Option.{get_or_from_slice_get, slice_get-get_or}
+use Rattle.std.proofs.lemmas.List.Elements.{All-nil, All-cons, All-head, All-tail}
 use Rattle.gt_types.specs.declared.expressions.Expr.{Expr}
-use Rattle.gt_types.specs.declared.limits.TheConstants.{MAX_STRUCTURES}
 use Rattle.gt_types.specs.declared.types.TypeId.{TypeId}
 use Rattle.gt_types.specs.declared.types.Ty.{Ty}
 use Rattle.gt_types.specs.declared.types.Ty.TheOpen as part
@@ -31,10 +29,10 @@ use Rattle.gt_layout.specs.Places.{end_of, ends}
 use Rattle.gt_layout.specs.Planes.{AreLaidOut, IsSize, IsPlaneOf}
 use Rattle.gt_layout.specs.Excess.{IsTooLarge}
 use Rattle.gt_layout.specs.Capacity.{SizeAt, of_tail, of_union, MemberEnds, none, of_structure, of_field, last_offset}
-use Rattle.gt_layout.specs.Progress.{IsWithinDepth, HoldsWithinDepth, HaveEnds, IsOfKind, IsSizeByDepth, AreSizes}
+use Rattle.gt_layout.specs.Progress.{IsWithinDepth, HoldsWithinDepth, HaveEnds, IsOfKind}
 use Rattle.gt_layout.proofs.Placing.{up, IsPossible, next}
 use Rattle.gt_layout.proofs.PlaneOf.{size_of_ends, plane_only}
-use Rattle.gt_layout.proofs.Laying.{held_within, get-set_same, get-set_other}
+use Rattle.gt_layout.proofs.Laying.{held_within}
 use Rattle.gt_layout.proofs.Ideal.{some_align, possible_of}
 use Rattle.gt_layout.proofs.Beyond.{ends_from, ends-spots}
 
@@ -62,7 +60,7 @@ of_kind program structures node d same s there = ap (λ (o : Structure). o.is_un
 
 -- ---- the members of a union
 
-append_members : (program : Program) (planes : List Plane) (capacity : ℕ) (fs gs : List Field) (es hs : List ℕ) → MemberEnds program planes capacity fs es → MemberEnds program planes capacity gs hs
+pub append_members : (program : Program) (planes : List Plane) (capacity : ℕ) (fs gs : List Field) (es hs : List ℕ) → MemberEnds program planes capacity fs es → MemberEnds program planes capacity gs hs
     → MemberEnds program planes capacity (fs ++ gs) (es ++ hs)
 append_members program planes capacity fs gs es hs none more = more
 append_members program planes capacity fs gs es hs (of_structure {fs = rest} {ends = others} is size members) more = of_structure is size (append_members program planes capacity rest gs others hs members more)
@@ -71,21 +69,6 @@ append_members program planes capacity fs gs es hs (of_field {fs = rest} {ends =
 all_front : {X : Type 0} (P : X → Type 0) (xs : List X) (y : X) → All P (xs ++ y ∷ []) → All P xs × P y
 all_front P [] y all = (All-nil P, All-head P y [] all)
 all_front P (x ∷ xs) y all = let rest = all_front P xs y (All-tail P x (xs ++ y ∷ []) all) in (All-cons P x xs (All-head P x (xs ++ y ∷ []) all) rest.0, rest.1)
-
-pub no_members : (program : Program) (planes : List Plane) (capacity : ℕ) → HaveEnds program planes capacity [] 0
-no_members program planes capacity = record { ends = []; are = none; inside = All-nil (λ end. end ≤ 0); least = λ bound all. omega arith; small = λ depth shallow. omega arith }
-
-pub more_members : (program : Program) (planes : List Plane) (capacity : ℕ) (fields : List Field) (i : ℕ) (f : Field) (last end last' : ℕ) → i < length fields → f ≡ get_or fields i f
-    → HaveEnds program planes capacity (take i fields) last → MemberEnds program planes capacity (f ∷ []) (end ∷ []) → ((most : ℕ) → HoldsWithinDepth program f.ty most → end ≤ 8 * (2 ^ 53 + most * 2 ^ 32))
-    → last' ≡ max end last → HaveEnds program planes capacity (take (i + 1) fields) last'
-more_members program planes capacity fields i f last end last' within at before one small is =
-    subst (λ (fs : List Field). HaveEnds program planes capacity fs last') (sym (take_more fields i f within ∙ ap (λ (g : Field). take i fields ++ g ∷ []) (sym at))) (record {
-      ends = before.ends ++ end ∷ [];
-      are = append_members program planes capacity (take i fields) (f ∷ []) before.ends (end ∷ []) before.are one;
-      inside = All-push (λ n. n ≤ last') before.ends end (λ k d less. omega (arith, before.inside k d less, is)) (omega (arith, is));
-      least = λ bound all. let both = all_front (λ n. n ≤ bound) before.ends end all in omega (arith, is, before.least bound both.0, both.1);
-      small = λ depth shallow. let both = all_front (λ (g : Field). HoldsWithinDepth program g.ty depth) (take i fields) f shallow in omega (arith, is, small depth both.1, before.small depth both.0);
-    })
 
 exact_by : (planes : List Plane) (from bound : ℕ) (fields : List Field) → All (λ end. end ≤ bound) (ends_from true from (storages_of planes fields)) → All (λ (f : Field). end_of (storage_of planes f.ty) 0 ≤ bound) fields
 exact_by planes from bound [] all = All-nil (λ (f : Field). end_of (storage_of planes f.ty) 0 ≤ bound)
@@ -127,20 +110,9 @@ pub not_structure : (type : Ty) → ((node : TypeId) (desc : Option Expr) → ty
 not_structure (ty.Node node desc) never = absurd (never node desc refl)
 not_structure type never = refl
 
-end_same : (f : Storage) → end_of f 0 ≤ 8388608 → end_of (held_storage f) 0 ≡ end_of f 0
+pub end_same : (f : Storage) → end_of f 0 ≤ 8388608 → end_of (held_storage f) 0 ≡ end_of f 0
 end_same (Bytes e) exact = omega (arith, exact)
 end_same (Bits unit count) exact = refl
-
--- a member that is no structure
-pub other_member : (program : Program) (planes : List Plane) (capacity : ℕ) (f : Field) (type : Ty) (g : Storage) (result : ℕ) → type ≡ f.ty → ((node : TypeId) (desc : Option Expr) → f.ty ≡ ty.Node node desc → ⊥)
-    → g ≡ held_storage (storage_of planes type) → result ≡ end_of g 0 → end_of (storage_of planes f.ty) 0 ≤ 8388608
-    → (MemberEnds program planes capacity (f ∷ []) (result ∷ [])) × (result ≤ 8388608)
-other_member program planes capacity f type g result same never is end exact =
-    let value : result ≡ end_of (storage_of planes f.ty) 0 =
-    end ∙ ap (λ (h : Storage). end_of h 0) (is ∙ ap (λ (t : Ty). held_storage (storage_of planes t)) same) ∙ end_same (storage_of planes f.ty) exact in (
-      subst (λ (n : ℕ). MemberEnds program planes capacity (f ∷ []) (n ∷ [])) (sym value) (of_field (not_structure f.ty never) none),
-      omega (arith, value, exact),
-    )
 
 -- ---- the size
 
@@ -165,55 +137,3 @@ tail_size program planes capacity node s plane elem e offset result within there
     (subst (IsSize plane.align (8 * (last_offset plane.fields + capacity * (extent_of planes elem).size) ∷ []))
     (sym (value ∙ ap (λ (n : ℕ). up (n + capacity * e.size) plane.align) first ∙ ap (λ (n : ℕ). up (last_offset plane.fields + capacity * n) plane.align) exact))
     (one_end (last_offset plane.fields + capacity * (extent_of planes elem).size) plane.align some))
-
--- ---- sizes by the depth of structures
-
--- the end of a member that is a structure, from its size
-pub node_end : (program : Program) (planes : List Plane) (capacity : ℕ) (type : Ty) (node : TypeId) (desc : Option Expr) (size most : ℕ) → IsSizeByDepth program planes capacity node size → type ≡ ty.Node node desc
-    → HoldsWithinDepth program type most → 8 * size ≤ 8 * (2 ^ 53 + most * 2 ^ 32)
-node_end program planes capacity type node desc size most sized is shallow =
-    let inner = node_within program type node desc most shallow is in
-    omega (arith, inner.1, sized.small (most - 1) inner.2)
-
--- the size of a union, from the end of its members
-pub union_within : (program : Program) (planes : List Plane) (capacity place : ℕ) (s : Structure) (fields : List Field) (last align size depth : ℕ) → Settled program → slice_get program.structures place ≡ Some s → fields ≡ s.fields
-    → HaveEnds program planes capacity fields last → size < (last + 7) / 8 + align → align < 2 ^ 32 → IsWithinDepth program place depth → size ≤ 2 ^ 53 + (depth + 1) * 2 ^ 32
-union_within program planes capacity place s fields last align size depth settled there same have near narrow shallow =
-    omega (arith, near, narrow, have.small depth (shallow_fields program place depth s fields settled there shallow same))
-
--- ---- the table of sizes
-
-abbrev none_yet : Option ℕ
-none_yet = None
-
-absent : (count place size : ℕ) → slice_get (replicate count none_yet) place ≡ Some (Some size) → ⊥
-absent count place size there =
-    let none : get_or (replicate count none_yet) place none_yet ≡ None = get_or-replicate count place none_yet none_yet (omega (arith, length-replicate count none_yet, slice_get_within (replicate count none_yet) place (Some size) there)) in
-    none-some size (sym none ∙ get_or_from_slice_get (replicate count none_yet) place (Some size) none_yet there)
-
-pub no_sizes : (program : Program) (planes : List Plane) (capacity : ℕ) → AreSizes program planes capacity (replicate MAX_STRUCTURES None)
-no_sizes program planes capacity = record {
-  all = length-replicate MAX_STRUCTURES none_yet;
-  each = λ place size there. absurd (absent MAX_STRUCTURES place size there);
-}
-
--- a size that is in the table
-pub known_size : (program : Program) (planes : List Plane) (capacity : ℕ) (known : List (Option ℕ)) (node : TypeId) (size : ℕ) (d : Option ℕ) → AreSizes program planes capacity known → node.0 < MAX_STRUCTURES
-    → get_or known node.0 d ≡ Some size → IsSizeByDepth program planes capacity node size
-known_size program planes capacity known node size d sizes within is = sizes.each node.0 size (slice_get-get_or known node.0 d (omega (arith, within, sizes.all)) ∙ ap Some is)
-
-each_set : (program : Program) (planes : List Plane) (capacity : ℕ) (known : List (Option ℕ)) (node : TypeId) (size place other : ℕ) → AreSizes program planes capacity known → node.0 < length known
-    → IsSizeByDepth program planes capacity node size → (place ≡ node.0) ⊎ (place ≢ node.0) → slice_get (set known node.0 (Some size)) place ≡ Some (Some other) → IsSizeByDepth program planes capacity (record { 0 = place }) other
-each_set program planes capacity known node size place other sizes within sized (inl same) at =
-    let first : slice_get (set known node.0 (Some size)) node.0 ≡ Some (Some other) = subst (λ (n : ℕ). slice_get (set known node.0 (Some size)) n ≡ Some (Some other)) same at in
-    let is : other ≡ size = same_Some other size (same_Some (Some other) (Some size) (sym first ∙ get-set_same known node.0 (Some size) within)) in
-    subst (λ (n : ℕ). IsSizeByDepth program planes capacity (record { 0 = n }) other) (sym same) (subst (λ (n : ℕ). IsSizeByDepth program planes capacity node n) (sym is) sized)
-each_set program planes capacity known node size place other sizes within sized (inr apart) at = sizes.each place other (sym (get-set_other known node.0 place (Some size) apart) ∙ at)
-
--- a size more is in the table
-pub one_size : (program : Program) (planes : List Plane) (capacity : ℕ) (known : List (Option ℕ)) (node : TypeId) (size : ℕ) → AreSizes program planes capacity known → node.0 < MAX_STRUCTURES
-    → IsSizeByDepth program planes capacity node size → AreSizes program planes capacity (set known node.0 (Some size))
-one_size program planes capacity known node size sizes within sized = record {
-  all = length-set known node.0 (Some size) ∙ sizes.all;
-  each = λ place other at. each_set program planes capacity known node size place other sizes (omega (arith, within, sizes.all)) sized (cases_eq place node.0) at;
-}

@@ -19,6 +19,8 @@ use Rattle.gt_fields.specs.declared.field_names.FieldNames.{FieldNames}
 use Rattle.gt_fields.specs.FieldNames.{field_names}
 use Rattle.gt_unions.specs.declared.tables.Unions.{Unions}
 use Rattle.gt_unions.specs.Tables.{union_tables}
+use Rattle.gt_layout.specs.declared.planes.Growth.{Growth}
+use Rattle.gt_layout.specs.Growths.{growth_of}
 use Rattle.gt_layout.specs.declared.planes.Plane.{Plane}
 use Rattle.gt_layout.specs.declared.planes.Layouts.{Layouts}
 use Rattle.gt_layout.specs.declared.storages.Storage.{Storage}
@@ -184,7 +186,13 @@ ideal_laid program settled =
 
 -- the layouts of a program
 pub ideal_layouts : Program → Layouts
-ideal_layouts program = record { structures = ideal program; statics = plane_of false (root_storages (ideal program) program.roots); names = field_names program.structures; unions = union_tables program }
+ideal_layouts program = record {
+  structures = ideal program;
+  statics = plane_of false (root_storages (ideal program) program.roots);
+  names = field_names program.structures;
+  unions = union_tables program;
+  growths = map (growth_of program (ideal program)) program.structures;
+}
 
 pub ideal_is : (program : Program) → Settled program → IsLaidOut program (ideal_layouts program)
 unfolding ideal_layouts
@@ -193,14 +201,19 @@ ideal_is program settled = record {
   statics = plane_is false (root_storages (ideal program) program.roots) (possible_roots program (ideal program) settled (λ place. some_align program (ideal program) place (ideal_laid program settled)));
   names = refl;
   unions = refl;
+  growths = refl;
 }
 
-same_layouts : (a b : Layouts) → a.structures ≡ b.structures → a.statics ≡ b.statics → a.names ≡ b.names → a.unions ≡ b.unions → a ≡ b
-same_layouts a b p q r u =
-    ap (λ (ps : List Plane). let l : Layouts = record { structures = ps; statics = a.statics; names = a.names; unions = a.unions } in l) p
-    ∙ ap (λ (s : Plane). let l : Layouts = record { structures = b.structures; statics = s; names = a.names; unions = a.unions } in l) q
-    ∙ ap (λ (n : FieldNames). let l : Layouts = record { structures = b.structures; statics = b.statics; names = n; unions = a.unions } in l) r
-    ∙ ap (λ (t : Unions). let l : Layouts = record { structures = b.structures; statics = b.statics; names = b.names; unions = t } in l) u
+abbrev layouts_of : List Plane → Plane → FieldNames → Unions → List Growth → Layouts
+layouts_of structures statics names unions growths = record { structures = structures; statics = statics; names = names; unions = unions; growths = growths }
+
+same_layouts : (a b : Layouts) → a.structures ≡ b.structures → a.statics ≡ b.statics → a.names ≡ b.names → a.unions ≡ b.unions → a.growths ≡ b.growths → a ≡ b
+same_layouts a b p q r u g =
+    ap (λ (ps : List Plane). layouts_of ps a.statics a.names a.unions a.growths) p
+    ∙ ap (λ (s : Plane). layouts_of b.structures s a.names a.unions a.growths) q
+    ∙ ap (λ (n : FieldNames). layouts_of b.structures b.statics n a.unions a.growths) r
+    ∙ ap (λ (t : Unions). layouts_of b.structures b.statics b.names t a.growths) u
+    ∙ ap (λ (gs : List Growth). layouts_of b.structures b.statics b.names b.unions gs) g
 
 only_layouts : (program : Program) (a b : Layouts) → Settled program → IsLaidOut program a → IsLaidOut program b → a ≡ b
 only_layouts program a b settled is is' =
@@ -210,6 +223,7 @@ only_layouts program a b settled is is' =
     (plane_only false (root_storages a.structures program.roots) a.statics (possible a is.structures) is.statics
     ∙ ap (λ ps. plane_of false (root_storages ps program.roots)) same ∙ sym (plane_only false (root_storages b.structures program.roots) b.statics (possible b is'.structures) is'.statics))
     (is.names ∙ sym is'.names) (is.unions ∙ sym is'.unions)
+    (is.growths ∙ ap (λ (ps : List Plane). map (growth_of program ps) program.structures) same ∙ sym is'.growths)
 
 pub one_layout : (program : Program) → Settled program → HasOneLayout program
 one_layout program settled = (ideal_layouts program, ideal_is program settled, λ other is. only_layouts program other (ideal_layouts program) settled is (ideal_is program settled))

@@ -10,3 +10,4 @@ pub mod Beyond
 pub mod Whole
 pub mod Placed
 pub mod Capacities
+pub mod Growing

@@ -15,6 +15,8 @@ use Rattle.gt_fields.specs.declared.field_names.FieldNames.{FieldNames}
 use Rattle.gt_fields.specs.FieldNames.{field_names}
 use Rattle.gt_unions.specs.declared.tables.Unions.{Unions}
 use Rattle.gt_unions.specs.Tables.{union_tables}
+use Rattle.gt_layout.specs.declared.planes.Growth.{Growth}
+use Rattle.gt_layout.specs.Growths.{growth_of}
 use Rattle.gt_layout.specs.declared.planes.TheConstants.{MAX_SIZE}
 use Rattle.gt_layout.specs.declared.planes.Plane.{Plane}
 use Rattle.gt_layout.specs.declared.planes.Spot.{Spot}
@@ -261,13 +263,18 @@ pub known_laid : (program : Program) (known : List Plane) → Settled program �
 known_laid program known settled held_all none =
     subst (λ (ps : List Plane). AreLaidOut program ps) (sym (same_planes program known (ideal program) held_all (ideal_laid program settled) none)) (ideal_laid program settled)
 
-pub all_laid_out : (program : Program) (known structures : List Plane) (statics : Plane) (names : FieldNames) (unions : Unions) → Settled program → AreHeldPlanes program known → ((other : ℕ) → ¬ IsLargeAt program known other) → IsWithinRecord known program.roots statics
-    → structures ≡ known → names ≡ field_names program.structures → unions ≡ union_tables program → IsLaidOut program (record { structures = structures; statics = statics; names = names; unions = unions })
-all_laid_out program known structures statics names unions settled held_all none within same named united =
-    subst (λ (ps : List Plane). IsLaidOut program (record { structures = ps; statics = statics; names = names; unions = unions })) (sym same)
-    (record { structures = known_laid program known settled held_all none; statics = within.is; names = named; unions = united })
+-- layouts of these parts
+abbrev pub layouts_of : List Plane → Plane → FieldNames → Unions → List Growth → Layouts
+layouts_of structures statics names unions growths = record { structures = structures; statics = statics; names = names; unions = unions; growths = growths }
 
-pub all_within : (program : Program) (known structures : List Plane) (statics : Plane) (names : FieldNames) (unions : Unions) → AreHeldPlanes program known → ((other : ℕ) → ¬ IsLargeAt program known other) → IsWithinRecord known program.roots statics
-    → structures ≡ known → IsWithin program (record { structures = structures; statics = statics; names = names; unions = unions })
-all_within program known structures statics names unions held_all none within same =
-    subst (λ (ps : List Plane). IsWithin program (record { structures = ps; statics = statics; names = names; unions = unions })) (sym same) (record { structures = none; statics = within.within })
+pub all_laid_out : (program : Program) (known structures : List Plane) (statics : Plane) (names : FieldNames) (unions : Unions) (growths : List Growth) → Settled program → AreHeldPlanes program known
+    → ((other : ℕ) → ¬ IsLargeAt program known other) → IsWithinRecord known program.roots statics → structures ≡ known → names ≡ field_names program.structures → unions ≡ union_tables program
+    → growths ≡ map (growth_of program known) program.structures → IsLaidOut program (layouts_of structures statics names unions growths)
+all_laid_out program known structures statics names unions growths settled held_all none within same named united grown =
+    subst (λ (ps : List Plane). IsLaidOut program (layouts_of ps statics names unions growths)) (sym same)
+    (record { structures = known_laid program known settled held_all none; statics = within.is; names = named; unions = united; growths = grown })
+
+pub all_within : (program : Program) (known structures : List Plane) (statics : Plane) (names : FieldNames) (unions : Unions) (growths : List Growth) → AreHeldPlanes program known
+    → ((other : ℕ) → ¬ IsLargeAt program known other) → IsWithinRecord known program.roots statics → structures ≡ known → IsWithin program (layouts_of structures statics names unions growths)
+all_within program known structures statics names unions growths held_all none within same =
+    subst (λ (ps : List Plane). IsWithin program (layouts_of ps statics names unions growths)) (sym same) (record { structures = none; statics = within.within })

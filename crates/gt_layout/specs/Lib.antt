@@ -1,5 +1,6 @@
 pub mod Storages
 pub mod Places
+pub mod Growths
 pub mod Planes
 pub mod Excess
 pub mod Laws

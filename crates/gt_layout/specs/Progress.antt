@@ -1,9 +1,8 @@
 -- No promise: what the proofs of laying out one structure after another need.
-use Rattle.std.specs.Prelude.{◌≡◌, ◌≢◌, ◌≤◌, ◌<◌, ◌⊎◌, ℕ, ◌+◌, ◌-◌, ◌*◌, ◌/◌, ◌^◌, Bool, true, false, Option, Some, List, length, slice_get, slice_index, All, IsTrue}
+use Rattle.std.specs.Prelude.{◌≡◌, ◌≢◌, ◌≤◌, ◌<◌, ◌⊎◌, ℕ, ◌+◌, ◌-◌, ◌*◌, ◌/◌, ◌^◌, Bool, true, false, Option, Some, List, [], ◌∷◌, length, slice_get, slice_index, All, IsTrue}
 use Rattle.gt_types.specs.declared.types.TypeId.{TypeId}
 use Rattle.gt_types.specs.declared.program.Program.{Program}
 use Rattle.gt_types.specs.declared.types.Ty.{Ty}
-use Rattle.gt_types.specs.declared.limits.TheConstants.{MAX_STRUCTURES}
 use Rattle.gt_types.specs.Contains.{HasStructure, Nests, held_by}
 use Rattle.gt_layout.specs.declared.planes.Plane.{Plane}
 use Rattle.gt_layout.specs.declared.planes.Spot.{Spot}
@@ -104,9 +103,26 @@ pub record IsSizeByDepth (program : Program) (planes : List Plane) (capacity : �
   pub small : (depth : ℕ) → IsWithinDepth program node.0 depth → size ≤ 2 ^ 53 + (depth + 1) * 2 ^ 32
 
 -- a table of the sizes of structures at a capacity by their places, with none for one that is not computed yet
-pub record AreSizes (program : Program) (planes : List Plane) (capacity : ℕ) (known : List (Option ℕ)) : Type 0 where
-  pub all : length known ≡ MAX_STRUCTURES
-  pub each : (place size : ℕ) → slice_get known place ≡ Some (Some size) → IsSizeByDepth program planes capacity (record { 0 = place }) size
+abbrev pub AreSizes : Program → List Plane → ℕ → List (Option ℕ) → Type 0
+AreSizes program planes capacity known = (place size : ℕ) → slice_get known place ≡ Some (Some size) → IsSizeByDepth program planes capacity (record { 0 = place }) size
+
+-- a structure is in the program, and structures stand inside it less deep
+abbrev pub IsNodeWithin : Program → ℕ → TypeId → Type 0
+IsNodeWithin program depth node = (node.0 < length program.structures) × (1 ≤ depth) × IsWithinDepth program node.0 (depth - 1)
+
+-- the bit after the last one of each of these structures at a capacity
+abbrev pub NodeEnds : Program → List Plane → ℕ → List TypeId → List ℕ → Type 0
+NodeEnds program planes capacity [] [] = Unit {0}
+NodeEnds program planes capacity (node ∷ nodes) (end ∷ ends) = ((size : ℕ) × SizeAt program planes capacity node size × (end ≡ 8 * size)) × NodeEnds program planes capacity nodes ends
+NodeEnds program planes capacity _ _ = ⊥
+
+-- these structures end, at a capacity, at most at this bit, and one of them there
+pub record HaveSizes (program : Program) (planes : List Plane) (capacity : ℕ) (nodes : List TypeId) (last : ℕ) : Type 0 where
+  pub ends : List ℕ
+  pub are : NodeEnds program planes capacity nodes ends
+  pub inside : All (λ end. end ≤ last) ends
+  pub least : (bound : ℕ) → All (λ end. end ≤ bound) ends → last ≤ bound
+  pub small : (depth : ℕ) → All (IsNodeWithin program depth) nodes → last ≤ 8 * (2 ^ 53 + depth * 2 ^ 32)
 
 -- the members of a union end, at a capacity, at most at this bit, and one of them there
 pub record HaveEnds (program : Program) (planes : List Plane) (capacity : ℕ) (fields : List Field) (last : ℕ) : Type 0 where
@@ -114,4 +130,3 @@ pub record HaveEnds (program : Program) (planes : List Plane) (capacity : ℕ) (
   pub are : MemberEnds program planes capacity fields ends
   pub inside : All (λ end. end ≤ last) ends
   pub least : (bound : ℕ) → All (λ end. end ≤ bound) ends → last ≤ bound
-  pub small : (depth : ℕ) → All (λ f. HoldsWithinDepth program f.ty depth) fields → last ≤ 8 * (2 ^ 53 + depth * 2 ^ 32)

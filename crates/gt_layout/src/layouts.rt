@@ -10,6 +10,7 @@ ghost use Rattle.gt_layout.specs.Progress.{IsLarge, IsLargeAt, IsStatics};
 
 use crate::drafts::{Draft, finish};
 use crate::extents::{extent, storage};
+use crate::growths::growths_of;
 use crate::order::lay_out_all;
 use crate::planes::{LayoutStop, Layouts, MAX_SIZE, Plane};
 use crate::tails::tail_of;
@@ -67,8 +68,9 @@ fn lay_out_roots(alloc: Global, roots: &[Root], known: &[Plane]) -> Result<Stati
     Ok(Statics::Within(finish(alloc, draft)))
 }
 
-/// The layouts of all structures and of the static record, the names of all fields, and the tables of all unions. It stops exactly where a structure without its tail elements, one
-/// tail element of a structure, or the static record takes more than [`MAX_SIZE`](crate::MAX_SIZE) bytes.
+/// The layouts of all structures and of the static record, the names of all fields, the tables of all unions, and how each grows. It
+/// stops exactly where a structure without its tail elements, one tail element of a structure, or the static record takes more than
+/// [`MAX_SIZE`](crate::MAX_SIZE) bytes.
 pub fn layout(alloc: Global, program: &Program) -> Result<Layouts, LayoutStop>
     requires { Settled program.now }
     ensures laid_out { IfOk result (IsLaidOut program.now) }
@@ -90,11 +92,13 @@ pub fn layout(alloc: Global, program: &Program) -> Result<Layouts, LayoutStop>
         None => {
             let names = FieldNames::of(alloc, program.structures.as_slice())?;
             let unions = Unions::of(alloc, program)?;
+            let growths = growths_of(alloc, program, known.as_slice())?;
             Ok(Layouts {
                 structures: List::of(known),
                 statics,
                 names,
                 unions,
+                growths,
             })
         }
         Some(place) => Err(LayoutStop::TooLarge {

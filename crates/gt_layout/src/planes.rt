@@ -1,6 +1,6 @@
 // The types of a layout.
 use gt_fields::FieldNames;
-use gt_types::List;
+use gt_types::{List, TypeId};
 use gt_unions::Unions;
 use std::alloc::AllocError;
 
@@ -32,14 +32,23 @@ pub struct Plane {
     pub fields: List<Spot>,
 }
 
+/// How a union grows with the number of elements for which there is room: the structures of those members that may grow, which are
+/// unions and structs that end in an array with a length, and the bit after the last one of all other members.
+#[derive(Debug, Drop)]
+pub struct Growth {
+    pub end: u64,
+    pub nodes: List<TypeId>,
+}
+
 /// The layouts of the structures of a program, by place, and of the static record, which is a struct of the roots; the names of
-/// the fields, by which they are found; and the members of the unions, by their tags.
+/// the fields, by which they are found; the members of the unions, by their tags; and how each union grows, by place.
 #[derive(Drop)]
 pub struct Layouts {
     pub structures: List<Plane>,
     pub statics: Plane,
     pub names: FieldNames,
     pub unions: Unions,
+    pub growths: List<Growth>,
 }
 
 /// Why a program is not laid out: out of memory, or something is too large. That is the first structure which is too

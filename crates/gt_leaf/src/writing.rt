@@ -145,8 +145,8 @@ fn judge_at<N: BlockNames>(
 }
 
 /// Judges the write of the leaf at a path of an element of a block, with room for so many elements at its end, before it is done:
-/// `write_leaf` is this and `store_leaf`. It takes no memory, and its time grows with the path alone, but for two things: a union on it
-/// without an active member is looked through, and where a string is written, so are its characters.
+/// `write_leaf` is this and `store_leaf`. It takes no memory, and its time grows with the path alone; where a string is written, its
+/// characters are looked through as well.
 pub fn judge_leaf<N: BlockNames>(
     program: &Program,
     layouts: &Layouts,

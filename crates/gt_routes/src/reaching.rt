@@ -335,7 +335,7 @@ fn step<'a>(
 }
 
 /// Where some steps lead from a start: at a pointer a step first goes to the object that it names. It is refused at the first step that
-/// does not lead on. Its time grows with the steps, and for a member of a common structure with the fields of its union.
+/// does not lead on. Its time grows with the steps.
 pub fn walk<'a>(
     alloc: Global,
     schema: &'a Schema,

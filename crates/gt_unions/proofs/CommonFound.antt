@@ -25,7 +25,7 @@ abbrev pub CommonIs : Program → Structure → Option TypeId → Type 0
 CommonIs program s (Some common) = IsCommon program s common
 CommonIs program s None = (common : TypeId) → ¬ IsCommon program s common
 
-same-number : (n : ℕ) → (n == n) ≡ true
+pub same-number : (n : ℕ) → (n == n) ≡ true
 same-number n = eq-eqb n n refl
 
 one-node : (a b : TypeId) → a.0 ≡ b.0 → a ≡ b
@@ -61,7 +61,7 @@ all-true : {X : Type 0} (p : X → Bool) (xs : List X) → ((i : ℕ) (x : X) �
 all-true p [] h = refl
 all-true p (x ∷ xs) h = ap (λ b. b && list_all p xs) (h 0 x refl) ∙ all-true p xs (λ i y e. h (suc i) y e)
 
-contains-at : {X : Type 0} (xs : List X) (x : X) (c : Contains xs x) → slice_get xs c.0 ≡ Some x
+pub contains-at : {X : Type 0} (xs : List X) (x : X) (c : Contains xs x) → slice_get xs c.0 ≡ Some x
 contains-at xs x c = slice_get-get_or xs c.0 x c.1 ∙ ap Some c.2
 
 at-contains : {X : Type 0} (xs : List X) (i : ℕ) (x : X) → slice_get xs i ≡ Some x → Contains xs x

@@ -1,5 +1,5 @@
 -- What the tables of unions find.
-use Rattle.std.proofs.Common.{◌≡◌, ◌∙◌, ℕ, ℤ, ◌+◌, Bool, true, false, cond, List, [], ◌∷◌, Option, Some, None, refl, sym, ap, subst}
+use Rattle.std.proofs.Common.{◌≡◌, ◌∙◌, ℕ, zero, suc, ℤ, ◌+◌, Bool, true, false, cond, List, [], ◌∷◌, Option, Some, None, refl, sym, ap, subst}
 use Rattle.std.specs.Prelude.{if◌then◌else◌, is_some, slice_get, option_map, MatchOption}
 use Rattle.std.specs.Ordering.{int_cmp, int_eq, is_eq, match_ordering}
 use Rattle.std.specs.Cmp.{eq_by_cmp_equiv, int_cmp_total}
@@ -21,10 +21,10 @@ use Rattle.gt_types.specs.Settled.{Settled}
 use Rattle.gt_types.specs.Unions.{IsCommon}
 use Rattle.gt_unions.specs.declared.tables.UnionTable.{UnionTable}
 use Rattle.gt_unions.specs.declared.tables.Unions.{Unions}
-use Rattle.gt_unions.specs.Members.{is_tag, is_default, first_place, active_member}
+use Rattle.gt_unions.specs.Members.{is_tag, is_default, is_node, first_place, active_member, place_of}
 use Rattle.gt_unions.specs.Commons.{common_of}
-use Rattle.gt_unions.specs.Tables.{Tags, place_at, place_by, with_tag, tags_from, table_of, union_tables}
-use Rattle.gt_unions.proofs.CommonFound.{common-found, found-is-common}
+use Rattle.gt_unions.specs.Tables.{Tags, IsCommonPlace, place_at, place_by, with_tag, tags_from, table_common, table_of, union_tables}
+use Rattle.gt_unions.proofs.CommonFound.{common-found, found-is-common, contains-at, same-number}
 
 -- ---- tags
 
@@ -164,9 +164,41 @@ common-there program node s table is settled has union =
     (sym (common-same program s table is union))
     (common-found program settled node s has union)
 
+none-passes : {X : Type 0} (p : X → Bool) (xs : List X) (from i : ℕ) (x : X) → position_from p from xs ≡ None → slice_get xs i ≡ Some x → p x ≡ true → ⊥
+none-passes p [] from i x none got passes = cc
+none-passes {X} p (y ∷ ys) from i x none got passes = go (none-passes p ys (from + 1)) (p y) refl none i got
+  where
+    go : ((k : ℕ) (z : X) → position_from p (from + 1) ys ≡ None → slice_get ys k ≡ Some z → p z ≡ true → ⊥) → (b : Bool) → p y ≡ b → cond b (Some from) (position_from p (from + 1) ys) ≡ None
+        → (k : ℕ) → slice_get (y ∷ ys) k ≡ Some x → ⊥
+    go later true is e k there = cc
+    go later false is e zero there = let same : y ≡ x = cc in let never : p y ≡ true = ap p same ∙ passes in cc
+    go later false is e (suc k) there = later k x e there passes
+
+-- a common structure is some member
+common-missing : (program : Program) (s : Structure) (common : TypeId) → IsCommon program s common → place_of s.fields (Some common) ≡ None → ⊥
+common-missing program s common is none =
+    let m = is.member in
+    none-passes (λ (f : Field). is_node common f.ty) s.fields 0 m.2.0 m.0 none (contains-at s.fields m.0 m.2) (ap (is_node common) m.3 ∙ same-number common.0)
+
+pub place-there : (program : Program) (node : TypeId) (s : Structure) (table : UnionTable) → Some table ≡ Some (table_of program s) → Settled program → HasStructure program node s → s.is_union ≡ true
+    → MatchOption table.place ((common : TypeId) → ¬ IsCommon program s common) (IsCommonPlace program s)
+place-there program node s table is settled has union =
+    subst (λ (o : Option ℕ). MatchOption o ((common : TypeId) → ¬ IsCommon program s common) (IsCommonPlace program s))
+    (sym (ap (λ (t : UnionTable). t.place) (some-table table (table_of program s) is) ∙ ap (λ b. place_of s.fields (if b then common_of program s else None)) union))
+    (placed (common_of program s) (common-found program settled node s has union))
+  where
+    at : (common : TypeId) → IsCommon program s common → (o : Option ℕ) → place_of s.fields (Some common) ≡ o → MatchOption o ((common : TypeId) → ¬ IsCommon program s common) (IsCommonPlace program s)
+    at common c None missing = absurd (common-missing program s common c missing)
+    at common c (Some place) found = (common, c, found)
+
+    placed : (o : Option TypeId) → MatchOption o ((common : TypeId) → ¬ IsCommon program s common) (IsCommon program s)
+        → MatchOption (place_of s.fields o) ((common : TypeId) → ¬ IsCommon program s common) (IsCommonPlace program s)
+    placed None none = none
+    placed (Some common) c = at common c (place_of s.fields (Some common)) refl
+
 -- what is found of the common structure of a structure is what its table has
 pub common-kept : (program : Program) (node : TypeId) (s : Structure) (o : Option TypeId) → Settled program → HasStructure program node s
-    → MatchOption o ((common : TypeId) → ¬ IsCommon program s common) (IsCommon program s) → o ≡ (if s.is_union then common_of program s else None)
+    → MatchOption o ((common : TypeId) → ¬ IsCommon program s common) (IsCommon program s) → o ≡ table_common program s
 common-kept program node s o settled has found = by s.is_union refl o found
   where
     by : (b : Bool) → s.is_union ≡ b → (o : Option TypeId) → MatchOption o ((common : TypeId) → ¬ IsCommon program s common) (IsCommon program s)
@@ -175,15 +207,21 @@ common-kept program node s o settled has found = by s.is_union refl o found
     by false struct None none = refl
     by false struct (Some common) is = let union = is.union in cc
 
+-- a table of these parts
+abbrev table : Tags → Option ℕ → Option TypeId → Option ℕ → UnionTable
+table tags other common place = record { tags = tags; other = other; common = common; place = place }
+
 -- a table of these parts is that of the structure
-pub same-table : (program : Program) (node : TypeId) (s : Structure) (fields : List Field) (tags : Tags) (other : Option ℕ) (common : Option TypeId) → Settled program → HasStructure program node s
-    → fields ≡ s.fields → tags ≡ tags_from [] 0 fields → other ≡ position_from (λ f. is_default f.active) 0 fields
-    → MatchOption common ((c : TypeId) → ¬ IsCommon program s c) (IsCommon program s)
-    → (let made : UnionTable = record { tags = tags; other = other; common = common } in made) ≡ table_of program s
-same-table program node s fields tags other common settled has same tagged default found =
-    ap (λ (t : Tags). let made : UnionTable = record { tags = t; other = other; common = common } in made) (tagged ∙ ap (tags_from [] 0) same)
-    ∙ ap (λ (o : Option ℕ). let made : UnionTable = record { tags = tags_from [] 0 s.fields; other = o; common = common } in made) (default ∙ ap (position_from (λ f. is_default f.active) 0) same)
-    ∙ ap (λ (o : Option TypeId). let made : UnionTable = record { tags = tags_from [] 0 s.fields; other = position_from (λ f. is_default f.active) 0 s.fields; common = o } in made)
+pub same-table : (program : Program) (node : TypeId) (s : Structure) (fields : List Field) (tags : Tags) (other : Option ℕ) (common : Option TypeId) (place : Option ℕ) → Settled program
+    → HasStructure program node s → fields ≡ s.fields → tags ≡ tags_from [] 0 fields → other ≡ position_from (λ f. is_default f.active) 0 fields
+    → MatchOption common ((c : TypeId) → ¬ IsCommon program s c) (IsCommon program s) → place ≡ place_of fields common
+    → table tags other common place ≡ table_of program s
+same-table program node s fields tags other common place settled has same tagged default found placed =
+    ap (λ (t : Tags). table t other common place) (tagged ∙ ap (tags_from [] 0) same)
+    ∙ ap (λ (o : Option ℕ). table (tags_from [] 0 s.fields) o common place) (default ∙ ap (position_from (λ f. is_default f.active) 0) same)
+    ∙ ap (λ (o : Option ℕ). table (tags_from [] 0 s.fields) (position_from (λ f. is_default f.active) 0 s.fields) common o)
+    (placed ∙ ap (λ (fs : List Field). place_of fs common) same)
+    ∙ ap (λ (o : Option TypeId). table (tags_from [] 0 s.fields) (position_from (λ f. is_default f.active) 0 s.fields) o (place_of s.fields o))
     (common-kept program node s common settled has found)
 
 -- ---- what is asked of the map, said of the tags

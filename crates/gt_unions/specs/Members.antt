@@ -29,3 +29,8 @@ active_member value fields = first_place (position_from (λ f. is_tag value f.ac
 abbrev pub is_node : TypeId → Ty → Bool
 is_node node (ty.Node other desc) = node.0 == other.0
 is_node node type = false
+
+-- the place of the first member that is a structure, where one is given
+abbrev pub place_of : List Field → Option TypeId → Option ℕ
+place_of fields (Some node) = position_from (λ f. is_node node f.ty) 0 fields
+place_of fields None = None

@@ -12,11 +12,11 @@ ghost use Rattle.gt_types.specs.Settled.{Settled};
 ghost use Rattle.gt_types.specs.Unions.{IsCommon};
 ghost use Rattle.gt_unions.specs.Commons.{common_of};
 ghost use Rattle.gt_unions.specs.Beginnings.{AreKnown};
-ghost use Rattle.gt_unions.specs.Members.{active_member, first_place, is_default};
-ghost use Rattle.gt_unions.specs.Tables.{place_at, place_by, tags_from, with_tag, table_of, union_tables};
+ghost use Rattle.gt_unions.specs.Members.{active_member, first_place, is_default, is_node, place_of};
+ghost use Rattle.gt_unions.specs.Tables.{IsCommonPlace, place_at, place_by, tags_from, with_tag, table_of, union_tables};
 
 use crate::commons::common_of;
-use gt_types::{Active, Field, List, Program, Structure, TypeId};
+use gt_types::{Active, Field, List, Program, Structure, Ty, TypeId};
 use std::alloc::{AllocError, Global};
 use std::collections::BTreeMap;
 use std::marker::Model;
@@ -102,16 +102,44 @@ fn default_of(fields: &[Field]) -> Option<u32>
     }
 }
 
-// The members of a union by their tags, its default member, and its common structure.
+// The place of the first member that is this structure, where one is given.
+fn place_of(fields: &[Field], node: Option<TypeId>) -> Option<u32>
+    requires few { length fields.now ≤ MAX_FIELDS }
+    ensures { result ≡ place_of fields.now node }
+{
+    match find_node(fields, node?) {
+        Some(place) => Some(place as u32),
+        None => None,
+    }
+}
+
+fn find_node(fields: &[Field], node: TypeId) -> Option<usize>
+    ensures place { result ≡ position_from (λ f. is_node node f.ty) 0 fields.now }
+    ensures inside { IfSome result (λ place. place < length fields.now) }
+{
+    fields.iter().position(|f| is_node(node, &f.ty))
+}
+
+fn is_node(node: TypeId, ty: &Ty) -> bool
+    ensures { result ≡ is_node node ty.now }
+{
+    match ty {
+        Ty::Node { id, .. } => node.0 == id.0,
+        _ => false,
+    }
+}
+
+// The members of a union by their tags, its default member, its common structure, and the place of the first member that is this structure.
 #[derive(Drop)]
 struct UnionTable {
     tags: Tags,
     other: Option<u32>,
     common: Option<TypeId>,
+    place: Option<u32>,
 }
 
 /// The tables of the unions of a program. The active member of a union is found in about the logarithm of the number of its members,
-/// and its common structure in constant time.
+/// and its common structure, with the place of the member that is it, in constant time.
 #[derive(Drop)]
 pub struct Unions {
     structures: List<UnionTable>,
@@ -132,10 +160,12 @@ impl UnionTable {
     {
         let fields = structure.fields.as_slice();
         let tags = Tags::of(alloc, fields)?;
+        let common = common_of(program, known, structure);
         Ok(UnionTable {
             tags,
             other: default_of(fields),
-            common: common_of(program, known, structure),
+            common,
+            place: place_of(fields, common),
         })
     }
 
@@ -189,6 +219,17 @@ impl Unions {
     {
         match self.structures.get(union.0 as usize) {
             Some(table) => table.common,
+            None => None,
+        }
+    }
+
+    /// The place of the first member that is the common structure of a union. None where it has none.
+    pub fn common_place(&self, union: TypeId) -> Option<u32>
+        ensures { (program : Program) (s : Structure) → self.now ≡ union_tables program → Settled program → HasStructure program union s → s.is_union ≡ true
+            → MatchOption result ((common : TypeId) → ¬ IsCommon program s common) (IsCommonPlace program s) }
+    {
+        match self.structures.get(union.0 as usize) {
+            Some(table) => table.place,
             None => None,
         }
     }

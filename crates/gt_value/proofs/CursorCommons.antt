@@ -37,28 +37,18 @@ bare-field program node y f i common desc settled has got is s there plain =
         let a = subst (λ x. x.is_union ≡ true) same union in
         absurd (cc)
 
-pub common-missing : (program : Program) (y : Structure) (common : TypeId) (fields : List Field) → IsCommon program y common → fields ≡ y.fields → position_from (λ f. is_node common f.ty) 0 fields ≡ None → ⊥
-common-missing program y common fields is items none =
-    let m = is.member in
-    let got = slice_get-get_or y.fields m.2.0 m.0 m.2.1 ∙ ap Some m.2.2 in
-    let passes = ap (is_node common) m.3 ∙ same-number common.0 in
-    let first = position-first (λ (f : Field). is_node common f.ty) y.fields 0 m.2.0 m.0 got passes in
-    let gone = subst (λ xs. position_from (λ (f : Field). is_node common f.ty) 0 xs ≡ None) items none in
-    let there = first.1 in
-    absurd (cc)
-
 pub common-within : (common : TypeId) (fields : List Field) (i : ℕ) → position_from (λ f. is_node common f.ty) 0 fields ≡ Some i → i < length fields
 common-within common fields i found =
     let at = position-get (λ (f : Field). is_node common f.ty) fields 0 i found in
     let lt = slice_get_within fields at.0 at.1 at.3 in
     omega (arith, lt, at.2)
 
-pub common-at : (program : Program) (node : TypeId) (y : Structure) (common : TypeId) (fields : List Field) (i : ℕ) (f : Field) → Settled program → HasStructure program node y → IsCommon program y common → fields ≡ y.fields
-    → position_from (λ g. is_node common g.ty) 0 fields ≡ Some i → slice_get y.fields i ≡ Some f → f.ty ≡ ty.Node common None
-common-at program node y common fields i f settled has is items found got =
-    let at = position-get (λ (g : Field). is_node common g.ty) fields 0 i found in
+pub common-at : (program : Program) (node : TypeId) (y : Structure) (common : TypeId) (i : ℕ) (f : Field) → Settled program → HasStructure program node y → IsCommon program y common
+    → position_from (λ g. is_node common g.ty) 0 y.fields ≡ Some i → slice_get y.fields i ≡ Some f → f.ty ≡ ty.Node common None
+common-at program node y common i f settled has is found got =
+    let at = position-get (λ (g : Field). is_node common g.ty) y.fields 0 i found in
     let place : at.0 ≡ i = omega (arith, at.2) in
-    let here = subst (λ k. slice_get y.fields k ≡ Some at.1) place (subst (λ xs. slice_get xs at.0 ≡ Some at.1) items at.3) in
+    let here = subst (λ k. slice_get y.fields k ≡ Some at.1) place at.3 in
     let same : at.1 ≡ f = cc in
     let type = node-type common f.ty (ap (λ (g : Field). is_node common g.ty) (sym same) ∙ at.4) in
     bare-field program node y f i common type.0 settled has got type.1 is.plain.0 is.plain.1 is.plain.2

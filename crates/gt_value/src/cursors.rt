@@ -1,13 +1,11 @@
 // A place in a value, from which steps lead to its parts.
 ghost use Rattle.std.specs.Prelude.{◌≡◌, ◌≤◌, ◌<◌, ◌+◌, ◌*◌, ◌++◌, ◌∷◌, [], ℕ, List, Some, None, false, IfOk, MatchOption, slice_get};
-ghost use Rattle.std.specs.List.{position_from};
 ghost use Rattle.gt_types.specs.Settled.{Settled};
 ghost use Rattle.gt_types.specs.declared.types.Ty.TheVariants.{Node};
 ghost use Rattle.gt_layout.specs.Planes.{IsLaidOut};
 ghost use Rattle.gt_layout.specs.Excess.{IsWithin};
 ghost use Rattle.gt_space.specs.Range.{IsInside};
 ghost use Rattle.gt_tree.specs.Trees.{Tree, Trees, tree_at, is_word};
-ghost use Rattle.gt_tree.specs.Scopes.{is_node};
 ghost use Rattle.gt_value.specs.Bytes.{IsRoomFor, StandsFor, StandForStatics};
 ghost use Rattle.gt_value.specs.Values.{tree_of};
 ghost use Rattle.gt_value.specs.Reading.{Stands, EachStands};
@@ -18,11 +16,11 @@ use crate::places::{Holder, Place, leaf_kind, read_count};
 use crate::readers::worth_of;
 use crate::reading::{read_length, read_type, size_of};
 use crate::sources::{Around, Source, begin_at};
-use crate::unions::{active_member, common_structure};
+use crate::unions::{active_member, common_place};
 use crate::values::Value;
 use gt_layout::Layouts;
 use gt_space::Space;
-use gt_types::{Expr, Field, MAX_DEPTH, Program, Ty, TypeId};
+use gt_types::{Expr, MAX_DEPTH, Program, Ty, TypeId};
 use std::alloc::{AllocError, Global};
 
 // What stands around a part of a value: the structures in which it is, and what it lies in.
@@ -40,23 +38,6 @@ pub struct Cursor<'a> {
     site: Site,
     ty: &'a Ty,
     at: u32,
-}
-
-// Whether a type is this structure.
-fn is_node(node: TypeId, ty: &Ty) -> bool
-    ensures { result ≡ is_node node ty.now }
-{
-    match ty {
-        Ty::Node { id, .. } => node.0 == id.0,
-        _ => false,
-    }
-}
-
-// The first field that is this structure.
-fn find_node(node: TypeId, fields: &[Field]) -> Option<usize>
-    ensures { result ≡ position_from (λ f. is_node node f.ty) 0 fields.now }
-{
-    fields.iter().position(|f| is_node(node, &f.ty))
 }
 
 impl<'a> Cursor<'a> {
@@ -200,13 +181,12 @@ impl<'a> Cursor<'a> {
             }
             return Some(self.moved(own, &fields[active as usize].ty, self.at));
         }
-        let common = common_structure(program, layouts, id, structure)?;
-        let member = find_node(common, fields)?;
+        let member = common_place(program, layouts, id, structure)?;
         let bare = Site {
             around: inner.without_pointers(),
             holder: self.site.holder,
         };
-        Some(self.moved(bare, &fields[member].ty, self.at))
+        Some(self.moved(bare, &fields[member as usize].ty, self.at))
     }
 
     /// A cursor at the part to which a path leads. None where no part lies there.

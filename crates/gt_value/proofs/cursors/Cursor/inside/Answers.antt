@@ -5,6 +5,7 @@ use Rattle.gt_types.specs.declared.types.TypeId.{TypeId}
 use Rattle.gt_types.specs.declared.types.Ty.TheVariants as ty
 use Rattle.gt_types.specs.declared.program.Active.TheVariants.{Never}
 use Rattle.gt_types.specs.Unions.{IsCommon}
+use Rattle.gt_unions.specs.Tables.{IsCommonPlace}
 use Rattle.gt_layout.specs.Places.{begin_at}
 use Rattle.gt_layout.proofs.Laying.{read_at}
 use Rattle.gt_value.specs.declared.places.Holder.TheVariants as lies_in
@@ -14,7 +15,7 @@ use Rattle.gt_value.proofs.ZeroSteps.{active-within}
 use Rattle.gt_value.proofs.StandingParts.{active-is}
 use Rattle.gt_value.proofs.FindingSteps.{node-has}
 use Rattle.gt_value.proofs.CursorSteps.{site, answers-none, struct-step, struct-field, struct-spot, struct-none, member-step, member-none, common-step, nothing-none}
-use Rattle.gt_value.proofs.CursorCommons.{common-at, common-missing, common-within}
+use Rattle.gt_value.proofs.CursorCommons.{common-at, common-within}
 use Rattle.gt_value.proofs.cursors.Cursor.inside.Goals as goal
 
 pub worth_of-worth-requires : goal.worth_of-worth-requires
@@ -178,23 +179,19 @@ returns-in-Some c =
     member-step source self.site c.args.id c.args.desc.now self.at y has union c.args.place f c.moved-in-Some.result active_place got_place
     (subst (λ x. IsMoved c.moved-in-Some.result source (site x (lies_in.Field c.args.id c.args.place)) f.ty self.at) c.enter-inner.ensures moved)
 
-pub common_structure-requires-clause-has : goal.common_structure-requires-clause-has
-common_structure-requires-clause-has c =
+pub common_place-requires-clause-has : goal.common_place-requires-clause-has
+common_place-requires-clause-has c =
     let self = c.args.self.now in
     let source = self.source in
-    let planes = source.layouts.now.structures in
     let y = c.index-as_slice-id.result in
-    let value = c.requires.stands.0 in
-    let known = node-has c.args.id c.args.desc.now value c.requires.stands.1.fits in
+    let known = node-has c.args.id c.args.desc.now c.requires.stands.0 c.requires.stands.1.fits in
     let there = slice_get_within source.program.now.structures c.args.id.0 known.0 known.1 in
-    let has = read_at c.as_slice.result.now source.program.now.structures c.args.id.0 y c.as_slice.ensures.items there c.index-as_slice-id.is in
-    has
+    read_at c.as_slice.result.now source.program.now.structures c.args.id.0 y c.as_slice.ensures.items there c.index-as_slice-id.is
 
-pub returns-in_err-common : goal.returns-in_err-common
-returns-in_err-common c =
+pub returns-in_err-member : goal.returns-in_err-member
+returns-in_err-member c =
     let self = c.args.self.now in
     let source = self.source in
-    let planes = source.layouts.now.structures in
     let y = c.index-as_slice-id.result in
     let value = c.requires.stands.0 in
     let known = node-has c.args.id c.args.desc.now value c.requires.stands.1.fits in
@@ -205,56 +202,19 @@ returns-in_err-common c =
     let none : c.active_member.result ≡ None = search rules in
     let active = active-is source c.enter-inner.result inner c.args.desc.now c.worth_of-worth.result y.fields None c.enter-inner.ensures c.worth_of-worth.ensures (sym none ∙ c.active_member.ensures) in
     let no_common : (common : TypeId) → ¬ IsCommon source.program.now y common = search rules in
-    answers-none source self.site (ty.Node c.args.id c.args.desc.now) self.at c.args.place c.from_residual-in_err-common.result c.from_residual-in_err-common.ensures (nothing-none source self.site c.args.id c.args.desc.now self.at y has union c.args.place active no_common)
-
-pub returns-in_err-member : goal.returns-in_err-member
-returns-in_err-member c =
-    let self = c.args.self.now in
-    let source = self.source in
-    let planes = source.layouts.now.structures in
-    let y = c.index-as_slice-id.result in
-    let value = c.requires.stands.0 in
-    let known = node-has c.args.id c.args.desc.now value c.requires.stands.1.fits in
-    let there = slice_get_within source.program.now.structures c.args.id.0 known.0 known.1 in
-    let has = read_at c.as_slice.result.now source.program.now.structures c.args.id.0 y c.as_slice.ensures.items there c.index-as_slice-id.is in
-    let common = c.in_ok-common.common in
-    let is : IsCommon source.program.now y common = search rules in
-    let missing : c.find_node.result ≡ None = search rules in
-    absurd (common-missing source.program.now y common c.as_slice-fields.result.now is c.as_slice-fields.ensures.items (sym c.find_node.ensures ∙ missing))
-
-pub offset_bounds-fields-member : goal.offset_bounds-fields-member
-offset_bounds-fields-member c =
-    let self = c.args.self.now in
-    let source = self.source in
-    let y = c.index-as_slice-id.result in
-    let known = node-has c.args.id c.args.desc.now c.requires.stands.0 c.requires.stands.1.fits in
-    let there = slice_get_within source.program.now.structures c.args.id.0 known.0 known.1 in
-    let has = read_at c.as_slice.result.now source.program.now.structures c.args.id.0 y c.as_slice.ensures.items there c.index-as_slice-id.is in
-    let found : c.find_node.result ≡ Some c.in_ok-member.member = search rules in
-    let lt = common-within c.in_ok-common.common c.as_slice-fields.result.now c.in_ok-member.member (sym c.find_node.ensures ∙ found) in
-    let few = (c.requires.stands.1.context.settled.structures c.args.id y has).few_fields in
-    omega (arith, lt, few, ap length c.as_slice-fields.ensures.items)
+    answers-none source self.site (ty.Node c.args.id c.args.desc.now) self.at c.args.place c.from_residual-in_err-member.result c.from_residual-in_err-member.ensures (nothing-none source self.site c.args.id c.args.desc.now self.at y has union c.args.place active no_common)
 
 pub bounds-fields-member : goal.bounds-fields-member
 bounds-fields-member c =
-    let self = c.args.self.now in
-    let source = self.source in
-    let planes = source.layouts.now.structures in
     let y = c.index-as_slice-id.result in
-    let value = c.requires.stands.0 in
-    let known = node-has c.args.id c.args.desc.now value c.requires.stands.1.fits in
-    let there = slice_get_within source.program.now.structures c.args.id.0 known.0 known.1 in
-    let has = read_at c.as_slice.result.now source.program.now.structures c.args.id.0 y c.as_slice.ensures.items there c.index-as_slice-id.is in
-    let common = c.in_ok-common.common in
-    let is : IsCommon source.program.now y common = search rules in
-    let found : c.find_node.result ≡ Some c.in_ok-member.member = search rules in
-    common-within common c.as_slice-fields.result.now c.in_ok-member.member (sym c.find_node.ensures ∙ found)
+    let is : IsCommonPlace c.args.self.now.source.program.now y c.in_ok-member.member = search rules in
+    let within = common-within is.0 y.fields c.in_ok-member.member is.2 in
+    omega (arith, within, ap length c.as_slice-fields.ensures.items)
 
 pub returns : goal.returns
 returns c =
     let self = c.args.self.now in
     let source = self.source in
-    let planes = source.layouts.now.structures in
     let y = c.index-as_slice-id.result in
     let value = c.requires.stands.0 in
     let known = node-has c.args.id c.args.desc.now value c.requires.stands.1.fits in
@@ -264,16 +224,14 @@ returns c =
     let union : y.is_union ≡ true = search rules in
     let none : c.active_member.result ≡ None = search rules in
     let active = active-is source c.enter-inner.result inner c.args.desc.now c.worth_of-worth.result y.fields None c.enter-inner.ensures c.worth_of-worth.ensures (sym none ∙ c.active_member.ensures) in
-    let common = c.in_ok-common.common in
-    let is : IsCommon source.program.now y common = search rules in
-    let found : c.find_node.result ≡ Some c.in_ok-member.member = search rules in
+    let is : IsCommonPlace source.program.now y c.in_ok-member.member = search rules in
     let f = c.index-fields-member.result in
-    let within = common-within common c.as_slice-fields.result.now c.in_ok-member.member (sym c.find_node.ensures ∙ found) in
-    let got = read_at c.as_slice-fields.result.now y.fields c.in_ok-member.member f c.as_slice-fields.ensures.items (omega (arith, within, ap length c.as_slice-fields.ensures.items)) c.index-fields-member.is in
-    let type = common-at source.program.now c.args.id y common c.as_slice-fields.result.now c.in_ok-member.member f c.requires.stands.1.context.settled has is c.as_slice-fields.ensures.items (sym c.find_node.ensures ∙ found) got in
+    let within = common-within is.0 y.fields c.in_ok-member.member is.2 in
+    let got = read_at c.as_slice-fields.result.now y.fields c.in_ok-member.member f c.as_slice-fields.ensures.items within c.index-fields-member.is in
+    let type = common-at source.program.now c.args.id y is.0 c.in_ok-member.member f c.requires.stands.1.context.settled has is.1 is.2 got in
     let changed : c.without_pointers.result ≡ without_pointers inner = c.without_pointers.ensures ∙ ap without_pointers c.enter-inner.ensures in
     let next = c.moved-2.result in
     let of_field = subst (λ g. IsMoved next source (site c.without_pointers.result self.site.holder) g.ty self.at) (sym c.index-fields-member.is) c.moved-2.ensures in
     let of_type = subst (λ t. IsMoved next source (site c.without_pointers.result self.site.holder) t self.at) type of_field in
-    common-step source self.site c.args.id c.args.desc.now self.at y has union common c.args.place next active is
-    (subst (λ x. IsMoved next source (site x self.site.holder) (ty.Node common None) self.at) changed of_type)
+    common-step source self.site c.args.id c.args.desc.now self.at y has union is.0 c.args.place next active is.1
+    (subst (λ x. IsMoved next source (site x self.site.holder) (ty.Node is.0 None) self.at) changed of_type)
