@@ -1,10 +1,10 @@
 #!/usr/bin/env bash
 # Times zero, a write, showing, storing, reading back and showing again of 50 values by the program value_table, which is built first: structures that
 # end in so many pointers, with ten times as many from row to row; then showing, storing and reading alone, so many times; and, by the program gtyheap,
-# `print` of a structure with so many unions, where reading finds the number that chooses each member by its name, and of unions of so many members; the
-# header of so many unions that begin with a large struct; and `set` in a union of so many members, one of which ends in an array. Run by hand, from any
-# folder, after ./gtyheap. The values of the last row of the first table no longer fit the caches: it took 12.4 to 13.2 times as long as the one before,
-# on a busy machine, on 27 November 2026.
+# `print` of a structure with so many unions, where reading finds the number that chooses each member by its name, and of unions of so many members; `set` of
+# that number, and in a union of so many members, one of which ends in an array; and the header of so many unions that begin with a large struct. Run by hand,
+# from any folder, after ./gtyheap. The values of the last row of the first table no longer fit the caches: it took 12.4 to 13.2 times as long as the one
+# before, on a busy machine, on 27 November 2026.
 . "$(dirname "$0")/shared.sh"
 take_program
 (cd "$root/crates/value_table" && quiet rt run </dev/null)
@@ -49,14 +49,16 @@ prints() {
   minus "$(seconds 5 "$program" "$work/prints.gty" "$work/many.h")" "$(seconds 5 "$program" "$work/none.gty" "$work/many.h")"
 }
 
-# The same, with so many unions before the number that chooses their members.
-unions() {
+# Makes the header `many.h` of a structure with so many unions before the number that chooses their members.
+many_unions() {
   awk -v n="$1" 'BEGIN {
     print "union GTY(()) arm { int GTY((tag (\"0\"))) number; char *GTY((tag (\"1\"))) text; };\nstruct GTY(()) many {"
     for (i = 0; i < n; i++) printf "  union arm GTY((desc (\"%%1.kind\"))) u%d;\n", i
     print "  int kind;\n};" }' >"$work/many.h"
-  prints 0
 }
+
+# The seconds of these lines, with such a header.
+unions() { many_unions "$1"; prints 0; }
 large=$(unions 1000)
 small=$(unions 100)
 row 'print, unions chosen by name' 1000 "$large" 'a tenth' "$small" 12
@@ -72,6 +74,18 @@ members() {
 large=$(members 1000)
 small=$(members 100)
 row 'print of 200 unions, members of each' 1000 "$large" 'a tenth' "$small" 2
+
+# The seconds of 500 lines `set` of that number, each of which makes the other member of each union active.
+sets() {
+  many_unions "$1"
+  echo '@new $m many' >"$work/none.gty"
+  { cat "$work/none.gty"; awk 'BEGIN { for (i = 1; i <= 500; i++) print "@set $m.kind", i % 2 }'; } >"$work/sets.gty"
+  wants 0 0 "$work/sets.gty" "$work/many.h"
+  minus "$(seconds 5 "$program" "$work/sets.gty" "$work/many.h")" "$(seconds 5 "$program" "$work/none.gty" "$work/many.h")"
+}
+large=$(sets 1000)
+small=$(sets 100)
+row 'set, unions that change by name' 1000 "$large" 'a tenth' "$small" 12
 
 # The seconds in which a header of so many unions is read, each of which may begin with one large struct that holds small ones very often.
 begin() {

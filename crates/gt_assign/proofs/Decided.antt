@@ -2,7 +2,8 @@
 use Rattle.std.proofs.Common.{◌≡◌, ℕ, zero, suc, ◌+◌, ◌<◌, ◌≤◌, Vec, Global, List, [], ◌∷◌, ◌++◌, length, map, take, drop, min, ◌⊎◌, refl, ap, sym, subst, ◌∙◌, arith, add-one, Option, Some, None, Err, IsSome, ◌↔◌, inl, inr}
 use Rattle.std.specs.Option.{option_to_list, unwrap_or}
 use Rattle.std.proofs.Math.Nat.{min-eq_left, min-eq_right, min-le_right}
-use Rattle.std.proofs.lemmas.List.{map-append, length-map, length-append}
+use Rattle.std.proofs.lemmas.Bool.{cases_lt}
+use Rattle.std.proofs.lemmas.List.{map-append, length-map, length-append, nil_from_length}
 use Rattle.gt_tree.specs.Trees.{Tree, Null, Rec, Trees, End, And, count, tree_at}
 use Rattle.gt_tree.specs.Scopes.{◌then◌}
 use Rattle.gt_value.specs.declared.values.Value.{Value, Null as NullOf}
@@ -203,20 +204,11 @@ parts-all zero changes (value ∷ values) h = absurd (omega arith)
 parts-all (suc kept) changes [] h = refl
 parts-all (suc kept) changes (value ∷ values) h = ap (And (tree_of value)) (parts-all kept changes values (omega arith))
 
-either : (a b : ℕ) → (a ≤ b) ⊎ (b ≤ a)
-either zero b = inl (omega arith)
-either (suc a) zero = inr (omega arith)
-either (suc a) (suc b) = go (either a b)
-  where
-    go : (a ≤ b) ⊎ (b ≤ a) → (suc a ≤ suc b) ⊎ (suc b ≤ suc a)
-    go (inl h) = inl (omega (arith, h))
-    go (inr h) = inr (omega (arith, h))
-
 parts-min : (kept : ℕ) (changes : List (Tree → Tree)) (values : List Value) → parts_changed kept changes (trees (map tree_of values)) ≡ parts_changed (min kept (length values)) changes (trees (map tree_of values))
-parts-min kept changes values = go (either kept (length values))
+parts-min kept changes values = go (cases_lt kept (length values))
   where
-    go : (kept ≤ length values) ⊎ (length values ≤ kept) → parts_changed kept changes (trees (map tree_of values)) ≡ parts_changed (min kept (length values)) changes (trees (map tree_of values))
-    go (inl h) = ap (λ n. parts_changed n changes (trees (map tree_of values))) (sym (min-eq_left h))
+    go : (kept < length values) ⊎ (length values ≤ kept) → parts_changed kept changes (trees (map tree_of values)) ≡ parts_changed (min kept (length values)) changes (trees (map tree_of values))
+    go (inl h) = let within : kept ≤ length values = omega (arith, h) in ap (λ n. parts_changed n changes (trees (map tree_of values))) (sym (min-eq_left within))
     go (inr h) = parts-all kept changes values h ∙ ap (λ n. parts_changed n changes (trees (map tree_of values))) (sym (min-eq_right h))
 
 -- before the first change
@@ -261,10 +253,6 @@ apply-end made changes olds whole so none =
     sym (append-end (trees (map tree_of made)))
     ∙ ap (λ (cs : List Change). append (trees (map tree_of made)) (all_changed (map changed cs) (trees (map tree_of olds)))) (sym none) ∙ so
 
-pub list-none : {X : Type 0} (xs : List X) → length xs ≡ 0 → xs ≡ []
-list-none [] h = refl
-list-none (x ∷ xs) h = absurd (omega arith)
-
 pub all-kept : (kept len : ℕ) (changes : List Change) (old : Trees) → kept ≡ len → changes ≡ [] → count old ≡ len → old ≡ parts_changed kept (map changed changes) old
 all-kept kept len changes old full none h = sym (ap (λ (cs : List Change). parts_changed kept (map changed cs) old) none ∙ parts-same kept old (h ∙ sym full))
 
@@ -290,7 +278,7 @@ there-levels member c = ap levels (sym (change.rolls-There member c)) ∙ fold-r
 
 -- nothing comes of an iterator that has nothing
 pub olds-none : (r : Option Value) (olds : List Value) (len : ℕ) → len ≡ length olds → (IsSome r ↔ (0 < len)) → r ≡ None → olds ≡ []
-olds-none None olds len e variant is = list-none olds (go (length olds) e)
+olds-none None olds len e variant is = nil_from_length olds (go (length olds) e)
   where
     go : (n : ℕ) → len ≡ n → n ≡ 0
     go zero e = refl

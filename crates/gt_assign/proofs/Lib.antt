@@ -11,6 +11,7 @@ pub mod Nesting
 pub mod Assigned
 pub mod Records
 pub mod Nested
+pub mod Cleared
 pub mod Decided
 pub mod Begun
 pub mod PartFields

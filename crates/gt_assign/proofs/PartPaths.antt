@@ -24,3 +24,9 @@ pub placed-within : (values : List Value) (i : ℕ) (path : List ℕ) (part : Tr
 placed-within [] i path part old made h e f = absurd (omega arith)
 placed-within (value ∷ values) zero path part old made h e f = ap (λ t. And t (trees (map tree_of values))) (f ∙ ap (λ v. with_part (tree_of v) path part) e)
 placed-within (value ∷ values) (suc i) path part old made h e f = ap (And (tree_of value)) (placed-within values i path part old made (omega arith) e f)
+
+-- what was put at a place is replaced there
+pub set-twice : (xs : List Value) (i : ℕ) (x y : Value) → set (set xs i x) i y ≡ set xs i y
+set-twice [] i x y = refl
+set-twice (v ∷ xs) zero x y = refl
+set-twice (v ∷ xs) (suc i) x y = ap (λ ys. v ∷ ys) (set-twice xs i x y)

@@ -116,10 +116,6 @@ was_of (seen.Whole value) = Whole (tree_of value.now)
 was_of seen.Zero = Nothing
 was_of (seen.Begins id value) = Begun id (tree_of value.now)
 
-abbrev pub maybe_was : Option Seen → Option Was
-maybe_was (Some seen) = Some (was_of seen)
-maybe_was None = None
-
 abbrev pub was_at : Option SeenAt → Option WasAt
 was_at (Some at) = Some (record { node = at.id; was = was_of at.seen })
 was_at None = None

@@ -59,7 +59,7 @@ fn make_anew(
     let on = Making {
         alloc,
         program,
-        unions: &layouts.unions,
+        layouts,
         capacity,
     };
     let change = change(&on, ty, &old, &around, MAX_NESTING)?;
@@ -87,7 +87,7 @@ fn fits_outside<N: BlockNames>(
     };
     let on = Checking {
         program,
-        unions: &layouts.unions,
+        layouts,
         names,
         capacity,
     };

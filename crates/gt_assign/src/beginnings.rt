@@ -3,7 +3,7 @@ ghost use Rattle.std.specs.Prelude.{◌≡◌, IfOk, Option, Some, option_copied
 ghost use Rattle.gt_types.specs.Settled.{Settled};
 ghost use Rattle.gt_types.specs.declared.expressions.Expr.{Expr};
 ghost use Rattle.gt_tree.specs.Trees.{Tree};
-ghost use Rattle.gt_tree.specs.Scopes.{is_of_node, beginning, first_type_of, type_there};
+ghost use Rattle.gt_tree.specs.Scopes.{beginning, type_there};
 ghost use Rattle.gt_value.specs.Values.{tree_of};
 ghost use Rattle.gt_fit.specs.Values.{maybe_tree};
 ghost use Rattle.gt_assign.specs.Pasts.{Begun, past_of};
@@ -12,64 +12,40 @@ ghost use Rattle.gt_assign.specs.Changes.{changed, Decides};
 
 use crate::changes::Change;
 use crate::making::Making;
-use crate::seeing::{Around, Seen, is_node};
+use crate::seeing::{Around, Seen};
 use crate::zeros::zero_fields;
-use gt_fit::{beginning, member_type};
-use gt_types::{Field, Program, Structure, Ty, TypeId};
+use gt_fit::{beginning, first_type_of, is_of_node, member_type};
+use gt_types::{Boxed, Field, Structure, Ty, TypeId};
 use gt_value::{Value, ValueFail};
-use sqlite_items::Boxed;
-use std::alloc::{AllocError, Global};
+use std::alloc::AllocError;
 
 // ---- the common structure where it was
 
 /// The common structure of a union, in what is there by its active member.
 pub fn common_part<'a>(
-    program: &Program,
+    on: &Making,
     common: TypeId,
     structure: &Structure,
     member: Option<u32>,
     there: &'a Value,
 ) -> Option<&'a Value>
-    ensures { maybe_tree (option_copied result) ≡ beginning program.now common (type_there structure.now common member) (tree_of there.now) }
+    ensures { maybe_tree (option_copied result) ≡ beginning on.now.program.now common (type_there structure.now common member) (tree_of there.now) }
 {
     match member {
         None => Some(there),
-        Some(place) => beginning(program, common, member_type(structure, place), there),
+        Some(place) => beginning(on.program, common, member_type(structure, place), there),
     }
-}
-
-// Whether a type is a structure by value, and this one.
-fn is_of_node(id: TypeId, ty: Option<&Ty>) -> bool
-    ensures { result ≡ is_of_node id (option_copied ty.entry) }
-{
-    match ty {
-        Some(ty) => is_node(id, ty),
-        None => false,
-    }
-}
-
-// The type of the first field of a structure by value.
-fn first_type_of<'a>(program: &'a Program, ty: Option<&Ty>) -> Option<&'a Ty>
-    ensures { option_copied result ≡ first_type_of program.now (option_copied ty.entry) }
-{
-    let Some(Ty::Node { id, .. }) = ty else {
-        return None;
-    };
-    let structure = program.structures.get(id.0 as usize)?;
-    let field = structure.fields.get(0)?;
-    Some(&field.ty)
 }
 
 // The change of a value, by that of the structure with which it begins. The rest of the value goes.
 fn beginning_change(
-    alloc: Global,
-    program: &Program,
+    on: &Making,
     id: TypeId,
     ty: Option<&Ty>,
     value: &Value,
     change: Change,
 ) -> Result<Change, AllocError>
-    ensures { IfOk result (λ made. (part : Tree) → beginning program.now id (option_copied ty.entry) (tree_of value.now) ≡ Some part → changed made (tree_of value.now) ≡ changed change part) }
+    ensures { IfOk result (λ made. (part : Tree) → beginning on.now.program.now id (option_copied ty.entry) (tree_of value.now) ≡ Some part → changed made (tree_of value.now) ≡ changed change part) }
 {
     if is_of_node(id, ty) {
         return Ok(change);
@@ -80,41 +56,26 @@ fn beginning_change(
     match parts.as_slice() {
         [] => Ok(change),
         [first, ..] => {
-            let made = beginning_change(
-                alloc,
-                program,
-                id,
-                first_type_of(program, ty),
-                first,
-                change,
-            )?;
-            Ok(Change::OfFirst(Boxed::new(alloc, made)?))
+            let made = beginning_change(on, id, first_type_of(on.program, ty), first, change)?;
+            Ok(Change::OfFirst(Boxed::new(on.alloc, made)?))
         }
     }
 }
 
 /// The change of what is there in a union, by that of its common structure. The rest of what is there goes.
 pub fn common_change(
-    alloc: Global,
-    program: &Program,
+    on: &Making,
     common: TypeId,
     structure: &Structure,
     member: Option<u32>,
     there: &Value,
     change: Change,
 ) -> Result<Change, AllocError>
-    ensures { IfOk result (λ made. (part : Tree) → beginning program.now common (type_there structure.now common member) (tree_of there.now) ≡ Some part → changed made (tree_of there.now) ≡ changed change part) }
+    ensures { IfOk result (λ made. (part : Tree) → beginning on.now.program.now common (type_there structure.now common member) (tree_of there.now) ≡ Some part → changed made (tree_of there.now) ≡ changed change part) }
 {
     match member {
         None => Ok(change),
-        Some(place) => beginning_change(
-            alloc,
-            program,
-            common,
-            member_type(structure, place),
-            there,
-            change,
-        ),
+        Some(place) => beginning_change(on, common, member_type(structure, place), there, change),
     }
 }
 

@@ -6,8 +6,8 @@ ghost use Rattle.gt_assign.specs.declared.changes.Change.TheVariants.{Kept};
 ghost use Rattle.gt_assign.specs.Changes.{changed, parts_changed, or_null, IsNext};
 
 use crate::leaves::without_pointers;
+use gt_types::Boxed;
 use gt_value::Value;
-use sqlite_items::Boxed;
 use std::alloc::{AllocError, Global};
 
 /// What becomes of a value.

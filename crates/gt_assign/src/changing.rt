@@ -18,9 +18,8 @@ use crate::making::{Making, tail_length};
 use crate::seeing::{Around, Seen, desc_value};
 use crate::zeros::{zero, zero_member};
 use gt_fit::{is_bare, item};
-use gt_types::{Expr, Field, Structure, Ty, TypeId};
+use gt_types::{Boxed, Expr, Field, Structure, Ty, TypeId};
 use gt_value::{Value, ValueFail};
-use sqlite_items::Boxed;
 use std::alloc::{AllocError, Global};
 
 /// What becomes of a part, by what was around it. `Shape` says that there is no value.
@@ -244,8 +243,9 @@ fn union_change(
         return Err(ValueFail::Shape);
     };
     let active = on
+        .layouts
         .unions
-        .active_member(id, desc_value(on.program, desc, inner));
+        .active_member(id, desc_value(on, desc, inner));
     match active {
         None => rest_change(on, id, structure, *member, there.get()),
         Some(place) => place_change(on, id, structure, *member, place, there.get(), inner, depth),
@@ -268,21 +268,14 @@ fn rest_change(
     if member.is_none() {
         return Ok(bare_change(there).inside(on.alloc, None)?);
     }
-    let Some(common) = on.unions.common(id) else {
+    let Some(common) = on.layouts.unions.common(id) else {
         return Ok(Change::New(nothing_there(on.alloc)?));
     };
-    let Some(part) = common_part(on.program, common, structure, member, there) else {
+    let Some(part) = common_part(on, common, structure, member, there) else {
         return Err(ValueFail::Shape);
     };
-    let change = common_change(
-        on.alloc,
-        on.program,
-        common,
-        structure,
-        member,
-        there,
-        bare_change(part),
-    )?;
+    let bare = bare_change(part);
+    let change = common_change(on, common, structure, member, there, bare)?;
     Ok(change.there(on.alloc, None)?)
 }
 
@@ -357,19 +350,17 @@ fn turned_change(
     requires union { structure.now.is_union ≡ true }
     ensures { Decides result (Alt member (tree_of there.now)) (turned_made on.now.program.now (made on.now.program.now on.now.capacity depth) (past_of inner.now) structure.now member place (tree_of there.now)) }
 {
-    let Some(common) = on.unions.common(id) else {
+    let Some(common) = on.layouts.unions.common(id) else {
         return Ok(Change::New(zero_member(on, structure, place, inner, depth)?));
     };
     let Some(field) = structure.fields.get(place as usize) else {
         return Err(ValueFail::Shape);
     };
-    let Some(part) = common_part(on.program, common, structure, member, there) else {
+    let Some(part) = common_part(on, common, structure, member, there) else {
         return Err(ValueFail::Shape);
     };
     let first = begin(on, &field.ty, common, part, inner, depth)?;
-    let change = common_change(
-        on.alloc, on.program, common, structure, member, there, first,
-    )?;
+    let change = common_change(on, common, structure, member, there, first)?;
     Ok(change.there(on.alloc, Some(place))?)
 }
 

@@ -3,9 +3,10 @@ ghost use Rattle.std.specs.Prelude.{◌≡◌, IfOk, map};
 ghost use Rattle.gt_tree.specs.Trees.{is_leaf, is_word, without_pointers, all_without_pointers};
 ghost use Rattle.gt_value.specs.Values.{trees, tree_of};
 
+use gt_types::Boxed;
 use gt_value::Value;
-use sqlite_items::Boxed;
 use std::alloc::{AllocError, Global};
+use std::mem;
 
 /// The value in which each pointer is null. Its other parts are moved.
 #[cycle(bare)]
@@ -30,16 +31,17 @@ pub fn without_pointers(alloc: Global, value: Value) -> Result<Value, AllocError
     }
 }
 
-// The values in which each pointer is null.
+// The values in which each pointer is null. Each is changed at its place.
 #[cycle(bare)]
-fn all_without_pointers(alloc: Global, parts: Vec<Value>) -> Result<Vec<Value>, AllocError>
+fn all_without_pointers(alloc: Global, mut parts: Vec<Value>) -> Result<Vec<Value>, AllocError>
     ensures { IfOk result (λ made. trees (map tree_of made.items) ≡ all_without_pointers (trees (map tree_of parts.items))) }
 {
-    let mut made = Vec::new(alloc);
-    for part in parts {
-        made.push(without_pointers(alloc, part)?)?;
+    for i in 0..parts.len() {
+        let old = mem::replace(&mut parts[i], Value::Null);
+        let made = without_pointers(alloc, old)?;
+        parts[i] = made;
     }
-    Ok(made)
+    Ok(parts)
 }
 
 /// Whether a value is a leaf that can be written: a number, a pointer, or eight bytes that are never scanned.

@@ -5,8 +5,8 @@ ghost use Rattle.gt_value.specs.Values.{trees, tree_of};
 ghost use Rattle.gt_fit.specs.Values.{maybe_tree};
 
 use gt_fit::item;
+use gt_types::Boxed;
 use gt_value::Value;
-use sqlite_items::Boxed;
 use std::alloc::{AllocError, Global};
 use std::mem;
 

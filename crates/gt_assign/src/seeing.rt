@@ -1,13 +1,11 @@
 // What is known of the value that each part was, while a value is made anew.
 ghost use Rattle.std.specs.Prelude.{◌≡◌, slice_get, option_copied, option_map};
-ghost use Rattle.std.specs.Str.{bytes_eq};
-ghost use Rattle.std.specs.List.{position_from};
-ghost use Rattle.gt_tree.specs.Scopes.{is_node};
 ghost use Rattle.gt_value.specs.Values.{tree_of};
-ghost use Rattle.gt_assign.specs.Pasts.{was_of, past_of, past_inside, base_was, was_at, begun_at, begun_in, begun_next, begun_path, was_path, value_was, desc_was};
+ghost use Rattle.gt_assign.specs.Pasts.{was_of, past_of, past_inside, base_was, was_at, begun_at, begun_next, begun_path, was_path, value_was, desc_was};
 
-use gt_fit::{item, number_at, place_of, read_path};
-use gt_types::{Base, Expr, Program, Reader, Structure, Ty, TypeId, Word, eval};
+use crate::making::Making;
+use gt_fit::{is_of_node, item, number_at, place_of, read_path};
+use gt_types::{Base, Expr, Reader, Structure, Ty, TypeId, Word, eval};
 use gt_value::Value;
 
 /// What a part was.
@@ -80,80 +78,58 @@ fn begun_at<'a>(structure: &'a Structure, place: usize) -> Option<Option<&'a Ty>
     }
 }
 
-// Where a name leads in a struct that begins with another structure.
-fn begun_in<'a>(structure: &'a Structure, name: &Word) -> Option<Option<&'a Ty>>
-    ensures { option_map option_copied result ≡ begun_in structure.now (position_from (λ f. bytes_eq f.name name.now) 0 structure.now.fields) }
-{
-    match place_of(structure.fields.as_slice(), name) {
-        None => None,
-        Some(place) => begun_at(structure, place),
-    }
-}
-
 // Where a name leads in a value that begins with a structure: to the type of its first field, or to what is zero.
-fn begun_next<'a>(program: &'a Program, name: &Word, ty: &Ty) -> Option<Option<&'a Ty>>
-    ensures { option_map option_copied result ≡ begun_next program.now name.now ty.now }
+fn begun_next<'a>(on: &Making<'a>, name: &Word, ty: &Ty) -> Option<Option<&'a Ty>>
+    ensures { option_map option_copied result ≡ begun_next on.now.program.now name.now ty.now }
 {
     let Ty::Node { id: node, .. } = ty else {
         return None;
     };
-    match program.structures.get(node.0 as usize) {
-        None => None,
-        Some(structure) => begun_in(structure, name),
-    }
-}
-
-/// Whether a type is a structure by value, and this one.
-pub fn is_node(id: TypeId, ty: &Ty) -> bool
-    ensures { result ≡ is_node id ty.now }
-{
-    match ty {
-        Ty::Node { id: other, .. } => id.0 == other.0,
-        _ => false,
-    }
+    let structure = on.program.structures.get(node.0 as usize)?;
+    let place = place_of(on.layouts, *node, name)?;
+    begun_at(structure, place as usize)
 }
 
 // The number to which names lead, from a part that begins with a value of a structure and is zero elsewhere.
-fn read_begun(program: &Program, id: TypeId, value: &Value, steps: &[Word], ty: &Ty) -> Option<i64>
-    ensures { result ≡ begun_path program.now id (tree_of value.now) steps.now ty.now }
+fn read_begun(on: &Making, id: TypeId, value: &Value, steps: &[Word], ty: &Ty) -> Option<i64>
+    ensures { result ≡ begun_path on.now.program.now id (tree_of value.now) steps.now ty.now }
 {
     match steps {
         [] => None,
         [name, rest @ ..] => {
-            if is_node(id, ty) {
-                return read_path(program, steps, ty, value);
+            if is_of_node(id, Some(ty)) {
+                return read_path(on.program, on.layouts, steps, ty, value);
             }
-            match begun_next(program, name, ty) {
-                None => None,
-                Some(None) => Some(0),
-                Some(Some(first)) => read_begun(program, id, value, rest, first),
+            match begun_next(on, name, ty)? {
+                None => Some(0),
+                Some(first) => read_begun(on, id, value, rest, first),
             }
         }
     }
 }
 
 // The number to which names lead from what a part was.
-fn read_seen(program: &Program, seen: Seen, steps: &[Word], ty: &Ty) -> Option<i64>
-    ensures { result ≡ was_path program.now steps.now ty.now (was_of seen.entry) }
+fn read_seen(on: &Making, seen: Seen, steps: &[Word], ty: &Ty) -> Option<i64>
+    ensures { result ≡ was_path on.now.program.now steps.now ty.now (was_of seen.entry) }
 {
     match seen {
-        Seen::Whole(value) => read_path(program, steps, ty, value),
+        Seen::Whole(value) => read_path(on.program, on.layouts, steps, ty, value),
         Seen::Zero => Some(0),
-        Seen::Begins { id, value } => read_begun(program, id, value, steps, ty),
+        Seen::Begins { id, value } => read_begun(on, id, value, steps, ty),
     }
 }
 
 // What expressions read of what was around a part.
 #[derive(Clone, Copy)]
 struct Reading<'a> {
-    program: &'a Program,
+    on: &'a Making<'a>,
     around: &'a Around<'a>,
 }
 
 impl Reader for Reading<'_> {
     ghost use Rattle.gt_assign.specs.Pasts.{past_of, leaf_was, root_was};
 
-    ghost leaf_of = { λ r. leaf_was r.program.now (past_of r.around.now) };
+    ghost leaf_of = { λ r. leaf_was r.on.now.program.now (past_of r.around.now) };
 
     ghost root_of = { λ r. root_was (past_of r.around.now) };
 
@@ -163,7 +139,7 @@ impl Reader for Reading<'_> {
             id: at.id,
             desc: None,
         };
-        read_seen(self.program, at.seen, steps, &ty)
+        read_seen(self.on, at.seen, steps, &ty)
     }
 
     fn root(&self, i: u32) -> Option<i64> {
@@ -173,18 +149,18 @@ impl Reader for Reading<'_> {
 }
 
 /// The value of an expression by what was around a part.
-pub fn value_of(program: &Program, e: &Expr, around: &Around) -> Option<i64>
-    ensures { result ≡ value_was program.now (past_of around.now) e.now }
+pub fn value_of(on: &Making, e: &Expr, around: &Around) -> Option<i64>
+    ensures { result ≡ value_was on.now.program.now (past_of around.now) e.now }
 {
-    eval(e, &Reading { program, around })
+    eval(e, &Reading { on, around })
 }
 
 /// The value that says which member of a union is active. None where there is no `desc`.
-pub fn desc_value(program: &Program, desc: &Option<Expr>, around: &Around) -> Option<i64>
-    ensures { result ≡ desc_was program.now (past_of around.now) desc.now }
+pub fn desc_value(on: &Making, desc: &Option<Expr>, around: &Around) -> Option<i64>
+    ensures { result ≡ desc_was on.now.program.now (past_of around.now) desc.now }
 {
     match desc {
         None => None,
-        Some(e) => value_of(program, e, around),
+        Some(e) => value_of(on, e, around),
     }
 }

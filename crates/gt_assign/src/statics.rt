@@ -69,7 +69,7 @@ fn record_anew(
     let on = Making {
         alloc,
         program,
-        unions: &layouts.unions,
+        layouts,
         capacity: 0,
     };
     let change = roots_change(&on, program.roots.as_slice(), parts, &around)?;
@@ -120,7 +120,7 @@ fn record_fits<N: BlockNames>(
     };
     let on = Checking {
         program,
-        unions: &layouts.unions,
+        layouts,
         names,
         capacity: 0,
     };

@@ -10,9 +10,8 @@ ghost use Rattle.gt_assign.specs.Changes.{GivesAll};
 
 use crate::making::{Making, tail_length};
 use crate::seeing::{Around, Seen, desc_value};
-use gt_types::{Bytes, Expr, Field, Structure, Ty, TypeId};
+use gt_types::{Boxed, Bytes, Expr, Field, Structure, Ty, TypeId};
 use gt_value::{Value, ValueFail};
-use sqlite_items::Boxed;
 use std::alloc::Global;
 
 /// The value of a part of a type that was not there, by what was around it. `Shape` says that there is none.
@@ -166,8 +165,8 @@ fn zero_union(
     requires union { structure.now.is_union ≡ true }
     ensures { Gives result (member_made on.now.program.now (made on.now.program.now on.now.capacity depth) (past_of inner.now) structure.now Nothing (active_member (desc_was on.now.program.now (past_of inner.now) desc.now) structure.now.fields)) }
 {
-    let value = desc_value(on.program, desc, inner);
-    match on.unions.active_member(id, value) {
+    let value = desc_value(on, desc, inner);
+    match on.layouts.unions.active_member(id, value) {
         Some(place) => zero_member(on, structure, place, inner, depth),
         None => {
             let value = zero_rest(on, id, structure, inner, depth)?;
@@ -215,7 +214,7 @@ fn zero_rest(
     requires union { structure.now.is_union ≡ true }
     ensures { Gives result (rest_made on.now.program.now (made on.now.program.now on.now.capacity depth) (past_of inner.now) structure.now Nothing) }
 {
-    match on.unions.common(id) {
+    match on.layouts.unions.common(id) {
         None => Ok(Value::Rec(Vec::new(on.alloc))),
         Some(id) => zero(on, &Ty::Node { id, desc: None }, inner, depth),
     }

@@ -4,6 +4,7 @@ ghost use Rattle.gt_types.specs.Contains.{HasStructure};
 ghost use Rattle.gt_types.specs.Settled.{Settled};
 ghost use Rattle.gt_types.specs.Shapes.{is_pointer};
 ghost use Rattle.gt_types.specs.declared.types.Ty.{out-Ty};
+ghost use Rattle.gt_fields.specs.FieldNames.{field_names};
 ghost use Rattle.gt_tree.specs.Blocks.{MayName};
 ghost use Rattle.gt_tree.specs.Scopes.{eval_in};
 ghost use Rattle.gt_tree.specs.Trees.{Rec, End, without_pointers, all_without_pointers};
@@ -18,19 +19,20 @@ use crate::members::is_active;
 use crate::naming::may_name_within;
 use crate::rooms::number_fits;
 use crate::scoping::{Within, desc_in, eval_in};
+use gt_layout::Layouts;
 use gt_types::{Expr, Field, Program, Structure, Ty, TypeId};
-use gt_unions::Unions;
 use gt_value::{BlockNames, Value};
 
-/// Beside what a value is checked: its program with the tables of its unions, the blocks that pointers name, and how many elements
-/// have room at its end.
+/// Beside what a value is checked: its program with its layouts, the blocks that pointers name, and how many elements have room at
+/// its end.
 #[derive(Drop)]
 pub struct Checking<'a, N: BlockNames> {
     pub program: &'a Program,
-    pub unions: &'a Unions,
+    pub layouts: &'a Layouts,
     pub names: &'a N,
     pub capacity: u32,
-    ghost united: { unions.now ≡ union_tables program.now },
+    ghost named: { layouts.now.names ≡ field_names program.now.structures },
+    ghost united: { layouts.now.unions ≡ union_tables program.now },
 }
 
 // Whether a type is a pointer's.
@@ -60,7 +62,7 @@ fn is_length<N: BlockNames>(on: &Checking<N>, len: &Expr, n: usize, within: &Wit
     if n > on.capacity as usize {
         return false;
     }
-    match eval_in(on.program, len, within) {
+    match eval_in(on, len, within) {
         None => false,
         Some(value) => value == n as i64,
     }
@@ -114,7 +116,7 @@ pub fn fits<N: BlockNames>(value: &Value, ty: &Ty, on: &Checking<N>, within: &Wi
     match value {
         Value::Num(n) => number_fits(ty, *n),
         Value::Null => is_pointer(ty),
-        Value::To(addr) => may_name_within(on.program, on.names, ty, *addr, within),
+        Value::To(addr) => may_name_within(on, ty, *addr, within),
         Value::Raw(bytes) => opaque_fits(bytes.as_slice(), ty),
         Value::Rec(parts) => rec_fits(parts.as_slice(), value, ty, on, within),
         Value::Alt {
@@ -199,8 +201,8 @@ fn alt_fits<N: BlockNames>(
     if !structure.is_union {
         return false;
     }
-    let value = desc_in(on.program, desc, &inner);
-    if !is_active(on.unions, *id, value, member) {
+    let value = desc_in(on, desc, &inner);
+    if !is_active(&on.layouts.unions, *id, value, member) {
         return false;
     }
     there_fits(there, *id, structure, member, on, &inner)
@@ -244,7 +246,7 @@ fn common_fits<N: BlockNames>(
     requires union { structure.now.is_union ≡ true }
     ensures { IsTrue result ↔ CommonFits on.now.program.now (N.blocks on.now.names.now) on.now.capacity (scope_of inner.now) (common_of on.now.program.now structure.now) (tree_of there.now) }
 {
-    let Some(id) = on.unions.common(union) else {
+    let Some(id) = on.layouts.unions.common(union) else {
         return is_nothing(there);
     };
     if !is_bare(there) {

@@ -8,8 +8,9 @@ ghost use Rattle.gt_value.specs.Names.{kind_of};
 ghost use Rattle.gt_fit.specs.Scoping.{scope_of};
 ghost use Rattle.gt_fit.specs.Fitting.{HasChars};
 
+use crate::checks::Checking;
 use crate::scoping::{Within, eval_in};
-use gt_types::{Program, PtrKind, Target, Ty};
+use gt_types::{PtrKind, Target, Ty};
 use gt_value::{BlockKind, BlockNames};
 
 // Whether a block holds so many elements of a kind.
@@ -126,29 +127,23 @@ pub fn may_name<N: BlockNames>(names: &N, ty: &Ty, length: Option<i64>, addr: u6
 }
 
 // The value of the length in a type, where it has one.
-fn length_in(program: &Program, ty: &Ty, within: &Within) -> Option<i64>
-    ensures { result ≡ (count_of ty.now then eval_in program.now (scope_of within.now)) }
+fn length_in<N: BlockNames>(on: &Checking<N>, ty: &Ty, within: &Within) -> Option<i64>
+    ensures { result ≡ (count_of ty.now then eval_in on.now.program.now (scope_of within.now)) }
 {
     match ty {
-        Ty::Str(Some(len)) => eval_in(program, len, within),
+        Ty::Str(Some(len)) => eval_in(on, len, within),
         Ty::Ptr {
             kind: PtrKind::Length(len),
             ..
-        } => eval_in(program, len, within),
-        Ty::Tail { len, .. } => eval_in(program, len, within),
+        } => eval_in(on, len, within),
+        Ty::Tail { len, .. } => eval_in(on, len, within),
         _ => None,
     }
 }
 
 /// Whether a pointer or string of a type may name the block at an address, by the values around it.
-pub fn may_name_within<N: BlockNames>(
-    program: &Program,
-    names: &N,
-    ty: &Ty,
-    addr: u64,
-    within: &Within,
-) -> bool
-    ensures { IsTrue result ↔ MayName (N.blocks names.now) (eval_in program.now (scope_of within.now)) ty.now addr }
+pub fn may_name_within<N: BlockNames>(on: &Checking<N>, ty: &Ty, addr: u64, within: &Within) -> bool
+    ensures { IsTrue result ↔ MayName (N.blocks on.now.names.now) (eval_in on.now.program.now (scope_of within.now)) ty.now addr }
 {
-    may_name(names, ty, length_in(program, ty, within), addr)
+    may_name(on.names, ty, length_in(on, ty, within), addr)
 }

@@ -2,12 +2,17 @@
 ghost use Rattle.std.specs.Prelude.{◌≡◌, map, option_copied, slice_get};
 ghost use Rattle.std.specs.Str.{bytes_eq};
 ghost use Rattle.std.specs.List.{position_from};
-ghost use Rattle.gt_tree.specs.Scopes.{is_of_node, beginning, first_type_of, field_of, member_of, type_of_field, step_in, step, number_at, read_path};
+ghost use Rattle.gt_types.specs.declared.program.Structure.{Structure};
+ghost use Rattle.gt_types.specs.declared.program.Program.{Program};
+ghost use Rattle.gt_types.specs.Contains.{HasStructure};
+ghost use Rattle.gt_fields.specs.FieldNames.{field_names};
+ghost use Rattle.gt_tree.specs.Scopes.{is_of_node, beginning, first_type_of, field_of, member_of, type_of_field, step, number_at, read_path};
 ghost use Rattle.gt_tree.specs.Trees.{tree_at};
 ghost use Rattle.gt_value.specs.Values.{trees, tree_of};
 ghost use Rattle.gt_fit.specs.Values.{typed_of};
 ghost use Rattle.gt_fit.specs.Values.{maybe_tree};
 
+use gt_layout::Layouts;
 use gt_types::{Field, Program, Structure, Ty, TypeId, Word};
 use gt_value::Value;
 
@@ -42,8 +47,8 @@ pub fn item(parts: &[Value], place: usize) -> Option<&Value>
     nth(parts, place)
 }
 
-// Whether a type is a structure by value, and this one.
-fn is_of_node(id: TypeId, ty: Option<&Ty>) -> bool
+/// Whether a type is a structure by value, and this one.
+pub fn is_of_node(id: TypeId, ty: Option<&Ty>) -> bool
     ensures { result ≡ is_of_node id (option_copied ty.entry) }
 {
     match ty {
@@ -52,8 +57,8 @@ fn is_of_node(id: TypeId, ty: Option<&Ty>) -> bool
     }
 }
 
-// The type of the first field of a structure by value.
-fn first_type_of<'a>(program: &'a Program, ty: Option<&Ty>) -> Option<&'a Ty>
+/// The type of the first field of a structure by value.
+pub fn first_type_of<'a>(program: &'a Program, ty: Option<&Ty>) -> Option<&'a Ty>
     ensures { option_copied result ≡ first_type_of program.now (option_copied ty.entry) }
 {
     let Some(Ty::Node { id, .. }) = ty else {
@@ -138,28 +143,30 @@ fn member_of<'a>(
     }
 }
 
-/// The place of the first field of a name.
-pub fn place_of(fields: &[Field], name: &Word) -> Option<usize>
-    ensures { result ≡ position_from (λ f. bytes_eq f.name name.now) 0 fields.now }
+/// The place of the first field of a name in a structure of a program.
+pub fn place_of(layouts: &Layouts, node: TypeId, name: &Word) -> Option<u32>
+    ensures { (program : Program) (s : Structure) → layouts.now.names ≡ field_names program.structures → HasStructure program node s → result ≡ position_from (λ f. bytes_eq f.name name.now) 0 s.fields }
 {
-    fields.iter().position(|f| f.name == *name)
+    layouts.names.place(node, name)
 }
 
-// One step of a path from a structure, by the name of a field.
-fn step_in<'a>(
-    program: &Program,
-    structure: &'a Structure,
+// One step of a path, by the name of a field.
+fn step<'a>(
+    program: &'a Program,
+    layouts: &Layouts,
+    ty: &Ty,
     name: &Word,
     value: &'a Value,
 ) -> Option<TypedAt<'a>>
-    ensures { typed_of result ≡ step_in program.now structure.now name.now (tree_of value.now) }
+    requires named { layouts.now.names ≡ field_names program.now.structures }
+    ensures { typed_of result ≡ step program.now ty.now name.now (tree_of value.now) }
 {
-    let Some(place) = place_of(structure.fields.as_slice(), name) else {
+    let Ty::Node { id, .. } = ty else {
         return None;
     };
-    let Some(field) = structure.fields.get(place) else {
-        return None;
-    };
+    let structure = program.structures.get(id.0 as usize)?;
+    let place = place_of(layouts, *id, name)? as usize;
+    let field = structure.fields.get(place)?;
     if structure.is_union {
         member_of(program, structure, &field.ty, value)
     } else {
@@ -167,26 +174,22 @@ fn step_in<'a>(
     }
 }
 
-// One step of a path, by the name of a field.
-fn step<'a>(program: &'a Program, ty: &Ty, name: &Word, value: &'a Value) -> Option<TypedAt<'a>>
-    ensures { typed_of result ≡ step program.now ty.now name.now (tree_of value.now) }
-{
-    let Ty::Node { id, .. } = ty else {
-        return None;
-    };
-    let structure = program.structures.get(id.0 as usize)?;
-    step_in(program, structure, name, value)
-}
-
 /// The number to which names of fields lead from a value of a type. None where they lead to no number in i64.
-pub fn read_path(program: &Program, steps: &[Word], ty: &Ty, value: &Value) -> Option<i64>
+pub fn read_path(
+    program: &Program,
+    layouts: &Layouts,
+    steps: &[Word],
+    ty: &Ty,
+    value: &Value,
+) -> Option<i64>
+    requires named { layouts.now.names ≡ field_names program.now.structures }
     ensures { result ≡ read_path program.now steps.now ty.now (tree_of value.now) }
 {
     match steps {
         [] => number_at(value),
         [name, rest @ ..] => {
-            let next = step(program, ty, name, value)?;
-            read_path(program, rest, next.ty, next.value)
+            let next = step(program, layouts, ty, name, value)?;
+            read_path(program, layouts, rest, next.ty, next.value)
         }
     }
 }

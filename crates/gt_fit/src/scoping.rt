@@ -5,9 +5,10 @@ ghost use Rattle.gt_tree.specs.Fits.{desc_value};
 ghost use Rattle.gt_value.specs.Values.{tree_of};
 ghost use Rattle.gt_fit.specs.Scoping.{held_of, scope_of};
 
+use crate::checks::Checking;
 use crate::paths::{item, number_at, read_path};
-use gt_types::{Base, Expr, Program, Reader, Ty, TypeId, Word, eval};
-use gt_value::Value;
+use gt_types::{Base, Expr, Reader, Ty, TypeId, Word, eval};
+use gt_value::{BlockNames, Value};
 
 /// A structure and its value.
 #[derive(Clone, Copy)]
@@ -56,16 +57,16 @@ fn base<'a>(within: &Within<'a>, base: &Base) -> Option<HeldAt<'a>>
 
 // What expressions read of the values around a part.
 #[derive(Clone, Copy)]
-struct Looking<'a> {
-    program: &'a Program,
+struct Looking<'a, N: BlockNames> {
+    on: &'a Checking<'a, N>,
     within: &'a Within<'a>,
 }
 
-impl Reader for Looking<'_> {
+impl<N: BlockNames> Reader for Looking<'_, N> {
     ghost use Rattle.gt_tree.specs.Scopes.{leaf_in, root_in};
     ghost use Rattle.gt_fit.specs.Scoping.{scope_of};
 
-    ghost leaf_of = { λ r. leaf_in r.program.now (scope_of r.within.now) };
+    ghost leaf_of = { λ r. leaf_in r.on.now.program.now (scope_of r.within.now) };
 
     ghost root_of = { λ r. root_in (scope_of r.within.now) };
 
@@ -75,7 +76,7 @@ impl Reader for Looking<'_> {
             id: at.id,
             desc: None,
         };
-        read_path(self.program, steps, &ty, at.value)
+        read_path(self.on.program, self.on.layouts, steps, &ty, at.value)
     }
 
     fn root(&self, i: u32) -> Option<i64> {
@@ -85,18 +86,18 @@ impl Reader for Looking<'_> {
 }
 
 /// The value of an expression where it stands.
-pub fn eval_in(program: &Program, e: &Expr, within: &Within) -> Option<i64>
-    ensures { result ≡ eval_in program.now (scope_of within.now) e.now }
+pub fn eval_in<N: BlockNames>(on: &Checking<N>, e: &Expr, within: &Within) -> Option<i64>
+    ensures { result ≡ eval_in on.now.program.now (scope_of within.now) e.now }
 {
-    eval(e, &Looking { program, within })
+    eval(e, &Looking { on, within })
 }
 
 /// The value that says which member of a union is active. None where there is no `desc`.
-pub fn desc_in(program: &Program, desc: &Option<Expr>, within: &Within) -> Option<i64>
-    ensures { result ≡ desc_value program.now (scope_of within.now) desc.now }
+pub fn desc_in<N: BlockNames>(on: &Checking<N>, desc: &Option<Expr>, within: &Within) -> Option<i64>
+    ensures { result ≡ desc_value on.now.program.now (scope_of within.now) desc.now }
 {
     match desc {
         None => None,
-        Some(e) => eval_in(program, e, within),
+        Some(e) => eval_in(on, e, within),
     }
 }

@@ -118,7 +118,7 @@ fn parts_fit(
 {
     let checking = Checking {
         program: &on.program,
-        unions: &on.layouts.unions,
+        layouts: &on.layouts,
         names: blocks,
         capacity: o.capacity,
     };
@@ -187,7 +187,7 @@ fn statics_fit(on: &Ground, blocks: &Blocks<'_>, statics: &[Value]) -> bool
 {
     let checking = Checking {
         program: &on.program,
-        unions: &on.layouts.unions,
+        layouts: &on.layouts,
         names: blocks,
         capacity: 0,
     };

@@ -1,7 +1,8 @@
 use Rattle.std.proofs.Common.{map, ap, sym, ◌∙◌, arith, min}
+use Rattle.std.proofs.lemmas.List.{nil_from_length}
 use Rattle.gt_value.specs.Values.{trees, tree_of}
 use Rattle.gt_assign.specs.Changes.{changed, parts_changed}
-use Rattle.gt_assign.proofs.Decided.{apply-start, apply-next, apply-end, list-none, olds-none, levels, parts-levels, there-levels}
+use Rattle.gt_assign.proofs.Decided.{apply-start, apply-next, apply-end, olds-none, levels, parts-levels, there-levels}
 use Rattle.gt_assign.proofs.Nested.{same-most, first-most, next-most}
 use Rattle.gt_assign.proofs.changes.+applying.Goals as goal
 
@@ -25,7 +26,7 @@ apply_all-loop-change-preserved t c = (
 pub apply_all-returns : goal.apply_all-returns
 apply_all-returns t c =
     apply-end c.loop-change.parts.items c.loop-change.change-iterator.rest.items c.loop-change.olds.rest.items (parts_changed c.args.kept (map changed c.args.changes.items) (trees (map tree_of c.args.parts.items)))
-    c.loop-change.invariant.0 (list-none c.loop-change.change-iterator.rest.items (sym c.loop-change.change-iterator.rest.ok.0 ∙ c.in-None.ensures.steps.0))
+    c.loop-change.invariant.0 (nil_from_length c.loop-change.change-iterator.rest.items (sym c.loop-change.change-iterator.rest.ok.0 ∙ c.in-None.ensures.steps.0))
 
 pub apply_all-apply-requires : goal.apply_all-apply-requires
 apply_all-apply-requires t c =

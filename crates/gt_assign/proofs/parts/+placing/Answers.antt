@@ -1,13 +1,8 @@
-use Rattle.std.proofs.Common.{◌≡◌, ℕ, zero, suc, List, [], ◌∷◌, set, get_or, refl, sym, ap, ◌∙◌, map, arith}
+use Rattle.std.proofs.Common.{List, get_or, sym, ap, ◌∙◌, map, arith}
 use Rattle.gt_value.specs.declared.values.Value.{Value}
 use Rattle.gt_value.specs.Values.{trees, tree_of}
-use Rattle.gt_assign.proofs.PartPaths.{placed-beyond, placed-within}
+use Rattle.gt_assign.proofs.PartPaths.{set-twice, placed-beyond, placed-within}
 use Rattle.gt_assign.proofs.parts.+placing.Goals as goal
-
-set-twice : (xs : List Value) (i : ℕ) (x y : Value) → set (set xs i x) i y ≡ set xs i y
-set-twice [] i x y = refl
-set-twice (v ∷ xs) zero x y = refl
-set-twice (v ∷ xs) (suc i) x y = ap (λ ys. v ∷ ys) (set-twice xs i x y)
 
 pub with_part_of-returns-then-place-len : goal.with_part_of-returns-then-place-len
 with_part_of-returns-then-place-len t c = sym (placed-beyond c.args.parts.items c.args.i c.args.path.now (tree_of c.args.part) (omega (arith, c.args.parts.ok.0)))

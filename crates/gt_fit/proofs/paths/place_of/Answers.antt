@@ -1,0 +1,12 @@
+use Rattle.std.proofs.Common.{◌∙◌, ap}
+use Rattle.std.specs.Str.{bytes_eq}
+use Rattle.std.proofs.lemmas.Iterator.Adapters.{position_from-zero}
+use Rattle.gt_fields.specs.Places.{bind, place_in}
+use Rattle.gt_fields.proofs.NameLemmas.{names_are}
+use Rattle.gt_fit.proofs.paths.place_of.Goals as goal
+
+pub returns : goal.returns
+returns c program s named has =
+    let name = c.args.name.now in
+    let names = names_are program.structures c.args.layouts.now.names (ap (λ n. n.structures) named) in
+    c.place.ensures.place program.structures names ∙ ap (λ o. bind o (place_in name)) has ∙ position_from-zero (λ f. bytes_eq f.name name) s.fields
