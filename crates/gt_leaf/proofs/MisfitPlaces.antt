@@ -20,9 +20,9 @@ use Rattle.gt_value.specs.declared.places.LeafContent.TheVariants as content
 use Rattle.gt_value.specs.declared.places.Place.{Place}
 use Rattle.gt_value.specs.Places.{Part, PartLies, IsContentOf, IsPlaceOf, IsPlaceOfPart, IsStaticPlaceOf, content_at}
 use Rattle.gt_leaf.specs.Writing.{StandsBeside, StaticsStandBeside, is_number_leaf, IsAlone}
-use Rattle.gt_leaf.specs.Unread.{Enclosing, structures_on, structures_in_statics}
+use Rattle.gt_leaf.specs.Unread.{Around, none_around, structures_on, structures_in_statics}
 use Rattle.gt_leaf.specs.Verdicts.{IsMisfit}
-use Rattle.gt_leaf.proofs.Arounds.{static-covers}
+use Rattle.gt_leaf.proofs.Arounds.{covers-same, static-covers}
 use Rattle.gt_leaf.proofs.Swaps.{put-swaps}
 use Rattle.gt_leaf.proofs.Alongs.{Along, Contains-get}
 use Rattle.gt_leaf.proofs.SwapScopes.{outside-same}
@@ -39,7 +39,7 @@ content-bare content.Null tree means e = absurd (cc)
 content-bare (content.To address) tree means e = absurd (cc)
 
 -- the leaf at a place can be looked at alone, as a tree
-tree-alone : {program : Program} {around : List Enclosing} {range : Range} {address : ℕ} (p : Part) (place : Place) (leaf : LeafContent) (tree : Tree) → IsPlaceOfPart program range address p place → IsAlone program around p leaf → IsContentOf leaf tree → StandsAlone program around p tree
+tree-alone : {program : Program} {around : Around} {range : Range} {address : ℕ} (p : Part) (place : Place) (leaf : LeafContent) (tree : Tree) → IsPlaceOfPart program range address p place → IsAlone program around p leaf → IsContentOf leaf tree → StandsAlone program around p tree
 tree-alone {range} p place leaf tree at alone means =
     let bare : (p.active ≡ true) ⊎ (without_pointers tree ≡ tree) = elim alone.active [ inl active ↦ inl active | inr number ↦ inr (content-bare leaf tree means number) ] in
     record {
@@ -57,7 +57,8 @@ module _ (program : Program) (layouts : Layouts) (settled : Settled program) whe
       let here = subst (λ t. Assigns program blocks statics capacity t value path tree new) s.of_kind assigns in
       let lies = subst (λ t. PartLies program layouts.structures (outside statics) lies_in.Element true 0 t value path at.p) s.of_kind at.lies in
       let along : Along program statics (outside statics) (element_type program s.kind) = Along.at_block s.kind s.held in
-      let found = fits-there settled lies s.is.fits (outside statics) along (outside-same statics statics (λ i read. refl)) tree (tree-alone at.p place leaf tree at.is m.alone means) (record { each = λ b c. inr (subst (λ t. Contains (structures_on program (Some t) path) b) (sym s.of_kind) c) }) new here.fits here.reshapes in
+      let found = fits-there settled lies s.is.fits (outside statics) along (outside-same statics statics (λ i read. refl)) true (λ none. refl) tree (tree-alone at.p place leaf tree at.is m.alone means)
+      (covers-same (structures_on program (Some type) path) (structures_on program (Some (element_type program s.kind)) path) at.p.active (ap (λ t. structures_on program (Some t) path) (sym s.of_kind))) new here.fits here.reshapes in
       m.misfit (content-fits settled {t = found.scope} found.fits leaf means found.along found.same m.alone.word)
 
   pub static-misfits : (blocks : Blocks) (values : Trees) (path : List ℕ) (leaf : LeafContent) (range : Range) (place : Place)
@@ -72,9 +73,9 @@ module _ (program : Program) (layouts : Layouts) (settled : Settled program) whe
       let is : w ≡ assigns.written = cc in
       let becomes = subst (λ y. AllReshape program (root_types program) y new) (sym is) assigns.reshapes in
       let type_is = get-map (λ (r : Root). r.ty) program.roots l.i l.r l.root in
-      let swap = put-swaps program [] lies_in.Root (root_types program) values l.i l.r.ty l.tree l.rest tree type_is l.there (alone-swap settled l.lies tree alone covers) in
+      let swap = put-swaps program (none_around true) lies_in.Root (root_types program) values l.i l.r.ty l.tree l.rest tree type_is l.there (alone-swap settled l.lies true tree alone covers) in
       let same = outside-same values new (λ i read. root-swap swap i (λ unread. unread read) ∙ roots-kept becomes i) in
       let along : Along program values (outside values) l.r.ty = Along.at_root l.r (Contains-get program.roots l.i l.r l.root) in
       let one = all-at becomes assigns.fits l.i l.r.ty (with_part l.tree l.rest tree) type_is (put-there values l.i l.tree l.rest tree l.there) in
-      let found = fits-there settled l.lies (fit-at s.are.fit l.i l.r.ty l.tree type_is l.there) (outside new) along same tree alone covers one.new one.fits one.reshapes in
+      let found = fits-there settled l.lies (fit-at s.are.fit l.i l.r.ty l.tree type_is l.there) (outside new) along same true (λ none. refl) tree alone covers one.new one.fits one.reshapes in
       m.misfit (content-fits settled {t = found.scope} found.fits leaf means found.along found.same m.alone.word)

@@ -22,25 +22,26 @@ use Rattle.gt_tree.proofs.PathParts.{get-map}
 use Rattle.gt_tree.proofs.WriteReads.{named-place, step-taken, read-desc, node-type, first-types}
 use Rattle.gt_value.specs.declared.places.Holder.{Holder}
 use Rattle.gt_value.specs.declared.places.Holder.TheVariants as lies_in
-use Rattle.gt_leaf.specs.Unread.{Enclosing, route, route_of, ReadsFrom, ReadsByName, IsReadField, IsUnread, EndsAt}
+use Rattle.gt_leaf.specs.Unread.{Enclosing, Around, with_structure, route, route_of, ReadsFrom, ReadsByName, IsReadField, IsUnread, EndsAt}
 use Rattle.gt_leaf.proofs.Members.{later}
 use Rattle.gt_leaf.proofs.RouteSteps.{names-stop, names-step, names-end, places-stop, places-step, places-end}
 use Rattle.gt_leaf.proofs.Swaps.{Swap, OneSwaps}
 
--- The number in which a path of names ends from a structure on is one that expressions read, by name or from where the path began, along
--- what this makes of the route from that structure on.
-abbrev pub EndRead : Program → TypeId → (List ℕ → List ℕ) → TypeId → List (List ℕ) → Type 0
-EndRead program begin whole node names = (end : TypeId) (i : ℕ) (s : Structure) (f : Field) → HasStructure program end s → slice_get s.fields i ≡ Some f → is_number f.ty ≡ true → EndsAt program node names end i
-    → ReadsByName program end i ⊎ ReadsFrom program begin (whole (route_of program (Some node) names)) end i
+-- The number in which a path of names ends from a structure on is one that expressions read, by name where paths from `%0` count, or from
+-- where the path began, along what this makes of the route from that structure on.
+abbrev pub EndRead : Program → Bool → TypeId → (List ℕ → List ℕ) → TypeId → List (List ℕ) → Type 0
+EndRead program named begin whole node names = (end : TypeId) (i : ℕ) (s : Structure) (f : Field) → HasStructure program end s → slice_get s.fields i ≡ Some f → is_number f.ty ≡ true → EndsAt program node names end i
+    → ((named ≡ true) × ReadsByName program end i) ⊎ ReadsFrom program begin (whole (route_of program (Some node) names)) end i
 
--- where a structure around a leaf reads a number along the route to it, it is read
-read-inside : (program : Program) (around : List Enclosing) (begin : TypeId) (along : List ℕ) (node : TypeId) (i : ℕ) → Contains around (begin, along) → ReadsByName program node i ⊎ ReadsFrom program begin along node i → IsReadField program around true node i
-read-inside program around begin along node i c (inl name) = inl name
-read-inside program around begin along node i c (inr from) = inr ((begin, along), inr c, from)
+-- where a structure around a leaf reads a number along the route to it, or a path from `%0` leads there by its name, it is read
+read-inside : (program : Program) (around : Around) (named : Bool) (begin : TypeId) (along : List ℕ) (node : TypeId) (i : ℕ) → (named ≡ true → around.direct ≡ true) → Contains around.structures (begin, along)
+    → ((named ≡ true) × ReadsByName program node i) ⊎ ReadsFrom program begin along node i → IsReadField program around true node i
+read-inside program around named begin along node i direct c (inl name) = inl (inr (direct name.0), name.1)
+read-inside program around named begin along node i direct c (inr from) = inr ((begin, along), inr c, from)
 
 -- ---- numbers
 
-pub number-swap : {program : Program} {around : List Enclosing} {h : Holder} {type : Ty} {path : List ℕ} {o n : Tree} → Swap program around h type path o n → ¬ IsUnread program around true h → number_at o ≡ number_at n
+pub number-swap : {program : Program} {around : Around} {h : Holder} {type : Ty} {path : List ℕ} {o n : Tree} → Swap program around h type path o n → ¬ IsUnread program around true h → number_at o ≡ number_at n
 number-swap (Swap.replaced unread a b plain) read = absurd (read unread)
 number-swap (Swap.in_struct h u one) read = refl
 number-swap (Swap.in_member h u g swap) read = refl
@@ -49,18 +50,24 @@ number-swap (Swap.in_row plain) read = refl
 
 -- ---- what a value begins with
 
--- a part of a value and that of the other are one, or they differ so
-data Kept (program : Program) (c : TypeId) (around : List Enclosing) : Option Tree → Option Tree → Type 0 where
-  kept_same : {x : Option Tree} → Kept program c around x x
-  kept_swap : (inner : List Enclosing) {path : List ℕ} {h : Holder} {desc : Option Expr} {p q : Tree} → ((b : Enclosing) → Contains around b → Contains inner b) → Swap program inner h (ty.Node c desc) path p q → Kept program c around (Some p) (Some q)
+-- more is around one part than around another
+pub record Grows (around inner : Around) : Type 0 where
+  pub each : (b : Enclosing) → Contains around.structures b → Contains inner.structures b
+  pub direct : around.direct ≡ true → inner.direct ≡ true
 
-kept-outside : {program : Program} {c : TypeId} {outer : Enclosing} {around : List Enclosing} {x y : Option Tree} → Kept program c (outer ∷ around) x y → Kept program c around x y
-kept-outside Kept.kept_same = Kept.kept_same
-kept-outside {outer} {around} (Kept.kept_swap inner grows swap) = Kept.kept_swap inner (λ b d. grows b (later outer b around d)) swap
+-- a part of a value and that of the other are one, or they differ so
+data Kept (program : Program) (c : TypeId) (around : Around) : Option Tree → Option Tree → Type 0 where
+  kept_same : {x : Option Tree} → Kept program c around x x
+  kept_swap : (inner : Around) {path : List ℕ} {h : Holder} {desc : Option Expr} {p q : Tree} → Grows around inner → Swap program inner h (ty.Node c desc) path p q → Kept program c around (Some p) (Some q)
+
+kept-outside : {program : Program} {c : TypeId} {around : Around} (node : TypeId) (path : List ℕ) {x y : Option Tree} → Kept program c (with_structure program around node path) x y → Kept program c around x y
+kept-outside node path Kept.kept_same = Kept.kept_same
+kept-outside {program} {around} node path (Kept.kept_swap inner grows swap) =
+    Kept.kept_swap inner (record { each = λ b d. grows.each b (later (node, route program (Some node) path) b around.structures d); direct = grows.direct }) swap
 
 -- a path of names reads the same from a structure inside these in two values that differ so
-abbrev ReadsOn : Program → TypeId → List Enclosing → List (List ℕ) → Type 0
-ReadsOn program c around names = (inner : List Enclosing) (path : List ℕ) → ((b : Enclosing) → Contains around b → Contains inner b) → (h : Holder) (desc : Option Expr) (p q : Tree) → Swap program inner h (ty.Node c desc) path p q
+abbrev ReadsOn : Program → TypeId → Around → List (List ℕ) → Type 0
+ReadsOn program c around names = (inner : Around) (path : List ℕ) → Grows around inner → (h : Holder) (desc : Option Expr) (p q : Tree) → Swap program inner h (ty.Node c desc) path p q
     → read_path program names (ty.Node c None) p ≡ read_path program names (ty.Node c None) q
 
 no-node : (c : TypeId) (type : Ty) → is_structure type ≡ false → is_node c type ≡ false
@@ -77,30 +84,30 @@ begin-leaf program c type (Alt member tree) e h = absurd (cc)
 begin-leaf program c type (Row trees) e h = absurd (cc)
 
 module _ {program : Program} (c : TypeId) where
-  kept-or : {around : List Enclosing} {h : Holder} {path : List ℕ} (type : Ty) (o n : Tree) (b : Bool) (x y : Option Tree) → is_node c type ≡ b → Swap program around h type path o n → Kept program c around x y → Kept program c around (cond b (Some o) x) (cond b (Some n) y)
-  kept-or {around} {h} {path} type o n true x y e swap k = Kept.kept_swap around (λ b d. d) (subst (λ t. Swap program around h t path o n) (node-type c type e).1 swap)
+  kept-or : {around : Around} {h : Holder} {path : List ℕ} (type : Ty) (o n : Tree) (b : Bool) (x y : Option Tree) → is_node c type ≡ b → Swap program around h type path o n → Kept program c around x y → Kept program c around (cond b (Some o) x) (cond b (Some n) y)
+  kept-or {around} {h} {path} type o n true x y e swap k = Kept.kept_swap around (record { each = λ b d. d; direct = λ e. e }) (subst (λ t. Swap program around h t path o n) (node-type c type e).1 swap)
   kept-or type o n false x y e swap k = k
 
   mutual
-    kept-begin : {around : List Enclosing} {h : Holder} {type : Ty} {path : List ℕ} {o n : Tree} → Swap program around h type path o n → Kept program c around (beginning program c (Some type) o) (beginning program c (Some type) n)
+    kept-begin : {around : Around} {h : Holder} {type : Ty} {path : List ℕ} {o n : Tree} → Swap program around h type path o n → Kept program c around (beginning program c (Some type) o) (beginning program c (Some type) n)
     kept-begin {around} (Swap.replaced {type} {a = o} {b = n} unread a b plain) =
         subst (λ x. Kept program c around x (beginning program c (Some type) n)) (sym (begin-leaf program c type o (no-node c type plain) a))
         (subst (λ x. Kept program c around None x) (sym (begin-leaf program c type n (no-node c type plain) b)) Kept.kept_same)
-    kept-begin {around} (Swap.in_struct {h} {node} {desc} {s} {old} {new} has u one) =
+    kept-begin {around} (Swap.in_struct {h} {node} {desc} {s} {i} {path} {old} {new} has u one) =
         kept-or {h = h} (ty.Node node desc) (Rec old) (Rec new) (is_node c (ty.Node node desc)) (beginning_of program c (first_type program (ty.Node node desc)) old)
         (beginning_of program c (first_type program (ty.Node node desc)) new) refl (Swap.in_struct has u one)
-        (subst (λ t. Kept program c around (beginning_of program c t old) (beginning_of program c t new)) (sym (first-types program node desc s has)) (kept-outside (kept-first one)))
+        (subst (λ t. Kept program c around (beginning_of program c t old) (beginning_of program c t new)) (sym (first-types program node desc s has)) (kept-outside node (i ∷ path) (kept-first one)))
     kept-begin (Swap.in_member {h} {node} {desc} {i} {old} {new} has u got swap) =
         kept-or {h = h} (ty.Node node desc) (Alt (Some i) old) (Alt (Some i) new) (is_node c (ty.Node node desc)) None None refl (Swap.in_member has u got swap) Kept.kept_same
     kept-begin (Swap.in_common {h} {node} {desc} {old} {new} has is swap) =
         kept-or {h = h} (ty.Node node desc) (Alt None old) (Alt None new) (is_node c (ty.Node node desc)) None None refl (Swap.in_common has is swap) Kept.kept_same
     kept-begin (Swap.in_row {h} {type} {path} {old} {new} plain) = kept-or {h = h} {path = path} type (Row old) (Row new) (is_node c type) None None refl (Swap.in_row plain) Kept.kept_same
 
-    kept-first : {around : List Enclosing} {at : ℕ → Holder} {types : List Ty} {i : ℕ} {path : List ℕ} {olds news : Trees} → OneSwaps program around at types i path olds news → Kept program c around (beginning_of program c (slice_get types 0) olds) (beginning_of program c (slice_get types 0) news)
+    kept-first : {around : Around} {at : ℕ → Holder} {types : List Ty} {i : ℕ} {path : List ℕ} {olds news : Trees} → OneSwaps program around at types i path olds news → Kept program c around (beginning_of program c (slice_get types 0) olds) (beginning_of program c (slice_get types 0) news)
     kept-first (OneSwaps.at_first swap) = kept-begin swap
     kept-first (OneSwaps.at_later one) = Kept.kept_same
 
-  kept-then : (names : List (List ℕ)) (d : Option Expr) {around : List Enclosing} {x y : Option Tree} → ReadsOn program c around names → Kept program c around x y
+  kept-then : (names : List (List ℕ)) (d : Option Expr) {around : Around} {x y : Option Tree} → ReadsOn program c around names → Kept program c around x y
       → ((x then λ part. Some (typed (ty.Node c d) part)) then λ next. read_path program names next.type next.value) ≡ ((y then λ part. Some (typed (ty.Node c d) part)) then λ next. read_path program names next.type next.value)
   kept-then names d rest Kept.kept_same = refl
   kept-then names d rest (Kept.kept_swap inner {path} {h} {desc} {p} {q} grows swap) = read-desc program names c d p ∙ rest inner path grows h desc p q swap ∙ sym (read-desc program names c d q)
@@ -108,35 +115,35 @@ module _ {program : Program} (c : TypeId) where
 -- ---- the field of a struct
 
 -- the fields at a place are one value, or they differ so, where that place is the one at which the structs differ
-data FieldSwap (program : Program) (around : List Enclosing) (h : Holder) (type : Ty) (k i : ℕ) (path : List ℕ) : Option Typed → Option Typed → Type 0 where
+data FieldSwap (program : Program) (around : Around) (h : Holder) (type : Ty) (k i : ℕ) (path : List ℕ) : Option Typed → Option Typed → Type 0 where
   one_field : {x : Option Typed} → FieldSwap program around h type k i path x x
   two_fields : {p q : Tree} → k ≡ i → Swap program around h type path p q → FieldSwap program around h type k i path (Some (typed type p)) (Some (typed type q))
 
 -- the fields at a place of two structs that differ at a path
-record FieldsAt (program : Program) (around : List Enclosing) (node : TypeId) (f : Field) (place : ℕ) (path : List ℕ) (o n : Tree) : Type 0 where
+record FieldsAt (program : Program) (around : Around) (node : TypeId) (f : Field) (place : ℕ) (path : List ℕ) (o n : Tree) : Type 0 where
   k : ℕ
   rest : List ℕ
   path_is : path ≡ k ∷ rest
-  swap : FieldSwap program ((node, route program (Some node) path) ∷ around) (lies_in.Field node place) f.ty k place rest (field_of f o place) (field_of f n place)
+  swap : FieldSwap program (with_structure program around node path) (lies_in.Field node place) f.ty k place rest (field_of f o place) (field_of f n place)
 
 module _ {program : Program} where
-  next-field : {around : List Enclosing} {h : Holder} {type : Ty} {k i : ℕ} {path : List ℕ} {x y : Option Typed} → FieldSwap program around h type k i path x y → FieldSwap program around h type (suc k) (suc i) path x y
+  next-field : {around : Around} {h : Holder} {type : Ty} {k i : ℕ} {path : List ℕ} {x y : Option Typed} → FieldSwap program around h type k i path x y → FieldSwap program around h type (suc k) (suc i) path x y
   next-field FieldSwap.one_field = FieldSwap.one_field
   next-field (FieldSwap.two_fields e swap) = FieldSwap.two_fields (ap suc e) swap
 
-  fields-swap : {around : List Enclosing} {at : ℕ → Holder} {types : List Ty} {k : ℕ} {path : List ℕ} {olds news : Trees} → OneSwaps program around at types k path olds news → (i : ℕ) (type : Ty) → slice_get types i ≡ Some type
+  fields-swap : {around : Around} {at : ℕ → Holder} {types : List Ty} {k : ℕ} {path : List ℕ} {olds news : Trees} → OneSwaps program around at types k path olds news → (i : ℕ) (type : Ty) → slice_get types i ≡ Some type
       → FieldSwap program around (at i) type k i path (tree_at olds i then λ tree. Some (typed type tree)) (tree_at news i then λ tree. Some (typed type tree))
   fields-swap {around} (OneSwaps.at_first {at} {type = first} {path} {old} {new} swap) zero type e = let equal : first ≡ type = cc in FieldSwap.two_fields refl (subst (λ t. Swap program around (at zero) t path old new) equal swap)
   fields-swap (OneSwaps.at_first swap) (suc i) type e = FieldSwap.one_field
   fields-swap (OneSwaps.at_later one) zero type e = FieldSwap.one_field
   fields-swap (OneSwaps.at_later one) (suc i) type e = next-field (fields-swap one i type e)
 
-  field-swap : {around : List Enclosing} (node : TypeId) (desc : Option Expr) (s : Structure) (f : Field) (place : ℕ) {h : Holder} {path : List ℕ} {o n : Tree} → HasStructure program node s → s.is_union ≡ false → slice_get s.fields place ≡ Some f
+  field-swap : {around : Around} (node : TypeId) (desc : Option Expr) (s : Structure) (f : Field) (place : ℕ) {h : Holder} {path : List ℕ} {o n : Tree} → HasStructure program node s → s.is_union ≡ false → slice_get s.fields place ≡ Some f
       → Swap program around h (ty.Node node desc) path o n → FieldsAt program around node f place path o n
   field-swap node desc s f place has struct got (Swap.replaced unread a b plain) = absurd (cc)
   field-swap {around} node desc s f place has struct got (Swap.in_struct {s = other} {i} {path} {old} {new} h u one) =
       let equal : other ≡ s = some-same (slice_get program.structures node.0) other s h has in
-      let here = subst (λ x. OneSwaps program ((node, route program (Some node) (i ∷ path)) ∷ around) (lies_in.Field node) (types_of x.fields) i path old new) equal one in
+      let here = subst (λ x. OneSwaps program (with_structure program around node (i ∷ path)) (lies_in.Field node) (types_of x.fields) i path old new) equal one in
       record { k = i; rest = path; path_is = refl; swap = fields-swap here place f.ty (get-map (λ g. g.ty) s.fields place f got) }
   field-swap node desc s f place has struct got (Swap.in_member {s = other} h u g swap) = let equal : other ≡ s = some-same (slice_get program.structures node.0) other s h has in absurd (cc)
   field-swap node desc s f place has struct got (Swap.in_common {s = other} h c swap) =
@@ -145,7 +152,7 @@ module _ {program : Program} where
       absurd (cc)
   field-swap node desc s f place has struct got (Swap.in_row plain) = absurd (cc)
 
-  field-then : (names : List (List ℕ)) (around : List Enclosing) (h : Holder) (type : Ty) (k i : ℕ) (rest : List ℕ) {x y : Option Typed} → ((p q : Tree) → k ≡ i → Swap program around h type rest p q → read_path program names type p ≡ read_path program names type q)
+  field-then : (names : List (List ℕ)) (around : Around) (h : Holder) (type : Ty) (k i : ℕ) (rest : List ℕ) {x y : Option Typed} → ((p q : Tree) → k ≡ i → Swap program around h type rest p q → read_path program names type p ≡ read_path program names type q)
       → FieldSwap program around h type k i rest x y → (x then λ next. read_path program names next.type next.value) ≡ (y then λ next. read_path program names next.type next.value)
   field-then names around h type k i rest same FieldSwap.one_field = refl
   field-then names around h type k i rest same (FieldSwap.two_fields {p} {q} e swap) = same p q e swap
@@ -153,8 +160,8 @@ module _ {program : Program} where
 -- ---- the common structure of a union
 
 module _ {program : Program} (settled : Settled program) where
-  union-read : (node : TypeId) (desc : Option Expr) (s : Structure) (c : TypeId) (d : Option Expr) (names : List (List ℕ)) {around : List Enclosing} {h : Holder} {path : List ℕ} (o n : Tree) → HasStructure program node s → IsCommon program s c
-      → ReadsOn program c ((node, route program (Some node) path) ∷ around) names → Swap program around h (ty.Node node desc) path o n
+  union-read : (node : TypeId) (desc : Option Expr) (s : Structure) (c : TypeId) (d : Option Expr) (names : List (List ℕ)) {around : Around} {h : Holder} {path : List ℕ} (o n : Tree) → HasStructure program node s → IsCommon program s c
+      → ReadsOn program c (with_structure program around node path) names → Swap program around h (ty.Node node desc) path o n
       → (member_of program s (ty.Node c d) o then λ next. read_path program names next.type next.value) ≡ (member_of program s (ty.Node c d) n then λ next. read_path program names next.type next.value)
   union-read node desc s c d names o n has is rest (Swap.replaced unread a b plain) = absurd (cc)
   union-read node desc s c d names o n has is rest (Swap.in_struct h u one) = refl
@@ -162,65 +169,65 @@ module _ {program : Program} (settled : Settled program) where
       let same : other ≡ s = some-same (slice_get program.structures node.0) other s h has in
       let get : slice_get s.fields i ≡ Some f = subst (λ x. slice_get x.fields i ≡ Some f) same got in
       kept-then c names d rest
-      (subst (λ t. Kept program c ((node, route program (Some node) (i ∷ path)) ∷ around) (beginning program c t old) (beginning program c t new)) (sym (ap type_of_field get)) (kept-begin c swap))
+      (subst (λ t. Kept program c (with_structure program around node (i ∷ path)) (beginning program c t old) (beginning program c t new)) (sym (ap type_of_field get)) (kept-begin c swap))
   union-read node desc s c d names {around} o n has is rest (Swap.in_common {h} {common} {s = other} {i} {path} {old} {new} there found swap) =
       let same : other ≡ s = some-same (slice_get program.structures node.0) other s there has in
       let equal : common ≡ c = one-common program node s common c settled has (subst (λ x. IsCommon program x common) same found) is in
-      kept-then c names d rest (kept-begin c (subst (λ k. Swap program ((node, route program (Some node) (i ∷ path)) ∷ around) h (ty.Node k None) path old new) equal swap))
+      kept-then c names d rest (kept-begin c (subst (λ k. Swap program (with_structure program around node (i ∷ path)) h (ty.Node k None) path old new) equal swap))
   union-read node desc s c d names o n has is rest (Swap.in_row plain) = absurd (cc)
 
   -- ---- a path
 
-  pub reads-swapped : {node : TypeId} {steps : List (List ℕ)} {type : Ty} → Leads program by_name node steps type → IsTrue (is_number type) → (begin : TypeId) (whole : List ℕ → List ℕ) → EndRead program begin whole node steps
-      → (around : List Enclosing) (path : List ℕ) → Contains ((node, route program (Some node) path) ∷ around) (begin, whole (route program (Some node) path)) → (h : Holder) (desc : Option Expr) (o n : Tree)
+  pub reads-swapped : {node : TypeId} {steps : List (List ℕ)} {type : Ty} → Leads program by_name node steps type → IsTrue (is_number type) → (named : Bool) (begin : TypeId) (whole : List ℕ → List ℕ) → EndRead program named begin whole node steps
+      → (around : Around) (path : List ℕ) → (named ≡ true → around.direct ≡ true) → Contains (with_structure program around node path).structures (begin, whole (route program (Some node) path)) → (h : Holder) (desc : Option Expr) (o n : Tree)
       → Swap program around h (ty.Node node desc) path o n → read_path program steps (ty.Node node None) o ≡ read_path program steps (ty.Node node None) n
-  reads-swapped (last_step {node} {x = name} {s} {f} has named may) number begin whole read around path inside h desc o n r = go s.is_union refl
+  reads-swapped (last_step {node} {x = name} {s} {f} has name_is may) number named begin whole read around path direct inside h desc o n r = go s.is_union refl
     where
       go : (b : Bool) → s.is_union ≡ b → read_path program (name ∷ []) (ty.Node node None) o ≡ read_path program (name ∷ []) (ty.Node node None) n
       go true union = let c = may.common union in let none = ap is_number c.2 in absurd (cc)
       go false struct =
-          let found = named-place program settled node s f name has may.there named in
+          let found = named-place program settled node s f name has may.there name_is in
           let place = found.0 in
-          let within : List Enclosing = (node, route program (Some node) path) ∷ around in
+          let within = with_structure program around node path in
           let at = field-swap node desc s f place has struct found.2 r in
           let is_read = λ (e : at.k ≡ place) (unread : IsUnread program within true (lies_in.Field node place)).
           let one : route program (Some node) path ≡ route_of program (Some node) (name ∷ []) = ap (route program (Some node)) (at.path_is ∙ ap (λ k. k ∷ at.rest) e)
           ∙ places-end program node place at.rest s f has struct found.2 number
           ∙ sym (names-end program node name place s f has struct found.1 found.2 number) in
-          unread (read-inside program within begin (whole (route_of program (Some node) (name ∷ []))) node place (subst (λ x. Contains within (begin, whole x)) one inside) (read node place s f has found.2 number (EndsAt.at_last (s, has, found.1, found.2)))) in
+          unread (read-inside program within named begin (whole (route_of program (Some node) (name ∷ []))) node place direct (subst (λ x. Contains within.structures (begin, whole x)) one inside) (read node place s f has found.2 number (EndsAt.at_last (s, has, found.1, found.2)))) in
           ap (λ x. x then λ next. read_path program [] next.type next.value) (step-taken program node s f name place false o has struct found.1 found.2)
           ∙ field-then [] within (lies_in.Field node place) f.ty at.k place at.rest (λ p q e swap. number-swap swap (is_read e)) at.swap
           ∙ sym (ap (λ x. x then λ next. read_path program [] next.type next.value) (step-taken program node s f name place false n has struct found.1 found.2))
-  reads-swapped (next_step {node} {next} {x = name} {xs = names} {s} {f} {desc = inner} {type} has named may is rest) number begin whole read around path inside h desc o n r =
-      go (λ w after deeper p c. reads-swapped rest number begin w after deeper p c) s.is_union refl
+  reads-swapped (next_step {node} {next} {x = name} {xs = names} {s} {f} {desc = inner} {type} has name_is may is rest) number named begin whole read around path direct inside h desc o n r =
+      go (λ w after deeper p d c. reads-swapped rest number named begin w after deeper p d c) s.is_union refl
     where
       -- a route goes on behind a struct, and no further behind a union
-      after : (w : List ℕ → List ℕ) (b : Bool) → s.is_union ≡ b → whole (route_of program (Some node) (name ∷ names)) ≡ w (route_of program (Some next) names) → EndRead program begin w next names
+      after : (w : List ℕ → List ℕ) (b : Bool) → s.is_union ≡ b → whole (route_of program (Some node) (name ∷ names)) ≡ w (route_of program (Some next) names) → EndRead program named begin w next names
       after w b e same = λ end i t g there get is_number_there ends.
-          let found = named-place program settled node s f name has may.there named in
-          subst (λ along. ReadsByName program end i ⊎ ReadsFrom program begin along end i) same (read end i t g there get is_number_there (EndsAt.at_next (s, has, found.1, found.2) is ends))
+          let found = named-place program settled node s f name has may.there name_is in
+          subst (λ along. ((named ≡ true) × ReadsByName program end i) ⊎ ReadsFrom program begin along end i) same (read end i t g there get is_number_there (EndsAt.at_next (s, has, found.1, found.2) is ends))
 
-      go : ((w : List ℕ → List ℕ) → EndRead program begin w next names → (deeper : List Enclosing) (p : List ℕ) → Contains ((next, route program (Some next) p) ∷ deeper) (begin, w (route program (Some next) p)) → (k : Holder) (d : Option Expr) (x y : Tree)
+      go : ((w : List ℕ → List ℕ) → EndRead program named begin w next names → (deeper : Around) (p : List ℕ) → (named ≡ true → deeper.direct ≡ true) → Contains (with_structure program deeper next p).structures (begin, w (route program (Some next) p)) → (k : Holder) (d : Option Expr) (x y : Tree)
           → Swap program deeper k (ty.Node next d) p x y → read_path program names (ty.Node next None) x ≡ read_path program names (ty.Node next None) y) → (b : Bool) → s.is_union ≡ b → read_path program (name ∷ names) (ty.Node node None) o ≡ read_path program (name ∷ names) (ty.Node node None) n
       go walk true union =
           let c = may.common union in
           let common : IsCommon program s next = let named_so : ty.Node c.0 c.1 ≡ ty.Node next inner = sym c.2 ∙ is in let same : c.0 ≡ next = cc in subst (IsCommon program s) same c.3 in
-          let found = named-place program settled node s f name has may.there named in
-          let within : List Enclosing = (node, route program (Some node) path) ∷ around in
-          let stopped = subst (λ x. Contains within (begin, whole x)) (places-stop program node path s has union) inside in
+          let found = named-place program settled node s f name has may.there name_is in
+          let within = with_structure program around node path in
+          let stopped = subst (λ x. Contains within.structures (begin, whole x)) (places-stop program node path s has union) inside in
           let read_on = after (λ x. whole []) true union (ap whole (names-stop program node (name ∷ names) s has union)) in
           ap (λ x. x then λ next. read_path program names next.type next.value) (step-taken program node s f name found.0 true o has union found.1 found.2)
           ∙ subst (λ t. (member_of program s t o then λ next. read_path program names next.type next.value) ≡ (member_of program s t n then λ next. read_path program names next.type next.value)) (sym is)
-          (union-read node desc s next inner names o n has common (λ deeper p grows. walk (λ x. whole []) read_on deeper p (later (next, route program (Some next) p) (begin, whole []) deeper (grows (begin, whole []) stopped))) r)
+          (union-read node desc s next inner names o n has common (λ deeper p grows. walk (λ x. whole []) read_on deeper p (λ e. grows.direct (direct e)) (later (next, route program (Some next) p) (begin, whole []) deeper.structures (grows.each (begin, whole []) stopped))) r)
           ∙ sym (ap (λ x. x then λ next. read_path program names next.type next.value) (step-taken program node s f name found.0 true n has union found.1 found.2))
       go walk false struct =
-          let found = named-place program settled node s f name has may.there named in
+          let found = named-place program settled node s f name has may.there name_is in
           let place = found.0 in
-          let within : List Enclosing = (node, route program (Some node) path) ∷ around in
+          let within = with_structure program around node path in
           let at = field-swap node desc s f place has struct found.2 r in
           let read_on = after (λ x. whole (place ∷ x)) false struct
           (ap whole (names-step program node name names place s f has struct found.1 found.2 ∙ ap (λ t. place ∷ route_of program (itself t) names) is)) in
-          let goes_on = λ (e : at.k ≡ place). subst (λ x. Contains within (begin, whole x)) (ap (route program (Some node)) (at.path_is ∙ ap (λ k. k ∷ at.rest) e)
+          let goes_on = λ (e : at.k ≡ place). subst (λ x. Contains within.structures (begin, whole x)) (ap (route program (Some node)) (at.path_is ∙ ap (λ k. k ∷ at.rest) e)
           ∙ places-step program node place at.rest s f has struct found.2
           ∙ ap (λ t. place ∷ route program (itself t) at.rest) is) inside in
           ap (λ x. x then λ next. read_path program names next.type next.value) (step-taken program node s f name place false o has struct found.1 found.2)
@@ -228,7 +235,7 @@ module _ {program : Program} (settled : Settled program) where
           (λ p q e k.
           ap (λ t. read_path program names t p) is
           ∙ read-desc program names next inner p
-          ∙ walk (λ x. whole (place ∷ x)) read_on within at.rest (later (next, route program (Some next) at.rest) (begin, whole (place ∷ route program (Some next) at.rest)) within (goes_on e)) (lies_in.Field node place) inner p q
+          ∙ walk (λ x. whole (place ∷ x)) read_on within at.rest direct (later (next, route program (Some next) at.rest) (begin, whole (place ∷ route program (Some next) at.rest)) within.structures (goes_on e)) (lies_in.Field node place) inner p q
           (subst (λ t. Swap program within (lies_in.Field node place) t at.rest p q) is k)
           ∙ sym (ap (λ t. read_path program names t q) is ∙ read-desc program names next inner q))
           at.swap

@@ -22,32 +22,32 @@ use Rattle.gt_tree.proofs.FixedValues.{in-array, in-tail}
 use Rattle.gt_value.specs.declared.places.Holder.{Holder}
 use Rattle.gt_value.specs.declared.places.Holder.TheVariants as lies_in
 use Rattle.gt_value.specs.Places.{Part, PartLies}
-use Rattle.gt_leaf.specs.Unread.{Enclosing, route, structures_from, IsUnread}
+use Rattle.gt_leaf.specs.Unread.{Around, with_structure, structures_from, IsUnread}
 use Rattle.gt_leaf.proofs.Arounds.{Covers, unread-inside, inside-covers}
 use Rattle.gt_leaf.proofs.PlainParts.{inactive}
 
 mutual
   -- two values of a type that lies in this, inside these structures, differ in the one leaf at a path, which no expression reads
-  pub data Swap (program : Program) : List Enclosing → Holder → Ty → List ℕ → Tree → Tree → Type 0 where
-    replaced : {around : List Enclosing} {h : Holder} {type : Ty} {a b : Tree} → IsUnread program around true h → IsTrue (is_leaf a) → IsTrue (is_leaf b) → is_structure type ≡ false → Swap program around h type [] a b
-    in_struct : {around : List Enclosing} {h : Holder} {node : TypeId} {desc : Option Expr} {s : Structure} {i : ℕ} {path : List ℕ} {old new : Trees} → HasStructure program node s → s.is_union ≡ false
-        → OneSwaps program ((node, route program (Some node) (i ∷ path)) ∷ around) (lies_in.Field node) (types_of s.fields) i path old new → Swap program around h (ty.Node node desc) (i ∷ path) (Rec old) (Rec new)
-    in_member : {around : List Enclosing} {h : Holder} {node : TypeId} {desc : Option Expr} {s : Structure} {i : ℕ} {path : List ℕ} {f : Field} {old new : Tree} → HasStructure program node s → s.is_union ≡ true
-        → slice_get s.fields i ≡ Some f → Swap program ((node, route program (Some node) (i ∷ path)) ∷ around) (lies_in.Field node i) f.ty path old new → Swap program around h (ty.Node node desc) (i ∷ path) (Alt (Some i) old) (Alt (Some i) new)
-    in_common : {around : List Enclosing} {h : Holder} {node common : TypeId} {desc : Option Expr} {s : Structure} {i : ℕ} {path : List ℕ} {old new : Tree} → HasStructure program node s → IsCommon program s common
-        → Swap program ((node, route program (Some node) (i ∷ path)) ∷ around) h (ty.Node common None) path old new → Swap program around h (ty.Node node desc) (i ∷ path) (Alt None old) (Alt None new)
-    in_row : {around : List Enclosing} {h : Holder} {type : Ty} {path : List ℕ} {old new : Trees} → is_structure type ≡ false → Swap program around h type path (Row old) (Row new)
+  pub data Swap (program : Program) : Around → Holder → Ty → List ℕ → Tree → Tree → Type 0 where
+    replaced : {around : Around} {h : Holder} {type : Ty} {a b : Tree} → IsUnread program around true h → IsTrue (is_leaf a) → IsTrue (is_leaf b) → is_structure type ≡ false → Swap program around h type [] a b
+    in_struct : {around : Around} {h : Holder} {node : TypeId} {desc : Option Expr} {s : Structure} {i : ℕ} {path : List ℕ} {old new : Trees} → HasStructure program node s → s.is_union ≡ false
+        → OneSwaps program (with_structure program around node (i ∷ path)) (lies_in.Field node) (types_of s.fields) i path old new → Swap program around h (ty.Node node desc) (i ∷ path) (Rec old) (Rec new)
+    in_member : {around : Around} {h : Holder} {node : TypeId} {desc : Option Expr} {s : Structure} {i : ℕ} {path : List ℕ} {f : Field} {old new : Tree} → HasStructure program node s → s.is_union ≡ true
+        → slice_get s.fields i ≡ Some f → Swap program (with_structure program around node (i ∷ path)) (lies_in.Field node i) f.ty path old new → Swap program around h (ty.Node node desc) (i ∷ path) (Alt (Some i) old) (Alt (Some i) new)
+    in_common : {around : Around} {h : Holder} {node common : TypeId} {desc : Option Expr} {s : Structure} {i : ℕ} {path : List ℕ} {old new : Tree} → HasStructure program node s → IsCommon program s common
+        → Swap program (with_structure program around node (i ∷ path)) h (ty.Node common None) path old new → Swap program around h (ty.Node node desc) (i ∷ path) (Alt None old) (Alt None new)
+    in_row : {around : Around} {h : Holder} {type : Ty} {path : List ℕ} {old new : Trees} → is_structure type ≡ false → Swap program around h type path (Row old) (Row new)
 
   -- one of the values of these types differs so, that at this place
-  pub data OneSwaps (program : Program) : List Enclosing → (ℕ → Holder) → List Ty → ℕ → List ℕ → Trees → Trees → Type 0 where
-    at_first : {around : List Enclosing} {at : ℕ → Holder} {type : Ty} {types : List Ty} {path : List ℕ} {old new : Tree} {trees : Trees} → Swap program around (at zero) type path old new
+  pub data OneSwaps (program : Program) : Around → (ℕ → Holder) → List Ty → ℕ → List ℕ → Trees → Trees → Type 0 where
+    at_first : {around : Around} {at : ℕ → Holder} {type : Ty} {types : List Ty} {path : List ℕ} {old new : Tree} {trees : Trees} → Swap program around (at zero) type path old new
         → OneSwaps program around at (type ∷ types) zero path (And old trees) (And new trees)
-    at_later : {around : List Enclosing} {at : ℕ → Holder} {type : Ty} {types : List Ty} {i : ℕ} {path : List ℕ} {tree : Tree} {olds news : Trees} → OneSwaps program around (λ i. at (suc i)) types i path olds news
+    at_later : {around : Around} {at : ℕ → Holder} {type : Ty} {types : List Ty} {i : ℕ} {path : List ℕ} {tree : Tree} {olds news : Trees} → OneSwaps program around (λ i. at (suc i)) types i path olds news
         → OneSwaps program around at (type ∷ types) (suc i) path (And tree olds) (And tree news)
 
 -- ---- the value with the part at a path replaced
 
-pub put-swaps : (program : Program) (around : List Enclosing) (at : ℕ → Holder) (types : List Ty) (trees : Trees) (i : ℕ) (type : Ty) (tree : Tree) (path : List ℕ) (leaf : Tree) → slice_get types i ≡ Some type → tree_at trees i ≡ Some tree
+pub put-swaps : (program : Program) (around : Around) (at : ℕ → Holder) (types : List Ty) (trees : Trees) (i : ℕ) (type : Ty) (tree : Tree) (path : List ℕ) (leaf : Tree) → slice_get types i ≡ Some type → tree_at trees i ≡ Some tree
     → Swap program around (at i) type path tree (with_part tree path leaf) → OneSwaps program around at types i path trees (with_part_of trees i path leaf)
 put-swaps program around at [] trees i type tree path leaf e there swap = absurd (cc)
 put-swaps program around at (t ∷ ts) End i type tree path leaf e there swap = absurd (cc)
@@ -71,21 +71,21 @@ tail-type type elem length e = no-structure type (is_structure type) refl (λ h.
 pub with-member : (i : ℕ) (tree : Tree) (path : List ℕ) (leaf : Tree) → Alt (Some i) (with_part tree path leaf) ≡ with_part (Alt (Some i) tree) (i ∷ path) leaf
 with-member i tree path leaf = sym (subst (λ b. cond b (Alt (Some i) (with_part tree path leaf)) (Alt (Some i) tree) ≡ Alt (Some i) (with_part tree path leaf)) (sym (same-number i)) refl)
 
-module _ {program : Program} {planes : List Plane} {around : List Enclosing} where
-  pub swapped : {scope : Scope} {h : Holder} {active : Bool} {bit : ℕ} {type : Ty} {tree : Tree} {path : List ℕ} {p : Part} → PartLies program planes scope h active bit type tree path p → (inner : List Enclosing) (leaf : Tree)
+module _ {program : Program} {planes : List Plane} {around : Around} where
+  pub swapped : {scope : Scope} {h : Holder} {active : Bool} {bit : ℕ} {type : Ty} {tree : Tree} {path : List ℕ} {p : Part} → PartLies program planes scope h active bit type tree path p → (inner : Around) (leaf : Tree)
       → IsUnread program around p.active p.holder → Covers around p.active (structures_from program inner (Some type) path) → IsTrue (is_leaf p.tree) → IsTrue (is_leaf leaf) → is_structure p.type ≡ false
       → Swap program inner h type path tree (with_part tree path leaf)
   swapped {p} PartLies.whole inner leaf unread covers a b plain = Swap.replaced (unread-inside program p.holder around inner p.active covers unread) a b plain
   swapped (PartLies.field {i} {node} {desc} {s} {f} {trees} {tree} {path} has struct laid get spot there lies) inner leaf unread covers a b plain =
-      let within = (node, route program (Some node) (i ∷ path)) ∷ inner in
+      let within = with_structure program inner node (i ∷ path) in
       Swap.in_struct has struct
       (put-swaps program within (lies_in.Field node) (types_of s.fields) trees i f.ty tree path leaf (get-map (λ g. g.ty) s.fields i f get) there
       (swapped lies within leaf unread (inside-covers program inner node desc s f i path has get covers) a b plain))
   swapped {h} (PartLies.member {i} {node} {desc} {s} {f} {tree} {path} has union get lies) inner leaf unread covers a b plain =
-      let within = (node, route program (Some node) (i ∷ path)) ∷ inner in
+      let within = with_structure program inner node (i ∷ path) in
       subst (λ y. Swap program inner h (ty.Node node desc) (i ∷ path) (Alt (Some i) tree) y) (with-member i tree path leaf)
       (Swap.in_member has union get (swapped lies within leaf unread (inside-covers program inner node desc s f i path has get covers) a b plain))
   swapped (PartLies.common {i} {node} {path} has common lies) inner leaf unread covers a b plain =
-      Swap.in_common has common (swapped lies ((node, route program (Some node) (i ∷ path)) ∷ inner) leaf unread (record { each = λ b c. inl (inactive lies refl) }) a b plain)
+      Swap.in_common has common (swapped lies (with_structure program inner node (i ∷ path)) leaf unread (record { each = λ b c. inl (inactive lies refl); leads = λ e. inl (inactive lies refl) }) a b plain)
   swapped (PartLies.array {n} {type} {elem} e there lies) inner leaf unread covers a b plain = Swap.in_row (array-type type elem n e)
   swapped (PartLies.tail {length} {type} {elem} e there lies) inner leaf unread covers a b plain = Swap.in_row (tail-type type elem length e)

@@ -12,6 +12,7 @@ use Rattle.gt_types.specs.declared.program.Field.{Field}
 use Rattle.gt_types.specs.declared.program.Structure.{Structure}
 use Rattle.gt_types.specs.declared.program.Program.{Program}
 use Rattle.gt_types.specs.Shapes.{is_number}
+use Rattle.gt_tree.specs.Scopes.{◌then◌}
 use Rattle.gt_value.specs.declared.places.Holder.{Holder}
 use Rattle.gt_value.specs.declared.places.Holder.TheVariants as lies_in
 use Rattle.gt_names.proofs.NameTests.{is_some_position}
@@ -22,9 +23,10 @@ use Rattle.gt_leaf.specs.declared.reads.Reads.{Reads}
 use Rattle.gt_leaf.specs.Collecting.{ends_of}
 use Rattle.gt_leaf.specs.Seeking.{Names, same_place, same_reading, with_field, with_fields, with_named, with_named_fields, with_all_named, names_of_all, seek_all}
 use Rattle.gt_leaf.specs.Tables.{field_place, reading, IsTableOf}
-use Rattle.gt_leaf.specs.Around.{from_there, any_around}
+use Rattle.gt_leaf.specs.Around.{from_there, any_around, leads_directly}
+use Rattle.gt_leaf.specs.HeldTypes.{is_some_number, is_number_at}
 use Rattle.gt_leaf.specs.Alike.{both-true, same-field, same-read}
-use Rattle.gt_leaf.specs.Unread.{Enclosing, route, root_at, part_at, structures_from, structures_on, structures_in_statics, ReadsFrom, ReadsByName, MayStandAround, IsReadField, IsReadRoot, IsUnread}
+use Rattle.gt_leaf.specs.Unread.{Enclosing, Around, none_around, is_none, with_structure, with_itself, root_at, part_at, structures_from, structures_on, structures_in_statics, ReadsFrom, ReadsByName, MayStandAround, MayLeadThere, IsReadField, IsReadRoot, IsUnread}
 use Rattle.gt_leaf.proofs.Adding.{Adds, adds-none, adds-same, adds-each}
 use Rattle.gt_leaf.proofs.EndLemmas.{names-read, roots-read}
 use Rattle.gt_leaf.proofs.Members.{nothing, any-found, found-there, there-found}
@@ -221,7 +223,7 @@ in-places x places = (λ e. found-there (same_place x) places x (λ z h. sym (sa
 in-readings : (x : Reading) (readings : List Reading) → (list_any (same_reading x) readings ≡ true) ↔ Contains readings x
 in-readings x readings = (λ e. found-there (same_reading x) readings x (λ z h. sym (same-read x z h)) e, λ c. there-found (same_reading x) readings x (same-reading-self x) c)
 
-root-unread : (program : Program) (table : Reads) (around : List Enclosing) (active : Bool) (place : ℕ) → IsTableOf program table → IsTrue (not (list_any (nat_eq place) table.roots)) ↔ IsUnread program around active (lies_in.Root place)
+root-unread : (program : Program) (table : Reads) (around : Around) (active : Bool) (place : ℕ) → IsTableOf program table → IsTrue (not (list_any (nat_eq place) table.roots)) ↔ IsUnread program around active (lies_in.Root place)
 root-unread program table around active place t = (there, back)
   where
     there : IsTrue (not (list_any (nat_eq place) table.roots)) → IsUnread program around active (lies_in.Root place)
@@ -233,80 +235,142 @@ root-unread program table around active place t = (there, back)
         (λ e. unread ((t.roots place).0 (found-there (nat_eq place) table.roots place (λ z h. sym ((Decides-eqb place z).0 h)) e)))
 
 -- what the table says of a field inside these structures
-abbrev pub read_there : Reads → List Enclosing → Bool → FieldPlace → Bool
-read_there table around active field = list_any (same_place field) table.named || (list_any (same_place field) table.ended && (not active || list_any (from_there table field) around))
+abbrev pub read_there : Reads → Around → Bool → FieldPlace → Bool
+read_there table around active field =
+    (list_any (same_place field) table.named && (not active || around.direct)) || (list_any (same_place field) table.ended && (not active || list_any (from_there table field) around.structures))
 
 module _ (program : Program) (table : Reads) (t : IsTableOf program table) (node : TypeId) (i : ℕ) where
   abbrev field : FieldPlace
   field = field_place node.0 i
 
   -- some structure around it reads the field along the route to it
-  abbrev IsReadInside : List Enclosing → Bool → Type 0
+  abbrev IsReadInside : Around → Bool → Type 0
   IsReadInside around active = (outer : Enclosing) × MayStandAround around active outer × ReadsFrom program outer.0 outer.1 node i
 
   -- what is read from some structure is found
   ended-found : (begin : TypeId) (along : List ℕ) → ReadsFrom program begin along node i → list_any (same_place field) table.ended ≡ true
   ended-found begin along read = (in-places field table.ended).1 ((t.ended node i).1 (begin, along, read))
 
-  inside : (around : List Enclosing) (active : Bool) → ((list_any (same_place field) table.ended && (not active || list_any (from_there table field) around)) ≡ true) ↔ IsReadInside around active
+  inside : (around : Around) (active : Bool) → ((list_any (same_place field) table.ended && (not active || list_any (from_there table field) around.structures)) ≡ true) ↔ IsReadInside around active
   inside around true = (there, back)
     where
-      there : (list_any (same_place field) table.ended && list_any (from_there table field) around) ≡ true → IsReadInside around true
+      there : (list_any (same_place field) table.ended && list_any (from_there table field) around.structures) ≡ true → IsReadInside around true
       there e =
-          let found = any-found (from_there table field) around (both-true (list_any (same_place field) table.ended) (list_any (from_there table field) around) e).1 in
+          let found = any-found (from_there table field) around.structures (both-true (list_any (same_place field) table.ended) (list_any (from_there table field) around.structures) e).1 in
           (found.0, inr found.1, (t.from found.0.0 node found.0.1 i).0 ((in-readings (reading found.0.0.0 field found.0.1) table.from).0 found.2))
 
-      back : IsReadInside around true → (list_any (same_place field) table.ended && list_any (from_there table field) around) ≡ true
+      back : IsReadInside around true → (list_any (same_place field) table.ended && list_any (from_there table field) around.structures) ≡ true
       back (outer, stands, read) = elim stands [
         | inl e ↦ absurd (cc)
         | inr c ↦
-            ap (λ b. b && list_any (from_there table field) around) (ended-found outer.0 outer.1 read)
-            ∙ there-found (from_there table field) around outer ((in-readings (reading outer.0.0 field outer.1) table.from).1 ((t.from outer.0 node outer.1 i).1 read)) c
+            ap (λ b. b && list_any (from_there table field) around.structures) (ended-found outer.0 outer.1 read)
+            ∙ there-found (from_there table field) around.structures outer ((in-readings (reading outer.0.0 field outer.1) table.from).1 ((t.from outer.0 node outer.1 i).1 read)) c
       ]
   inside around false = (there, λ (outer, stands, read). ap (λ b. b && true) (ended-found outer.0 outer.1 read))
     where
       there : (list_any (same_place field) table.ended && true) ≡ true → IsReadInside around false
       there e = let found = (t.ended node i).0 ((in-places field table.ended).0 (both-true (list_any (same_place field) table.ended) true e).0) in ((found.0, found.1), inl refl, found.2)
 
-  either : (around : List Enclosing) (active b c : Bool) → (b ≡ true) ↔ ReadsByName program node i → (c ≡ true) ↔ IsReadInside around active → ((b || c) ≡ true) ↔ IsReadField program around active node i
+  -- a path from `%0` may lead there
+  abbrev IsReadByName : Around → Bool → Type 0
+  IsReadByName around active = MayLeadThere around active × ReadsByName program node i
+
+  by-name : (around : Around) (active : Bool) → ((list_any (same_place field) table.named && (not active || around.direct)) ≡ true) ↔ IsReadByName around active
+  by-name around active = (there active, back active)
+    where
+      named : list_any (same_place field) table.named ≡ true → ReadsByName program node i
+      named e = (t.named node i).0 ((in-places field table.named).0 e)
+
+      found : ReadsByName program node i → list_any (same_place field) table.named ≡ true
+      found read = (in-places field table.named).1 ((t.named node i).1 read)
+
+      there : (active : Bool) → (list_any (same_place field) table.named && (not active || around.direct)) ≡ true → IsReadByName around active
+      there true e = let both = both-true (list_any (same_place field) table.named) around.direct e in (inr both.1, named both.0)
+      there false e = (inl refl, named (both-true (list_any (same_place field) table.named) true e).0)
+
+      back : (active : Bool) → IsReadByName around active → (list_any (same_place field) table.named && (not active || around.direct)) ≡ true
+      back true (leads, read) = ap (λ b. b && around.direct) (found read) ∙ elim leads [ inl e ↦ absurd (cc) | inr direct ↦ direct ]
+      back false (leads, read) = ap (λ b. b && true) (found read)
+
+  either : (around : Around) (active b c : Bool) → (b ≡ true) ↔ IsReadByName around active → (c ≡ true) ↔ IsReadInside around active → ((b || c) ≡ true) ↔ IsReadField program around active node i
   either around active true c p q = (λ e. inl (p.0 refl), λ read. refl)
   either around active false c p q = (λ e. inr (q.0 e), λ read. elim read [ inl n ↦ let none = p.1 n in absurd (cc) | inr r ↦ q.1 r ])
 
-  read-iff : (around : List Enclosing) (active : Bool) → (read_there table around active field ≡ true) ↔ IsReadField program around active node i
+  read-iff : (around : Around) (active : Bool) → (read_there table around active field ≡ true) ↔ IsReadField program around active node i
   read-iff around active =
-      either around active (list_any (same_place field) table.named) (list_any (same_place field) table.ended && (not active || list_any (from_there table field) around))
-      (λ e. (t.named node i).0 ((in-places field table.named).0 e), λ r. (in-places field table.named).1 ((t.named node i).1 r)) (inside around active)
+      either around active (list_any (same_place field) table.named && (not active || around.direct)) (list_any (same_place field) table.ended && (not active || list_any (from_there table field) around.structures))
+      (by-name around active) (inside around active)
 
-  pub field-unread : (around : List Enclosing) (active : Bool) → IsTrue (not (read_there table around active field)) ↔ IsUnread program around active (lies_in.Field node i)
+  pub field-unread : (around : Around) (active : Bool) → IsTrue (not (read_there table around active field)) ↔ IsUnread program around active (lies_in.Field node i)
   field-unread around active =
       (λ h read. not-true (read_there table around active field) h ((read-iff around active).1 read), λ unread. true-or-not (read_there table around active field) (λ e. unread ((read-iff around active).0 e)))
 
 -- ---- the answers
 
-answer : (program : Program) (around : List Enclosing) (active told b : Bool) (h holder : Holder) → told ≡ b → holder ≡ h → IsTrue (not b) ↔ IsUnread program around active h → IsTrue (not told) ↔ IsUnread program around active holder
+answer : (program : Program) (around : Around) (active told b : Bool) (h holder : Holder) → told ≡ b → holder ≡ h → IsTrue (not b) ↔ IsUnread program around active h → IsTrue (not told) ↔ IsUnread program around active holder
 answer program around active told b h holder e is said =
     subst (λ x. IsTrue (not x) ↔ IsUnread program around active holder) (sym e) (subst (λ y. IsTrue (not b) ↔ IsUnread program around active y) (sym is) said)
 
-pub root-answer : (program : Program) (table : Reads) (around : List Enclosing) (active : Bool) (place : ℕ) (told : Bool) (holder : Holder) → told ≡ list_any (nat_eq place) table.roots → holder ≡ lies_in.Root place → IsTableOf program table
+pub root-answer : (program : Program) (table : Reads) (around : Around) (active : Bool) (place : ℕ) (told : Bool) (holder : Holder) → told ≡ list_any (nat_eq place) table.roots → holder ≡ lies_in.Root place → IsTableOf program table
     → IsTrue (not told) ↔ IsUnread program around active holder
 root-answer program table around active place told holder e is t =
     answer program around active told (list_any (nat_eq place) table.roots) (lies_in.Root place) holder e is (root-unread program table around active place t)
 
+-- what is no number is never read
+number-there : (program : Program) (node : TypeId) (i : ℕ) (s : Structure) (f : Field) → slice_get program.structures node.0 ≡ Some s → slice_get s.fields i ≡ Some f → is_number f.ty ≡ true → is_number_at program node i ≡ true
+number-there program node i s f has get number =
+    ap is_some_number (ap (λ o. o then λ (x : Structure). slice_get x.fields i then λ (y : Field). Some y.ty) has ∙ ap (λ o. o then λ (y : Field). Some y.ty) get) ∙ number
+
+plain-unread : (program : Program) (around : Around) (active : Bool) (node : TypeId) (i : ℕ) → is_number_at program node i ≡ false → IsUnread program around active (lies_in.Field node i)
+plain-unread program around active node i e = λ read. elim read [
+  | inl (leads, r) ↦ let number = number-there program node i r.s r.f r.has r.get r.number in absurd (cc)
+  | inr (outer, stands, r) ↦ let number = number-there program node i r.s r.f r.has r.get r.number in absurd (cc)
+]
+
+pub plain-answer : (program : Program) (around : Around) (active : Bool) (node : TypeId) (place : ℕ) (holder : Holder) → is_number_at program node place ≡ false → holder ≡ lies_in.Field node place → IsTrue true ↔ IsUnread program around active holder
+plain-answer program around active node place holder e is =
+    let unread : IsUnread program around active holder = subst (IsUnread program around active) (sym is) (plain-unread program around active node place e) in
+    (λ h. unread, λ h. refl)
+
 -- what the code finds from a structure around a leaf is what one of those around it says
-any-there : (test : Enclosing → Bool) (program : Program) (around : List Enclosing) (type : Option Ty) (path : List ℕ) → any_around test program (list_any test around) type path ≡ list_any test (structures_from program around type path)
+any-there : (test : Enclosing → Bool) (program : Program) (around : Around) (type : Option Ty) (path : List ℕ) → any_around test program (list_any test around.structures) type path ≡ list_any test (structures_from program around type path).structures
 any-there test program around None path = refl
 any-there test program around (Some type) [] = refl
-any-there test program around (Some (ty.Node node desc)) (i ∷ path) = any-there test program ((node, route program (Some node) (i ∷ path)) ∷ around) (part_at program (ty.Node node desc) i) path
-any-there test program around (Some type) (i ∷ path) = any-there test program [] (part_at program type i) path
+any-there test program around (Some (ty.Node node desc)) (i ∷ path) = any-there test program (with_structure program around node (i ∷ path)) (part_at program (ty.Node node desc) i) path
+any-there test program around (Some type) (i ∷ path) = any-there test program (with_itself program around type (i ∷ path)) (part_at program type i) path
+
+-- nothing lies between where no structure is around the value, and behind an array where one is
+and-true : (b : Bool) → b ≡ b && true
+and-true true = refl
+and-true false = refl
+
+in-array : (direct : Bool) (around : List Enclosing) (leads : Bool) → ((direct && is_none around) && leads) ≡ direct && (if not (is_none around) && true then false else leads)
+in-array true [] leads = refl
+in-array true (outer ∷ around) leads = refl
+in-array false around leads = refl
+
+node-leads : (inside leads : Bool) → leads ≡ (if inside && false then false else leads)
+node-leads true leads = refl
+node-leads false leads = refl
+
+direct-there : (program : Program) (around : Around) (type : Option Ty) (path : List ℕ) → (structures_from program around type path).direct ≡ around.direct && leads_directly program (not (is_none around.structures)) type path
+direct-there program around None path = and-true around.direct
+direct-there program around (Some type) [] = and-true around.direct
+direct-there program around (Some (ty.Node node desc)) (i ∷ path) =
+    direct-there program (with_structure program around node (i ∷ path)) (part_at program (ty.Node node desc) i) path
+    ∙ ap (λ b. around.direct && b) (node-leads (not (is_none around.structures)) (leads_directly program true (part_at program (ty.Node node desc) i) path))
+direct-there program around (Some type) (i ∷ path) =
+    direct-there program (with_itself program around type (i ∷ path)) (part_at program type i) path ∙ in-array around.direct around.structures (leads_directly program false (part_at program type i) path)
 
 pub field-answer : (program : Program) (table : Reads) (type : Option Ty) (path : List ℕ) (active : Bool) (node : TypeId) (place : ℕ) (told : Bool) (holder : Holder)
-    → told ≡ list_any (same_place (field_place node.0 place)) table.named || (list_any (same_place (field_place node.0 place)) table.ended && (not active || any_around (from_there table (field_place node.0 place)) program false type path))
+    → told ≡ (list_any (same_place (field_place node.0 place)) table.named && (not active || leads_directly program false type path)) || (list_any (same_place (field_place node.0 place)) table.ended && (not active || any_around (from_there table (field_place node.0 place)) program false type path))
     → holder ≡ lies_in.Field node place → IsTableOf program table → IsTrue (not told) ↔ IsUnread program (structures_on program type path) active holder
 field-answer program table type path active node place told holder e is t =
     let field = field_place node.0 place in
     let around = structures_on program type path in
     let says : told ≡ read_there table around active field = e
-    ∙ ap (λ b. list_any (same_place field) table.named || (list_any (same_place field) table.ended && (not active || b))) (any-there (from_there table field) program [] type path) in
+    ∙ ap (λ b. (list_any (same_place field) table.named && (not active || b)) || (list_any (same_place field) table.ended && (not active || any_around (from_there table field) program false type path))) (sym (direct-there program (none_around true) type path))
+    ∙ ap (λ b. (list_any (same_place field) table.named && (not active || around.direct)) || (list_any (same_place field) table.ended && (not active || b))) (any-there (from_there table field) program (none_around true) type path) in
     answer program around active told (read_there table around active field) (lies_in.Field node place) holder says is (field-unread program table t node place around active)
 
 -- so in the static record, from a root on

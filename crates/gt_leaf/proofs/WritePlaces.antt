@@ -21,7 +21,7 @@ use Rattle.gt_store.specs.Leaf.{IsNewLeaf, IsLeafWritten}
 use Rattle.gt_store.proofs.LeafStored.{leaf-stored, static-leaf-stored}
 use Rattle.gt_fit.proofs.Selves.{in-place, all-in-place}
 use Rattle.gt_leaf.specs.HeldTypes.{IsOfPart, held_type}
-use Rattle.gt_leaf.specs.Unread.{Enclosing, structures_on, structures_in_statics, IsUnread, MayReplace}
+use Rattle.gt_leaf.specs.Unread.{Around, structures_on, structures_in_statics, IsUnread, MayReplace}
 use Rattle.gt_leaf.specs.Writing.{StandsBeside, StaticsStandBeside, MayWrite, MayPut, MayPutStatic, IsWrittenInPlace, IsStaticWrittenInPlace}
 use Rattle.gt_leaf.proofs.LeafTrees.{LeafTree, leaf-tree, content-leaf, content-word, may-be}
 use Rattle.gt_leaf.proofs.LeafTypes.{type-there, root-type-there}
@@ -42,7 +42,7 @@ of-part : {program : Program} {range : Range} {address : ℕ} {p : Part} {place 
 of-part type at e = record { active_is = at.active_is; kind_is = at.kind_is; holder_is = at.holder_is; length_is = at.length_is; type_is = e }
 
 -- what is said of a leaf by its place holds of the part there
-pub part-unread : {program : Program} {range : Range} {address : ℕ} {p : Part} {place : Place} (around : List Enclosing) (b : Bool) → IsPlaceOfPart program range address p place
+pub part-unread : {program : Program} {range : Range} {address : ℕ} {p : Part} {place : Place} (around : Around) (b : Bool) → IsPlaceOfPart program range address p place
     → IsTrue b ↔ IsUnread program around place.active place.holder → IsTrue b ↔ IsUnread program around p.active p.holder
 part-unread {program} {p} {place} around b at said =
     subst (λ h. IsTrue b ↔ IsUnread program around p.active h) at.holder_is (subst (λ a. IsTrue b ↔ IsUnread program around a place.holder) at.active_is said)
@@ -59,7 +59,7 @@ static-place-part program layouts range values path place known same at =
 
 -- ---- the leaf that is written
 
-module _ {program : Program} {blocks : Blocks} {around : List Enclosing} {range : Range} {address : ℕ} (p : Part) (place : Place) (leaf : LeafContent) (capacity : ℕ)
+module _ {program : Program} {blocks : Blocks} {around : Around} {range : Range} {address : ℕ} (p : Part) (place : Place) (leaf : LeafContent) (capacity : ℕ)
     (at : IsPlaceOfPart program range address p place) (may : MayWrite program blocks around p leaf) where
   pub tree-of : LeafTree program blocks capacity p.scope p.type leaf
   tree-of = leaf-tree p.type leaf may.fits

@@ -1,5 +1,5 @@
 -- Which leaves no expression reads, and what follows for writing them.
-use Rattle.std.specs.Prelude.{◌≡◌, ◌⊎◌, ℕ, Bool, ◌∷◌, List, [], ◌++◌, Option, Some, None, true, false, IsTrue, Contains, option_to_list, slice_get, Any, if◌then◌else◌}
+use Rattle.std.specs.Prelude.{◌≡◌, ◌⊎◌, ℕ, Bool, ◌&&◌, ◌∷◌, List, [], ◌++◌, Option, Some, None, true, false, IsTrue, Contains, option_to_list, slice_get, Any, if◌then◌else◌}
 use Rattle.std.specs.List.{position_from}
 use Rattle.std.specs.Str.{bytes_eq}
 use Rattle.gt_types.specs.declared.expressions.Base.{Base}
@@ -140,7 +140,7 @@ abbrev pub IsReadName : Program → List ℕ → Type 0
 IsReadName program name = (e : Expr) × IsExpressionOf program e × Any (EndsIn name) (paths_of e)
 
 -- The name of the number at a place of a structure is one in which some path from `%0` ends. Such a path begins at whatever structure is
--- outermost, so its last name counts in each structure.
+-- outermost, so its last name counts in each structure to which a path can lead from there.
 pub record ReadsByName (program : Program) (node : TypeId) (i : ℕ) : Type 0 where
   pub s : Structure
   pub f : Field
@@ -169,37 +169,60 @@ part_at program type i = elem_of (out-Ty type)
 abbrev pub Enclosing : Type 0
 Enclosing = TypeId × List ℕ
 
+-- The structures around a leaf, from the innermost array on the way inwards, from the inside out; and whether no array lies between the
+-- outermost structure and the leaf.
+pub record Around : Type 0 where
+  pub structures : List Enclosing
+  pub direct : Bool
+
+-- no structure, behind an array of the outermost one or not
+abbrev pub none_around : Bool → Around
+none_around direct = record { structures = []; direct = direct }
+
+-- there are none
+abbrev pub is_none : List Enclosing → Bool
+is_none [] = true
+is_none (outer ∷ around) = false
+
+-- with a structure from which this path leads on
+abbrev pub with_structure : Program → Around → TypeId → List ℕ → Around
+with_structure program around node path = record { structures = (node, route program (Some node) path) ∷ around.structures; direct = around.direct }
+
 -- Those around a part of a value of this type, where these are around the value, and this path leads on: with the structure itself,
 -- where it is one. An array has none around its elements, since no path of an expression leads into an array.
-abbrev pub with_itself : Program → List Enclosing → Ty → List ℕ → List Enclosing
-with_itself program around (ty.Node node desc) path = (node, route program (Some node) path) ∷ around
-with_itself program around type path = []
+abbrev pub with_itself : Program → Around → Ty → List ℕ → Around
+with_itself program around (ty.Node node desc) path = with_structure program around node path
+with_itself program around type path = none_around (around.direct && is_none around.structures)
 
 -- the structures around the part at a path, where these are around the value and each union on the way has an active member
-abbrev pub structures_from : Program → List Enclosing → Option Ty → List ℕ → List Enclosing
+abbrev pub structures_from : Program → Around → Option Ty → List ℕ → Around
 structures_from program around (Some type) (i ∷ path) = structures_from program (with_itself program around type (i ∷ path)) (part_at program type i) path
 structures_from program around type path = around
 
--- so where none is around the value: those from the innermost array on the way inwards, from the inside out
-abbrev pub structures_on : Program → Option Ty → List ℕ → List Enclosing
-structures_on program type path = structures_from program [] type path
+-- so where none is around the value
+abbrev pub structures_on : Program → Option Ty → List ℕ → Around
+structures_on program type path = structures_from program (none_around true) type path
 
 -- so in the static record, of which the first place of a path is that of a root
-abbrev pub structures_in_statics : Program → List ℕ → List Enclosing
-structures_in_statics program [] = []
+abbrev pub structures_in_statics : Program → List ℕ → Around
+structures_in_statics program [] = none_around true
 structures_in_statics program (i ∷ path) = structures_on program (root_at program i) path
 
 -- A structure may stand around a leaf, with this route to it: it is one of those around it, or some union around it has no active
 -- member, which hides what is inside it.
-abbrev pub MayStandAround : List Enclosing → Bool → Enclosing → Type 0
-MayStandAround around active outer = (active ≡ false) ⊎ Contains around outer
+abbrev pub MayStandAround : Around → Bool → Enclosing → Type 0
+MayStandAround around active outer = (active ≡ false) ⊎ Contains around.structures outer
+
+-- A path may lead from the outermost structure to a leaf: no array lies between them, or some union around it has no active member.
+abbrev pub MayLeadThere : Around → Bool → Type 0
+MayLeadThere around active = (active ≡ false) ⊎ (around.direct ≡ true)
 
 -- ---- what is read
 
--- Expressions read the number at a place of a structure, inside these: by its name from `%0`, or from a structure around it, along the
--- route from that one to it.
-abbrev pub IsReadField : Program → List Enclosing → Bool → TypeId → ℕ → Type 0
-IsReadField program around active node i = ReadsByName program node i ⊎ ((outer : Enclosing) × MayStandAround around active outer × ReadsFrom program outer.0 outer.1 node i)
+-- Expressions read the number at a place of a structure, inside these: by its name from `%0`, where a path may lead to it from there, or
+-- from a structure around it, along the route from that one to it.
+abbrev pub IsReadField : Program → Around → Bool → TypeId → ℕ → Type 0
+IsReadField program around active node i = (MayLeadThere around active × ReadsByName program node i) ⊎ ((outer : Enclosing) × MayStandAround around active outer × ReadsFrom program outer.0 outer.1 node i)
 
 -- some expression of the program names this root
 abbrev pub IsReadRoot : Program → ℕ → Type 0
@@ -207,7 +230,7 @@ IsReadRoot program i = (e : Expr) × IsExpressionOf program e × Contains (roots
 
 -- No expression reads a leaf that lies in this, inside these structures. What is no number is never read. An element of a block lies in
 -- neither a field nor a root.
-abbrev pub IsUnread : Program → List Enclosing → Bool → Holder → Type 0
+abbrev pub IsUnread : Program → Around → Bool → Holder → Type 0
 IsUnread program around active lies_in.Element = Unit {0}
 IsUnread program around active (lies_in.Root i) = ¬ IsReadRoot program i
 IsUnread program around active (lies_in.Field node i) = ¬ IsReadField program around active node i

@@ -21,7 +21,7 @@ use Rattle.gt_value.specs.Bytes.{itself, Takes}
 use Rattle.gt_value.specs.Places.{Part, PartLies, StaticPartLies, IsContentOf, IsPlaceOf, IsStaticPlaceOf}
 use Rattle.gt_store.specs.Leaf.{IsLeafWritten, IsSameBut, MayBe}
 use Rattle.gt_tree.specs.PathLaws.{has_room_in}
-use Rattle.gt_leaf.specs.Unread.{Enclosing, structures_on, structures_in_statics, IsUnread}
+use Rattle.gt_leaf.specs.Unread.{Around, structures_on, structures_in_statics, IsUnread}
 
 -- ---- values beside given blocks
 
@@ -65,20 +65,20 @@ has_word type leaf = true
 
 -- a leaf inside these structures may be written in place: each union around it has an active member or it is a number, no expression
 -- reads it, and the new one fits
-pub record MayWrite (program : Program) (blocks : Blocks) (around : List Enclosing) (p : Part) (leaf : LeafContent) : Type 0 where
+pub record MayWrite (program : Program) (blocks : Blocks) (around : Around) (p : Part) (leaf : LeafContent) : Type 0 where
   pub active : (p.active ≡ true) ⊎ (is_number_leaf leaf ≡ true)
   pub unread : IsUnread program around p.active p.holder
   pub fits : LeafFits blocks (eval_in program p.scope) p.type leaf
 
 -- A leaf inside these structures can be looked at alone: each union around it has an active member or it is a number, no expression
 -- reads it, and it is no number without room in eight bytes that are never scanned.
-pub record IsAlone (program : Program) (around : List Enclosing) (p : Part) (leaf : LeafContent) : Type 0 where
+pub record IsAlone (program : Program) (around : Around) (p : Part) (leaf : LeafContent) : Type 0 where
   pub active : (p.active ≡ true) ⊎ (is_number_leaf leaf ≡ true)
   pub unread : IsUnread program around p.active p.holder
   pub word : IsTrue (has_word p.type leaf)
 
 -- a leaf is not written in place: the path leads to no number and no pointer, or what lies there cannot be looked at alone
-pub data IsLeft (program : Program) (around : List Enclosing) (Lies : Part → Type 0) (value : Tree) (path : List ℕ) (leaf : LeafContent) : Type 0 where
+pub data IsLeft (program : Program) (around : Around) (Lies : Part → Type 0) (value : Tree) (path : List ℕ) (leaf : LeafContent) : Type 0 where
   nowhere : ¬ LeadsToLeaf value path → IsLeft program around Lies value path leaf
   not_alone : (p : Part) → Lies p → ¬ IsAlone program around p leaf → IsLeft program around Lies value path leaf
 

@@ -1,7 +1,7 @@
 // Which fields and roots the expressions of a program read.
 ghost use Rattle.gt_leaf.specs.Seeking.{same_place, with_named, with_named_fields, with_all_named};
 ghost use Rattle.gt_leaf.specs.Tables.{IsTableOf};
-ghost use Rattle.gt_leaf.specs.Around.{from_there, any_around, any_with_itself};
+ghost use Rattle.gt_leaf.specs.Around.{from_there, any_around, any_with_itself, leads_directly};
 ghost use Rattle.gt_leaf.specs.Unread.{structures_on, structures_in_statics, IsUnread};
 ghost use Rattle.std.specs.List.{list_any};
 ghost use Rattle.std.specs.Prelude.{◌≡◌, ◌↔◌, ◌||◌, ◌&&◌, not, IsTrue, IfOk, OnOk, false, option_copied};
@@ -12,7 +12,7 @@ use crate::index::Index;
 use crate::places::PlaceSet;
 use crate::readings::ReadingSet;
 use crate::routes::route_on;
-use crate::types::{is_number, part_at, root_at};
+use crate::types::{is_number, is_number_at, is_structure, part_at, root_at};
 use gt_names::NameIndex;
 use gt_types::{Field, Program, Structure, Ty};
 use gt_value::{Holder, Place};
@@ -51,9 +51,10 @@ impl Reads {
         })
     }
 
-    /// Whether no expression reads the leaf at a place, at a path from a value of the type `ty`. It takes no memory. Where no path of
-    /// an expression ends in the leaf's field, two look-ups say so. Else the route from each structure on the path is looked up, which
-    /// ends at the next array: its time grows with the path, for each step at most by the depth `MAX_DEPTH` to which structures nest.
+    /// Whether no expression reads the leaf at a place, at a path from a value of the type `ty`. It takes no memory. What is no number
+    /// is not looked up. Where no path of an expression ends in the leaf's field, two look-ups say so. Where one from `%0` ends in its name, the path is looked through for
+    /// an array. Else the route from each structure on the path is looked up, which ends at the next array: its time grows with the
+    /// path, for each step at most by the depth `MAX_DEPTH` to which structures nest.
     pub fn is_unread(&self, program: &Program, ty: Option<&Ty>, path: &[u32], place: Place) -> bool
         ensures unread { IsTableOf program.now self.now → IsTrue result ↔ IsUnread program.now (structures_on program.now (option_copied ty.entry) path.now) place.active place.holder }
     {
@@ -64,6 +65,9 @@ impl Reads {
                 structure,
                 place: i,
             } => {
+                if !is_number_at(program, structure, i) {
+                    return true;
+                }
                 let field = FieldPlace {
                     structure: structure.0 as usize,
                     place: i as usize,
@@ -83,7 +87,7 @@ impl Reads {
         }
     }
 
-    // Whether a field is read by name, or from a structure around it along the route from there.
+    // Whether a field is read by name from the outermost structure, or from a structure around it along the route from there.
     fn is_read(
         &self,
         program: &Program,
@@ -92,9 +96,9 @@ impl Reads {
         active: bool,
         field: FieldPlace,
     ) -> bool
-        ensures { result ≡ list_any (same_place field) self.now.named || (list_any (same_place field) self.now.ended && (not active || any_around (from_there self.now field) program.now false (option_copied ty.entry) path.now)) }
+        ensures { result ≡ (list_any (same_place field) self.now.named && (not active || leads_directly program.now false (option_copied ty.entry) path.now)) || (list_any (same_place field) self.now.ended && (not active || any_around (from_there self.now field) program.now false (option_copied ty.entry) path.now)) }
     {
-        self.named.has(field)
+        (self.named.has(field) && (!active || leads_directly(program, ty, path, false)))
             || (self.ended.has(field)
                 && (!active || self.is_read_around(program, ty, path, field, false)))
     }
@@ -141,6 +145,24 @@ impl Reads {
             _ => false,
         }
     }
+}
+
+// Whether no array lies between the outermost structure and the part at a path, where a structure is around the value or not. No path
+// of an expression leads into an array.
+fn leads_directly(program: &Program, ty: Option<&Ty>, path: &[u32], is_inside: bool) -> bool
+    ensures { result ≡ leads_directly program.now is_inside (option_copied ty.entry) path.now }
+{
+    let Some(ty) = ty else {
+        return true;
+    };
+    let [i, rest @ ..] = path else {
+        return true;
+    };
+    let is_structure = is_structure(ty);
+    if is_inside && !is_structure {
+        return false;
+    }
+    leads_directly(program, part_at(program, ty, *i), rest, is_structure)
 }
 
 impl FieldSet {

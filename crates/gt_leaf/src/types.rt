@@ -1,7 +1,7 @@
 // The type of a leaf, by what it lies in, and of parts on the way to it.
 ghost use Rattle.std.specs.Prelude.{◌≡◌, option_copied};
-ghost use Rattle.gt_types.specs.Shapes.{innermost, is_number};
-ghost use Rattle.gt_leaf.specs.HeldTypes.{field_type, root_type, held_type};
+ghost use Rattle.gt_types.specs.Shapes.{innermost, is_number, is_structure};
+ghost use Rattle.gt_leaf.specs.HeldTypes.{field_type, root_type, held_type, is_number_at};
 ghost use Rattle.gt_leaf.specs.Unread.{field_at, inner_at, root_at, part_at};
 
 use gt_types::{Program, Ty, TypeId};
@@ -22,6 +22,13 @@ pub fn is_number(ty: &Ty) -> bool
     ensures { result ≡ is_number ty.now }
 {
     matches!(ty, Ty::Num(_) | Ty::Bits { .. })
+}
+
+/// Whether values of a type are those of a structure.
+pub fn is_structure(ty: &Ty) -> bool
+    ensures { result ≡ is_structure ty.now }
+{
+    matches!(ty, Ty::Node { .. })
 }
 
 // The type of the field at a place of a structure.
@@ -63,6 +70,16 @@ fn field_at<'a>(program: &'a Program, id: TypeId, i: u32) -> Option<&'a Ty>
     let structure = program.structures.get(id.0 as usize)?;
     let field = structure.fields.get(i as usize)?;
     Some(&field.ty)
+}
+
+/// Whether the field at a place of a structure is a number. It takes no memory.
+pub fn is_number_at(program: &Program, id: TypeId, i: u32) -> bool
+    ensures { result ≡ is_number_at program.now id i }
+{
+    match field_at(program, id, i) {
+        Some(ty) => is_number(ty),
+        None => false,
+    }
 }
 
 /// The structure by value at a place of a structure. It takes no memory.

@@ -1,5 +1,5 @@
 // One leaf written where it lies.
-ghost use Rattle.std.specs.Prelude.{◌≡◌, ◌≢◌, ◌↔◌, ℤ, IsTrue, List, Option, option_copied};
+ghost use Rattle.std.specs.Prelude.{◌≡◌, ◌≢◌, ◌↔◌, ℤ, IsTrue, Option, option_copied};
 ghost use Rattle.gt_types.specs.declared.expressions.Expr.{Expr};
 ghost use Rattle.gt_types.specs.declared.program.Program.{Program};
 ghost use Rattle.gt_types.specs.Shapes.{count_of, is_pointer};
@@ -12,7 +12,7 @@ ghost use Rattle.gt_tree.specs.Scopes.{◌then◌, eval_in};
 ghost use Rattle.gt_value.specs.Bytes.{IsElement, IsRoomFor};
 ghost use Rattle.gt_value.specs.Places.{Part};
 ghost use Rattle.gt_leaf.specs.Tables.{IsTableOf};
-ghost use Rattle.gt_leaf.specs.Unread.{Enclosing, IsUnread};
+ghost use Rattle.gt_leaf.specs.Unread.{Around, IsUnread};
 ghost use Rattle.gt_leaf.specs.HeldTypes.{IsOfPart};
 ghost use Rattle.gt_leaf.specs.Verdicts.{IsMisfit};
 ghost use Rattle.gt_leaf.specs.Writing.{StandsBeside, StaticsStandBeside, is_number_leaf, takes_number, has_word, LeafFits, MayWrite, IsAlone, MayPutElement, WritesElement, LeavesElement, MisfitsElement, MayPutStatics, WritesStatics, LeavesStatics, MisfitsStatics};
@@ -103,7 +103,7 @@ fn has_word(ty: &Ty, leaf: LeafContent) -> bool
 
 // Whether a leaf can be looked at alone at a place, of a part of this type, which expressions read or not.
 fn is_alone(unread: bool, ty: Option<&Ty>, place: Place, leaf: LeafContent) -> bool
-    ensures { (program : Program) (around : List Enclosing) (p : Part) → IsTrue unread ↔ IsUnread program around p.active p.holder → IsOfPart program p place (option_copied ty.entry) → IsTrue result ↔ IsAlone program around p leaf }
+    ensures { (program : Program) (around : Around) (p : Part) → IsTrue unread ↔ IsUnread program around p.active p.holder → IsOfPart program p place (option_copied ty.entry) → IsTrue result ↔ IsAlone program around p leaf }
 {
     match ty {
         None => false,
@@ -130,10 +130,10 @@ fn judge_at<N: BlockNames>(
     leaf: LeafContent,
 ) -> LeafVerdict
     ensures there { (other : Place) → result ≡ InPlace other → other ≡ place }
-    ensures may { (other : Place) → result ≡ InPlace other → (program : Program) (around : List Enclosing) (p : Part) → IsTrue unread ↔ IsUnread program around p.active p.holder → IsOfPart program p place (option_copied ty.entry)
+    ensures may { (other : Place) → result ≡ InPlace other → (program : Program) (around : Around) (p : Part) → IsTrue unread ↔ IsUnread program around p.active p.holder → IsOfPart program p place (option_copied ty.entry)
         → MayWrite program (N.blocks names.now) around p leaf }
-    ensures not_alone { result ≡ LeafVerdict.NotInPlace → (program : Program) (around : List Enclosing) (p : Part) → IsTrue unread ↔ IsUnread program around p.active p.holder → IsOfPart program p place (option_copied ty.entry) → ¬ IsAlone program around p leaf }
-    ensures misfit { result ≡ LeafVerdict.Misfit → (program : Program) (around : List Enclosing) (p : Part) → IsTrue unread ↔ IsUnread program around p.active p.holder → IsOfPart program p place (option_copied ty.entry) → IsMisfit program (N.blocks names.now) around p leaf }
+    ensures not_alone { result ≡ LeafVerdict.NotInPlace → (program : Program) (around : Around) (p : Part) → IsTrue unread ↔ IsUnread program around p.active p.holder → IsOfPart program p place (option_copied ty.entry) → ¬ IsAlone program around p leaf }
+    ensures misfit { result ≡ LeafVerdict.Misfit → (program : Program) (around : Around) (p : Part) → IsTrue unread ↔ IsUnread program around p.active p.holder → IsOfPart program p place (option_copied ty.entry) → IsMisfit program (N.blocks names.now) around p leaf }
 {
     if !is_alone(unread, ty, place, leaf) {
         return LeafVerdict::NotInPlace;

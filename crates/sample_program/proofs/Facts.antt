@@ -1,6 +1,7 @@
 -- What the fields of each structure of the sample hold, and which structures end in an array with a length.
-use Rattle.std.proofs.Common.{◌≡◌, ℕ, Bool, true, false, ◌||◌, ◌==◌, [], ◌∷◌, ap, ◌∙◌}
+use Rattle.std.proofs.Common.{◌≡◌, ℕ, Bool, true, false, ◌||◌, ◌==◌, if◌then◌else◌, [], ◌∷◌, ap, ◌∙◌}
 use Rattle.std.specs.Prelude.{Option, Some, None, is_some, All, codes}
+use Rattle.std.specs.Str.{bytes_eq}
 use Rattle.std.proofs.lemmas.List.Elements.{All-from_recursion}
 use Rattle.gt_types.specs.declared.types.TypeId.{TypeId}
 use Rattle.gt_types.specs.declared.types.Width.TheVariants.{W1, W2, W4, W8}
@@ -13,18 +14,22 @@ use Rattle.gt_types.specs.declared.program.Field.{Field}
 use Rattle.gt_types.specs.declared.program.Structure.{Structure}
 use Rattle.gt_types.specs.Contains.{itself, held_by}
 use Rattle.gt_types.specs.Tails.{tail_of}
-use Rattle.sample_program.specs.Sample.{structures, item, base, wide, form, pay, cell, vec, hold, duo, two, vecb, any, rest, big, bigv, kindv, ever, label, node, path, own_kind, own_len, own_n, outer_n, outermost_a}
+use Rattle.sample_program.specs.Sample.{structures, item, base, wide, form, pay, cell, vec, hold, duo, two, vecb, any, rest, big, bigv, kindv, ever, label, twin, node, path, own_kind, own_len, own_n, outer_n, outermost_a}
 use Rattle.gt_types.specs.declared.expressions.Base.TheVariants.{Here, Outer}
 use Rattle.sample_program.proofs.Lists.{AllFrom}
-use Rattle.sample_program.proofs.Types.{IsFlat, flat-num, flat-bits, flat-opaque, flat-str, flat-ptr, flat-node, inner-arr, inner-tail, tail-tail}
+use Rattle.sample_program.proofs.Types.{IsFlat, flat-num, flat-bits, flat-opaque, flat-str, flat-ptr, flat-node, inner-arr, inner-tail, no_tail-arr, tail-tail}
 
--- the structure that a field holds, which is no array of them here
-abbrev pub held_of : Ty → Option TypeId
-held_of (ty.Node i desc) = Some i
-held_of type = None
+-- the structure that a type is
+abbrev is_held : Ty → Option TypeId
+is_held (ty.Node i desc) = Some i
+is_held type = None
+
+-- the structure that a field holds: in an array there are only labels, in the field of this name
+abbrev pub held_of : Field → Option TypeId
+held_of f = if bytes_eq f.name (codes "each") then Some (node 17) else is_held f.ty
 
 abbrev pub HoldsAsTold : Field → Type 0
-HoldsAsTold f = held_by f.ty ≡ held_of f.ty
+HoldsAsTold f = held_by f.ty ≡ held_of f
 
 held-flat : (type : Ty) → IsFlat type → held_by type ≡ itself type
 held-flat type flat = ap itself flat.inner
@@ -214,5 +219,23 @@ told-label = record {
   tail = ap is_some (flat-str (Some outermost_a)).no_tail;
 }
 
+told-twin : IsTold 18 twin
+told-twin = record {
+  held = All-from_recursion HoldsAsTold twin.fields (
+    held-flat (ty.Node (node 1) None) (flat-node (node 1) None),
+    (
+      held-flat (ty.Node (node 1) None) (flat-node (node 1) None),
+      (
+        held-flat (ty.Str (Some own_kind)) (flat-str (Some own_kind)),
+        (
+          held-flat (ty.Num (scalar.Int W2 true)) (flat-num (scalar.Int W2 true)),
+          (ap itself (inner-arr 2 (ty.Node (node 17) None)) ∙ held-flat (ty.Node (node 17) None) (flat-node (node 17) None), tt),
+        ),
+      ),
+    ),
+  );
+  tail = ap is_some (no_tail-arr 2 (ty.Node (node 17) None));
+}
+
 pub all_told : AllFrom IsTold 0 structures
-all_told = (told-item, (told-base, (told-wide, (told-form, (told-pay, (told-cell, (told-vec, (told-hold, (told-duo, (told-two, (told-vecb, (told-any, (told-rest, (told-big, (told-bigv, (told-kindv, (told-ever, (told-label, tt))))))))))))))))))
+all_told = (told-item, (told-base, (told-wide, (told-form, (told-pay, (told-cell, (told-vec, (told-hold, (told-duo, (told-two, (told-vecb, (told-any, (told-rest, (told-big, (told-bigv, (told-kindv, (told-ever, (told-label, (told-twin, tt)))))))))))))))))))

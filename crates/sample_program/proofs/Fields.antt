@@ -23,7 +23,7 @@ use Rattle.gt_types.specs.Settled.{NamesStanding, NamesSortable, NamesDescribed,
 use Rattle.gt_types.specs.Paths.{PathFits, DescPathFits, MayStep, last_step, next_step, LeadsToNumber, AreSteps, IsOption, IsFieldDesc}
 use Rattle.sample_program.specs.Sample.{sample, structures, base, node, path, held, member, field}
 use Rattle.sample_program.proofs.Lists.{fact_of, both}
-use Rattle.sample_program.proofs.Types.{element-num, element-ptr, dim-num, dim-ptr}
+use Rattle.sample_program.proofs.Types.{element-num, element-ptr, element-node, dim-num, dim-ptr, dim-node}
 use Rattle.sample_program.proofs.Facts.{HoldsAsTold, IsTold, all_told}
 use Rattle.sample_program.proofs.TailTypes.{keeps, keeps_tails}
 use Rattle.sample_program.proofs.Structures.{path-operators, path-roots, one-path}
@@ -60,6 +60,9 @@ grid-type =
     let element : is_element e ≡ true = element-arr 3 (ty.Num (scalar.Int W2 true)) ∙ ap (λ b. is_element_step (part.Arr 3 b)) (element-num (scalar.Int W2 true)) in
     let dim : dimensions e ≡ 1 = dim-arr 3 (ty.Num (scalar.Int W2 true)) ∙ ap (λ n. 1 + n) (dim-num (scalar.Int W2 true)) in
     ap field_type_at (ty.outs-Arr 2 e) ∙ repeats e 1 element dim refl
+
+pub labels-type : is_field_type (ty.Arr 2 (held 17)) ≡ true
+labels-type = ap field_type_at (ty.outs-Arr 2 (held 17)) ∙ repeats (held 17) 0 (element-node (node 17) None) (dim-node (node 17) None) refl
 
 pub pointers-type : (c : Expr) → is_field_type (ty.Tail c (ty.Ptr (Some (target.Node (node 0))) kind.Plain false)) ≡ true
 pointers-type c =

@@ -16,13 +16,13 @@ use Rattle.gt_types.specs.Shapes.{field_type_at}
 use Rattle.gt_types.specs.Unions.{is_it, by_first, IsCommon, IsMember, AreApart}
 use Rattle.gt_types.specs.Settled.{IsField, IsStructure}
 use Rattle.gt_types.specs.Paths.{LeadsToNumber, LeadsToOwnPointer, IsFieldDesc, IsOutermost}
-use Rattle.sample_program.specs.Sample.{sample, structures, item, base, wide, form, pay, cell, vec, hold, duo, two, vecb, any, rest, big, bigv, kindv, ever, label, int, node, path, own_kind, own_len, own_n, outer_n, outermost_a, held, member, field}
+use Rattle.sample_program.specs.Sample.{sample, structures, item, base, wide, form, pay, cell, vec, hold, duo, two, vecb, any, rest, big, bigv, kindv, ever, label, twin, int, node, path, own_kind, own_len, own_n, outer_n, outermost_a, held, member, field}
 use Rattle.sample_program.proofs.Lists.{AllFrom, differ, pair, three}
 use Rattle.sample_program.proofs.Types.{flat-num, flat-bits, flat-opaque, flat-str, flat-ptr, flat-node, inner-arr, inner-tail}
 use Rattle.sample_program.proofs.Orders.{lower_by, in_program}
 use Rattle.gt_types.specs.declared.types.TypeId.{TypeId}
 use Rattle.sample_program.proofs.Structures.{item_stands, common_base}
-use Rattle.sample_program.proofs.Fields.{names, grid-type, pointers-type, shorts-type, a_field, to_int, to_kind, to_kind_of, an_option, a_desc, one_name, two_names}
+use Rattle.sample_program.proofs.Fields.{names, grid-type, labels-type, pointers-type, shorts-type, a_field, to_int, to_kind, to_kind_of, an_option, a_desc, one_name, two_names}
 
 names_differ : (f g : Field) → not (bytes_eq f.name g.name) ≡ true → f.name ≢ g.name
 names_differ f g differ same =
@@ -525,11 +525,15 @@ ever-keeps = record {
   kinds = λ i j d lt within. absurd (omega (arith, within));
 }
 
--- no structure holds a label, so it is the outermost one itself
+-- the outermost structure is the label itself, or a twin, which alone holds labels
 label_outermost : (outer : TypeId) → IsOutermost sample (node 17) outer → LeadsToNumber sample outer (codes "a" ∷ [])
 label_outermost outer (alone, inl same) =
     subst (λ o. LeadsToNumber sample o (codes "a" ∷ [])) (sym same) (to_int 17 label (codes "a") 2 (ty.Num (scalar.Int W2 true)) refl refl refl (2, omega arith, refl) refl)
-label_outermost outer (alone, inr (n, nests)) = let l = lower_by n outer (node 17) nests in let w = in_program n outer (node 17) nests in absurd (omega (arith, l.0, l.1, w))
+label_outermost outer (alone, inr (n, nests)) =
+    let l = lower_by n outer (node 17) nests in
+    let w = in_program n outer (node 17) nests in
+    let last : 18 ≡ outer.0 = omega (arith, l.0, l.1, w) in
+    subst (λ i. LeadsToNumber sample (node i) (codes "a" ∷ [])) last (to_int 18 twin (codes "a") 3 (ty.Num (scalar.Int W2 true)) refl refl refl (3, omega arith, refl) refl)
 
 label-fields : All (IsField sample (node 17) label) label.fields
 label-fields = All-from_recursion (IsField sample (node 17) label) label.fields (a_field 17 label (field (codes "n") (ty.Num (scalar.Int W8 false))) refl (0, omega arith, refl) refl (ap field_type_at (ty.outs-Num (scalar.Int W8 false))) (names (λ union u e. IsFieldDesc sample (node 17) union e) (ty.Num (scalar.Int W8 false)) (ty.Num (scalar.Int W8 false)) (flat-num (scalar.Int W8 false)).inner tt tt tt) tt, (a_field 17 label (field (codes "t") (ty.Str (Some own_n))) refl (1, omega arith, refl) refl (ap field_type_at (ty.outs-Str (Some own_n))) (names (λ union u e. IsFieldDesc sample (node 17) union e) (ty.Str (Some own_n)) (ty.Str (Some own_n)) (flat-str (Some own_n)).inner tt tt tt) (an_option 17 Here (codes "n" ∷ []) (one_name (codes "n") refl) (to_int 17 label (codes "n") 0 (ty.Num (scalar.Int W8 false)) refl refl refl (0, omega arith, refl) refl)), (a_field 17 label (field (codes "a") (ty.Num (scalar.Int W2 true))) refl (2, omega arith, refl) refl (ap field_type_at (ty.outs-Num (scalar.Int W2 true))) (names (λ union u e. IsFieldDesc sample (node 17) union e) (ty.Num (scalar.Int W2 true)) (ty.Num (scalar.Int W2 true)) (flat-num (scalar.Int W2 true)).inner tt tt tt) tt, (a_field 17 label (field (codes "z") (ty.Str (Some outermost_a))) refl (3, omega arith, refl) refl (ap field_type_at (ty.outs-Str (Some outermost_a))) (names (λ union u e. IsFieldDesc sample (node 17) union e) (ty.Str (Some outermost_a)) (ty.Str (Some outermost_a)) (flat-str (Some outermost_a)).inner tt tt tt) (an_option 17 Outermost (codes "a" ∷ []) (one_name (codes "a") refl) label_outermost), tt))))
@@ -543,6 +547,34 @@ label-keeps = record {
   fields = label-fields;
   sort = record { no_desc = refl; active = All-from_recursion (λ f. f.active ≡ Always) label.fields (refl, (refl, (refl, (refl, tt)))); last_tail = refl };
   chains = All-from_recursion (λ c. LeadsToOwnPointer sample (node 17) c.path) [] tt;
+  kinds = λ i j d lt within. absurd (omega (arith, within));
+}
+
+twin-fields : All (IsField sample (node 18) twin) twin.fields
+twin-fields =
+    All-from_recursion (IsField sample (node 18) twin) twin.fields (
+      a_field 18 twin (field (codes "b") (ty.Node (node 1) None)) refl (0, omega arith, refl) refl (ap field_type_at (ty.outs-Node (node 1) None)) (names (λ union u e. IsFieldDesc sample (node 18) union e) (ty.Node (node 1) None) (ty.Node (node 1) None) (flat-node (node 1) None).inner tt tt (base, refl, refl)) tt,
+      (
+        a_field 18 twin (field (codes "c") (ty.Node (node 1) None)) refl (1, omega arith, refl) refl (ap field_type_at (ty.outs-Node (node 1) None)) (names (λ union u e. IsFieldDesc sample (node 18) union e) (ty.Node (node 1) None) (ty.Node (node 1) None) (flat-node (node 1) None).inner tt tt (base, refl, refl)) tt,
+        (
+          a_field 18 twin (field (codes "t") (ty.Str (Some own_kind))) refl (2, omega arith, refl) refl (ap field_type_at (ty.outs-Str (Some own_kind))) (names (λ union u e. IsFieldDesc sample (node 18) union e) (ty.Str (Some own_kind)) (ty.Str (Some own_kind)) (flat-str (Some own_kind)).inner tt tt tt) (an_option 18 Here (codes "b" ∷ codes "kind" ∷ []) (two_names (codes "b") (codes "kind") refl refl) (to_kind_of 18 twin refl refl (0, omega arith, refl))),
+          (
+            a_field 18 twin (field (codes "a") (ty.Num (scalar.Int W2 true))) refl (3, omega arith, refl) refl (ap field_type_at (ty.outs-Num (scalar.Int W2 true))) (names (λ union u e. IsFieldDesc sample (node 18) union e) (ty.Num (scalar.Int W2 true)) (ty.Num (scalar.Int W2 true)) (flat-num (scalar.Int W2 true)).inner tt tt tt) tt,
+            (a_field 18 twin (field (codes "each") (ty.Arr 2 (held 17))) refl (4, omega arith, refl) refl labels-type (names (λ union u e. IsFieldDesc sample (node 18) union e) (ty.Arr 2 (held 17)) (held 17) (inner-arr 2 (held 17) ∙ (flat-node (node 17) None).inner) tt tt (label, refl, refl)) tt, tt),
+          ),
+        ),
+      ),
+    )
+
+twin-keeps : IsStructure sample (node 18) twin
+twin-keeps = record {
+  name = refl;
+  some_fields = omega arith;
+  few_fields = omega arith;
+  distinct = differ (λ f g. bytes_eq f.name g.name) (λ f g. f.name ≢ g.name) names_differ twin.fields refl;
+  fields = twin-fields;
+  sort = record { no_desc = refl; active = All-from_recursion (λ f. f.active ≡ Always) twin.fields (refl, (refl, (refl, (refl, (refl, tt))))); last_tail = refl };
+  chains = All-from_recursion (λ c. LeadsToOwnPointer sample (node 18) c.path) [] tt;
   kinds = λ i j d lt within. absurd (omega (arith, within));
 }
 
@@ -569,7 +601,7 @@ all_keep = (
                     two-keeps,
                     (
                       vecb-keeps,
-                      (any-keeps, (rest-keeps, (big-keeps, (bigv-keeps, (kindv-keeps, (ever-keeps, (label-keeps, tt))))))),
+                      (any-keeps, (rest-keeps, (big-keeps, (bigv-keeps, (kindv-keeps, (ever-keeps, (label-keeps, (twin-keeps, tt)))))))),
                     ),
                   ),
                 ),

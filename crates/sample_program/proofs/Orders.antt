@@ -17,7 +17,7 @@ is_below i None = true
 is_below i (Some node) = nat_lt node.0 i
 
 abbrev in_order : ℕ → Structure → Bool
-in_order i s = all_from (λ j f. is_below i (held_of f.ty)) 0 s.fields
+in_order i s = all_from (λ j f. is_below i (held_of f)) 0 s.fields
 
 all_in_order : all_from in_order 0 structures ≡ true
 all_in_order = refl
@@ -26,7 +26,7 @@ pub lower : (outer inner : TypeId) → ContainsStructure sample outer inner → 
 lower outer inner (s, f, has, c, h) =
     let fields = at_index in_order structures all_in_order outer.0 s has in
     let at = place_of s.fields f c in
-    let below = at_index (λ j g. is_below outer.0 (held_of g.ty)) s.fields fields at.0 f at.1 in
+    let below = at_index (λ j g. is_below outer.0 (held_of g)) s.fields fields at.0 f at.1 in
     let told = All-contains HoldsAsTold s.fields f (fact_of IsTold structures all_told outer.0 s has).held c in
     ltb-true inner.0 outer.0 (subst (λ o. is_below outer.0 o ≡ true) (sym told ∙ h) below)
 

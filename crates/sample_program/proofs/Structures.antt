@@ -59,7 +59,7 @@ abbrev is_none_of : Option TypeId → Bool
 is_none_of None = true
 is_none_of (Some n) = false
 
-base_holds_none : all_from (λ i f. is_none_of (held_of f.ty)) 0 base.fields ≡ true
+base_holds_none : all_from (λ i f. is_none_of (held_of f)) 0 base.fields ≡ true
 base_holds_none = refl
 
 base_contains_none : (inner : TypeId) → ¬ ContainsStructure sample (node 1) inner
@@ -67,9 +67,9 @@ base_contains_none inner (s, f, has, c, h) =
     let same : base ≡ s = cc in
     let in_base : Contains base.fields f = subst (λ t. Contains t.fields f) (sym same) c in
     let at = place_of base.fields f in_base in
-    let none = at_index (λ i g. is_none_of (held_of g.ty)) base.fields base_holds_none at.0 f at.1 in
+    let none = at_index (λ i g. is_none_of (held_of g)) base.fields base_holds_none at.0 f at.1 in
     let told = All-contains HoldsAsTold base.fields f (fact_of IsTold structures all_told 1 base refl).held in_base in
-    let some : held_of f.ty ≡ Some inner = sym told ∙ h in
+    let some : held_of f ≡ Some inner = sym told ∙ h in
     let wrong : is_none_of (Some inner) ≡ true = subst (λ o. is_none_of o ≡ true) some none in
     absurd (cc)
 

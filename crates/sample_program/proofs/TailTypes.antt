@@ -59,10 +59,10 @@ holds_inside None = false
 holds_inside (Some node) = is_tail node.0
 
 abbrev pub keeps : Structure → Field → Bool
-keeps s f = cond (holds_inside (held_of f.ty)) (s.is_union && is_structure f.ty) true
+keeps s f = cond (holds_inside (held_of f)) (s.is_union && is_structure f.ty) true
 
 pub keeps_tails : (s : Structure) (f : Field) → HoldsAsTold f → keeps s f ≡ true → KeepsTails sample s f
 keeps_tails s f told k node held tail =
-    let inside : holds_inside (held_of f.ty) ≡ true = ap holds_inside (sym told ∙ held) ∙ known node tail in
-    let parts = both s.is_union (is_structure f.ty) (use_cond (holds_inside (held_of f.ty)) (s.is_union && is_structure f.ty) k inside) in
+    let inside : holds_inside (held_of f) ≡ true = ap holds_inside (sym told ∙ held) ∙ known node tail in
+    let parts = both s.is_union (is_structure f.ty) (use_cond (holds_inside (held_of f)) (s.is_union && is_structure f.ty) k inside) in
     (parts.0, parts.1)

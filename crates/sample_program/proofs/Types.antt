@@ -77,6 +77,12 @@ pub element-ptr : (i : TypeId) → is_element (ty.Ptr (Some (target.Node i)) kin
 element-ptr i =
     ap is_element (sym (ty.rolls-Ptr (Some (target.Node i)) kind.Plain false)) ∙ fold-roll-Ty Bool is_element_step (part.Ptr (Some (target.Node i)) kind.Plain false)
 
+pub element-node : (i : TypeId) (d : Option Expr) → is_element (ty.Node i d) ≡ true
+element-node i d = ap is_element (sym (ty.rolls-Node i d)) ∙ fold-roll-Ty Bool is_element_step (part.Node i d)
+
+pub dim-node : (i : TypeId) (d : Option Expr) → dimensions (ty.Node i d) ≡ 0
+dim-node i d = ap dimensions (sym (ty.rolls-Node i d)) ∙ fold-roll-Ty ℕ dimensions_step (part.Node i d)
+
 pub dim-num : (s : Scalar) → dimensions (ty.Num s) ≡ 0
 dim-num s = ap dimensions (sym (ty.rolls-Num s)) ∙ fold-roll-Ty ℕ dimensions_step (part.Num s)
 

@@ -162,8 +162,15 @@ label =
     (field (codes "n") (ty.Num (scalar.Int W8 false)) ∷ field (codes "t") (ty.Str (Some own_n)) ∷ field (codes "a") (ty.Num (scalar.Int W2 true))
     ∷ field (codes "z") (ty.Str (Some outermost_a)) ∷ [])
 
+-- struct twin { struct base b; struct base c; char *t; (b.kind characters)  short a; struct label each[2]; }
+abbrev pub twin : Structure
+twin =
+    struct (codes "twin")
+    (field (codes "b") (held 1) ∷ field (codes "c") (held 1) ∷ field (codes "t") (ty.Str (Some own_kind)) ∷ field (codes "a") (ty.Num (scalar.Int W2 true))
+    ∷ field (codes "each") (ty.Arr 2 (held 17)) ∷ [])
+
 abbrev pub structures : List Structure
-structures = item ∷ base ∷ wide ∷ form ∷ pay ∷ cell ∷ vec ∷ hold ∷ duo ∷ two ∷ vecb ∷ any ∷ rest ∷ big ∷ bigv ∷ kindv ∷ ever ∷ label ∷ []
+structures = item ∷ base ∷ wide ∷ form ∷ pay ∷ cell ∷ vec ∷ hold ∷ duo ∷ two ∷ vecb ∷ any ∷ rest ∷ big ∷ bigv ∷ kindv ∷ ever ∷ label ∷ twin ∷ []
 
 abbrev pub root : List ℕ → Ty → Root
 root name type = record { name = name; ty = type; deletable = false }

@@ -1,5 +1,5 @@
 // The sample, made part by part.
-ghost use Rattle.std.specs.Prelude.{◌≡◌, ◌++◌, [], ◌∷◌, Option, Some, IfOk, IsTrue, OnOk, codes, take, drop, nat_lt};
+ghost use Rattle.std.specs.Prelude.{◌≡◌, ◌++◌, [], ◌∷◌, Option, Some, None, IfOk, IsTrue, OnOk, codes, take, drop, nat_lt};
 ghost use Rattle.std.specs.List.{list_all};
 ghost use Rattle.gt_types.specs.declared.expressions.Expr.TheVariants as expr;
 ghost use Rattle.gt_types.specs.declared.types.Ty.TheVariants as ty;
@@ -607,6 +607,42 @@ fn label(alloc: Global) -> Result<Structure, AllocError>
     structure(alloc, "label", false, None, fields)
 }
 
+// Two labels.
+fn labels(alloc: Global) -> Result<Ty, AllocError>
+    ensures { IfOk result (λ made. made ≡ ty.Arr 2 (ty.Node (sample.node 17) None)) }
+{
+    Ok(Ty::Arr {
+        n: 2,
+        elem: Boxed::new(alloc, held(17, None))?,
+    })
+}
+
+// The first fields of `twin`.
+fn first_of_twin(alloc: Global, fields: &mut Vec<Field>) -> Result<(), AllocError>
+    ensures { OnOk result (fields.new.items ≡ fields.old.items ++ take 3 (drop 0 sample.twin.fields)) }
+{
+    add(alloc, fields, "b", held(1, None), Active::Always)?;
+    add(alloc, fields, "c", held(1, None), Active::Always)?;
+    add(
+        alloc,
+        fields,
+        "t",
+        Ty::Str(Some(own_kind(alloc)?)),
+        Active::Always,
+    )?;
+    Ok(())
+}
+
+fn twin(alloc: Global) -> Result<Structure, AllocError>
+    ensures { IfOk result (λ s. s ≡ sample.twin) }
+{
+    let mut fields = Vec::new(alloc);
+    first_of_twin(alloc, &mut fields)?;
+    add(alloc, &mut fields, "a", Ty::Num(SHORT), Active::Always)?;
+    add(alloc, &mut fields, "each", labels(alloc)?, Active::Always)?;
+    structure(alloc, "twin", false, None, fields)
+}
+
 fn root(alloc: Global, name: &str, ty: Ty) -> Result<Root, AllocError>
     requires ascii { IsTrue (list_all (λ b. nat_lt b 128) name.now) }
     ensures { IfOk result (λ r. r ≡ sample.root name.now ty) }
@@ -664,6 +700,7 @@ fn structures(alloc: Global) -> Result<Vec<Structure>, AllocError>
     all.push(kindv(alloc)?)?;
     all.push(ever(alloc)?)?;
     all.push(label(alloc)?)?;
+    all.push(twin(alloc)?)?;
     Ok(all)
 }
 
