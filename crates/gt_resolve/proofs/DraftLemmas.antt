@@ -1,6 +1,6 @@
 -- The constants of a draft are those of the table of constants.
-use Rattle.std.proofs.Common.{◌≡◌, ◌∙◌, ℕ, ℤ, Bool, true, false, List, [], ◌∷◌, ◌++◌, map, Option, Some, None, refl, sym, ap, suc, ◌+◌, ◌<◌, ◌≤◌, take, drop, get_or, length, arith, append_assoc}
-use Rattle.std.specs.Prelude.{if◌then◌else◌, filter_map}
+use Rattle.std.proofs.Common.{◌≡◌, ◌∙◌, ℕ, ℤ, Bool, true, false, List, [], ◌∷◌, ◌++◌, map, Option, Some, None, refl, sym, ap, ap₂, suc, ◌+◌, ◌<◌, ◌≤◌, take, drop, get_or, length, arith, append_assoc}
+use Rattle.std.specs.Prelude.{if◌then◌else◌, filter_map, option_map}
 use Rattle.std.specs.Option.{option_to_list, option_map_or}
 use Rattle.std.proofs.lemmas.List.{take_more, drop_more, at_drop_all, append-nil, take_all}
 use Rattle.std.specs.List.{cons_option, list_any}
@@ -11,8 +11,22 @@ use Rattle.std.specs.Str.{bytes_eq}
 use Rattle.gt_scope.specs.declared.declaration.Declaration.{Declaration}
 use Rattle.gt_drafts.specs.declared.draft.DraftConstant.{DraftConstant}
 use Rattle.gt_names.specs.declared.tables.Entry.{Entry}
+use Rattle.gt_items.specs.declared.items.Declarator.{Declarator}
+use Rattle.gt_items.specs.declared.items.RawType.{RawType}
+use Rattle.gt_items.specs.declared.items.Stars.{Stars}
+use Rattle.gt_drafts.specs.declared.types.Amount.{Amount}
+use Rattle.gt_drafts.specs.declared.types.DeclaredType.{DeclaredType}
+use Rattle.gt_drafts.specs.Options.{has_length}
+use Rattle.gt_scope.specs.Spelling.{spelled_of}
+use Rattle.gt_items.specs.declared.items.Stars.TheVariants.{Zero, One, Two, More}
+use Rattle.gt_drafts.specs.declared.types.BaseType.{BaseType}
+use Rattle.gt_drafts.specs.declared.types.Resolved.{Resolved}
+use Rattle.gt_scope.specs.declared.meaning.TypeName.{TypeName}
+use Rattle.gt_scope.specs.declared.types.Spelled.{Spelled}
+use Rattle.gt_scope.specs.declared.types.Spelled.TheVariants as spelled
+use Rattle.gt_scope.specs.Meanings.{meaning_in, more_stars, plain_type, resolved_type, with_stars}
 use Rattle.gt_scope.specs.Declarations.{as_constant}
-use Rattle.gt_resolve.specs.Drafts.{with_constant, constants_from, items_from}
+use Rattle.gt_resolve.specs.Drafts.{amount_in, bounds_of, declarator_type, with_constant, constants_from, items_from}
 use Rattle.gt_names.specs.Entries.{with_value}
 use Rattle.gt_scope.specs.Tables.{values_from}
 use Rattle.gt_names.proofs.TableLemmas.{list_any-map}
@@ -108,3 +122,39 @@ drafted_more es k e made pushed c l at m n v p =
 pub drafted_all : (es : List (Entry ℤ)) (ds : List Declaration) (k : ℕ) (made : List DraftConstant) → length es ≤ k → made ≡ map as_drafted (take k es)
     → es ≡ values_from as_constant [] ds → made ≡ constants_from [] ds
 drafted_all es ds k made h m e = m ∙ ap (map as_drafted) (take_all k es h ∙ e) ∙ drafted_constants ds
+
+-- ---- types with stars
+
+no_more : (s : Stars) → more_stars s Zero ≡ s
+no_more Zero = refl
+no_more One = refl
+no_more Two = refl
+no_more More = refl
+
+later_case : (o : Option Resolved) (base : BaseType) (s : Stars)
+    → with_stars (option_map_or (λ m. with_stars m Zero) o (record { base = base; stars = Zero })) s ≡ option_map_or (λ m. with_stars m s) o (record { base = base; stars = s })
+later_case None base s = refl
+later_case (Some m) base s = ap (λ (t : Stars). with_stars (record { base = m.base; stars = t }) s) (no_more m.stars)
+
+-- a type is looked up without stars, and has its stars later
+stars_later : (ds : List Declaration) (types : List TypeName) (ty : Spelled) (s : Stars) → with_stars (resolved_type ds types ty Zero) s ≡ resolved_type ds types ty s
+unfolding resolved_type
+stars_later ds types (spelled.Number scalar is_char) s = refl
+stars_later ds types spelled.Float s = refl
+stars_later ds types spelled.Double s = refl
+stars_later ds types spelled.Sizeless s = refl
+stars_later ds types (spelled.Tagged keyword tag) s = refl
+stars_later ds types (spelled.Named word) s = later_case (meaning_in types word) (plain_type ds (spelled.Named word)) s
+
+pub stars_after : (ds : List Declaration) (types : List TypeName) (ty : Spelled) (s : Stars) (means r : Resolved) → means ≡ resolved_type ds types ty Zero
+    → r ≡ with_stars means s → r ≡ resolved_type ds types ty s
+stars_after ds types ty s means r m e = e ∙ ap (λ (x : Resolved). with_stars x s) m ∙ stars_later ds types ty s
+
+-- a declarator after a type that was looked up
+pub declarator_after : (ds : List Declaration) (types : List TypeName) (ty : RawType) (d : Declarator) (means r : Resolved) (replaced : Bool) (texts : List (List ℕ))
+    (bounds : List Amount) (bits : Option Amount) → means ≡ resolved_type ds types (spelled_of ty) Zero → r ≡ with_stars means d.stars
+    → replaced ≡ has_length d.options → texts ≡ d.bounds → bounds ≡ bounds_of ds replaced texts → bits ≡ option_map (amount_in ds) d.bits
+    → ◌≡◌ {A = DeclaredType} (record { resolved = r; bounds = bounds; bits = bits; is_function = d.is_function }) (declarator_type ds types ty d)
+declarator_after ds types ty d means r replaced texts bounds bits m e l t b c =
+    let bounds_is : bounds ≡ bounds_of ds (has_length d.options) d.bounds = b ∙ ap₂ (λ (x : Bool) (y : List (List ℕ)). bounds_of ds x y) l t in
+    rw (stars_after ds types (spelled_of ty) d.stars means r m e) (rw bounds_is (rw c refl))

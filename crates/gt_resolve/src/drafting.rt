@@ -3,6 +3,8 @@ ghost use Rattle.std.specs.Prelude.{◌≡◌, ℕ, List, [], ◌++◌, Option, 
 ghost use Rattle.std.specs.List.{flat_map};
 ghost use Rattle.std.specs.Option.{option_to_list};
 ghost use Rattle.gt_items.specs.declared.items.Item.{Item};
+ghost use Rattle.gt_items.specs.declared.items.RawType.{RawType};
+ghost use Rattle.gt_items.specs.declared.items.Stars.TheVariants.{Zero};
 ghost use Rattle.gt_scope.specs.declared.declaration.Declaration.{Declaration};
 ghost use Rattle.gt_scope.specs.declared.meaning.TypeName.{TypeName};
 ghost use Rattle.gt_drafts.specs.declared.types.Amount.TheVariants.{Unread};
@@ -19,7 +21,7 @@ use gt_items::{
     Declarator, Item, Items, PointedType, RawCache, RawField, RawRoot, RawStructure, RawType, Stars,
 };
 use gt_names::Entry;
-use gt_scope::{Scope, TypeName, spelled};
+use gt_scope::{Scope, TypeName, spelled, with_stars};
 use gt_types::{Bytes, Copied, List};
 use std::alloc::{AllocError, Global};
 
@@ -110,14 +112,15 @@ fn pointed(alloc: Global, scope: &Scope, pointed: &PointedType) -> Result<Resolv
 fn declared(
     alloc: Global,
     scope: &Scope,
-    ty: &RawType,
+    means: &Resolved,
     declarator: &Declarator,
 ) -> Result<DeclaredType, AllocError>
-    ensures declared { IfOk result (λ made. made ≡ declarator_type scope.now.declarations.items scope.now.types.items ty.now declarator.now) }
+    ensures declared { IfOk result (λ made. (ty : RawType) → means.now ≡ resolved_type scope.now.declarations.items scope.now.types.items (spelled_of ty) Zero
+        → made ≡ declarator_type scope.now.declarations.items scope.now.types.items ty declarator.now) }
 {
     let replaced = has_length(declarator.options.as_slice());
     Ok(DeclaredType {
-        resolved: resolved(alloc, scope, ty, declarator.stars)?,
+        resolved: with_stars(alloc, means, declarator.stars)?,
         bounds: bounds(alloc, scope, replaced, declarator.bounds.as_slice())?,
         bits: bits(alloc, scope, &declarator.bits)?,
         is_function: declarator.is_function,
@@ -129,19 +132,20 @@ fn declared(
 fn field(
     alloc: Global,
     scope: &Scope,
-    ty: &RawType,
+    means: &Resolved,
     declarator: &Declarator,
 ) -> Result<DraftField, AllocError>
-    ensures field { IfOk result (λ made. made ≡ field_of scope.now.declarations.items scope.now.types.items ty.now declarator.now) }
+    ensures field { IfOk result (λ made. (ty : RawType) → means.now ≡ resolved_type scope.now.declarations.items scope.now.types.items (spelled_of ty) Zero
+        → made ≡ field_of scope.now.declarations.items scope.now.types.items ty declarator.now) }
 {
     Ok(DraftField {
         name: name_copy(alloc, &declarator.name)?,
         options: options_copy(alloc, &declarator.options)?,
-        ty: declared(alloc, scope, ty, declarator)?,
+        ty: declared(alloc, scope, means, declarator)?,
     })
 }
 
-// The fields of one type, after others.
+// The fields of one type, after others. The type is looked up once.
 fn with_fields(
     alloc: Global,
     scope: &Scope,
@@ -150,9 +154,10 @@ fn with_fields(
 ) -> Result<Vec<DraftField>, AllocError>
     ensures fields { IfOk result (λ made. made.items ≡ before.items ++ fields_in scope.now.declarations.items scope.now.types.items fields.now) }
 {
+    let means = resolved(alloc, scope, &fields.ty, Stars::Zero)?;
     let mut made = before;
     for declarator in fields.declarators.as_slice() {
-        made.push(field(alloc, scope, &fields.ty, declarator)?)?;
+        made.push(field(alloc, scope, &means, declarator)?)?;
     }
     Ok(made)
 }

@@ -16,7 +16,7 @@ mod types;
 
 pub use declaration::{Declaration, What};
 pub use meaning::TypeName;
-pub use scope::{Scope, scope_of};
+pub use scope::{Scope, scope_of, with_stars};
 pub use spelling::spelled;
 pub use typedefs::after_stars;
 pub use types::Spelled;

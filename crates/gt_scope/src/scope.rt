@@ -168,7 +168,8 @@ fn more_stars(stars: Stars, more: Stars) -> Stars
     }
 }
 
-fn following(alloc: Global, means: &Resolved, stars: Stars) -> Result<Resolved, AllocError>
+/// A meaning with stars after it. Its only error is out of memory.
+pub fn with_stars(alloc: Global, means: &Resolved, stars: Stars) -> Result<Resolved, AllocError>
     ensures following { IfOk result (λ r. r ≡ with_stars means.now stars) }
 {
     Ok(Resolved {
@@ -203,7 +204,7 @@ impl Scope {
                 None => self.plain(alloc, ty, stars),
                 Some(place) => match item_at(&self.types, place) {
                     None => self.plain(alloc, ty, stars),
-                    Some(found) => following(alloc, &found.means, stars),
+                    Some(found) => with_stars(alloc, &found.means, stars),
                 },
             },
             _ => self.plain(alloc, ty, stars),

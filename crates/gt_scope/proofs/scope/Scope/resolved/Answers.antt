@@ -24,7 +24,7 @@ pub returns-in-Some-item_at : goal.returns-in-Some-item_at
 returns-in-Some-item_at c =
     record {
       same =
-          found_resolved c.following.result c.args.self.now.declarations.items c.args.self.now.typedefs c.args.self.now.types.items c.args.ty.now c.in-Named.word
+          found_resolved c.with_stars.result c.args.self.now.declarations.items c.args.self.now.typedefs c.args.self.now.types.items c.args.ty.now c.in-Named.word
           c.in-Some.place c.in-Some-item_at.found.now c.args.stars c.in-Named.is c.args.self.now.typed c.args.self.now.named c.in-Some.ensures.place
-          (c.in-Some-item_at.ensures.item ∙ ap (λ types. slice_get types c.in-Some.place) c.deref.ensures.value) c.following.ensures.following;
+          (c.in-Some-item_at.ensures.item ∙ ap (λ types. slice_get types c.in-Some.place) c.deref.ensures.value) c.with_stars.ensures.following;
     }
