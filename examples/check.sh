@@ -1,8 +1,8 @@
 #!/usr/bin/env bash
 # Runs each example under its headers, and compares what it prints with NAME.out beside it, and its status; and compares the picture of
-# the first one with tree.dot. The status of this script is 0 where all are as they should be. Run by hand, from any folder; the gate has the
-# first example as its own stored run. GTYHEAP may name another program, by a whole path, than ./gtyheap, which proves and builds what it
-# needs first.
+# the first one with tree.dot. Then it looks whether the table of whole runs, by which the gate runs each example, has them as they stand here. The status of
+# this script is 0 where all are as they should be. Run by hand, from any folder. GTYHEAP may name another program, by a whole path, than ./gtyheap, which
+# proves and builds what it needs first.
 set -u
 cd "$(dirname "$0")" || exit 2
 export GTYHEAP=${GTYHEAP:-$PWD/../gtyheap}
@@ -33,4 +33,6 @@ example collect 1 node.h
 example rtl 1 rtl.h
 example values 1 values.h
 ./picture.sh tree.gty tree.h scope.h | diff tree.dot - && echo 'the picture of tree: as it should be' || failed=1
+rows=$(./rows.sh)
+[ "$(tail -n "$(wc -l <<<"$rows")" ../crates/run_table/stdin)" = "$rows" ] && echo 'the rows of the examples: as they should be' || failed=1
 exit "$failed"
