@@ -171,10 +171,6 @@ module _ (program : Program) (make : Maker) (past : Past) (sound : IsSound progr
       let b = taken (make past type Nothing) (fields_made make past was (suc i) types) all (sym first ∙ e) in
       subst AreZero b.is (sound past type Nothing b.tree b.is_first, zero-fields was types (suc i) b.trees (later i) later b.is_rest)
 
-  counted : (trees : Trees) (n : ℕ) → count trees ≡ suc n → (tree : Tree) × (rest : Trees) × (trees ≡ And tree rest)
-  counted End n e = absurd (omega arith)
-  counted (And tree rest) n e = (tree, rest, refl)
-
   pub each-field : (olds : Trees) (types : List Ty) (i : ℕ) (all : Trees) → count (from olds i) ≡ length types → fields_made make past (Whole (Rec olds)) i types ≡ Some all → AllReshape program types (from olds i) all
   each-field olds [] i all many e = let same : End ≡ all = cc in subst (λ ts. AllReshape program [] ts all) (sym (is-no_more (from olds i) many)) (subst (AllReshape program [] End) same AllReshape.none)
   each-field olds (type ∷ types) i all many e = go (each-field olds types (suc i)) (tree_at olds i) refl

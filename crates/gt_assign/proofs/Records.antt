@@ -1,5 +1,5 @@
 -- The static record that is made is what the write makes, where it fits; and where a write makes one, it is the one that is made.
-use Rattle.std.proofs.Common.{◌≡◌, ℕ, ◌≤◌, true, false, cond, List, length, refl, ap, sym, subst, ◌∙◌, Some, None, Result, Ok, Err}
+use Rattle.std.proofs.Common.{◌≡◌, ℕ, ◌≤◌, true, cond, List, length, refl, ap, sym, subst, ◌∙◌, Some, None, Result, Ok, Err}
 use Rattle.std.specs.Prelude.{All, Contains, IfOk, ◌==◌, option_map}
 use Rattle.std.proofs.lemmas.Bool.{eqb-true, eq-eqb}
 use Rattle.std.proofs.lemmas.List.{length-map}
@@ -82,12 +82,6 @@ module _ (program : Program) (settled : Settled program) where
   -- ---- by what a call gives
 
   module _ (old : Tree) (path : List ℕ) (leaf : Tree) where
-    pub none-by-path : ¬ LeadsToLeaf old path → NoneIsRecord program old path leaf
-    none-by-path off = λ blocks olds news is a. off (subst (λ t. LeadsToLeaf t path) (sym is) a.there)
-
-    pub none-by-leaf : is_word leaf ≡ false → NoneIsRecord program old path leaf
-    none-by-leaf off = λ blocks olds news is a. let h = a.is_leaf in cc
-
     found : (blocks : Blocks) (depth : ℕ) (olds news : Trees) → 203 ≤ depth → old ≡ Rec olds → AssignsStatics program blocks olds path leaf news → record_made program depth (with_part old path leaf) ≡ Some (Rec news)
     found blocks depth olds news enough is a = ap (λ t. record_made program depth (with_part t path leaf)) is ∙ is-made blocks depth olds news path leaf enough a
 

@@ -84,12 +84,6 @@ zeros-are (b ∷ bytes) (suc size) e z =
     let rest = zeros-are bytes size (omega arith) (All-tail is_nought b bytes z) in
     cc
 
--- a pointer is no structure, and its zero is null
-pointer-other : (type : Ty) → IsTrue (is_pointer type) → (c : TypeId) → is_node c type ≡ false
-pointer-other (ty.Str len) p c = refl
-pointer-other (ty.Ptr target kind reorder) p c = refl
-pointer-other type p c = absurd (cc)
-
 -- what a layer makes of a pointer is what it makes of a leaf
 pointer-layer : (program : Program) (capacity : ℕ) (make : Maker) (past : Past) (type : Ty) (was : Was) (w : Tree) → IsTrue (is_pointer type) → IsTrue (is_leaf w) → (IsZero w → Null ≡ w) → Comes program type was w
     → layer_made program capacity make past (out-Ty type) was ≡ Some w
