@@ -1,5 +1,5 @@
 -- What is made of a value with a new leaf is what the write makes, where it fits; and where a write makes a value, it is the one that is made.
-use Rattle.std.proofs.Common.{◌≡◌, ℕ, ◌≤◌, true, false, IsTrue, List, refl, ap, sym, subst, ◌∙◌, Option, Some, None, Result, Ok, Err}
+use Rattle.std.proofs.Common.{◌≡◌, ℕ, ◌≤◌, true, IsTrue, List, refl, sym, subst, ◌∙◌, Option, Some, None, Result, Ok, Err}
 use Rattle.std.specs.Prelude.{IfOk}
 use Rattle.gt_types.specs.declared.types.Ty.{Ty}
 use Rattle.gt_types.specs.declared.program.Program.{Program}
@@ -27,12 +27,6 @@ use Rattle.gt_assign.proofs.Nesting.{deep-block}
 use Rattle.gt_value.proofs.Refit.{refit-block}
 
 -- ---- where the leaf is
-
-leaf-there : (o : Option Tree) (part : Tree) → o ≡ Some part → is_word_there o ≡ is_word part
-leaf-there o part e = ap is_word_there e
-
-pub no-leaf : (old : Tree) (path : List ℕ) → is_word_there (part_at old path) ≡ false → ¬ LeadsToLeaf old path
-no-leaf old path off (part, e, leaf) = let h = leaf-there (part_at old path) part e in cc
 
 some-leaf : (o : Option Tree) → is_word_there o ≡ true → (part : Tree) × (o ≡ Some part) × IsTrue (is_word part)
 some-leaf None h = absurd (cc)
@@ -67,12 +61,6 @@ module _ (program : Program) (settled : Settled program) (capacity : ℕ) (old :
   is-made depth type blocks statics new enough (kind, may, is) a =
       subst (λ t. made program capacity depth (past_outside End) t (Whole (with_part old path leaf)) ≡ Some new) (sym is)
       (made-by depth kind blocks statics new enough may (subst (λ t. Assigns program blocks statics capacity t old path leaf new) is a))
-
-  pub none-by-path : (type : Ty) → ¬ LeadsToLeaf old path → NoneIsMade program capacity type old path leaf
-  none-by-path type off = λ blocks statics new a. off a.there
-
-  pub none-by-leaf : (type : Ty) → is_word leaf ≡ false → NoneIsMade program capacity type old path leaf
-  none-by-leaf type off = λ blocks statics new a. let h = a.is_leaf in cc
 
   pub none-made : (depth : ℕ) (type : Ty) → 199 ≤ depth → IsElement program type → made program capacity depth (past_outside End) type (Whole (with_part old path leaf)) ≡ None → NoneIsMade program capacity type old path leaf
   none-made depth type enough element off = λ blocks statics new a.

@@ -2,7 +2,9 @@
 use Rattle.std.proofs.Common.{◌≡◌, ℕ, zero, suc, ◌≤◌, Bool, true, false, cond, List, [], ◌∷◌, length, refl, ap, sym, subst, ◌∙◌, arith, Option, Some, None}
 use Rattle.std.specs.Prelude.{All, ◌==◌, slice_get, option_map, replicate}
 use Rattle.std.proofs.lemmas.Bool.{eqb-true}
+use Rattle.std.proofs.lemmas.List.{length-map}
 use Rattle.std.proofs.lemmas.List.Elements.{All-nil, All-cons}
+use Rattle.std.proofs.lemmas.Option.{same_Some}
 use Rattle.gt_types.specs.declared.expressions.Expr.{Expr}
 use Rattle.gt_types.specs.declared.types.TypeId.{TypeId}
 use Rattle.gt_types.specs.declared.types.Ty.{Ty}
@@ -45,21 +47,18 @@ zero-bytes : (n : ℕ) → All is_nought (replicate n 0)
 zero-bytes zero = All-nil is_nought
 zero-bytes (suc n) = All-cons is_nought 0 (replicate n 0) refl (zero-bytes n)
 
-some-is : (a b : Tree) → Some a ≡ Some b → a ≡ b
-some-is a b e = cc
-
 zero-leaf : (layer : Ty-F Ty) (new : Tree) → zero_leaf layer ≡ Some new → IsZero new
-zero-leaf (part.Num scalar) new e = subst IsZero (some-is _ new e) refl
-zero-leaf (part.Bits unit width) new e = subst IsZero (some-is _ new e) refl
-zero-leaf (part.Opaque size align) new e = subst IsZero (some-is _ new e) (zero-bytes size)
-zero-leaf (part.Str len) new e = subst IsZero (some-is Null new e) tt
-zero-leaf (part.Ptr target kind reorder) new e = subst IsZero (some-is Null new e) tt
+zero-leaf (part.Num scalar) new e = subst IsZero (same_Some _ new e) refl
+zero-leaf (part.Bits unit width) new e = subst IsZero (same_Some _ new e) refl
+zero-leaf (part.Opaque size align) new e = subst IsZero (same_Some _ new e) (zero-bytes size)
+zero-leaf (part.Str len) new e = subst IsZero (same_Some Null new e) tt
+zero-leaf (part.Ptr target kind reorder) new e = subst IsZero (same_Some Null new e) tt
 zero-leaf (part.Node node desc) new e = absurd (cc)
 zero-leaf (part.Arr n elem) new e = absurd (cc)
 zero-leaf (part.Tail len elem) new e = absurd (cc)
 
 old-leaf : (program : Program) (type : Ty) (b : Bool) (old new : Tree) → is_leaf old ≡ b → cond b (Some old) None ≡ Some new → Reshapes program type old new
-old-leaf program type true old new h e = subst (Reshapes program type old) (some-is old new e) (Reshapes.leaf h)
+old-leaf program type true old new h e = subst (Reshapes program type old) (same_Some old new e) (Reshapes.leaf h)
 old-leaf program type false old new h e = absurd (cc)
 
 pub leaf-comes : (program : Program) (type : Ty) (layer : Ty-F Ty) (was : Was) (new : Tree) → leaf_made layer was ≡ Some new → Comes program type was new
@@ -87,7 +86,7 @@ from-none (And tree trees) (suc i) e = from-none trees i e
 
 from-some : (trees : Trees) (i : ℕ) (tree : Tree) → tree_at trees i ≡ Some tree → from trees i ≡ And tree (from trees (suc i))
 from-some End i tree e = absurd (cc)
-from-some (And first trees) zero tree e = ap (λ t. And t trees) (some-is first tree e)
+from-some (And first trees) zero tree e = ap (λ t. And t trees) (same_Some first tree e)
 from-some (And first trees) (suc i) tree e = from-some trees i tree e
 
 from-end : (trees : Trees) (i : ℕ) → from trees i ≡ End → from trees (suc i) ≡ End
@@ -146,7 +145,7 @@ module _ (program : Program) (make : Maker) (past : Past) (sound : IsSound progr
   -- the rows of a value
   row-of : (o : Option Trees) (new : Tree) → option_map Row o ≡ Some new → (all : Trees) × (o ≡ Some all) × (Row all ≡ new)
   row-of None new e = absurd (cc)
-  row-of (Some all) new e = (all, refl, some-is (Row all) new e)
+  row-of (Some all) new e = (all, refl, same_Some (Row all) new e)
 
   pub row-comes : (type elem : Ty) (was : Was) (n : ℕ) (new : Tree) → ((old new : Trees) → EachReshapes program elem old new → Reshapes program type (Row old) (Row new)) → row_made make past elem was n ≡ Some new → Comes program type was new
   row-comes type elem (Whole (Row olds)) n new rows e =
@@ -171,10 +170,6 @@ module _ (program : Program) (make : Maker) (past : Past) (sound : IsSound progr
       let first = ap (λ o. o then λ p. make past type p then λ tree. fields_made make past was (suc i) types then λ trees. Some (And tree trees)) nothing in
       let b = taken (make past type Nothing) (fields_made make past was (suc i) types) all (sym first ∙ e) in
       subst AreZero b.is (sound past type Nothing b.tree b.is_first, zero-fields was types (suc i) b.trees (later i) later b.is_rest)
-
-  counted : (trees : Trees) (n : ℕ) → count trees ≡ suc n → (tree : Tree) × (rest : Trees) × (trees ≡ And tree rest)
-  counted End n e = absurd (omega arith)
-  counted (And tree rest) n e = (tree, rest, refl)
 
   pub each-field : (olds : Trees) (types : List Ty) (i : ℕ) (all : Trees) → count (from olds i) ≡ length types → fields_made make past (Whole (Rec olds)) i types ≡ Some all → AllReshape program types (from olds i) all
   each-field olds [] i all many e = let same : End ≡ all = cc in subst (λ ts. AllReshape program [] ts all) (sym (is-no_more (from olds i) many)) (subst (AllReshape program [] End) same AllReshape.none)
@@ -208,15 +203,11 @@ module _ (program : Program) (make : Maker) (past : Past) (sound : IsSound progr
 
   pub rec-of : (o : Option Trees) (new : Tree) → option_map Rec o ≡ Some new → (all : Trees) × (o ≡ Some all) × (Rec all ≡ new)
   rec-of None new e = absurd (cc)
-  rec-of (Some all) new e = (all, refl, some-is (Rec all) new e)
+  rec-of (Some all) new e = (all, refl, same_Some (Rec all) new e)
 
   pub checked : (b : Bool) (o : Option Tree) (new : Tree) → cond b o None ≡ Some new → (b ≡ true) × (o ≡ Some new)
   checked true o new e = (refl, e)
   checked false o new e = absurd (cc)
-
-  types-long : (fields : List Field) → length (types_of fields) ≡ length fields
-  types-long [] = refl
-  types-long (f ∷ fields) = ap suc (types-long fields)
 
   begun-struct : (node : TypeId) (desc : Option Expr) (s : Structure) (common : TypeId) (value new : Tree) → HasStructure program node s → is_node common (ty.Node node desc) ≡ false → 1 ≤ length s.fields
       → struct_made make past s.fields (Begun common value) ≡ Some new → Comes program (ty.Node node desc) (Begun common value) new
@@ -241,7 +232,7 @@ module _ (program : Program) (make : Maker) (past : Past) (sound : IsSound progr
   struct-comes node desc s (Whole (Rec olds)) new has struct some moves e =
       let c = checked (count olds == length s.fields) (option_map Rec (fields_made make past (Whole (Rec olds)) 0 (types_of s.fields))) new e in
       let found = rec-of (fields_made make past (Whole (Rec olds)) 0 (types_of s.fields)) new c.1 in
-      let many : count olds ≡ length (types_of s.fields) = eqb-true (count olds) (length s.fields) c.0 ∙ sym (types-long s.fields) in
+      let many : count olds ≡ length (types_of s.fields) = eqb-true (count olds) (length s.fields) c.0 ∙ sym (length-map s.fields (λ (f : Field). f.ty)) in
       subst (Reshapes program (ty.Node node desc) (Rec olds)) found.2 (Reshapes.struct has struct (each-field olds (types_of s.fields) 0 found.0 many found.1))
   struct-comes node desc s Nothing new has struct some moves e =
       let found = rec-of (fields_made make past Nothing 0 (types_of s.fields)) new e in

@@ -2,6 +2,7 @@
 use Rattle.std.proofs.Common.{◌≡◌, ◌≢◌, ℕ, zero, suc, Bool, true, false, cond, refl, ap, sym, subst, ◌∙◌, Option, Some, None}
 use Rattle.std.specs.Prelude.{◌==◌, slice_get, option_map}
 use Rattle.std.proofs.lemmas.Bool.{eqb-true, eq-eqb}
+use Rattle.std.proofs.lemmas.Option.{same_Some}
 use Rattle.gt_types.specs.declared.expressions.Expr.{Expr}
 use Rattle.gt_types.specs.declared.types.TypeId.{TypeId}
 use Rattle.gt_types.specs.declared.types.Ty.{Ty, out-Ty}
@@ -25,9 +26,6 @@ use Rattle.gt_assign.specs.Turning.{Maker, within, begun_by, is_member, rest_by,
 use Rattle.gt_unions.proofs.CommonFound.{CommonIs}
 use Rattle.gt_assign.proofs.Comes.{Comes, IsSound, leaf-comes, row-comes, struct-comes}
 
-some-is : {X : Type 0} (a b : X) → Some a ≡ Some b → a ≡ b
-some-is a b e = cc
-
 -- nothing is outside of a value of the structure itself
 outside-self : (program : Program) (node : TypeId) (type : Ty) (tree : Tree) → is_node node type ≡ true → IsZeroOutside program node (Some type) tree
 outside-self program node type (Num n) e = tt
@@ -40,15 +38,15 @@ outside-self program node type (Row trees) e = tt
 
 alt-of : (m : Option ℕ) (o : Option Tree) (new : Tree) → option_map (Alt m) o ≡ Some new → (tree : Tree) × (o ≡ Some tree) × (Alt m tree ≡ new)
 alt-of m None new e = absurd (cc)
-alt-of m (Some tree) new e = (tree, refl, some-is (Alt m tree) new e)
+alt-of m (Some tree) new e = (tree, refl, same_Some (Alt m tree) new e)
 
 begun-of : (common : TypeId) (o : Option Tree) (was : Was) → option_map (Begun common) o ≡ Some was → (tree : Tree) × (o ≡ Some tree) × (Begun common tree ≡ was)
 begun-of common None was e = absurd (cc)
-begun-of common (Some tree) was e = (tree, refl, some-is (Begun common tree) was e)
+begun-of common (Some tree) was e = (tree, refl, same_Some (Begun common tree) was e)
 
 bare-of : (o : Option Tree) (new : Tree) → option_map without_pointers o ≡ Some new → (tree : Tree) × (o ≡ Some tree) × (without_pointers tree ≡ new)
 bare-of None new e = absurd (cc)
-bare-of (Some tree) new e = (tree, refl, some-is (without_pointers tree) new e)
+bare-of (Some tree) new e = (tree, refl, same_Some (without_pointers tree) new e)
 
 -- the member of a union, with what it was
 record AltOf (make : Maker) (past : Past) (place : ℕ) (field : Option Field) (was : Option Was) (new : Tree) : Type 0 where
@@ -70,7 +68,7 @@ member-of make past place (Some f) (Some part) new e =
 other-member : (m : Option ℕ) (place : ℕ) → is_member m place ≡ false → m ≢ Some place
 other-member None place e h = absurd (cc)
 other-member (Some i) place e h =
-    let same : i ≡ place = some-is i place h in
+    let same : i ≡ place = same_Some i place h in
     let yes = eq-eqb i place same in
     absurd (cc)
 
@@ -89,13 +87,13 @@ module _ (program : Program) (make : Maker) (past : Past) (sound : IsSound progr
       Reshapes.other has union ne
       (Changes.keeps is b.1 (ap (λ t. beginning program common t tree) there ∙ c.0) (subst (λ t. IsZeroOutside program common t tree) (sym there) c.1))
   turned m place old f part tree None none ne got e comes =
-      let zero = subst (λ p. Comes program f.ty p tree) (sym (some-is Nothing part e)) comes in
+      let zero = subst (λ p. Comes program f.ty p tree) (sym (same_Some Nothing part e)) comes in
       Reshapes.other has union ne (Changes.clears none zero)
 
   alt-comes : (m : Option ℕ) (place : ℕ) (old new : Tree) (b : Bool) → CommonIs program s (common_of program s) → is_member m place ≡ b
       → (r : AltOf make past place (slice_get s.fields place) (cond b (Some (Whole old)) (begun_by program s m old (common_of program s))) new) → Reshapes program (ty.Node node desc) (Alt m old) new
   alt-comes m place old new true is mine r =
-      let comes = subst (λ p. Comes program r.f.ty p r.tree) (sym (some-is (Whole old) r.part r.is_part)) (sound past r.f.ty r.part r.tree r.makes) in
+      let comes = subst (λ p. Comes program r.f.ty p r.tree) (sym (same_Some (Whole old) r.part r.is_part)) (sound past r.f.ty r.part r.tree r.makes) in
       subst (Reshapes program (ty.Node node desc) (Alt m old)) r.is
       (subst (λ k. Reshapes program (ty.Node node desc) (Alt k old) (Alt (Some place) r.tree)) (sym (same-member m place mine)) (Reshapes.same has union r.is_field comes))
   alt-comes m place old new false is other r =
@@ -108,11 +106,11 @@ module _ (program : Program) (make : Maker) (past : Past) (sound : IsSound progr
       let b = bare-of (beginning program common (type_there s common (Some i)) old) new e in
       Reshapes.other has union (λ h. absurd (cc))
       (Changes.keeps is b.1 (beginning-self program common (ty.Node common None) new (same-number common.0) ∙ ap Some (sym b.2)) (outside-self program common (ty.Node common None) new (same-number common.0)))
-  rested i old new None none e = Reshapes.other has union (λ h. absurd (cc)) (Changes.clears none (subst IsZero (some-is (Rec End) new e) tt))
+  rested i old new None none e = Reshapes.other has union (λ h. absurd (cc)) (Changes.clears none (subst IsZero (same_Some (Rec End) new e) tt))
 
   rest-comes : (old new : Tree) → CommonIs program s (common_of program s) → rest_whole program s old ≡ Some new → Reshapes program (ty.Node node desc) old (Alt None new)
   rest-comes (Alt (Some i) old) new is e = rested i old new (common_of program s) is e
-  rest-comes (Alt None old) new is e = subst (λ t. Reshapes program (ty.Node node desc) (Alt None old) (Alt None t)) (some-is (without_pointers old) new e) Reshapes.same_none
+  rest-comes (Alt None old) new is e = subst (λ t. Reshapes program (ty.Node node desc) (Alt None old) (Alt None t)) (same_Some (without_pointers old) new e) Reshapes.same_none
   rest-comes (Num n) new is e = absurd (cc)
   rest-comes Null new is e = absurd (cc)
   rest-comes (To id) new is e = absurd (cc)
@@ -122,7 +120,7 @@ module _ (program : Program) (make : Maker) (past : Past) (sound : IsSound progr
 
   zero-rest : (o : Option TypeId) (new : Tree) → rest_zero make past o ≡ Some new → IsZero new
   zero-rest (Some common) new e = sound past (ty.Node common None) Nothing new e
-  zero-rest None new e = subst IsZero (some-is (Rec End) new e) tt
+  zero-rest None new e = subst IsZero (same_Some (Rec End) new e) tt
 
   union-comes : (was : Was) (member : Option ℕ) (new : Tree) → CommonIs program s (common_of program s) → stays node was ≡ None → member_made program make past s was member ≡ Some new → Comes program (ty.Node node desc) was new
   union-comes (Whole (Alt m old)) (Some place) new is moves e =
@@ -138,7 +136,7 @@ module _ (program : Program) (make : Maker) (past : Past) (sound : IsSound progr
       subst (Reshapes program (ty.Node node desc) old) a.2 (rest-comes old a.0 is a.1)
   union-comes Nothing (Some place) new is moves e =
       let r = member-of make past place (slice_get s.fields place) (Some Nothing) new e in
-      subst IsZero r.is (subst (λ p. Comes program r.f.ty p r.tree) (sym (some-is Nothing r.part r.is_part)) (sound past r.f.ty r.part r.tree r.makes))
+      subst IsZero r.is (subst (λ p. Comes program r.f.ty p r.tree) (sym (same_Some Nothing r.part r.is_part)) (sound past r.f.ty r.part r.tree r.makes))
   union-comes Nothing None new is moves e =
       let a = alt-of None (rest_zero make past (common_of program s)) new e in
       subst IsZero a.2 (zero-rest (common_of program s) a.0 a.1)
@@ -164,7 +162,7 @@ module _ (program : Program) (settled : Settled program) (commons : (node : Type
           → or_made (cond b (Some value) None) (structure_made program make (past_inside past node (Begun common value)) desc (Begun common value) (slice_get program.structures node.0)) ≡ Some new
           → Comes program (ty.Node node desc) (Begun common value) new
       go true same f =
-          subst (Comes program (ty.Node node desc) (Begun common value)) (some-is value new f)
+          subst (Comes program (ty.Node node desc) (Begun common value)) (same_Some value new f)
           (beginning-self program common (ty.Node node desc) value same, outside-self program common (ty.Node node desc) value same)
       go false other f =
           structure-comes make (past_inside past node (Begun common value)) sound node desc (Begun common value) (slice_get program.structures node.0) new refl (ap (λ b. cond b (Some value) None) other) f

@@ -1,7 +1,8 @@
 -- How deep the parts of a type nest in a settled program.
-use Rattle.std.proofs.Common.{◌≡◌, ℕ, zero, suc, ◌+◌, ◌*◌, ◌≤◌, Bool, true, false, ◌&&◌, IsTrue, refl, ap, sym, subst, ◌∙◌, arith, rules, Option, Some, None, ◌⊎◌, inl, inr}
+use Rattle.std.proofs.Common.{◌≡◌, ℕ, zero, suc, ◌+◌, ◌*◌, ◌≤◌, Bool, true, false, IsTrue, refl, ap, sym, subst, ◌∙◌, arith, rules, Option, Some, None, ◌⊎◌, inl, inr}
 use Rattle.std.specs.Prelude.{Contains, nat_le, slice_get}
 use Rattle.std.proofs.lemmas.List.Elements.{All-contains}
+use Rattle.std.proofs.lemmas.Bool.{and_parts}
 use Rattle.gt_types.specs.declared.expressions.Expr.{Expr}
 use Rattle.gt_types.specs.declared.types.TypeId.{TypeId}
 use Rattle.gt_types.specs.declared.types.Scalar.TheVariants as scalar
@@ -23,9 +24,6 @@ use Rattle.gt_tree.specs.Blocks.{Kind, Nodes, Pointers, Strings, Chars, Raw, des
 use Rattle.gt_tree.proofs.Types.{held-node, held-array, held-tail}
 use Rattle.gt_assign.proofs.Whole.{IsPart, Deep}
 
-some-is : {X : Type 0} (a b : X) → Some a ≡ Some b → a ≡ b
-some-is a b e = cc
-
 deep-up : (program : Program) (n m : ℕ) (type : Ty) → n ≤ m → Deep program n type → Deep program m type
 deep-up program zero m type h deep = absurd deep
 deep-up program (suc n) zero type h deep = absurd (omega arith)
@@ -42,13 +40,8 @@ dims-array type elem n e = dims-layer type (part.Arr n elem) e
 dims-tail : (type elem : Ty) (len : Expr) → out-Ty type ≡ part.Tail len elem → dimensions type ≡ 1 + dimensions elem
 dims-tail type elem len e = dims-layer type (part.Tail len elem) e
 
-true-both : (a b : Bool) → IsTrue (a && b) → IsTrue a × IsTrue b
-true-both true true h = (refl, refl)
-true-both true false h = (refl, h)
-true-both false b h = absurd (cc)
-
 repeat-dims : (elem : Ty) → IsTrue (may_repeat elem) → 1 + dimensions elem ≤ 4
-repeat-dims elem h = let t = (true-both (is_element elem) (nat_le (1 + dimensions elem) 4) h).1 in search rules
+repeat-dims elem h = let t = (and_parts (is_element elem) (nat_le (1 + dimensions elem) 4) h).1 in search rules
 
 field-dims_at : (type : Ty) (x : Ty-F Ty) → out-Ty type ≡ x → IsTrue (field_type_at x) → dimensions type ≤ 4
 field-dims_at type (part.Num scalar) e h = let d = dims-layer type (part.Num scalar) e in omega (arith, d)
@@ -57,7 +50,7 @@ field-dims_at type (part.Opaque size align) e h = let d = dims-layer type (part.
 field-dims_at type (part.Str count) e h = let d = dims-layer type (part.Str count) e in omega (arith, d)
 field-dims_at type (part.Ptr target kind reorder) e h = let d = dims-layer type (part.Ptr target kind reorder) e in omega (arith, d)
 field-dims_at type (part.Node node desc) e h = let d = dims-layer type (part.Node node desc) e in omega (arith, d)
-field-dims_at type (part.Arr n elem) e h = let d = dims-array type elem n e in let r = repeat-dims elem (true-both (is_bound n) (may_repeat elem) h).1 in omega (arith, d, r)
+field-dims_at type (part.Arr n elem) e h = let d = dims-array type elem n e in let r = repeat-dims elem (and_parts (is_bound n) (may_repeat elem) h).1 in omega (arith, d, r)
 field-dims_at type (part.Tail count elem) e h = let d = dims-tail type elem count e in let r = repeat-dims elem h in omega (arith, d, r)
 
 root-dims_at : (type : Ty) (x : Ty-F Ty) → out-Ty type ≡ x → IsTrue (root_type_at x) → dimensions type ≤ 4
@@ -67,7 +60,7 @@ root-dims_at type (part.Opaque size align) e h = let d = dims-layer type (part.O
 root-dims_at type (part.Str count) e h = let d = dims-layer type (part.Str count) e in omega (arith, d)
 root-dims_at type (part.Ptr target kind reorder) e h = let d = dims-layer type (part.Ptr target kind reorder) e in omega (arith, d)
 root-dims_at type (part.Node node desc) e h = let d = dims-layer type (part.Node node desc) e in omega (arith, d)
-root-dims_at type (part.Arr n elem) e h = let d = dims-array type elem n e in let r = repeat-dims elem (true-both (is_bound n) (may_repeat elem) h).1 in omega (arith, d, r)
+root-dims_at type (part.Arr n elem) e h = let d = dims-array type elem n e in let r = repeat-dims elem (and_parts (is_bound n) (may_repeat elem) h).1 in omega (arith, d, r)
 root-dims_at type (part.Tail count elem) e h = absurd (cc)
 
 -- ---- arrays around a structure

@@ -1,7 +1,8 @@
 -- What becomes of fields or roots, decided one after another.
-use Rattle.std.proofs.Common.{◌≡◌, ◌≢◌, ℕ, ◌+◌, ◌<◌, ◌≤◌, Bool, true, false, List, ◌∷◌, length, map, drop, get_or, cond, refl, ap, sym, ◌∙◌, arith, add-one, Option, Some, None}
+use Rattle.std.proofs.Common.{◌≡◌, ◌≢◌, ℕ, ◌+◌, ◌<◌, ◌≤◌, List, ◌∷◌, length, map, drop, get_or, cond, refl, ap, sym, ◌∙◌, arith, add-one, Option, Some, None}
 use Rattle.std.specs.Prelude.{option_map, ◌==◌}
 use Rattle.std.proofs.lemmas.Option.{slice_get_read}
+use Rattle.std.proofs.lemmas.Bool.{ne_eqb}
 use Rattle.gt_types.specs.declared.types.Ty.{Ty}
 use Rattle.gt_tree.specs.Trees.{Tree, Trees, Rec, count, tree_at}
 use Rattle.gt_value.specs.declared.values.Value.{Value}
@@ -21,13 +22,6 @@ use Rattle.gt_assign.proofs.Decided.{more, SoFar, so_far, parts-next, parts-none
 at-place : (parts : List Value) (i : ℕ) (v : Value) → i < length parts → v ≡ get_or parts i v → tree_at (trees (map tree_of parts)) i ≡ Some (tree_of v)
 at-place parts i v inside is = tree_at-trees parts i ∙ ap maybe_tree (slice_get_read parts (length parts) i v refl inside is)
 
-differ : (a b : ℕ) → a ≢ b → (a == b) ≡ false
-differ a b h = go (a == b) refl
-  where
-    go : (x : Bool) → (a == b) ≡ x → x ≡ false
-    go true e = absurd (h ((equals a b).0 e))
-    go false e = refl
-
 module _ (make : Maker) (past : Past) {X : Type 0} (type_of : X → Ty) (fields : List X) (parts : List Value) where
   abbrev olds : Trees
   olds = trees (map tree_of parts)
@@ -45,7 +39,7 @@ module _ (make : Maker) (past : Past) {X : Type 0} (type_of : X → Ty) (fields 
   pub fields-uneven : length parts ≢ length fields → all_fields ≡ None
   fields-uneven h =
       ap (λ n. cond (n == length fields) (option_map Rec (fields_made make past was 0 (map type_of fields))) None) (count-trees parts)
-      ∙ ap (λ b. cond b (option_map Rec (fields_made make past was 0 (map type_of fields))) None) (differ (length parts) (length fields) h)
+      ∙ ap (λ b. cond b (option_map Rec (fields_made make past was 0 (map type_of fields))) None) (ne_eqb (length parts) (length fields) h)
 
   even : length parts ≡ length fields → all_fields ≡ option_map Rec (fields_from 0)
   even h =

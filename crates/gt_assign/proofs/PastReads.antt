@@ -3,6 +3,7 @@ use Rattle.std.proofs.Common.{◌≡◌, ℕ, zero, suc, Bool, true, false, cond
 use Rattle.std.specs.Prelude.{◌==◌, pos, slice_get}
 use Rattle.std.specs.Str.{bytes_eq}
 use Rattle.std.specs.List.{position_from}
+use Rattle.std.proofs.lemmas.Option.{same_Some}
 use Rattle.gt_types.specs.declared.expressions.Expr.{Expr}
 use Rattle.gt_types.specs.declared.types.TypeId.{TypeId}
 use Rattle.gt_types.specs.declared.types.Ty.{Ty}
@@ -27,9 +28,6 @@ use Rattle.gt_tree.proofs.WriteAlike.{read-field, zero-number}
 use Rattle.gt_assign.specs.Pasts.{Was, Whole, Nothing, Begun, begun_at, begun_in, begun_node, begun_next, begun_on, begun_path, was_path}
 use Rattle.gt_assign.proofs.Comes.{Comes, not-nought}
 
-some-is : {X : Type 0} (a b : X) → Some a ≡ Some b → a ≡ b
-some-is a b e = cc
-
 -- paths to numbers read the same from what a structure was and from its value
 abbrev pub Reads : Program → TypeId → Was → Tree → Type 0
 Reads program node was w = (steps : List (List ℕ)) → LeadsToNumber program node steps → was_path program steps (ty.Node node None) was ≡ read_path program steps (ty.Node node None) w
@@ -44,7 +42,7 @@ record FieldAt (program : Program) (blocks : Blocks) (capacity : ℕ) (t : Scope
 module _ {program : Program} {blocks : Blocks} {capacity : ℕ} where
   field-at : {t : Scope} {types : List Ty} {trees : Trees} → AllFit program blocks capacity t types trees → (i : ℕ) (type : Ty) → slice_get types i ≡ Some type → FieldAt program blocks capacity t type trees i
   field-at AllFit.none i type e = absurd (cc)
-  field-at {t} (AllFit.more {type = here} {tree} fits all) zero type e = record { tree = tree; there = refl; fits = subst (λ y. Fits program blocks capacity t y tree) (some-is here type e) fits }
+  field-at {t} (AllFit.more {type = here} {tree} fits all) zero type e = record { tree = tree; there = refl; fits = subst (λ y. Fits program blocks capacity t y tree) (same_Some here type e) fits }
   field-at (AllFit.more fits all) (suc i) type e = let f = field-at all i type e in record { tree = f.tree; there = f.there; fits = f.fits }
 
   number-begins : {t : Scope} (common : TypeId) (type : Ty) (tree value : Tree) → IsTrue (is_number type) → Fits program blocks capacity t type tree → ¬ (beginning program common (Some type) tree ≡ Some value)
@@ -69,7 +67,7 @@ module _ {program : Program} {blocks : Blocks} {capacity : ℕ} where
 
 zero-at : (trees : Trees) (i : ℕ) (tree : Tree) → AreZero trees → tree_at trees i ≡ Some tree → IsZero tree
 zero-at End i tree z e = absurd (cc)
-zero-at (And first trees) zero tree z e = subst IsZero (some-is first tree e) z.0
+zero-at (And first trees) zero tree z e = subst IsZero (same_Some first tree e) z.0
 zero-at (And first trees) (suc i) tree z e = zero-at trees i tree z.1 e
 
 -- the first field, which begins with the structure, and the others, which are zero
@@ -121,7 +119,7 @@ module _ {program : Program} (blocks : Blocks) (capacity : ℕ) (settled : Settl
       → beginning program common first first_tree ≡ Some value → IsZeroOutside program common first first_tree → AreZero rest → tree_at (And first_tree rest) place ≡ Some tree → Fits program blocks capacity u type tree
       → begun_on (begun_path program common value names) (Some (cond (place == 0) (Some type) None)) ≡ read_path program names type tree
   step-reads {u} type first names zero tree first_tree rest on zeros is e z zero_rest there fits =
-      let same = some-is first_tree tree there in
+      let same = same_Some first_tree tree there in
       let here = is refl in
       ap (λ b. begun_on (begun_path program common value names) (Some (cond b (Some type) None))) (same-number 0)
       ∙ on u tree fits (subst (λ y. beginning program common (Some type) y ≡ Some value) same (subst (λ o. beginning program common o first_tree ≡ Some value) here e))
@@ -146,7 +144,7 @@ module _ {program : Program} (blocks : Blocks) (capacity : ℕ) (settled : Settl
   self-reads : (node : TypeId) (desc : Option Expr) (name : List ℕ) (names : List (List ℕ)) (w : Tree) → is_node common (ty.Node node desc) ≡ true → beginning program common (Some (ty.Node node desc)) w ≡ Some value
       → begun_path program common value (name ∷ names) (ty.Node node None) ≡ read_path program (name ∷ names) (ty.Node node None) w
   self-reads node desc name names w same e =
-      let is : w ≡ value = some-is w value (sym (beginning-self program common (ty.Node node desc) w same) ∙ e) in
+      let is : w ≡ value = same_Some w value (sym (beginning-self program common (ty.Node node desc) w same) ∙ e) in
       self-path program common value node name names same ∙ ap (read_path program (name ∷ names) (ty.Node node None)) (sym is)
 
   no-alt : {t : Scope} (node : TypeId) (desc : Option Expr) (s : Structure) (w : Tree) → HasStructure program node s → s.is_union ≡ true → is_node common (ty.Node node desc) ≡ false → Fits program blocks capacity t (ty.Node node desc) w

@@ -1,7 +1,8 @@
 -- The static record that is made is what the write makes, where it fits; and where a write makes one, it is the one that is made.
-use Rattle.std.proofs.Common.{◌≡◌, ℕ, suc, ◌≤◌, true, false, cond, List, [], ◌∷◌, length, map, refl, ap, sym, subst, ◌∙◌, Some, None, Result, Ok, Err}
+use Rattle.std.proofs.Common.{◌≡◌, ℕ, ◌≤◌, true, cond, List, length, refl, ap, sym, subst, ◌∙◌, Some, None, Result, Ok, Err}
 use Rattle.std.specs.Prelude.{All, Contains, IfOk, ◌==◌, option_map}
 use Rattle.std.proofs.lemmas.Bool.{eqb-true, eq-eqb}
+use Rattle.std.proofs.lemmas.List.{length-map}
 use Rattle.std.proofs.lemmas.List.Elements.{All-map, All-weaker, All-contains_itself}
 use Rattle.gt_types.specs.declared.program.Root.{Root}
 use Rattle.gt_types.specs.declared.program.Program.{Program}
@@ -26,10 +27,6 @@ use Rattle.gt_unions.proofs.CommonFound.{common-is}
 use Rattle.gt_assign.proofs.Standing.{Stands}
 use Rattle.gt_assign.proofs.Whole.{Deep, fields-old, fields-long, makes_fields}
 use Rattle.gt_assign.proofs.Nesting.{deep-root}
-
-types-long : (roots : List Root) → length (map (λ (r : Root). r.ty) roots) ≡ length roots
-types-long [] = refl
-types-long (r ∷ roots) = ap suc (types-long roots)
 
 module _ (program : Program) (settled : Settled program) where
   root-stands : (written news : Trees) → RootsSame written news → All (Stands program End (past_outside written) (outside news)) (root_types program)
@@ -56,7 +53,7 @@ module _ (program : Program) (settled : Settled program) where
       let sound = made-sound program settled (common-is program settled) 0 depth in
       let c = checked program (made program 0 depth) (past_outside written) sound (count written == length program.roots) (option_map Rec (fields_made (made program 0 depth) (past_outside written) (Whole (Rec written)) 0 (root_types program))) new e in
       let found = rec-of program (made program 0 depth) (past_outside written) sound (fields_made (made program 0 depth) (past_outside written) (Whole (Rec written)) 0 (root_types program)) new c.1 in
-      let many : count written ≡ length (root_types program) = eqb-true (count written) (length program.roots) c.0 ∙ sym (types-long program.roots) in
+      let many : count written ≡ length (root_types program) = eqb-true (count written) (length program.roots) c.0 ∙ sym (length-map program.roots (λ (r : Root). r.ty)) in
       record {
         written = written;
         news = found.0;
@@ -77,7 +74,7 @@ module _ (program : Program) (settled : Settled program) where
   is-made blocks depth olds news path leaf enough a =
       ap (record_made program depth) a.with_leaf
       ∙ ap (λ b. cond b (option_map Rec (fields_made (made program 0 depth) (past_outside a.written) (Whole (Rec a.written)) 0 (root_types program))) None)
-      (eq-eqb (count a.written) (length program.roots) (fields-long program a.reshapes ∙ types-long program.roots))
+      (eq-eqb (count a.written) (length program.roots) (fields-long program a.reshapes ∙ length-map program.roots (λ (r : Root). r.ty)))
       ∙ ap (option_map Rec)
       (makes_fields program settled blocks 0 End a.fits (past_outside a.written) (Whole (Rec a.written)) depth 0 (root-stands a.written news (roots-kept a.reshapes)) (root-deep depth enough)
       (fields-old program a.reshapes a.written 0 refl))
@@ -85,12 +82,6 @@ module _ (program : Program) (settled : Settled program) where
   -- ---- by what a call gives
 
   module _ (old : Tree) (path : List ℕ) (leaf : Tree) where
-    pub none-by-path : ¬ LeadsToLeaf old path → NoneIsRecord program old path leaf
-    none-by-path off = λ blocks olds news is a. off (subst (λ t. LeadsToLeaf t path) (sym is) a.there)
-
-    pub none-by-leaf : is_word leaf ≡ false → NoneIsRecord program old path leaf
-    none-by-leaf off = λ blocks olds news is a. let h = a.is_leaf in cc
-
     found : (blocks : Blocks) (depth : ℕ) (olds news : Trees) → 203 ≤ depth → old ≡ Rec olds → AssignsStatics program blocks olds path leaf news → record_made program depth (with_part old path leaf) ≡ Some (Rec news)
     found blocks depth olds news enough is a = ap (λ t. record_made program depth (with_part t path leaf)) is ∙ is-made blocks depth olds news path leaf enough a
 

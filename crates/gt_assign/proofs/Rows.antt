@@ -35,9 +35,6 @@ after-more values value (Some rest) = ap Some (sym (before-one values value rest
 after-more values value None = refl
 
 module _ (make : Maker) (past : Past) (was : Was) where
-  abbrev rest_of : ℕ → List Ty → Tree → Option Trees
-  rest_of i types tree = more tree (fields_made make past was (suc i) types)
-
   pub one-made : (i : ℕ) (type : Ty) (types : List Ty) (part : Was) (tree : Tree) → field_was was i ≡ Some part → make past type part ≡ Some tree
       → fields_made make past was i (type ∷ types) ≡ more tree (fields_made make past was (suc i) types)
   one-made i type types part tree e f =

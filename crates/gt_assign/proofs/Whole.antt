@@ -2,8 +2,9 @@
 use Rattle.std.proofs.Common.{◌≡◌, ◌≢◌, ℕ, zero, suc, ◌≤◌, Bool, true, false, cond, IsTrue, List, [], ◌∷◌, length, refl, ap, sym, subst, ◌∙◌, arith, rules, Option, Some, None}
 use Rattle.std.specs.Prelude.{All, Contains, ◌==◌, ℤ, pos, nat_le, slice_get, option_map, replicate}
 use Rattle.std.proofs.lemmas.Bool.{eqb-true, eq-eqb}
+use Rattle.std.proofs.lemmas.List.{length-map}
 use Rattle.std.proofs.lemmas.List.Elements.{All-head, All-tail, All-map, All-weaker, All-contains_itself}
-use Rattle.std.proofs.lemmas.Option.{slice_get_within, get_or_from_slice_get}
+use Rattle.std.proofs.lemmas.Option.{slice_get_within, get_or_from_slice_get, same_Some}
 use Rattle.gt_types.specs.declared.expressions.Expr.{Expr}
 use Rattle.gt_types.specs.declared.types.TypeId.{TypeId}
 use Rattle.gt_types.specs.declared.types.Ty.{Ty, out-Ty}
@@ -38,9 +39,6 @@ use Rattle.gt_unions.proofs.CommonFound.{CommonIs}
 use Rattle.gt_unions.proofs.CommonFound.{common-is}
 use Rattle.gt_assign.proofs.PastReads.{Reads, reads, Opened, opened}
 use Rattle.gt_assign.proofs.Standing.{Stands, count-read, desc-read}
-
-some-is : {X : Type 0} (a b : X) → Some a ≡ Some b → a ≡ b
-some-is a b e = cc
 
 -- ---- how deep types nest
 
@@ -85,12 +83,6 @@ zeros-are (b ∷ bytes) (suc size) e z =
     let head : 0 ≡ b = sym (All-head is_nought b bytes z) in
     let rest = zeros-are bytes size (omega arith) (All-tail is_nought b bytes z) in
     cc
-
--- a pointer is no structure, and its zero is null
-pointer-other : (type : Ty) → IsTrue (is_pointer type) → (c : TypeId) → is_node c type ≡ false
-pointer-other (ty.Str len) p c = refl
-pointer-other (ty.Ptr target kind reorder) p c = refl
-pointer-other type p c = absurd (cc)
 
 -- what a layer makes of a pointer is what it makes of a leaf
 pointer-layer : (program : Program) (capacity : ℕ) (make : Maker) (past : Past) (type : Ty) (was : Was) (w : Tree) → IsTrue (is_pointer type) → IsTrue (is_leaf w) → (IsZero w → Null ≡ w) → Comes program type was w
@@ -178,12 +170,8 @@ module _ (program : Program) where
         → Comes program (ty.Node node desc) was (Rec trees) → (has_fields was (length x.fields) ≡ true) × FieldsCome program was 0 (types_of x.fields) trees
     struct-come node desc x (Whole old) trees has all moves comes =
         let o = struct-old node desc x old trees has comes in
-        let many : count o.0 ≡ length x.fields = fields-long o.2 ∙ types-long x.fields in
+        let many : count o.0 ≡ length x.fields = fields-long o.2 ∙ length-map x.fields (λ (f : Field). f.ty) in
         (ap (λ y. has_fields (Whole y) (length x.fields)) o.1 ∙ eq-eqb (count o.0) (length x.fields) many, subst (λ y. FieldsCome program (Whole y) 0 (types_of x.fields) trees) (sym o.1) (fields-old o.2 o.0 0 refl))
-      where
-        types-long : (fields : List Field) → length (types_of fields) ≡ length fields
-        types-long [] = refl
-        types-long (f ∷ fields) = ap suc (types-long fields)
     struct-come node desc x Nothing trees has all moves comes = (refl, fields-zero all Nothing 0 refl (λ k. refl) comes)
     struct-come node desc x (Begun c v) trees has all moves comes =
         (refl, begun-come all c v (first_type program (ty.Node node desc)) (first-types program node desc x has) (opened program c v (ty.Node node desc) trees (not-stays (c.0 == node.0) v moves) comes.0 comes.1))
@@ -235,8 +223,8 @@ module _ (program : Program) (settled : Settled program) (node : TypeId) (desc :
 
   member-came : (o : Tree) (place : ℕ) (f : Field) (tree : Tree) → slice_get s.fields place ≡ Some f → CameFrom program s (Some place) tree o → MemberComes program s place f (Whole o) tree
   member-came o place f tree got (CameFrom.stayed i g old is e there r) =
-      let same : place ≡ i = some-is place i e in
-      let fields : g ≡ f = some-is g f (sym there ∙ ap (slice_get s.fields) (sym same) ∙ got) in
+      let same : place ≡ i = same_Some place i e in
+      let fields : g ≡ f = same_Some g f (sym there ∙ ap (slice_get s.fields) (sym same) ∙ got) in
       record {
         part = Whole old;
         is_part = ap (λ y. member_was program s place (Whole y)) is ∙ ap (λ b. cond b (Some (Whole old)) (begun_by program s (Some place) old (common_of program s))) (is-same place);
@@ -259,7 +247,7 @@ module _ (program : Program) (settled : Settled program) (node : TypeId) (desc :
   rest-came o tree (CameFrom.rested old is no_member bare) ends = ap (rest_whole program s) is ∙ ap Some (sym bare)
   rest-came o tree (CameFrom.turned None old is ne changes) ends = absurd (ne refl)
   rest-came o tree (CameFrom.turned (Some i) old is ne (Changes.keeps {old_part} {common} c e g z)) ends =
-      let same : tree ≡ without_pointers old_part = some-is tree (without_pointers old_part) (sym (beginning-self program common (ty.Node common None) tree (same-number common.0)) ∙ g) in
+      let same : tree ≡ without_pointers old_part = same_Some tree (without_pointers old_part) (sym (beginning-self program common (ty.Node common None) tree (same-number common.0)) ∙ g) in
       ap (rest_whole program s) is
       ∙ ap (rest_by program s (Some i) old) (common-found program settled node s common (common_of program s) has found c)
       ∙ ap (option_map without_pointers) e

@@ -108,9 +108,6 @@ bare-stop ps i p hp ep off so =
 pub bare-done : (ps : List Value) (i : ℕ) → length ps ≤ i → (AreBare (drop i ps) ↔ AreBare ps) → IsTrue true ↔ AreBare ps
 bare-done ps i past so = always (AreBare ps) (so.0 (subst (λ ys. AreBare ys) (sym (drop-none ps i past)) refl))
 
-pub bare-start : (ps : List Value) → AreBare (drop 0 ps) ↔ AreBare ps
-bare-start ps = ((λ h. h), (λ h. h))
-
 pub some-parts : (ps : List Value) → 1 ≤ length ps → IsTrue false ↔ (Rec (trees (map tree_of ps)) ≡ Rec End)
 some-parts [] h = absurd (omega arith)
 some-parts (p ∷ ps) h = never (Rec (And (tree_of p) (trees (map tree_of ps))) ≡ Rec End) (λ e. cc)

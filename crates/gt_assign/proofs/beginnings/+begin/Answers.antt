@@ -1,11 +1,12 @@
-use Rattle.std.proofs.Common.{rules, ◌≡◌, ◌-◌, List, ap, sym, subst, ◌∙◌, Some, Err, arith, option_copied}
+use Rattle.std.proofs.Common.{rules, ◌≡◌, ◌-◌, List, length, take, drop, ap, sym, subst, ◌∙◌, Some, Err, arith, option_copied}
 use Rattle.std.proofs.lemmas.Result.{err_from_is_err_and}
 use Rattle.gt_types.specs.declared.types.Ty.{out-Ty}
 use Rattle.gt_types.specs.declared.types.Ty.TheVariants as ty
 use Rattle.gt_types.specs.declared.program.Field.{Field}
+use Rattle.gt_tree.specs.Fits.{types_of}
 use Rattle.gt_value.specs.Values.{tree_of}
-use Rattle.gt_assign.specs.Pasts.{Begun, past_of}
-use Rattle.gt_assign.specs.Turning.{made, layer_made, struct_made}
+use Rattle.gt_assign.specs.Pasts.{Begun, Nothing, past_of}
+use Rattle.gt_assign.specs.Turning.{made, layer_made, struct_made, fields_made}
 use Rattle.gt_assign.specs.Changes.{Decides, changed}
 use Rattle.gt_assign.specs.declared.changes.Change.{Change}
 use Rattle.gt_assign.specs.declared.changes.Change.TheVariants.{Begins}
@@ -44,7 +45,7 @@ begin_struct-returns-in_err-rest-in-len1-up t c =
     let is : c.from_residual-in_err-rest-in-len1-up.result ≡ Err c.in_err-rest-in-len1-up.field-0.0 = cc in
     let whole = struct_made make (past_of c.args.inner.now) c.args.fields.now (Begun c.args.common (tree_of c.args.value.now)) in
     subst (λ r. Decides r (tree_of c.args.value.now) whole) (sym is)
-    (all-stop c.in_err-rest-in-len1-up.field-0.0 (tree_of c.args.value.now) _ whole c.in_err-rest-in-len1-up.ensures
+    (all-stop c.in_err-rest-in-len1-up.field-0.0 (tree_of c.args.value.now) (fields_made make (past_of c.args.inner.now) Nothing 0 (types_of (take (length c.args.fields.now - 1) (drop 1 c.args.fields.now)))) whole c.in_err-rest-in-len1-up.ensures
     (struct-rest make (past_of c.args.inner.now) c.args.common (tree_of c.args.value.now) c.args.fields.now c.field-item.result c.in-len1-up.len_at_least c.field-item.is))
 
 pub begin_struct-returns-in_ok-new-in-len1-up : goal.begin_struct-returns-in_ok-new-in-len1-up
