@@ -166,7 +166,7 @@ fn refused_text(alloc: Global, why: Why) -> Result<Bytes, AllocError>
     }
 }
 
-// The line of a refusal for want of so many bytes.
+// The line of a refusal where so many bytes found no room.
 fn full_text(alloc: Global, need: u32) -> Result<Bytes, AllocError>
     ensures { IfOk result (λ bytes. bytes ≡ answer_text_of (Answer.Refused (Why.Full need))) }
 {

@@ -57,7 +57,7 @@ pub fn prepare<F: Files>(alloc: Global, words: &[Word], files: &mut F) -> Result
     // with the answer for which it is refused; and else each file once and in order, and it is refused by the texts that the reads gave.
     ensures stopped { IfErr result (λ halt. HaltsAfter F.reads words.now (F.told files.old) files.old halt files.new) }
 
-    // A file is answered as failed only where the outside failed, and it is the one whose reading failed.
+    // A file is answered as failed only where a read failed, and it is the one that was read.
     ensures cause { (word : ℕ) (line : List ℕ) → result ≡ Err (Halt.Refused (Refusal.File word FileWhy.Fault) line) → Rose (F.faults files.old) (F.faults files.new) }
     ensures failed { (word : ℕ) (line : List ℕ) → result ≡ Err (Halt.Refused (Refusal.File word FileWhy.Fault) line) → FailsIn F.reads words.now files.old word files.new }
 {

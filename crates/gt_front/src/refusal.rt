@@ -22,6 +22,6 @@ pub enum FileWhy {
     Missing,
     /// It is longer than its limit.
     TooLong,
-    /// The outside failed.
+    /// Its reading failed.
     Fault,
 }

@@ -1,5 +1,5 @@
 -- What the steps of the work on texts come to.
-use Rattle.std.proofs.Common.{◌≡◌, ℕ, true, false, List, length, sym, subst, inl, inr}
+use Rattle.std.proofs.Common.{◌≡◌, ℕ, true, false, List, length, sym, subst, inr}
 use Rattle.gt_types.specs.declared.faults.Fault.{Fault}
 use Rattle.gt_types.specs.declared.faults.Stop.{Stop}
 use Rattle.gt_types.specs.declared.faults.Stop.TheVariants.{Memory, At}
@@ -8,18 +8,14 @@ use Rattle.gt_items.specs.declared.items.Items.{Items}
 use Rattle.gt_drafts.specs.declared.draft.Draft.{Draft}
 use Rattle.gt_resolve.specs.Placings.{faults_from}
 use Rattle.gt_resolve.specs.Resolution.{Resolves}
-use Rattle.gt_rules.specs.Faults.{Declares as DeclaresProgram, IsFirstFault as IsFirstOptionFault}
-use Rattle.gt_headers.specs.Headers.{Declares, IsFirstFault, IsHeaderStop}
+use Rattle.gt_rules.specs.Faults.{Declares as DeclaresProgram}
+use Rattle.gt_headers.specs.Headers.{Declares, IsHeaderStop}
 use Rattle.gt_headers.specs.Reading.{AreRead}
 use Rattle.gt_headers.specs.Sizes.{IsSizeFault}
 use Rattle.gt_headers.specs.Stops.{IsSizeStop}
 use Rattle.gt_headers.proofs.SizePlaces.{count_roots, count_structures}
 
 module _ (texts : List (List ℕ)) (files : List Items) (draft : Draft) (read : AreRead texts files) (resolved : Resolves files draft) where
-  -- the first fault of options
-  pub option_fault : (fault : Fault) → IsFirstOptionFault draft fault → IsFirstFault texts fault
-  option_fault fault first = inr (inr (inl (draft, record { files = files; are_read = read; resolved = resolved }, first)))
-
   module _ (program : Program) (declares : DeclaresProgram draft program) (shown : List Items) (same : shown ≡ files) where
     pub structures_in : length program.structures ≡ length (faults_from true 1 shown)
     structures_in = subst (λ (fs : List Items). length program.structures ≡ length (faults_from true 1 fs)) (sym same) (count_structures files draft program resolved declares.made)

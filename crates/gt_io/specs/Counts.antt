@@ -1,4 +1,4 @@
--- The counts of faults, which say that a failure was the outside's.
+-- The counts of failed calls, which say that a failure has its cause in the store or the sink.
 use Rattle.std.specs.Prelude.{◌≡◌, ◌≤◌, ◌+◌, ◌-◌, ◌^◌, ℕ, min, Result, IsErrOf}
 
 -- a count rose, or stands at the end of its type, where it is taken as risen

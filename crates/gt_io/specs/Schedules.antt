@@ -3,7 +3,7 @@ use Rattle.std.specs.Prelude.{ℕ, ◌+◌, ◌-◌, ◌^◌, ◌==◌, min, Boo
 use Rattle.std.specs.List.{list_any}
 use Rattle.gt_io.specs.declared.schedule.Schedule.{Schedule}
 
--- the number of the next call; the count stands still at the end of its type
+-- the number of the next call; the count stops at the end of its type
 abbrev pub next_call : Schedule → ℕ
 next_call s = min (s.calls + 1) (2 ^ 64 - 1)
 

@@ -4,7 +4,7 @@ use thiserror::Error;
 /// Why a file was not read.
 #[derive(Clone, Copy, Debug, PartialEq, Eq, Error)]
 pub enum ReadFail {
-    /// The outside failed.
+    /// The call failed.
     #[error("the file could not be read")]
     Failed,
     /// The file is longer than the caller's limit.
@@ -18,7 +18,7 @@ pub enum ReadFail {
 /// Why bytes were not written.
 #[derive(Clone, Copy, Debug, PartialEq, Eq, Error)]
 pub enum WriteFail {
-    /// The outside failed.
+    /// The call failed.
     #[error("the bytes could not be written")]
     Failed,
     /// Out of memory.

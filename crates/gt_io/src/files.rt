@@ -17,7 +17,7 @@ pub trait Files {
     /// What is held under each name, where the store tells it.
     ghost told: { Self → Option Held };
 
-    /// How often the outside has failed. It never falls, and stands still at its type's end.
+    /// How often a call has failed. It never falls, and stops at its type's end.
     ghost faults: { Self → ℕ };
 
     /// What one read is: the store before, the name, the limit, the answer, and the store after.

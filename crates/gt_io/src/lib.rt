@@ -1,5 +1,5 @@
-//! The outside of gtyheap: a store of files and a sink of bytes, as traits that say what is held, what was written, and
-//! how often the outside has failed. The layer above uses the traits; `MemFiles`, `MemSink`, `SureFiles` and `SureSink`
+//! Files and output: a store of files and a sink of bytes, as traits that say what is held, what was written, and how
+//! often a call has failed. The layer above uses the traits; `MemFiles`, `MemSink`, `SureFiles` and `SureSink`
 //! keep all in memory, and `HostFiles` and `HostOut` are the machine's own.
 #![tactic(auto)]
 

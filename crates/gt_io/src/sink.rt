@@ -11,7 +11,7 @@ pub trait Sink {
     /// The bytes that it took so far, where it tells them.
     ghost written: { Self → Option (List ℕ) };
 
-    /// How often the outside has failed. It never falls, and stands still at its type's end.
+    /// How often a call has failed. It never falls, and stops at its type's end.
     ghost faults: { Self → ℕ };
 
     /// Takes these bytes after those that it took before.

@@ -1,5 +1,5 @@
 //! The stores and sinks in memory: what is put is read, the scheduled calls fail and change nothing, and with ample memory
-//! each call answers something else than want of it.
+//! each call answers something else than out of memory.
 use super::*;
 use gt_types::{Bytes, Word};
 use std::test::Fail;

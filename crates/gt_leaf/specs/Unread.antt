@@ -106,7 +106,7 @@ onward (Some i) rest = i ∷ rest i
 onward None rest = []
 
 -- The route of a path of names, from a structure on: the places of the fields that the names pick, as far as the first union. What a
--- path reads behind a union may lie at other places in each of its members.
+-- path reads in a union may lie at other places in each of its members.
 abbrev pub route_of : Program → Option TypeId → List (List ℕ) → List ℕ
 route_of program (Some node) (name ∷ names) = if is_union program node then [] else onward (place_of program node name) (λ i. route_of program (inner_at program node i) names)
 route_of program begin names = []

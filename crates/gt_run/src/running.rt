@@ -75,7 +75,7 @@ pub fn top<F: Files, K: Sink>(
     // A read fault names the file whose reading failed, after each file before it was read.
     ensures failed { (word : ℕ) → result.refusal ≡ Some (Refusal.File word FileWhy.Fault) → FailsIn F.reads words.now files.old word files.new }
 
-    // A failure is answered only where the outside failed.
+    // A failure is answered only where a call of the files or of the output failed.
     ensures file_cause { (word : ℕ) → result.refusal ≡ Some (Refusal.File word FileWhy.Fault) → Rose (F.faults files.old) (F.faults files.new) }
     ensures sink_cause { result.status ≡ 4 → Rose (K.faults out.old) (K.faults out.new) }
 

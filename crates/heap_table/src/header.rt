@@ -1,7 +1,7 @@
 // The header that declares the program of the rows.
 
 /// A number, pointers, padding, bit-fields, bytes that are never scanned, unions with and without a `desc` of their own and with a common
-/// structure, strings and arrays behind pointers, a tail, and two caches.
+/// structure, strings and arrays that pointers name, a tail, and two caches.
 pub const HEADER: &str = r#"
 struct GTY(()) item { int n; };
 

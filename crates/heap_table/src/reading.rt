@@ -41,7 +41,7 @@ pub fn read_name(word: &str) -> Result<u64, Refusal> {
     }
 }
 
-// The first word of a text, and what is behind it.
+// The first word of a text, and what follows it.
 fn first_word(text: &str) -> Result<(&str, &str), Refusal> {
     match text.split_once(' ') {
         Some(both) => Ok(both),

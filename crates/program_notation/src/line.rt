@@ -3,7 +3,7 @@ use crate::refusal::Refusal;
 use gt_types::{List, Word};
 use std::alloc::{AllocError, Global};
 
-/// The words of a line that were not read yet, the next one last. Words are parted by spaces; a round bracket is a word.
+/// The words of a line that were not read yet, the next one last. Words are separated by spaces; a round bracket is a word.
 #[derive(Drop)]
 pub struct Line {
     words: Vec<Word>,

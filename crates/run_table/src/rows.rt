@@ -10,7 +10,7 @@
 //     status N             the status that is expected
 //     output               what is expected to be written, whose lines follow
 //     | LINE               a line of the file or of the output before it
-//     times N | LINE       such a line N times, with the numbers 0, 1, .. in place of each #; ` / ` parts several lines
+//     times N | LINE       such a line N times, with the numbers 0, 1, .. in place of each #; ` / ` separates several lines
 //     long N | LINE        such a line, with N letters x in place of each #
 //
 // A part with words, a status and an output is a row. One with files alone says which files all rows after it share.
@@ -30,7 +30,7 @@ pub struct Row {
     pub output: String,
 }
 
-/// The calls of the outside that fail, counted from 1.
+/// The calls that fail, counted from 1.
 #[derive(Drop)]
 pub struct Failing {
     pub reads: Vec<u64>,
