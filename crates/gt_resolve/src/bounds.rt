@@ -5,7 +5,6 @@ ghost use Rattle.std.specs.Option.{option_map_or};
 ghost use Rattle.gt_types.specs.Shapes.{bits_of};
 ghost use Rattle.gt_resolve.specs.Faults.{is_bad_bound, unit_bits, is_bad_count, is_bad_field, is_misused_tail, is_bad_type};
 ghost use Rattle.gt_drafts.specs.Shapes.{held_type};
-ghost use Rattle.gt_items.specs.declared.items.Stars.TheVariants.{Zero};
 
 use gt_drafts::{Amount, BaseType, DeclaredType, Resolved, flag_at, has_skip, held_type};
 use gt_items::{RawOption, Stars};
@@ -45,20 +44,10 @@ fn bits_of(scalar: Scalar) -> i64
 fn is_bad_count(resolved: &Resolved, count: Amount) -> bool
     ensures same { result ≡ is_bad_count (unit_bits resolved.now) count }
 {
-    match resolved.stars {
-        Stars::Zero => is_bad_count_of(&resolved.base, count),
-        _ => true,
-    }
-}
-
-fn is_bad_count_of(base: &BaseType, count: Amount) -> bool
-    ensures same { result ≡ is_bad_count (unit_bits (record { base = base.now; stars = Zero })) count }
-{
-    match base {
-        BaseType::Number { scalar, .. } => match count {
-            Amount::Is(n) => !is_within(n, bits_of(*scalar)),
-            _ => true,
-        },
+    match (&resolved.base, resolved.stars, count) {
+        (BaseType::Number { scalar, .. }, Stars::Zero, Amount::Is(n)) => {
+            !is_within(n, bits_of(*scalar))
+        }
         _ => true,
     }
 }

@@ -20,7 +20,6 @@ use gt_drafts::{
 use gt_items::{
     Declarator, Item, Items, PointedType, RawCache, RawField, RawRoot, RawStructure, RawType, Stars,
 };
-use gt_names::Entry;
 use gt_scope::{Scope, TypeName, spelled, with_stars};
 use gt_types::{Bytes, Copied, List};
 use std::alloc::{AllocError, Global};
@@ -370,22 +369,14 @@ fn words(alloc: Global, names: &[TypeName]) -> Result<List<DraftWord>, AllocErro
     Ok(List::of(made))
 }
 
-fn constant(alloc: Global, entry: &Entry<i64>) -> Result<DraftConstant, AllocError>
-    ensures name { IfOk result (λ made. made.name ≡ entry.now.name) }
-    ensures value { IfOk result (λ made. made.value ≡ entry.now.value) }
-{
-    Ok(DraftConstant {
-        name: entry.name.copy(alloc)?,
-        value: entry.value,
-    })
-}
-
 fn constants(alloc: Global, scope: &Scope) -> Result<List<DraftConstant>, AllocError>
     ensures constants { IfOk result (λ made. made ≡ constants_from [] scope.now.declarations.items) }
 {
     let mut made = Vec::new(alloc);
     for entry in scope.constants() {
-        made.push(constant(alloc, entry)?)?;
+        let name = entry.name.copy(alloc)?;
+        let value = entry.value;
+        made.push(DraftConstant { name, value })?;
     }
     Ok(List::of(made))
 }

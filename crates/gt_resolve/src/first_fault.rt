@@ -62,28 +62,12 @@ fn of_structure(
 ) -> Result<Option<Fault>, AllocError>
     ensures earliest { IfOk result (λ r. r ≡ first_from earliest (structure_faults shapes.now.cyclic.items shapes.now.deep.items shapes.now.tails.items place s.now)) }
 {
-    let earliest = with_fault(
-        earliest,
-        flag_at(&shapes.cyclic, place),
-        BY_VALUE_CYCLE,
-        s.file,
-        s.tag.at,
-    );
-    let earliest = with_fault(
-        earliest,
-        is_one_too_many(&shapes.deep, place),
-        TOO_MANY,
-        s.file,
-        s.tag.at,
-    );
-    of_fields(
-        alloc,
-        earliest,
-        &shapes.tails,
-        s.file,
-        s.is_union,
-        s.fields.as_slice(),
-    )
+    let cyclic = flag_at(&shapes.cyclic, place);
+    let earliest = with_fault(earliest, cyclic, BY_VALUE_CYCLE, s.file, s.tag.at);
+    let many = is_one_too_many(&shapes.deep, place);
+    let earliest = with_fault(earliest, many, TOO_MANY, s.file, s.tag.at);
+    let fields = s.fields.as_slice();
+    of_fields(alloc, earliest, &shapes.tails, s.file, s.is_union, fields)
 }
 
 // Whether too many containments stand in a structure, or too many structures before it.
@@ -128,13 +112,8 @@ fn of_field(
 {
     let earliest = with_fault(earliest, named, REDEFINED, file, f.name.at);
     let options = f.options.as_slice();
-    let earliest = with_fault(
-        earliest,
-        is_undefined_type(options, &f.ty),
-        UNDEFINED,
-        file,
-        f.name.at,
-    );
+    let undefined = is_undefined_type(options, &f.ty);
+    let earliest = with_fault(earliest, undefined, UNDEFINED, file, f.name.at);
     let bad = is_bad_type(tails, in_union, options, &f.ty);
     let earliest = with_fault(earliest, bad, BAD_BOUND, file, f.name.at);
     with_fault(earliest, MAX_FIELDS <= place, TOO_MANY, file, f.name.at)
@@ -154,13 +133,8 @@ fn of_root(earliest: Option<Fault>, tails: &[bool], place: usize, r: &DraftRoot)
     ensures earliest { result ≡ first_from earliest (root_faults tails.now place r.now) }
 {
     let options = r.options.as_slice();
-    let earliest = with_fault(
-        earliest,
-        is_undefined_type(options, &r.ty),
-        UNDEFINED,
-        r.file,
-        r.name.at,
-    );
+    let undefined = is_undefined_type(options, &r.ty);
+    let earliest = with_fault(earliest, undefined, UNDEFINED, r.file, r.name.at);
     let bad = is_bad_type(tails, false, options, &r.ty);
     let earliest = with_fault(earliest, bad, BAD_BOUND, r.file, r.name.at);
     with_fault(earliest, MAX_ROOTS <= place, TOO_MANY, r.file, r.name.at)

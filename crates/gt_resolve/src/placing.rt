@@ -12,25 +12,12 @@ fn fault_item(tags: bool, file: u32, item: &Item) -> Option<Fault>
     ensures fault { result ≡ fault_item tags file item.now }
 {
     let number = TYPE_TOO_LARGE;
-    match item {
-        Item::Structure(s) => {
-            let at = s.tag.at;
-            if tags {
-                Some(Fault { number, file, at })
-            } else {
-                None
-            }
-        }
-        Item::Root(r) => {
-            let at = r.name.at;
-            if tags {
-                None
-            } else {
-                Some(Fault { number, file, at })
-            }
-        }
-        Item::Cache(_) | Item::Typedef(_) | Item::Enum(_) => None,
-    }
+    let at = match (tags, item) {
+        (true, Item::Structure(s)) => s.tag.at,
+        (false, Item::Root(r)) => r.name.at,
+        _ => return None,
+    };
+    Some(Fault { number, file, at })
 }
 
 fn one_item(fault: Option<Fault>, place: usize) -> Result<Fault, usize>

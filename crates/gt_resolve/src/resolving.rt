@@ -18,18 +18,11 @@ pub fn resolve(alloc: Global, files: &[Items]) -> Result<Draft, Stop>
     ensures draft { IfOk result (Resolves files.now) }
     ensures fault { IfErr result (IsResolveStop files.now) }
 {
-    let Ok(scope) = scope_of(alloc, files) else {
-        return Err(Stop::Memory);
-    };
-    let Ok(draft) = drafted(alloc, files, &scope) else {
-        return Err(Stop::Memory);
-    };
-    let Ok(shapes) = shapes_of(alloc, draft.structures.as_slice()) else {
-        return Err(Stop::Memory);
-    };
-    match first_fault(alloc, &scope, &draft, &shapes) {
-        Err(_) => Err(Stop::Memory),
-        Ok(None) => Ok(draft),
-        Ok(Some(fault)) => Err(Stop::At(fault)),
+    let scope = scope_of(alloc, files)?;
+    let draft = drafted(alloc, files, &scope)?;
+    let shapes = shapes_of(alloc, draft.structures.as_slice())?;
+    match first_fault(alloc, &scope, &draft, &shapes)? {
+        None => Ok(draft),
+        Some(fault) => Err(Stop::At(fault)),
     }
 }

@@ -9,7 +9,7 @@ use Rattle.gt_resolve.proofs.first_fault.of_field.Goals as goal
 pub returns : goal.returns
 returns c =
     let options = c.as_slice-options.ensures.items in
-    let undefined = c.is_undefined_type.ensures.same ∙ ap (λ o. is_undefined_type o c.args.f.now.ty) options in
+    let undefined = c.is_undefined_type-undefined.ensures.same ∙ ap (λ o. is_undefined_type o c.args.f.now.ty) options in
     let bad = c.is_bad_type-bad.ensures.same ∙ ap (λ o. is_bad_type c.args.tails.now c.args.in_union o c.args.f.now.ty) options in
     record {
       earliest = λ before named place.

@@ -7,7 +7,7 @@ use Rattle.gt_resolve.proofs.first_fault.of_root.Goals as goal
 pub returns : goal.returns
 returns c =
     let options = c.as_slice-options.ensures.items in
-    let undefined = c.is_undefined_type.ensures.same ∙ ap (λ o. is_undefined_type o c.args.r.now.ty) options in
+    let undefined = c.is_undefined_type-undefined.ensures.same ∙ ap (λ o. is_undefined_type o c.args.r.now.ty) options in
     let bad = c.is_bad_type-bad.ensures.same ∙ ap (λ o. is_bad_type c.args.tails.now false o c.args.r.now.ty) options in
     record {
       earliest =
