@@ -8,7 +8,7 @@ use Rattle.gt_types.specs.declared.types.TypeId.{TypeId}
 use Rattle.gt_types.specs.declared.program.Structure.{Structure}
 use Rattle.gt_types.specs.Contains.{HasStructure}
 use Rattle.gt_types.specs.Paths.{Way, own_expressions, NamesOuter, IsInner, MayStand}
-use Rattle.sample_program.specs.Sample.{sample, item, base, wide, form, cell, vec, hold, two, vecb, any, big, bigv, kindv, ever, label, node, own_len, own_n, outermost_a}
+use Rattle.sample_program.specs.Sample.{sample, item, base, wide, form, cell, vec, hold, two, vecb, any, big, bigv, kindv, ever, label, twin, node, own_len, own_n, outermost_a}
 use Rattle.sample_program.proofs.Structures.{path-paths}
 
 from-outermost : (steps : List (List ℕ)) → ¬ NamesOuter (expr.Path Outermost steps)
@@ -79,3 +79,6 @@ ever_stands = (ever, refl, not_inner (node 16) ever refl (one (codes "b" ∷ cod
 
 pub label_stands : MayStand sample (node 17)
 label_stands = (label, refl, not_inner (node 17) label refl (All-from_recursion (λ e. ¬ NamesOuter e) (own_n ∷ outermost_a ∷ []) (from-here (codes "n" ∷ []), (from-outermost (codes "a" ∷ []), tt))), λ u. absurd (cc))
+
+pub twin_stands : MayStand sample (node 18)
+twin_stands = (twin, refl, not_inner (node 18) twin refl (one (codes "b" ∷ codes "kind" ∷ [])), λ u. absurd (cc))

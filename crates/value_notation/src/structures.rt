@@ -27,6 +27,7 @@ pub enum Kind {
     Kindv,
     Ever,
     Label,
+    Twin,
 }
 
 impl Kind {
@@ -48,6 +49,7 @@ impl Kind {
             "kindv" => Some(Kind::Kindv),
             "ever" => Some(Kind::Ever),
             "label" => Some(Kind::Label),
+            "twin" => Some(Kind::Twin),
             _ => None,
         }
     }
@@ -72,6 +74,7 @@ impl Kind {
             Kind::Kindv => TypeId(15),
             Kind::Ever => TypeId(16),
             Kind::Label => TypeId(17),
+            Kind::Twin => TypeId(18),
         }
     }
 }
