@@ -175,7 +175,7 @@ pub record Around : Type 0 where
   pub structures : List Enclosing
   pub direct : Bool
 
--- no structure, behind an array of the outermost one or not
+-- no structure: in an array of the outermost one, or around the whole value
 abbrev pub none_around : Bool → Around
 none_around direct = record { structures = []; direct = direct }
 

@@ -52,9 +52,9 @@ impl Reads {
     }
 
     /// Whether no expression reads the leaf at a place, at a path from a value of the type `ty`. It takes no memory. What is no number
-    /// is not looked up. Where no path of an expression ends in the leaf's field, two look-ups say so. Where one from `%0` ends in its name, the path is looked through for
-    /// an array. Else the route from each structure on the path is looked up, which ends at the next array: its time grows with the
-    /// path, for each step at most by the depth `MAX_DEPTH` to which structures nest.
+    /// is not looked up. Where no path of an expression ends in the leaf's field, two look-ups say so. Where one from `%0` ends in its
+    /// name, the path is looked through for an array. Else the route from each structure on the path is looked up, which ends at the
+    /// next array: its time grows with the path, for each step at most by the depth `MAX_DEPTH` to which structures nest.
     pub fn is_unread(&self, program: &Program, ty: Option<&Ty>, path: &[u32], place: Place) -> bool
         ensures unread { IsTableOf program.now self.now → IsTrue result ↔ IsUnread program.now (structures_on program.now (option_copied ty.entry) path.now) place.active place.holder }
     {
