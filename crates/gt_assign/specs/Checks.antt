@@ -1,4 +1,4 @@
--- Whether a leaf that can be written is there.
+-- No promise: whether a leaf that can be written is there.
 use Rattle.std.specs.Prelude.{Bool, false, Option, Some, None}
 use Rattle.gt_tree.specs.Trees.{Tree, is_word}
 

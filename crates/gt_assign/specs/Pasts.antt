@@ -1,4 +1,4 @@
--- What is known of the value that each part was, while a value is made anew.
+-- No promise: what is known of the value that each part was, while a value is made anew.
 use Rattle.std.specs.Prelude.{ℕ, cond, ◌==◌, ℤ, pos, List, [], ◌∷◌, Option, Some, None, slice_get, map}
 use Rattle.std.specs.Str.{bytes_eq}
 use Rattle.std.specs.List.{position_from}

@@ -1,4 +1,4 @@
--- What a value is made into, from the outside in: a part is made by its type, by what it was and by what was around it.
+-- No promise: what a value is made into, from the outside in: a part is made by its type, by what it was and by what was around it.
 use Rattle.std.specs.Prelude.{◌≡◌, Result, Ok, Err, ℕ, zero, suc, Bool, true, false, cond, ◌==◌, nat_le, ℤ, pos, List, [], ◌∷◌, Option, Some, None, slice_get, replicate, option_map, length, map}
 use Rattle.gt_types.specs.declared.expressions.Expr.{Expr}
 use Rattle.gt_types.specs.declared.types.TypeId.{TypeId}

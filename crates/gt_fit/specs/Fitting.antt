@@ -1,4 +1,4 @@
--- Whether a value fits, layer by layer: by its type, and by whether its parts fit.
+-- No promise: whether a value fits, layer by layer: by its type, and by whether its parts fit.
 use Rattle.std.specs.Prelude.{◌≡◌, ◌≤◌, ◌<◌, ℕ, Bool, true, false, pos, List, Option, Some, None, length, slice_get, All}
 use Rattle.gt_types.specs.declared.expressions.Expr.{Expr}
 use Rattle.gt_types.specs.declared.types.TypeId.{TypeId}

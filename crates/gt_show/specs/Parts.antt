@@ -1,4 +1,4 @@
--- Parts of values, and what is added to a text for them.
+-- No promise: parts of values, and what is added to a text for them.
 use Rattle.std.specs.Prelude.{◌≡◌, ◌⊎◌, ◌==◌, if◌then◌else◌, true, ℕ, ℤ, List, [], ◌++◌, codes, Option, Some, None, length, slice_get}
 use Rattle.gt_types.specs.declared.expressions.Expr.{Expr}
 use Rattle.gt_types.specs.declared.types.TypeId.{TypeId}
