@@ -18,6 +18,6 @@ pub use draft::{
 pub use earliest::{earlier, with_fault};
 pub use held::{flag_at, held_type};
 pub use options::{has_length, has_skip};
-pub use sameness::{same_bool, same_type};
+pub use sameness::{same_bool, same_keyword, same_scalar, same_stars};
 pub use types::{Amount, BaseType, DeclaredType, Resolved};
 pub use undefined::{is_undefined_type, names_nothing};

@@ -1,8 +1,7 @@
-// Whether two types are the same.
+// Whether parts of types are the same.
 ghost use Rattle.std.specs.Prelude.{◌≡◌};
-ghost use Rattle.gt_drafts.specs.Sameness.{same_base, same_bool, same_keyword, same_scalar, same_stars, same_type, same_width};
+ghost use Rattle.gt_drafts.specs.Sameness.{same_bool, same_keyword, same_scalar, same_stars, same_width};
 
-use crate::{BaseType, Resolved};
 use gt_items::{Keyword, Stars};
 use gt_types::{Scalar, Width};
 
@@ -25,7 +24,8 @@ fn same_width(a: Width, b: Width) -> bool
     }
 }
 
-fn same_scalar(a: Scalar, b: Scalar) -> bool
+/// Whether two scalars are the same.
+pub fn same_scalar(a: Scalar, b: Scalar) -> bool
     ensures same { result ≡ same_scalar a b }
 {
     match a {
@@ -43,7 +43,8 @@ fn same_scalar(a: Scalar, b: Scalar) -> bool
     }
 }
 
-fn same_keyword(a: Keyword, b: Keyword) -> bool
+/// Whether two keywords are the same.
+pub fn same_keyword(a: Keyword, b: Keyword) -> bool
     ensures same { result ≡ same_keyword a b }
 {
     match (a, b) {
@@ -54,7 +55,8 @@ fn same_keyword(a: Keyword, b: Keyword) -> bool
     }
 }
 
-fn same_stars(a: Stars, b: Stars) -> bool
+/// Whether as many stars stand after two types.
+pub fn same_stars(a: Stars, b: Stars) -> bool
     ensures same { result ≡ same_stars a b }
 {
     match (a, b) {
@@ -64,52 +66,4 @@ fn same_stars(a: Stars, b: Stars) -> bool
         | (Stars::More, Stars::More) => true,
         _ => false,
     }
-}
-
-fn same_base(a: &BaseType, b: &BaseType) -> bool
-    ensures same { result ≡ same_base a.now b.now }
-{
-    match a {
-        BaseType::Number { scalar, is_char } => match b {
-            BaseType::Number {
-                scalar: other,
-                is_char: char,
-            } => same_scalar(*scalar, *other) && same_bool(*is_char, *char),
-            _ => false,
-        },
-        BaseType::Structure(id) => match b {
-            BaseType::Structure(other) => *id == *other,
-            _ => false,
-        },
-        BaseType::Undefined { keyword, tag } => match b {
-            BaseType::Undefined {
-                keyword: other,
-                tag: name,
-            } => same_keyword(*keyword, *other) && *tag == *name,
-            _ => false,
-        },
-        BaseType::Float => match b {
-            BaseType::Float => true,
-            _ => false,
-        },
-        BaseType::Double => match b {
-            BaseType::Double => true,
-            _ => false,
-        },
-        BaseType::Sizeless => match b {
-            BaseType::Sizeless => true,
-            _ => false,
-        },
-        BaseType::Unknown => match b {
-            BaseType::Unknown => true,
-            _ => false,
-        },
-    }
-}
-
-/// Whether two types with their stars are the same.
-pub fn same_type(a: &Resolved, b: &Resolved) -> bool
-    ensures same { result ≡ same_type a.now b.now }
-{
-    same_base(&a.base, &b.base) && same_stars(a.stars, b.stars)
 }

@@ -1,5 +1,6 @@
 -- Definitions that agree with one agree with one another.
-use Rattle.std.proofs.Common.{◌≡◌, ◌∙◌, ℕ, ℤ, Bool, true, false, List, refl, sym, ap, subst}
+use Rattle.std.proofs.Common.{◌≡◌, ◌∙◌, ℕ, ℤ, Bool, true, false, List, Some, refl, sym, ap, ap₂, subst}
+use Rattle.std.specs.Prelude.{slice_get}
 use Rattle.std.specs.Ordering.{int_eq}
 use Rattle.std.proofs.lemmas.Bool.{and_parts, eqb-true, true≢false}
 use Rattle.std.specs.Str.{bytes_eq}
@@ -20,7 +21,9 @@ use Rattle.gt_scope.specs.declared.declaration.Declaration.{Declaration}
 use Rattle.gt_scope.specs.declared.declaration.What.{What}
 use Rattle.gt_scope.specs.declared.declaration.What.TheVariants as what
 use Rattle.gt_scope.specs.declared.meaning.TypeName.{TypeName}
+use Rattle.gt_scope.specs.declared.types.Spelled.{Spelled}
 use Rattle.gt_scope.specs.Meanings.{means_after, resolved_type}
+use Rattle.gt_scope.specs.Repeats.{type_of}
 use Rattle.gt_resolve.specs.Faults.{agree}
 use Rattle.gt_drafts.specs.Sameness.{same_base, same_bool, same_keyword, same_scalar, same_stars, same_type, same_width}
 
@@ -125,3 +128,13 @@ module _ (ds : List Declaration) (types : List TypeName) where
   agree_through (what.Constant a) b (what.Constant c) h k = never k
   agree_through (what.Typedef t s) b (what.Typedef v q) h k = never k
   agree_through a b c h k = never h
+
+-- typedefs agree where they mean the same
+pub typedefs_agree : (ds : List Declaration) (types : List TypeName) (place first : ℕ) (a b : What) (t u : Spelled) (s r : Stars) (result : Bool)
+    → a ≡ what.Typedef t s → b ≡ what.Typedef u r
+    → ((d e : Declaration) (t u : Spelled) → slice_get ds place ≡ Some d → type_of d.what ≡ Some t → slice_get ds first ≡ Some e → type_of e.what ≡ Some u
+    → result ≡ same_type (means_after s (resolved_type ds types t Zero)) (means_after r (resolved_type ds types u Zero)))
+    → (d e : Declaration) → slice_get ds place ≡ Some d → d.what ≡ a → slice_get ds first ≡ Some e → e.what ≡ b → result ≡ agree ds types a b
+unfolding agree
+typedefs_agree ds types place first a b t u s r result p q mean d e found is there other =
+    mean d e t u found (ap type_of (is ∙ p)) there (ap type_of (other ∙ q)) ∙ sym (ap₂ (agree ds types) p q)

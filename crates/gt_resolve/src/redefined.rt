@@ -1,19 +1,17 @@
 // Second definitions with another meaning. A definition is held against the first of its name. Where some later one has another
 // meaning than the first, the first is marked: each that comes after has another meaning than one of those two.
-ghost use Rattle.std.specs.Prelude.{◌≡◌, [], None, false, length, replicate, IfOk};
+ghost use Rattle.std.specs.Prelude.{◌≡◌, [], None, Some, false, length, replicate, slice_get, IfOk};
 ghost use Rattle.std.specs.Option.{option_map_or};
-ghost use Rattle.gt_items.specs.declared.items.Stars.TheVariants.{Zero};
+ghost use Rattle.gt_scope.specs.declared.declaration.Declaration.{Declaration};
 ghost use Rattle.gt_resolve.specs.Faults.{agree, is_tag, redefinitions};
 ghost use Rattle.gt_drafts.specs.FirstFaults.{first_from};
-ghost use Rattle.gt_scope.specs.Meanings.{means_after, resolved_type};
 ghost use Rattle.gt_resolve.specs.Redefinitions.{agrees_at, first_place, first_places, is_clash, marked_faults, with_clash, with_first};
 ghost use Rattle.gt_names.specs.Entries.{value_in};
 
 use crate::REDEFINED;
-use gt_drafts::{Resolved, flag_at, same_bool, same_type, with_fault};
-use gt_items::Stars;
+use gt_drafts::{flag_at, same_bool, with_fault};
 use gt_names::Table;
-use gt_scope::{Declaration, Scope, Spelled, What, after_stars};
+use gt_scope::{Declaration, Scope, What};
 use gt_types::Fault;
 use std::alloc::{AllocError, Global};
 
@@ -71,69 +69,51 @@ fn first_place(tags: &Table<usize>, others: &Table<usize>, d: &Declaration, plac
     place_or(others, d, place)
 }
 
-fn meaning(alloc: Global, scope: &Scope, ty: &Spelled, stars: Stars) -> Result<Resolved, AllocError>
-    ensures means { IfOk result (λ r. r ≡ means_after stars (resolved_type scope.now.declarations.items scope.now.types.items ty.now Zero)) }
-{
-    Ok(after_stars(stars, scope.resolved(alloc, ty, Stars::Zero)?))
-}
-
-// Whether two definitions of one name may stand beside one another.
+// Whether two definitions of one name, at two places, may stand beside one another.
 #[tactic(auto, unfolding(crate::specs::Faults::agree))]
-fn agree(alloc: Global, scope: &Scope, a: &What, b: &What) -> Result<bool, AllocError>
-    ensures agree { IfOk result (λ r. r ≡ agree scope.now.declarations.items scope.now.types.items a.now b.now) }
+fn agree(scope: &Scope, a: &What, place: usize, b: &What, first: usize) -> bool
+    ensures agree { (d e : Declaration) → slice_get scope.now.declarations.items place ≡ Some d → d.what ≡ a.now
+        → slice_get scope.now.declarations.items first ≡ Some e → e.what ≡ b.now → result ≡ agree scope.now.declarations.items scope.now.types.items a.now b.now }
 {
     match a {
         What::Enum { is_signed } => match b {
-            What::Enum { is_signed: other } => Ok(same_bool(*is_signed, *other)),
-            _ => Ok(false),
+            What::Enum { is_signed: other } => same_bool(*is_signed, *other),
+            _ => false,
         },
         What::Constant(value) => match b {
-            What::Constant(other) => Ok(*value == *other),
-            _ => Ok(false),
+            What::Constant(other) => *value == *other,
+            _ => false,
         },
-        What::Typedef { ty, stars } => match b {
-            What::Typedef {
-                ty: other,
-                stars: others,
-            } => {
-                let means = meaning(alloc, scope, ty, *stars)?;
-                let meant = meaning(alloc, scope, other, *others)?;
-                Ok(same_type(&means, &meant))
-            }
-            _ => Ok(false),
+        What::Typedef { stars, .. } => match b {
+            What::Typedef { stars: others, .. } => scope.mean_same(place, *stars, first, *others),
+            _ => false,
         },
-        What::Structure { .. } | What::Root | What::Cache => Ok(false),
+        What::Structure { .. } | What::Root | What::Cache => false,
     }
 }
 
-fn agrees_at(alloc: Global, scope: &Scope, what: &What, first: usize) -> Result<bool, AllocError>
-    ensures agrees { IfOk result (λ r. r ≡ agrees_at scope.now.declarations.items scope.now.types.items what.now first) }
+fn agrees_at(scope: &Scope, what: &What, place: usize, first: usize) -> bool
+    ensures agrees { (d : Declaration) → slice_get scope.now.declarations.items place ≡ Some d → d.what ≡ what.now
+        → result ≡ agrees_at scope.now.declarations.items scope.now.types.items what.now first }
 {
     match scope.declarations.get(first) {
-        None => Ok(true),
-        Some(other) => agree(alloc, scope, what, &other.what),
+        None => true,
+        Some(other) => agree(scope, what, place, &other.what, first),
     }
 }
 
 // Whether a definition has another meaning than the first of its name, or than one between that has another.
-fn is_clash(
-    alloc: Global,
-    scope: &Scope,
-    clashed: &[bool],
-    what: &What,
-    first: usize,
-    place: usize,
-) -> Result<bool, AllocError>
-    ensures clash { IfOk result (λ r. r ≡ is_clash scope.now.declarations.items scope.now.types.items clashed.now what.now first place) }
+fn is_clash(scope: &Scope, clashed: &[bool], what: &What, first: usize, place: usize) -> bool
+    ensures clash { (d : Declaration) → slice_get scope.now.declarations.items place ≡ Some d → d.what ≡ what.now
+        → result ≡ is_clash scope.now.declarations.items scope.now.types.items clashed.now what.now first place }
 {
     if first == place {
-        return Ok(false);
+        return false;
     }
     if flag_at(clashed, first) {
-        return Ok(true);
+        return true;
     }
-    let agrees = agrees_at(alloc, scope, what, first)?;
-    Ok(!agrees)
+    !agrees_at(scope, what, place, first)
 }
 
 fn mark(clashed: &mut Vec<bool>, clash: bool, first: usize)
@@ -158,7 +138,7 @@ fn marked(
     let mut earliest = None;
     for (place, d) in scope.declarations.iter().enumerate() {
         let first = first_place(tags, others, d, place);
-        let clash = is_clash(alloc, scope, &clashed, &d.what, first, place)?;
+        let clash = is_clash(scope, &clashed, &d.what, first, place);
         mark(&mut clashed, clash, first);
         earliest = with_fault(earliest, clash, REDEFINED, d.file, d.name.at);
     }

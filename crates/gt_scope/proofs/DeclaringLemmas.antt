@@ -9,8 +9,12 @@ use Rattle.gt_items.specs.declared.items.RawConstant.{RawConstant}
 use Rattle.gt_items.specs.declared.items.RawStructure.{RawStructure}
 use Rattle.gt_scope.specs.declared.declaration.Declaration.{Declaration}
 use Rattle.gt_scope.specs.declared.declaration.What.{What}
-use Rattle.gt_scope.specs.declared.declaration.What.TheVariants.{Structure, Constant}
+use Rattle.gt_scope.specs.declared.declaration.What.TheVariants.{Structure, Constant, Typedef}
+use Rattle.gt_items.specs.declared.items.Stars.{Stars}
+use Rattle.gt_scope.specs.declared.types.Spelled.{Spelled}
 use Rattle.gt_scope.specs.declared.types.Spelled.TheVariants.{Tagged}
+use Rattle.gt_scope.specs.Repeats.{last_type}
+use Rattle.gt_scope.proofs.TargetLemmas.{last_added, last_defined}
 use Rattle.gt_scope.specs.Declarations.{Progress, define_of, defines_before, with_one, up_to, declare, is_in_range, with_constant, enumerate, value_at, next_count, enumerators, keyword_of, declare_alias, declare_structure}
 use Rattle.gt_names.proofs.NameLists.{length-added}
 
@@ -106,3 +110,15 @@ valued-step file count value next name text rest p q r e f g h =
 pub on-ok : {A E : Type 0} (r : Result A E) (P Q : Type 0) → (P → Q) → OnOk r P → OnOk r Q
 on-ok (Ok x) P Q f h = f h
 on-ok (Err e) P Q f h = tt
+
+-- ---- the last typedef
+
+-- constants `#define` leave the last typedef
+pub last_up_to : (file at : ℕ) (p q : Progress) → q ≡ up_to file at p → last_type p.done ≡ last_type q.done
+unfolding up_to
+last_up_to file at p q e = sym (ap (λ (r : Progress). last_type r.done) e ∙ last_defined file p.done (defines_before at p.defines))
+
+-- a typedef is the last one
+pub last_one : (file : ℕ) (name : Name) (ty : Spelled) (stars : Stars) (p q : Progress) → q ≡ with_one file name (Typedef ty stars) p → last_type q.done ≡ Some ty
+last_one file name ty stars p q e =
+    ap (λ (r : Progress). last_type r.done) e ∙ last_added p.done (record { file = file; name = name; what = Typedef ty stars })

@@ -1,5 +1,5 @@
 -- What tables of declarations say of types.
-use Rattle.std.proofs.Common.{◌≡◌, ◌∙◌, ℕ, zero, suc, Bool, true, false, List, [], ◌∷◌, map, get_or, Option, Some, None, refl, sym, ap, subst, inl, inr}
+use Rattle.std.proofs.Common.{◌≡◌, ◌∙◌, ℕ, zero, suc, Bool, true, false, List, [], ◌∷◌, map, get_or, length, Option, Some, None, refl, sym, ap, subst, inl, inr, arith}
 use Rattle.std.specs.Prelude.{Result, Ok, Err, IfOk, if◌then◌else◌, find, option_map, position, slice_get, is_some}
 use Rattle.std.specs.Option.{option_map_or}
 use Rattle.std.specs.Str.{bytes_eq}
@@ -16,12 +16,22 @@ use Rattle.gt_scope.specs.declared.meaning.TypeName.{TypeName}
 use Rattle.gt_scope.specs.declared.link.Link.{Link}
 use Rattle.gt_scope.specs.declared.link.Target.TheVariants.{End, Next}
 use Rattle.gt_names.specs.declared.tables.Entry.{Entry}
-use Rattle.gt_scope.specs.Meanings.{as_tag, as_typedef, tagged_type, type_of_tag, plain_type, typedef_in, follow_type, follow_typedef, follow, means_after, IsMeaning, AreTypeNames, typedef_names, with_stars, resolved_type}
+use Rattle.gt_scope.specs.Meanings.{as_tag, as_typedef, tagged_type, type_of_tag, plain_type, typedef_in, follow_type, follow_typedef, follow, means_after, opaque, more_stars, IsMeaning, AreTypeNames, typedef_names, with_stars, resolved_type}
 use Rattle.gt_scope.specs.Tables.{values_from}
-use Rattle.gt_scope.specs.Chains.{plain_by, plain_after, target_by, link_by, links_by, follow_target, follow_link, follow_links, IsMeaningAt, AreMeanings}
+use Rattle.gt_scope.specs.declared.kinds.Kind.{Kind}
+use Rattle.gt_scope.specs.declared.kinds.Meant.{Meant}
+use Rattle.gt_scope.specs.declared.link.Target.{Target}
+use Rattle.gt_scope.specs.Kinds.{meant_after, names_in, IsOfKind, IsMeant}
+use Rattle.gt_scope.specs.Repeats.{type_of, AreAllMeant, AreLinks, AreNamed, AreTargets, HaveMeanings}
+use Rattle.gt_scope.specs.Chains.{plain_by, plain_after, typedef_place, IsTarget, follow_target, follow_link, follow_links, IsMeaningAt, AreMeanings}
+use Rattle.gt_scope.proofs.KindLemmas.{after_meant, find_passes}
 use Rattle.gt_names.proofs.NameTests.{is_some_position}
 use Rattle.gt_scope.proofs.TableLemmas.{values_are_first, owned, typedefs_named}
 use Rattle.gt_names.proofs.TableLemmas.{found_at, none_found, no_value, any_found, equal_words, position-map}
+
+length_map : {A B : Type 0} (f : A → B) (xs : List A) → length (map f xs) ≡ length xs
+length_map f [] = refl
+length_map f (x ∷ xs) = ap (λ n. suc n) (length_map f xs)
 
 -- ---- tags
 
@@ -42,15 +52,6 @@ plain_same ds (spelled.Tagged keyword tag) = ap (tagged_type keyword tag) (value
 plain_same ds (spelled.Named word) = ap type_of_tag (values_are_first as_tag ds word)
 
 -- ---- typedefs by their places
-
-find_step : {A : Type 0} (p : A → Bool) (y x : A) (rest : Option A) (b : Bool) → p y ≡ b → (rest ≡ Some x → p x ≡ true) → (if b then Some y else rest) ≡ Some x
-    → p x ≡ true
-find_step p y x rest true e more h = subst (λ z. p z ≡ true) (same_Some y x h) e
-find_step p y x rest false e more h = more h
-
-find_passes : {A : Type 0} (p : A → Bool) (xs : List A) (x : A) → find p xs ≡ Some x → p x ≡ true
-find_passes p [] x h = absurd (none-some x h)
-find_passes p (y ∷ xs) x h = find_step p y x (find p xs) (p y) refl (find_passes p xs x) h
 
 -- the first typedef of a name stands at a place
 record StandsAt (ds : List Declaration) (word : List ℕ) (i : ℕ) : Type 0 where
@@ -81,83 +82,176 @@ stands_nowhere ds word h = sym (values_are_first as_typedef ds word) ∙ no_valu
 
 -- ---- following by places is following by names
 
-named_case : (ds : List Declaration) (deeper : ℕ → Option Resolved) (given : List ℕ → Option Resolved)
-    → ((i : ℕ) (e : Entry (Spelled × Stars)) → slice_get (typedefs_of ds) i ≡ Some e → deeper i ≡ given e.name) → (word : List ℕ) (o : Option ℕ)
-    → position (λ e. bytes_eq e.name word) (typedefs_of ds) ≡ o
-    → follow_target deeper (option_map_or Next o (End (plain_by (tags_of ds) (spelled.Named word)))) ≡ follow_type ds given (spelled.Named word)
-named_case ds deeper given same word None h =
-    ap (λ base. Some (record { base = base; stars = stars.Zero })) (plain_same ds (spelled.Named word))
-    ∙ ap (λ b. if b then given word else Some (record { base = plain_type ds (spelled.Named word); stars = stars.Zero })) (sym (ap is_some (stands_nowhere ds word h)))
-named_case ds deeper given same word (Some i) h =
-    let s = stands_at ds word i h in
-    same i s.entry s.found ∙ ap given s.name
-    ∙ ap (λ b. if b then given word else Some (record { base = plain_type ds (spelled.Named word); stars = stars.Zero })) (sym (ap is_some s.value))
+-- what is found by numbers is what is found by names
+Matches : (tags : List (List ℕ)) → Option Meant → Option Resolved → Type 0
+Matches tags None None = Unit {0}
+Matches tags (Some m) (Some r) = IsMeant tags m r
+Matches tags m r = ⊥
 
-target_same : (ds : List Declaration) (deeper : ℕ → Option Resolved) (given : List ℕ → Option Resolved)
-    → ((i : ℕ) (e : Entry (Spelled × Stars)) → slice_get (typedefs_of ds) i ≡ Some e → deeper i ≡ given e.name) → (ty : Spelled)
-    → follow_target deeper (target_by (tags_of ds) (typedefs_of ds) ty) ≡ follow_type ds given ty
-unfolding target_by
-target_same ds deeper given same (spelled.Number scalar is_char) =
-    ap (λ base. Some (record { base = base; stars = stars.Zero })) (plain_same ds (spelled.Number scalar is_char))
-target_same ds deeper given same spelled.Float = ap (λ base. Some (record { base = base; stars = stars.Zero })) (plain_same ds spelled.Float)
-target_same ds deeper given same spelled.Double = ap (λ base. Some (record { base = base; stars = stars.Zero })) (plain_same ds spelled.Double)
-target_same ds deeper given same spelled.Sizeless = ap (λ base. Some (record { base = base; stars = stars.Zero })) (plain_same ds spelled.Sizeless)
-target_same ds deeper given same (spelled.Tagged keyword tag) =
-    ap (λ base. Some (record { base = base; stars = stars.Zero })) (plain_same ds (spelled.Tagged keyword tag))
-target_same ds deeper given same (spelled.Named word) =
-    named_case ds deeper given same word (position (λ e. bytes_eq e.name word) (typedefs_of ds)) refl
+matches_after : (tags : List (List ℕ)) (s t : Stars) (o : Option Meant) (q : Option Resolved) → s ≡ t
+    → Matches tags o q → Matches tags (option_map (meant_after s) o) (option_map (means_after t) q)
+unfolding Matches
+matches_after tags s t None None e h = tt
+matches_after tags s t (Some m) (Some r) e h =
+    subst (λ (u : Stars). IsMeant tags (meant_after s m) (means_after u r)) e (after_meant tags s m r h)
+matches_after tags s t None (Some r) e h = absurd h
+matches_after tags s t (Some m) None e h = absurd h
 
-abbrev all_links : List Declaration → List Link
-all_links ds = links_by (tags_of ds) (typedefs_of ds)
+matches_some : (tags : List (List ℕ)) (m : Meant) (o : Option Resolved) → Matches tags (Some m) o → (r : Resolved) × (o ≡ Some r) × IsMeant tags m r
+unfolding Matches
+matches_some tags m None h = absurd h
+matches_some tags m (Some r) h = (r, refl, h)
 
-link_at : (ds : List Declaration) (i : ℕ) (e : Entry (Spelled × Stars)) → slice_get (typedefs_of ds) i ≡ Some e
-    → slice_get (all_links ds) i ≡ Some (link_by (tags_of ds) (typedefs_of ds) e.value)
-link_at ds i e h =
-    slice_get-map (λ e. link_by (tags_of ds) (typedefs_of ds) e.value) (typedefs_of ds) i ∙ ap (option_map (λ e. link_by (tags_of ds) (typedefs_of ds) e.value)) h
+matches_none : (tags : List (List ℕ)) (o : Option Resolved) → Matches tags None o → o ≡ None
+unfolding Matches
+matches_none tags None h = refl
+matches_none tags (Some r) h = absurd h
 
-follow_same : (ds : List Declaration) (steps i : ℕ) (e : Entry (Spelled × Stars)) → slice_get (typedefs_of ds) i ≡ Some e
-    → follow_links (all_links ds) steps i ≡ follow ds steps e.name
-unfolding follow_links follow link_by
-follow_same ds zero i e h = refl
-follow_same ds (suc steps) i e h =
-    ap (follow_link (follow_links (all_links ds) steps)) (link_at ds i e h)
-    ∙ ap (option_map (means_after e.value.1))
-    (target_same ds (follow_links (all_links ds) steps) (follow ds steps) (λ j o found. follow_same ds steps j o found) e.value.0)
-    ∙ ap (follow_typedef ds (follow ds steps)) (sym (sym (values_are_first as_typedef ds e.name) ∙ (owned as_typedef ds).owned i e h))
+plain_named_type : (ds : List Declaration) (given : List ℕ → Option Resolved) (word : List ℕ) → typedef_in ds word ≡ None
+    → follow_type ds given (spelled.Named word) ≡ Some (record { base = plain_type ds (spelled.Named word); stars = stars.Zero })
+plain_named_type ds given word h =
+    ap (λ b. if b then given word else Some (record { base = plain_type ds (spelled.Named word); stars = stars.Zero })) (ap is_some h)
 
-meaning_same : (ds : List Declaration) (i : ℕ) (e : Entry (Spelled × Stars)) (m : Resolved) → slice_get (typedefs_of ds) i ≡ Some e
-    → IsMeaningAt (all_links ds) i m → IsMeaning ds e.name m
-meaning_same ds i e m h (inl found) = inl (found.0, sym (follow_same ds found.0 i e h) ∙ found.1)
-meaning_same ds i e m h (inr never) = inr (λ steps. sym (follow_same ds steps i e h) ∙ never.0 steps, never.1)
+plain_follow : (ds : List Declaration) (given : List ℕ → Option Resolved) (ty : Spelled)
+    → typedef_place (typedefs_of ds) ty ≡ None
+    → follow_type ds given ty ≡ Some (record { base = plain_type ds ty; stars = stars.Zero })
+plain_follow ds given (spelled.Named word) free = plain_named_type ds given word (stands_nowhere ds word free)
+plain_follow ds given (spelled.Number scalar is_char) free = refl
+plain_follow ds given spelled.Float free = refl
+plain_follow ds given spelled.Double free = refl
+plain_follow ds given spelled.Sizeless free = refl
+plain_follow ds given (spelled.Tagged keyword tag) free = refl
 
--- ---- names with their meanings
+matches_plain : (tags : List (List ℕ)) (kind : Kind) (base : BaseType) → IsOfKind tags kind base
+    → Matches tags (Some (record { kind = kind; stars = stars.Zero })) (Some (record { base = base; stars = stars.Zero }))
+unfolding Matches
+matches_plain tags kind base h = (h, refl)
 
-name_case : (ds : List Declaration) (i : ℕ) (t : TypeName) (o : Option (Entry (Spelled × Stars))) → slice_get (typedefs_of ds) i ≡ o
-    → Some t.name ≡ option_map (λ e. e.name) o → IsMeaningAt (all_links ds) i t.means → IsMeaning ds t.name t.means
-name_case ds i t None h n m = absurd (none-some t.name (sym n))
-name_case ds i t (Some e) h n m =
-    subst (λ name. IsMeaning ds name t.means) (sym (same_Some t.name e.name n)) (meaning_same ds i e t.means h m)
+-- a type that is the name of the typedef at a place
+record IsNameOf (typedefs : List (Entry (Spelled × Stars))) (ty : Spelled) (place : ℕ) : Type 0 where
+  word : List ℕ
+  named : ty ≡ spelled.Named word
+  stands : position (λ e. bytes_eq e.name word) typedefs ≡ Some place
 
-one_meant : (ds : List Declaration) (types : List TypeName) → AreMeanings (all_links ds) (map (λ e. e.name) (typedefs_of ds)) types
-    → (k : ℕ) (t : TypeName) → slice_get types k ≡ Some t → IsMeaning ds t.name t.means
-one_meant ds types a k t h =
-    name_case ds k t (slice_get (typedefs_of ds) k) refl
-    (sym (ap (option_map (λ t. t.name)) h) ∙ sym (slice_get-map (λ t. t.name) types k) ∙ ap (λ names. slice_get names k) a.named
-    ∙ slice_get-map (λ e. e.name) (typedefs_of ds) k)
-    (a.meant k t h)
+name_of : (typedefs : List (Entry (Spelled × Stars))) (ty : Spelled) (place : ℕ) → typedef_place typedefs ty ≡ Some place → IsNameOf typedefs ty place
+name_of typedefs (spelled.Named word) place h = record { word = word; named = refl; stands = h }
+name_of typedefs (spelled.Number scalar is_char) place h = absurd (none-some place h)
+name_of typedefs spelled.Float place h = absurd (none-some place h)
+name_of typedefs spelled.Double place h = absurd (none-some place h)
+name_of typedefs spelled.Sizeless place h = absurd (none-some place h)
+name_of typedefs (spelled.Tagged keyword tag) place h = absurd (none-some place h)
+
+target_same : (ds : List Declaration) (tags : List (List ℕ)) (deeper : ℕ → Option Meant) (given : List ℕ → Option Resolved)
+    → ((i : ℕ) (e : Entry (Spelled × Stars)) → slice_get (typedefs_of ds) i ≡ Some e → Matches tags (deeper i) (given e.name)) → (ty : Spelled) (to : Target)
+    → IsTarget (tags_of ds) (typedefs_of ds) tags ty to → Matches tags (follow_target deeper to) (follow_type ds given ty)
+target_same ds tags deeper given same ty (Next place) h =
+    let n = name_of (typedefs_of ds) ty place h in
+    let s = stands_at ds n.word place n.stands in
+    let e : follow_type ds given ty ≡ given s.entry.name =
+    ap (follow_type ds given) n.named
+    ∙ ap (λ b. if b then given n.word else Some (record { base = plain_type ds (spelled.Named n.word); stars = stars.Zero })) (ap is_some s.value)
+    ∙ ap given (sym s.name) in
+    subst (Matches tags (deeper place)) (sym e) (same place s.entry s.found)
+target_same ds tags deeper given same ty (End kind) h =
+    subst (Matches tags (Some (record { kind = kind; stars = stars.Zero }))) (sym (plain_follow ds given ty h.0))
+    (matches_plain tags kind (plain_type ds ty) (subst (IsOfKind tags kind) (plain_same ds ty) h.1))
+
+-- an item of a list is there where one of another list of its length is
+there_too : {A B : Type 0} (xs : List A) (ys : List B) (i : ℕ) (x : A) → length ys ≡ length xs → slice_get xs i ≡ Some x → (y : B) × (slice_get ys i ≡ Some y)
+there_too (x ∷ xs) (y ∷ ys) zero z e h = (y, refl)
+there_too (x ∷ xs) (y ∷ ys) (suc i) z e h = there_too xs ys i z (omega (arith, e)) h
+there_too [] ys i z e h = absurd (none-some z h)
+there_too (x ∷ xs) [] i z e h = absurd (omega (arith, e))
+
+module _ (ds : List Declaration) (tags : List (List ℕ)) (links : List Link) (are : AreLinks (tags_of ds) (typedefs_of ds) tags links) where
+  follow_same : (steps i : ℕ) (e : Entry (Spelled × Stars)) → slice_get (typedefs_of ds) i ≡ Some e
+      → Matches tags (follow_links links steps i) (follow ds steps e.name)
+  unfolding follow_links follow Matches
+  follow_same zero i e h = tt
+  follow_same (suc steps) i e h =
+      let l = there_too (typedefs_of ds) links i e are.counted h in
+      let leads = are.each i e l.0 h l.1 in
+      let there : follow_links links (suc steps) i ≡ follow_link (follow_links links steps) (Some l.0) = ap (follow_link (follow_links links steps)) l.1 in
+      let name : follow ds (suc steps) e.name ≡ follow_typedef ds (follow ds steps) (Some e.value) =
+      ap (follow_typedef ds (follow ds steps)) (sym (values_are_first as_typedef ds e.name) ∙ (owned as_typedef ds).owned i e h) in
+      subst (λ (m : Option Meant). Matches tags m (follow ds (suc steps) e.name)) (sym there)
+      (subst (Matches tags (follow_link (follow_links links steps) (Some l.0))) (sym name)
+      (matches_after tags l.0.stars e.value.1 (follow_target (follow_links links steps) l.0.to) (follow_type ds (follow ds steps) e.value.0) leads.0
+      (target_same ds tags (follow_links links steps) (follow ds steps) (λ j o found. follow_same steps j o found) e.value.0 l.0.to leads.1)))
+
+  -- a meaning by numbers, and the type that has it
+  record Means (name : List ℕ) (m : Meant) : Type 0 where
+    type : Resolved
+    meant : IsMeant tags m type
+    meaning : IsMeaning ds name type
+
+  meaning_same : (i : ℕ) (e : Entry (Spelled × Stars)) (m : Meant) → slice_get (typedefs_of ds) i ≡ Some e → IsMeaningAt links i m → Means e.name m
+  meaning_same i e m h (inl found) =
+      let r = matches_some tags m (follow ds found.0 e.name) (subst (λ (o : Option Meant). Matches tags o (follow ds found.0 e.name)) found.1 (follow_same found.0 i e h)) in
+      record { type = r.0; meant = r.2; meaning = inl (found.0, r.1) }
+  meaning_same i e m h (inr never) =
+      record {
+        type = opaque;
+        meant = subst (λ (n : Meant). IsMeant tags n opaque) (sym never.1) (refl, refl);
+        meaning = inr (
+          λ steps. matches_none tags (follow ds steps e.name) (subst (λ (o : Option Meant). Matches tags o (follow ds steps e.name)) (never.0 steps) (follow_same steps i e h)),
+          refl,
+        );
+      }
+
+  -- ---- names with their meanings
+
+  module _ (meant : List Meant) (types : List TypeName) (means : AreMeanings links meant) (names : map (λ t. t.name) types ≡ names_in (typedefs_of ds)) (named : AreNamed tags meant types) where
+    name_case : (i : ℕ) (t : TypeName) (m : Meant) (o : Option (Entry (Spelled × Stars))) → slice_get (typedefs_of ds) i ≡ o
+        → Some t.name ≡ option_map (λ e. e.name) o → IsMeaningAt links i m → Means t.name m
+    name_case i t m None h n a = absurd (none-some t.name (sym n))
+    name_case i t m (Some e) h n a = subst (λ (name : List ℕ). Means name m) (sym (same_Some t.name e.name n)) (meaning_same i e m h a)
+
+    means_of : (k : ℕ) (t : TypeName) (m : Meant) → slice_get types k ≡ Some t → slice_get meant k ≡ Some m → Means t.name m
+    means_of k t m h a =
+        name_case k t m (slice_get (typedefs_of ds) k) refl
+        (sym (ap (option_map (λ t. t.name)) h) ∙ sym (slice_get-map (λ t. t.name) types k) ∙ ap (λ names. slice_get names k) names
+        ∙ slice_get-map (λ e. e.name) (typedefs_of ds) k)
+        (means.each k m a)
+
+    as_many : length meant ≡ length types
+    as_many = means.counted ∙ are.counted ∙ sym (length_map (λ e. e.name) (typedefs_of ds)) ∙ ap length (sym names) ∙ length_map (λ t. t.name) types
+
+    one_meant : (k : ℕ) (t : TypeName) → slice_get types k ≡ Some t → IsMeaning ds t.name t.means
+    one_meant k t h =
+        let m = there_too types meant k t as_many h in
+        let r = means_of k t m.0 h m.1 in
+        subst (IsMeaning ds t.name) (sym (named.each k t m.0 r.type h m.1 r.meant)) r.meaning
+
+    have_meaning : (k : ℕ) (t : TypeName) (m : Meant) → slice_get types k ≡ Some t → slice_get meant k ≡ Some m → IsMeant tags m t.means
+    have_meaning k t m h a =
+        let r = means_of k t m h a in
+        subst (IsMeant tags m) (sym (named.each k t m r.type h a r.meant)) r.meant
 
 -- the meanings by places are those of the names
-pub all_meant : (ds : List Declaration) (tags : List (Entry What)) (typedefs : List (Entry (Spelled × Stars))) (types : List TypeName)
-    → tags ≡ values_from as_tag [] ds → typedefs ≡ values_from as_typedef [] ds
-    → AreMeanings (links_by tags typedefs) (map (λ e. e.name) typedefs) types → AreTypeNames ds types
-all_meant ds tags typedefs types t d a =
-    let b : AreMeanings (all_links ds) (map (λ e. e.name) (typedefs_of ds)) types =
-    subst (λ typedefs. AreMeanings (links_by (tags_of ds) typedefs) (map (λ e. e.name) typedefs) types) d
-    (subst (λ tags. AreMeanings (links_by tags typedefs) (map (λ e. e.name) typedefs) types) t a) in
+all_of : (ds : List Declaration) (tags : List (List ℕ)) (links : List Link) (meant : List Meant) (types : List TypeName)
+    → AreLinks (tags_of ds) (typedefs_of ds) tags links → AreMeanings links meant → map (λ t. t.name) types ≡ names_in (typedefs_of ds) → AreNamed tags meant types
+    → AreAllMeant ds tags meant types
+all_of ds tags links meant types are means names named =
     record {
-      names = b.named ∙ typedefs_named ds;
-      meanings = λ k t h. one_meant ds types b k (get_or types k t) (slice_get-get_or types k t h);
+      names = record {
+        names = names ∙ typedefs_named ds;
+        meanings = λ k t h. one_meant ds tags links are meant types means names named k (get_or types k t) (slice_get-get_or types k t h);
+      };
+      have = record {
+        counted = as_many ds tags links are meant types means names named;
+        each = λ k t m h a. have_meaning ds tags links are meant types means names named k t m h a;
+      };
     }
+
+pub all_meant : (ds : List Declaration) (defined : List (Entry What)) (typedefs : List (Entry (Spelled × Stars))) (tags : List (List ℕ)) (links : List Link)
+    (meant : List Meant) (types : List TypeName) → defined ≡ values_from as_tag [] ds → typedefs ≡ values_from as_typedef [] ds
+    → AreLinks defined typedefs tags links → AreMeanings links meant → map (λ t. t.name) types ≡ names_in typedefs → AreNamed tags meant types
+    → AreAllMeant ds tags meant types
+all_meant ds defined typedefs tags links meant types t d are means names named =
+    all_of ds tags links meant types
+    (subst (λ typedefs. AreLinks (tags_of ds) typedefs tags links) d (subst (λ defined. AreLinks defined typedefs tags links) t are))
+    means (names ∙ ap (λ (x : List (Entry (Spelled × Stars))). names_in x) d) named
 
 -- ---- types
 
@@ -238,3 +332,74 @@ pub found_resolved : {E : Type 0} (result : Result Resolved E) (ds : List Declar
 found_resolved result ds typedefs types ty word i found s t d a h at ok =
     ok_then result (λ r. r ≡ with_stars found.means s) (λ r. r ≡ resolved_type ds types ty s)
     (λ r e. subst (λ ty. r ≡ resolved_type ds types ty s) (sym t) (meaning_here ds typedefs types word i found d a h at s r e)) ok
+
+-- ---- meanings by numbers
+
+no_more : (s : Stars) → more_stars s stars.Zero ≡ s
+no_more stars.Zero = refl
+no_more stars.One = refl
+no_more stars.Two = refl
+no_more stars.More = refl
+
+module _ (ds : List Declaration) (defined : List (Entry What)) (typedefs : List (Entry (Spelled × Stars))) (tags : List (List ℕ)) (targets : List Target)
+    (meant : List Meant) (types : List TypeName) (t : defined ≡ values_from as_tag [] ds) (v : typedefs ≡ values_from as_typedef [] ds)
+    (a : map (λ t. t.name) types ≡ typedef_names [] ds) (leads : AreTargets defined typedefs tags ds targets) (have : HaveMeanings tags meant types)
+    (place : ℕ) (d : Declaration) (ty : Spelled) (found : slice_get ds place ≡ Some d) (is : type_of d.what ≡ Some ty) where
+  -- each declaration leads somewhere
+  pub followed_none : None ≡ slice_get targets place → ⊥
+  followed_none h = let to = there_too ds targets place d leads.counted found in none-some to.0 (h ∙ to.1)
+
+  end_base : (kind : Kind) (u : Spelled) → IsOfKind tags kind (plain_by defined u) → IsOfKind tags kind (plain_type ds u)
+  end_base kind u h = subst (IsOfKind tags kind) (ap (λ defined. plain_by defined u) t ∙ plain_same ds u) h
+
+  end_plain : (kind : Kind) (u : Spelled) → typedef_place typedefs u ≡ None
+      → IsOfKind tags kind (plain_type ds u) → IsMeant tags (record { kind = kind; stars = stars.Zero }) (resolved_type ds types u stars.Zero)
+  unfolding resolved_type
+  end_plain kind (spelled.Named word) free h =
+      subst (IsMeant tags (record { kind = kind; stars = stars.Zero }))
+      (no_meaning ds typedefs types word v a (sym free) stars.Zero (record { base = plain_type ds (spelled.Named word); stars = stars.Zero }) refl)
+      (h, refl)
+  end_plain kind (spelled.Number scalar is_char) free h = (h, refl)
+  end_plain kind spelled.Float free h = (h, refl)
+  end_plain kind spelled.Double free h = (h, refl)
+  end_plain kind spelled.Sizeless free h = (h, refl)
+  end_plain kind (spelled.Tagged keyword tag) free h = (h, refl)
+
+  -- an end is the meaning
+  pub followed_end : (kind : Kind) → Some (End kind) ≡ slice_get targets place
+      → IsMeant tags (record { kind = kind; stars = stars.Zero }) (resolved_type ds types ty stars.Zero)
+  followed_end kind h = let e = leads.each place d ty (End kind) found is (sym h) in end_plain kind ty e.0 (end_base kind ty e.1)
+
+  -- a typedef is a name with its meaning
+  record Follows (next : ℕ) : Type 0 where
+    name : TypeName
+    there : slice_get types next ≡ Some name
+    same : resolved_type ds types ty stars.Zero ≡ name.means
+
+  name_there : (i : ℕ) (word : List ℕ) → position (λ e. bytes_eq e.name word) typedefs ≡ Some i → (t : TypeName) × (slice_get types i ≡ Some t)
+  name_there i word h =
+      let s = stands_at ds word i (ap (position (λ e. bytes_eq e.name word)) (sym v) ∙ h) in
+      there_too (typedefs_of ds) types i s.entry
+      (sym (length_map (λ t. t.name) types) ∙ ap length (a ∙ sym (typedefs_named ds)) ∙ length_map (λ e. e.name) (typedefs_of ds)) s.found
+
+  follows : (next : ℕ) → Some (Next next) ≡ slice_get targets place → Follows next
+  follows next h =
+      let n = name_of typedefs ty next (leads.each place d ty (Next next) found is (sym h)) in
+      let t = name_there next n.word n.stands in
+      record {
+        name = t.0;
+        there = t.1;
+        same = ap (λ (u : Spelled). resolved_type ds types u stars.Zero) n.named
+            ∙ sym (meaning_here ds typedefs types n.word next t.0 v a (sym n.stands) (sym t.1) stars.Zero (with_stars t.0.means stars.Zero) refl)
+            ∙ ap (λ (s : Stars). record { base = t.0.means.base; stars = s }) (no_more t.0.means.stars);
+      }
+
+  pub followed_next : (next : ℕ) (m : Meant) → Some (Next next) ≡ slice_get targets place → Some m ≡ slice_get meant next
+      → IsMeant tags m (resolved_type ds types ty stars.Zero)
+  followed_next next m h k =
+      let f = follows next h in subst (IsMeant tags m) (sym f.same) (have.each next f.name m f.there (sym k))
+
+  pub followed_past : (next : ℕ) → Some (Next next) ≡ slice_get targets place → None ≡ slice_get meant next → ⊥
+  followed_past next h k =
+      let f = follows next h in
+      let m = there_too types meant next f.name have.counted f.there in none-some m.0 (k ∙ m.1)

@@ -1,6 +1,9 @@
 pub mod Spelling
 pub mod Declarations
-pub mod FirstValues
 pub mod Meanings
 pub mod Tables
+pub mod Kinds
 pub mod Chains
+pub mod Repeats
+pub mod Props
+pub mod FirstValues

@@ -1,7 +1,7 @@
 // Copies of types.
 ghost use Rattle.std.specs.Prelude.{◌≡◌, IfOk};
 
-use gt_drafts::{BaseType, Resolved};
+use gt_drafts::BaseType;
 use gt_types::Copied;
 use std::alloc::{AllocError, Global};
 
@@ -24,14 +24,4 @@ pub fn base_copy(alloc: Global, base: &BaseType) -> Result<BaseType, AllocError>
         }),
         BaseType::Unknown => Ok(BaseType::Unknown),
     }
-}
-
-/// A copy of a type with its typedefs followed.
-pub fn resolved_copy(alloc: Global, resolved: &Resolved) -> Result<Resolved, AllocError>
-    ensures same { IfOk result (λ made. made ≡ resolved.now) }
-{
-    Ok(Resolved {
-        base: base_copy(alloc, &resolved.base)?,
-        stars: resolved.stars,
-    })
 }

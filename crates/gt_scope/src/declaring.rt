@@ -1,11 +1,12 @@
 // The declarations of the files, in the order of the texts.
-ghost use Rattle.std.specs.Prelude.{◌≡◌, suc, pos, false, List, ◌∷◌, IfOk, OnOk, Some};
+ghost use Rattle.std.specs.Prelude.{◌≡◌, suc, pos, false, List, ◌∷◌, IfOk, OnOk, Some, IsTrue};
 ghost use Rattle.gt_items.specs.declared.items.Enumerator.{Enumerator};
 ghost use Rattle.gt_types.specs.declared.types.Scalar.TheVariants as scalar;
 ghost use Rattle.gt_types.specs.declared.types.Width.TheVariants.{W4};
 ghost use Rattle.gt_scope.specs.declared.types.Spelled.TheVariants.{Number};
 ghost use Rattle.gt_scope.specs.declared.declaration.What.TheVariants.{Structure};
 ghost use Rattle.gt_drafts.specs.Amounts.{amount_of};
+ghost use Rattle.gt_scope.specs.Repeats.{AreRepeats, last_type, type_of};
 ghost use Rattle.gt_scope.specs.Declarations.{nothing_declared, as_constant, constant_in, value_of_amount, with_one, up_to, declare, is_in_range, next_count, with_constant, enumerate, value_at, enumerators, declare_enum, keyword_of, declare_alias, declare_aliases, declare_structure, declare_typedef, declare_item, declare_items, with_rest, declare_file, declare_files, declarations};
 
 use crate::constants::Constants;
@@ -25,20 +26,30 @@ const LEAST_CONSTANT: i64 = -0x8000_0000;
 
 const CONSTANTS_END: i64 = 0x1_0000_0000;
 
+/// Declarations, of which those are marked that are typedefs of the type of the typedef before them.
+#[derive(Drop)]
+pub struct Declared {
+    pub declarations: Vec<Declaration>,
+    pub repeated: Vec<bool>,
+}
+
 /// All that the files declare, in the order of the texts: tags, constants, typedefs, roots and caches. Its only error
 /// is out of memory, also where there are more files than a place of a file can tell.
-pub fn declare_all(alloc: Global, files: &[Items]) -> Result<Vec<Declaration>, AllocError>
-    ensures { IfOk result (λ ds. ds.items ≡ declarations files.now) }
+pub fn declare_all(alloc: Global, files: &[Items]) -> Result<Declared, AllocError>
+    ensures declared { IfOk result (λ d. d.declarations.items ≡ declarations files.now) }
+    ensures repeated { IfOk result (λ d. AreRepeats d.declarations.items d.repeated.items) }
 {
     let mut declaring = Declaring::new(alloc);
     declaring.declare_files(alloc, files)?;
-    Ok(declaring.into_done())
+    Ok(declaring.into_declared())
 }
 
 // What stands between two items, with the constants of all that is declared by their names.
 #[derive(Drop)]
 struct Declaring<'a> {
     done: Vec<Declaration>,
+    // Which of them are typedefs of the type of the typedef before them.
+    repeated: Vec<bool>,
     constants: Constants,
     // The constants `#define` of the file that stand further on.
     defines: &'a [RawConstant],
@@ -50,12 +61,13 @@ impl<'a> Model for Declaring<'a> {
     ghost use Rattle.std.specs.Prelude.{◌≡◌, ◌≤◌, ℕ, List, length};
     ghost use Rattle.gt_scope.specs.Declarations.{Progress, constant_in};
     ghost use Rattle.gt_scope.specs.FirstValues.{value_in};
+    ghost use Rattle.gt_scope.specs.Repeats.{AreRepeats};
 
     ghost Value = { Progress };
 
     ghost view = { λ d. record { done = d.done.items; defines = d.defines.now; structures = d.structures; negative = d.negative } };
 
-    ghost invariant = { λ d. ((word : List ℕ) → value_in d.constants word ≡ constant_in d.done.items word) × (d.structures ≤ length d.done.items) };
+    ghost invariant = { λ d. ((word : List ℕ) → value_in d.constants word ≡ constant_in d.done.items word) × (d.structures ≤ length d.done.items) × AreRepeats d.done.items d.repeated.items };
 }
 
 impl<'a> Declaring<'a> {
@@ -64,6 +76,7 @@ impl<'a> Declaring<'a> {
     {
         Declaring {
             done: Vec::new(alloc),
+            repeated: Vec::new(alloc),
             constants: Constants::new(alloc),
             defines: &[],
             structures: 0,
@@ -71,20 +84,26 @@ impl<'a> Declaring<'a> {
         }
     }
 
-    fn into_done(self) -> Vec<Declaration>
-        ensures { result.items ≡ self.entry.done }
+    fn into_declared(self) -> Declared
+        ensures declared { result.declarations.items ≡ self.entry.done }
+        ensures repeated { AreRepeats result.declarations.items result.repeated.items }
     {
-        self.done
+        Declared {
+            declarations: self.done,
+            repeated: self.repeated,
+        }
     }
 
-    // One more declaration.
+    // One more declaration, which is a typedef of the type of the last one or not.
     fn with_one(
         &mut self,
         alloc: Global,
         file: u32,
         name: &Name,
         what: What,
+        repeated: bool,
     ) -> Result<(), AllocError>
+        requires { IsTrue repeated → type_of what ≡ last_type self.old.done }
         ensures { OnOk result (self.new ≡ with_one file name.now what self.old) }
     {
         let value = constant_of(&what);
@@ -92,16 +111,21 @@ impl<'a> Declaring<'a> {
             word: name.word.copy(alloc)?,
             at: name.at,
         };
+        self.repeated.reserve(1)?;
         self.done.push(Declaration {
             file,
             name: copied,
             what,
         })?;
         let Some(value) = value else {
+            self.repeated.push_reserved(repeated);
             return Ok(());
         };
         match self.constants.add(&name.word, value) {
-            Ok(()) => Ok(()),
+            Ok(()) => {
+                self.repeated.push_reserved(repeated);
+                Ok(())
+            }
             Err(stop) => {
                 self.done.pop();
                 Err(stop)
@@ -119,7 +143,13 @@ impl<'a> Declaring<'a> {
             if at <= define.name.at {
                 break;
             }
-            self.with_one(alloc, file, &define.name, What::Constant(define.value))?;
+            self.with_one(
+                alloc,
+                file,
+                &define.name,
+                What::Constant(define.value),
+                false,
+            )?;
             rest = after;
         }
         self.defines = rest;
@@ -132,7 +162,13 @@ impl<'a> Declaring<'a> {
     {
         let rest = self.defines;
         for define in rest {
-            self.with_one(alloc, file, &define.name, What::Constant(define.value))?;
+            self.with_one(
+                alloc,
+                file,
+                &define.name,
+                What::Constant(define.value),
+                false,
+            )?;
         }
         self.defines = &[];
         Ok(())
@@ -149,7 +185,7 @@ impl<'a> Declaring<'a> {
         ensures { OnOk result (self.new ≡ declare file name.now what self.old) }
     {
         self.up_to(alloc, file, name.at)?;
-        self.with_one(alloc, file, name, what)
+        self.with_one(alloc, file, name, what, false)
     }
 
     // A constant of an enum.
@@ -270,7 +306,7 @@ impl<'a> Declaring<'a> {
         self.declare(alloc, file, tag, What::Enum { is_signed })
     }
 
-    // A typedef of a type. One of a name of the fixed table is passed over.
+    // A typedef of a type, which the last typedef is of or not; and whether it is then. One of a name of the fixed table is passed over.
     #[tactic(auto, unfolding(crate::specs::Declarations::declare_alias))]
     fn declare_alias(
         &mut self,
@@ -278,15 +314,21 @@ impl<'a> Declaring<'a> {
         file: u32,
         ty: &Spelled,
         alias: &Alias,
-    ) -> Result<(), AllocError>
-        ensures { OnOk result (self.new ≡ declare_alias file ty.now alias.now self.old) }
+        repeated: bool,
+    ) -> Result<bool, AllocError>
+        requires { IsTrue repeated → last_type self.old.done ≡ Some ty.now }
+        ensures declared { OnOk result (self.new ≡ declare_alias file ty.now alias.now self.old) }
+        ensures repeated { IfOk result (λ next. IsTrue next → last_type self.new.done ≡ Some ty.now) }
     {
         if fixed(&alias.name.word).is_some() {
-            return Ok(());
+            return Ok(repeated);
         }
         let ty = ty.copy(alloc)?;
         let stars = alias.stars;
-        self.declare(alloc, file, &alias.name, What::Typedef { ty, stars })
+        let name = &alias.name;
+        self.up_to(alloc, file, name.at)?;
+        self.with_one(alloc, file, name, What::Typedef { ty, stars }, repeated)?;
+        Ok(true)
     }
 
     #[tactic(auto, unfolding(crate::specs::Declarations::declare_aliases))]
@@ -299,8 +341,9 @@ impl<'a> Declaring<'a> {
     ) -> Result<(), AllocError>
         ensures { OnOk result (self.new ≡ declare_aliases file ty.now aliases.now self.old) }
     {
+        let mut repeated = false;
         for alias in aliases {
-            self.declare_alias(alloc, file, ty, alias)?;
+            repeated = self.declare_alias(alloc, file, ty, alias, repeated)?;
         }
         Ok(())
     }
@@ -323,7 +366,8 @@ impl<'a> Declaring<'a> {
             keyword: keyword_of(s.is_union),
             tag: s.tag.word.copy(alloc)?,
         };
-        self.declare_alias(alloc, file, &ty, alias)
+        self.declare_alias(alloc, file, &ty, alias, false)?;
+        Ok(())
     }
 
     // The tag of a structure, which is counted.

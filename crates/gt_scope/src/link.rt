@@ -1,16 +1,16 @@
-use gt_drafts::BaseType;
+use crate::kinds::Kind;
 use gt_items::Stars;
 
 /// A typedef of something after stars.
-#[derive(Drop)]
+#[derive(Clone, Copy, Debug)]
 pub struct Link {
     pub stars: Stars,
     pub to: Target,
 }
 
 /// What a typedef is of: a type that is no name of a typedef, or another typedef, by its place.
-#[derive(Drop)]
+#[derive(Clone, Copy, Debug)]
 pub enum Target {
-    End(BaseType),
+    End(Kind),
     Next(usize),
 }

@@ -5,7 +5,7 @@ use Rattle.gt_scope.proofs.ChainLemmas.{past_walk, known_walk, within_walk, on_w
 use Rattle.gt_scope.proofs.typedefs.walk.Goals as goal
 
 pub returns-in-None : goal.returns-in-None
-returns-in-None c = record { walked = past_walk _ _ _ _ c.walk.at _ c.walk.invariant c.in-None.ensures.item c.nothing.ensures.opaque }
+returns-in-None c = record { walked = past_walk _ _ _ _ c.walk.at _ c.walk.invariant c.in-None.ensures.item c.unkept-means.ensures.opaque }
 
 pub known-requires : goal.known-requires
 known-requires c =
@@ -15,12 +15,12 @@ known-requires c =
           (within_walk _ _ _ _ c.walk.at c.in-Some.link.now (Next c.walk.at) c.walk.invariant c.in-Some.ensures.item);
     }
 
-pub returns-in-Some-2 : goal.returns-in-Some-2
-returns-in-Some-2 c =
+pub returns-in-Some-known : goal.returns-in-Some-known
+returns-in-Some-known c =
     record {
       walked =
-          known_walk _ _ _ _ c.walk.at c.in-Some-2.means c.walk.invariant
-          (ap Some (sym c.in-Some-2.is) ∙ c.in_ok-means-in-Some.ensures.known ∙ ap (λ memo. slice_get memo c.walk.at) c.deref.ensures.value);
+          known_walk _ _ _ _ c.walk.at c.in-Some-known.means c.walk.invariant
+          (ap Some (sym c.in-Some-known.is) ∙ c.known.ensures.known ∙ ap (λ memo. slice_get memo c.walk.at) c.deref.ensures.value);
     }
 
 pub note-requires : goal.note-requires
@@ -31,18 +31,18 @@ pub returns-in-End : goal.returns-in-End
 returns-in-End c =
     record {
       walked =
-          end_walk _ _ c.walk.way.items c.push.new.self.items c.walk.memo.items c.note.new.memo.items c.walk.at c.in-Some.link.now c.nothing-in-None-2.result
-          c.in-End.base c.in_ok-base_copy-in-End.field-0 c.walk.invariant c.in-Some.ensures.item c.in_ok-push-in-None-2.ensures.items c.note.ensures.noted
-          c.nothing-in-None-2.ensures.opaque c.in-End.is c.in_ok-base_copy-in-End.ensures.same;
+          end_walk _ _ c.walk.way.items c.push.new.self.items c.walk.memo.items c.note.new.memo.items c.walk.at c.in-Some.link.now c.unkept.result
+          c.in-End.kind c.walk.invariant c.in-Some.ensures.item c.in_ok-push-in-None-known.ensures.items c.note.ensures.noted
+          c.unkept.ensures.opaque c.in-End.is;
     }
 
 pub walk-preserved : goal.walk-preserved
 walk-preserved c =
     subst (λ to. IsWalk c.args.links.now c.args.start (reverse c.push.new.self.items) c.note.new.memo.items to) c.in-Next.is
-    (on_walk _ _ c.walk.way.items c.push.new.self.items c.walk.memo.items c.note.new.memo.items c.walk.at c.in-Some.link.now c.nothing-in-None-2.result
-    c.walk.invariant c.in-Some.ensures.item c.in_ok-push-in-None-2.ensures.items c.note.ensures.noted c.nothing-in-None-2.ensures.opaque)
+    (on_walk _ _ c.walk.way.items c.push.new.self.items c.walk.memo.items c.note.new.memo.items c.walk.at c.in-Some.link.now c.unkept.result
+    c.walk.invariant c.in-Some.ensures.item c.in_ok-push-in-None-known.ensures.items c.note.ensures.noted c.unkept.ensures.opaque)
 
 pub walk-smaller : goal.walk-smaller
 walk-smaller c =
-    walk_smaller c.walk.memo.items c.note.new.memo.items c.walk.at c.nothing-in-None-2.result
-    (sym (ap (λ memo. slice_get memo c.walk.at) c.deref.ensures.value) ∙ sym c.in_ok-means-in-Some.ensures.known ∙ ap Some c.in-None-2.is) c.note.ensures.noted
+    walk_smaller c.walk.memo.items c.note.new.memo.items c.walk.at c.unkept.result
+    (sym (ap (λ memo. slice_get memo c.walk.at) c.deref.ensures.value) ∙ sym c.known.ensures.known ∙ ap Some c.in-None-known.is) c.note.ensures.noted

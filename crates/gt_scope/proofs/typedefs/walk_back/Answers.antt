@@ -11,5 +11,5 @@ note-requires c =
 pub back-preserved : goal.back-preserved
 back-preserved c =
     one_back _ _ c.back.way.items c.last_of.new.way.items c.back.memo.items c.note.new.memo.items c.in-Some.place c.in-Some-item_at.link.now c.back.means
-    c.after_stars-means.result c.in_ok-resolved_copy-in-Some-item_at.field-0 c.back.invariant c.in-Some.ensures.last c.in-Some-item_at.ensures.item
-    c.after_stars-means.ensures.means c.note.ensures.noted c.in_ok-resolved_copy-in-Some-item_at.ensures.same
+    c.meant_after-means.result c.back.invariant c.in-Some.ensures.last c.in-Some-item_at.ensures.item
+    c.meant_after-means.ensures.means c.note.ensures.noted

@@ -1,7 +1,7 @@
 use Rattle.std.proofs.Common.{◌∙◌, ap₂}
 use Rattle.gt_scope.specs.Declarations.{declare_alias}
 use Rattle.gt_scope.specs.declared.types.Spelled.TheVariants.{Tagged}
-use Rattle.gt_scope.proofs.DeclaringLemmas.{on-ok, structure-alone, structure-named}
+use Rattle.gt_scope.proofs.DeclaringLemmas.{structure-alone, structure-named}
 use Rattle.gt_scope.proofs.declaring.Declaring.declare_structure.Goals as goal
 
 pub returns-in_default : goal.returns-in_default
@@ -9,7 +9,5 @@ returns-in_default c = structure-alone c.args.file c.args.s.now c.args.self.now 
 
 pub returns : goal.returns
 returns c =
-    on-ok c.declare_alias.result _ _
-    (λ h. structure-named c.args.file c.args.s.now c.in-Some.alias c.args.self.now c.declare_tag.new.self c.declare_alias.new.self c.in-Some.is c.in_ok-declare_tag.ensures
-    (h ∙ ap₂ (λ keyword tag. declare_alias c.args.file (Tagged keyword tag) c.in-Some.alias c.declare_tag.new.self) c.keyword_of.ensures c.in_ok-copy.ensures.same))
-    c.declare_alias.ensures
+    structure-named c.args.file c.args.s.now c.in-Some.alias c.args.self.now c.declare_tag.new.self c.declare_alias.new.self c.in-Some.is c.in_ok-declare_tag.ensures
+    (c.in_ok-declare_alias.ensures.declared ∙ ap₂ (λ keyword tag. declare_alias c.args.file (Tagged keyword tag) c.in-Some.alias c.declare_tag.new.self) c.keyword_of.ensures c.in_ok-copy.ensures.same)
