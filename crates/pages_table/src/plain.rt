@@ -5,7 +5,7 @@ use gt_space::{HEAP_START, PAGE_BYTES};
 use std::alloc::{AllocError, Global};
 
 /// A block, with its walk and count where it is marked, and whether it is left to a pass.
-#[derive(Clone, Copy, Debug, PartialEq, Eq)]
+#[derive(Clone, Copy)]
 pub struct Block {
     pub addr: u64,
     pub size: u64,
@@ -46,12 +46,23 @@ fn pages_for(bytes: u64) -> u64 {
 
 // How often a page stands in a list.
 fn times_in(list: &[u64], page: u64) -> usize {
-    list.iter().filter(|other| **other == page).count()
+    let mut times = 0usize;
+    for other in list {
+        if *other == page {
+            times = times.saturating_add(1);
+        }
+    }
+    times
 }
 
 // Whether each page of a list stands in it once, and in another one once.
 fn is_part_of(list: &[u64], whole: &[u64]) -> bool {
-    list.iter().all(|page| times_in(list, *page) == 1 && times_in(whole, *page) == 1)
+    for page in list {
+        if times_in(list, *page) != 1 || times_in(whole, *page) != 1 {
+            return false;
+        }
+    }
+    true
 }
 
 fn are_apart(a: u64, m: u64, b: u64, n: u64) -> bool {
@@ -88,9 +99,12 @@ impl Plain {
 
     /// Whether no block has a byte of these.
     pub fn is_free(&self, addr: u64, size: u64) -> bool {
-        self.blocks
-            .iter()
-            .all(|b| are_apart(b.addr, b.size, addr, size))
+        for b in &self.blocks {
+            if !are_apart(b.addr, b.size, addr, size) {
+                return false;
+            }
+        }
+        true
     }
 
     /// Whether a page outside the image has no block.
@@ -103,11 +117,7 @@ impl Plain {
         if size > PAGE_BYTES || size == 0 || self.is_image_page(page) {
             return false;
         }
-        if !self
-            .blocks
-            .iter()
-            .any(|b| b.size == size && page_of(b.addr) == page)
-        {
+        if !self.has_blocks(page, size) {
             return false;
         }
         for k in 0..PAGE_BYTES / size {
@@ -115,6 +125,16 @@ impl Plain {
                 address_of(page).saturating_add(size.saturating_mul(k)),
                 size,
             ) {
+                return true;
+            }
+        }
+        false
+    }
+
+    // Whether a block of this size starts in a page.
+    fn has_blocks(&self, page: u64, size: u64) -> bool {
+        for b in &self.blocks {
+            if b.size == size && page_of(b.addr) == page {
                 return true;
             }
         }
@@ -137,12 +157,22 @@ impl Plain {
 
     /// The lowest run of so many free pages.
     pub fn lowest_run(&self, count: u64) -> Option<u64> {
-        (0..self.pages).find(|first| self.are_free_pages(*first, count))
+        for first in 0..self.pages {
+            if self.are_free_pages(first, count) {
+                return Some(first);
+            }
+        }
+        None
     }
 
     /// Some page with a free place for this size.
     pub fn some_free_place(&self, size: u64) -> Option<u64> {
-        (0..self.pages).find(|page| self.has_free_place(*page, size))
+        for page in 0..self.pages {
+            if self.has_free_place(page, size) {
+                return Some(page);
+            }
+        }
+        None
     }
 
     /// Whether a new block of this size may lie at an address, or may have none.
@@ -183,39 +213,53 @@ impl Plain {
 
     /// The block that has the byte at an address.
     pub fn owner(&self, addr: u64) -> Option<(u64, u64)> {
-        let found = self
-            .blocks
-            .iter()
-            .find(|b| b.addr <= addr && addr < b.addr.saturating_add(b.size))?;
-        Some((found.addr, found.size))
+        for b in &self.blocks {
+            if b.addr <= addr && addr < b.addr.saturating_add(b.size) {
+                return Some((b.addr, b.size));
+            }
+        }
+        None
+    }
+
+    // The block at an address.
+    fn block_at(&mut self, addr: u64) -> Option<&mut Block> {
+        let place = self.place_of(addr)?;
+        self.blocks.get_mut(place)
+    }
+
+    // Where the block at an address stands.
+    fn place_of(&self, addr: u64) -> Option<usize> {
+        for place in 0..self.blocks.len() {
+            if self.blocks.get(place)?.addr == addr {
+                return Some(place);
+            }
+        }
+        None
     }
 
     /// Marks the block at an address, and says whether it was not marked before.
     pub fn mark(&mut self, addr: u64, walk: u32, count: u32) -> bool {
-        for b in &mut self.blocks {
-            if b.addr == addr && b.mark.is_none() {
-                b.mark = Some((walk, count));
-                return true;
-            }
+        let Some(block) = self.block_at(addr) else {
+            return false;
+        };
+        let fresh = block.mark.is_none();
+        if fresh {
+            block.mark = Some((walk, count));
         }
-        false
+        fresh
     }
 
     /// Leaves the block at an address to a pass, where it is marked.
     pub fn postpone(&mut self, addr: u64) {
-        for b in &mut self.blocks {
-            if b.addr == addr && b.mark.is_some() {
-                b.pending = true;
-            }
+        if let Some(block) = self.block_at(addr) {
+            block.pending = block.mark.is_some();
         }
     }
 
     /// The block at an address is no more left to a pass.
     pub fn set_walked(&mut self, addr: u64) {
-        for b in &mut self.blocks {
-            if b.addr == addr {
-                b.pending = false;
-            }
+        if let Some(block) = self.block_at(addr) {
+            block.pending = false;
         }
     }
 
@@ -254,9 +298,12 @@ impl Plain {
 
     // Whether a marked block starts in a page.
     fn has_marked(&self, page: u64) -> bool {
-        self.blocks
-            .iter()
-            .any(|b| page_of(b.addr) == page && b.mark.is_some())
+        for b in &self.blocks {
+            if page_of(b.addr) == page && b.mark.is_some() {
+                return true;
+            }
+        }
+        false
     }
 
     /// Whether the entries of these pages are cached, each once.
@@ -276,19 +323,26 @@ impl Plain {
 
     /// The first marked block above an address.
     pub fn next_marked(&self, after: u64) -> Option<(u64, u32, u32)> {
-        let found = self
-            .blocks
-            .iter()
-            .find(|b| b.addr > after && b.mark.is_some())?;
-        let (walk, count) = found.mark?;
-        Some((found.addr, walk, count))
+        for b in &self.blocks {
+            if b.addr <= after {
+                continue;
+            }
+            if let Some((walk, count)) = b.mark {
+                return Some((b.addr, walk, count));
+            }
+        }
+        None
     }
 
     /// The first block above an address that is left to a pass.
     pub fn next_pending(&self, after: u64) -> Option<(u64, u32, u32)> {
-        let found = self.blocks.iter().find(|b| b.addr > after && b.pending)?;
-        let (walk, count) = found.mark?;
-        Some((found.addr, walk, count))
+        for b in &self.blocks {
+            if b.addr > after && b.pending {
+                let (walk, count) = b.mark?;
+                return Some((b.addr, walk, count));
+            }
+        }
+        None
     }
 
     /// Where so many pages go that would like to start at a page; where there is no room, the length of the longest run.
