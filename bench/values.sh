@@ -75,13 +75,18 @@ large=$(members 1000)
 small=$(members 100)
 row 'print of 200 unions, members of each' 1000 "$large" 'a tenth' "$small" 2
 
+# The seconds that the lines of sets.gty take under many.h, without those of none.gty, with which they begin.
+lines_alone() {
+  wants 0 0 "$work/sets.gty" "$work/many.h"
+  minus "$(seconds 5 "$program" "$work/sets.gty" "$work/many.h")" "$(seconds 5 "$program" "$work/none.gty" "$work/many.h")"
+}
+
 # The seconds of 500 lines `set` of that number, each of which makes the other member of each union active.
 sets() {
   many_unions "$1"
   echo '@new $m many' >"$work/none.gty"
   { cat "$work/none.gty"; awk 'BEGIN { for (i = 1; i <= 500; i++) print "@set $m.kind", i % 2 }'; } >"$work/sets.gty"
-  wants 0 0 "$work/sets.gty" "$work/many.h"
-  minus "$(seconds 5 "$program" "$work/sets.gty" "$work/many.h")" "$(seconds 5 "$program" "$work/none.gty" "$work/many.h")"
+  lines_alone
 }
 large=$(sets 1000)
 small=$(sets 100)
@@ -104,7 +109,7 @@ row 'unions that begin with a large struct' 4000 "$large" 'a tenth' "$small" 12
 
 # The seconds of 2,000 lines `set` of a length in a union of so many members, of which one alone ends in an array of that length: each of them stores
 # the whole value.
-sets() {
+length_sets() {
   awk -v n="$1" 'BEGIN {
     print "struct GTY(()) vec { int n; struct vec *GTY((length (\"%h.n\"))) elt[1]; };"
     print "union GTY((desc (\"0\"))) many {\n  struct vec GTY((tag (\"0\"))) v;"
@@ -112,9 +117,8 @@ sets() {
     print "};" }' >"$work/many.h"
   printf '@new $m many 4\n' >"$work/none.gty"
   { cat "$work/none.gty"; awk 'BEGIN { for (i = 0; i < 2000; i++) print "@set $m.v.n " i % 5 }'; } >"$work/sets.gty"
-  wants 0 0 "$work/sets.gty" "$work/many.h"
-  minus "$(seconds 5 "$program" "$work/sets.gty" "$work/many.h")" "$(seconds 5 "$program" "$work/none.gty" "$work/many.h")"
+  lines_alone
 }
-large=$(sets 1000)
-small=$(sets 100)
+large=$(length_sets 1000)
+small=$(length_sets 100)
 row 'set in a union, members' 1000 "$large" 'a tenth' "$small" 2

@@ -20,11 +20,5 @@ row() {
 }
 
 printf '# The examples, as examples/rows.sh prints them.\n'
-row tree 1 tree.h scope.h
-row expr 1 expr.h
-row chain 1 chain.h expr.h
-row cycle 1 cycle.h
-row list 1 node.h
-row collect 1 node.h
-row rtl 1 rtl.h
-row values 1 values.h
+# The file list has a line for each example: its name, its status, and its headers.
+while read -ra words; do row "${words[@]}"; done <list
