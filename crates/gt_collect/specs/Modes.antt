@@ -1,6 +1,7 @@
 -- When a collection runs.
 use Rattle.std.specs.Prelude.{◌≤◌, ℕ}
-use Rattle.gt_next.specs.declared.TheConstants.{MAX_ALLOCATED, MAX_MIN_EXPAND, MAX_MIN_HEAPSIZE}
+use Rattle.gt_types.specs.declared.limits.TheConstants.{MAX_MIN_EXPAND, MAX_MIN_HEAPSIZE}
+use Rattle.gt_next.specs.declared.TheConstants.{MAX_ALLOCATED}
 use Rattle.gt_next.specs.Collecting.{threshold_of}
 use Rattle.gt_collect.specs.declared.modes.Mode.{Mode}
 use Rattle.gt_collect.specs.declared.modes.Mode.TheVariants.{Force, Heuristic}

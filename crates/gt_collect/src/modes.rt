@@ -1,6 +1,6 @@
 // When a collection runs.
 ghost use Rattle.std.specs.Prelude.{◌≡◌, ◌≤◌};
-ghost use Rattle.gt_next.specs.declared.TheConstants.{MAX_MIN_HEAPSIZE};
+ghost use Rattle.gt_types.specs.declared.limits.TheConstants.{MAX_MIN_HEAPSIZE};
 ghost use Rattle.gt_next.specs.Collecting.{floor_of as floor_by};
 ghost use Rattle.gt_collect.specs.Modes.{IsMode, threshold_in};
 

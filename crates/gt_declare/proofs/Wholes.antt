@@ -11,7 +11,7 @@ use Rattle.gt_types.specs.declared.program.Chain.{Chain}
 use Rattle.gt_types.specs.declared.program.Field.{Field}
 use Rattle.gt_types.specs.declared.program.Root.{Root}
 use Rattle.gt_types.specs.declared.program.Cache.{Cache}
-use Rattle.gt_types.specs.declared.program.TypeWord.{TypeWord}
+use Rattle.gt_types.specs.declared.program.Typedef.{Typedef}
 use Rattle.gt_types.specs.declared.program.Structure.{Structure}
 use Rattle.gt_types.specs.declared.program.Program.{Program}
 use Rattle.gt_layout.specs.declared.planes.Plane.{Plane}
@@ -147,7 +147,7 @@ few_unchained draft planes structures sound is =
     (λ k d within. let s = get_or draft.structures k d in let same = length-map s.fields (field_of draft planes s.is_union) in let few = (sound.structures k d within).few in omega (arith, same, few)))
 
 -- the parts of a program that is made by planes as they are held
-pub parts_make : (draft : Draft) (known slice slice' : List Plane) (drafts : List DraftStructure) (plain chained : List Structure) (roots : List Root) (caches : List Cache) (words : List TypeWord)
+pub parts_make : (draft : Draft) (known slice slice' : List Plane) (drafts : List DraftStructure) (plain chained : List Structure) (roots : List Root) (caches : List Cache) (words : List Typedef)
     → IsSound draft → AreHeldBy draft known → slice ≡ known → slice' ≡ known → drafts ≡ draft.structures → plain ≡ all_unchained draft slice → chained ≡ with_chains plain 0 drafts plain
     → roots ≡ map (root_of draft slice') draft.roots → caches ≡ map cache_of draft.caches → words ≡ map word_of draft.words
     → IsMadeOf draft (record { structures = chained; roots = roots; caches = caches; words = words })
@@ -160,4 +160,4 @@ parts_make draft known slice slice' drafts plain chained roots caches words soun
     ap (λ (ss : List Structure). let made : Program = record { structures = ss; roots = roots; caches = caches; words = words } in made) chained_known
     ∙ ap (λ (rs : List Root). let made : Program = record { structures = made_structures draft known; roots = rs; caches = caches; words = words } in made) roots_known
     ∙ ap (λ (cs : List Cache). let made : Program = record { structures = made_structures draft known; roots = map (root_of draft known) draft.roots; caches = cs; words = words } in made) caches_are
-    ∙ ap (λ (ws : List TypeWord). let made : Program = record { structures = made_structures draft known; roots = map (root_of draft known) draft.roots; caches = map cache_of draft.caches; words = ws } in made) words_are)
+    ∙ ap (λ (ws : List Typedef). let made : Program = record { structures = made_structures draft known; roots = map (root_of draft known) draft.roots; caches = map cache_of draft.caches; words = ws } in made) words_are)

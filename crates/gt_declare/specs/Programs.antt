@@ -11,7 +11,7 @@ use Rattle.gt_types.specs.declared.program.Field.{Field}
 use Rattle.gt_types.specs.declared.program.Structure.{Structure}
 use Rattle.gt_types.specs.declared.program.Root.{Root}
 use Rattle.gt_types.specs.declared.program.Cache.{Cache}
-use Rattle.gt_types.specs.declared.program.TypeWord.{TypeWord}
+use Rattle.gt_types.specs.declared.program.Typedef.{Typedef}
 use Rattle.gt_types.specs.declared.program.Program.{Program}
 use Rattle.gt_expr.specs.declared.raw.RawExpr.{RawExpr, out-RawExpr}
 use Rattle.gt_expr.specs.declared.raw.RawExpr.TheOpen as raw
@@ -136,7 +136,7 @@ or_first None = node 0
 abbrev pub cache_of : DraftCache → Cache
 cache_of c = record { name = c.name.word; key = or_first (key_type c.key); value = or_first (key_type c.value) }
 
-abbrev pub word_of : DraftWord → TypeWord
+abbrev pub word_of : DraftWord → Typedef
 word_of w = record { name = w.name; pointer = w.pointer; id = node w.id }
 
 -- ---- the program

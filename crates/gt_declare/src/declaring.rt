@@ -13,7 +13,7 @@ use crate::words::word_of;
 use gt_drafts::Draft;
 use gt_layout::Plane;
 use gt_markers::Lookup;
-use gt_types::{Cache, List, Program, Root, TypeWord};
+use gt_types::{Cache, List, Program, Root, Typedef};
 use std::alloc::{AllocError, Global};
 
 fn roots_of(
@@ -44,7 +44,7 @@ fn caches_of(alloc: Global, draft: &Draft) -> Result<List<Cache>, AllocError>
     Ok(List::of(made))
 }
 
-fn words_of(alloc: Global, draft: &Draft) -> Result<List<TypeWord>, AllocError>
+fn words_of(alloc: Global, draft: &Draft) -> Result<List<Typedef>, AllocError>
     requires sound { IsSound draft.now }
     ensures made { IfOk result (λ made. made ≡ map word_of draft.now.words) }
 {

@@ -5,7 +5,7 @@ use Rattle.std.proofs.lemmas.Bool.{cases_order}
 use Rattle.std.proofs.lemmas.Option.{slice_get-get_or, slice_get_within, get_or_from_slice_get}
 use Rattle.gt_types.specs.declared.types.TypeId.{TypeId}
 use Rattle.gt_types.specs.declared.program.Structure.{Structure}
-use Rattle.gt_types.specs.declared.program.TypeWord.{TypeWord}
+use Rattle.gt_types.specs.declared.program.Typedef.{Typedef}
 use Rattle.gt_types.specs.declared.program.Program.{Program}
 use Rattle.gt_types.specs.Contains.{HasStructure}
 use Rattle.gt_types.specs.Settled.{Settled}
@@ -49,7 +49,7 @@ at-place xs x c = slice_get-get_or xs c.0 x c.1 ∙ ap Some c.2
 
 module _ (program : Program) (settled : Settled program) where
   -- names of typedefs
-  word-one : (name : List ℕ) (w v : TypeWord) → IsWordOf program name w → IsWordOf program name v → v ≡ w
+  word-one : (name : List ℕ) (w v : Typedef) → IsWordOf program name w → IsWordOf program name v → v ≡ w
   word-one name w v (c, e) (d, f) =
       let words = map (λ x. x.name) program.words in
       let globals = map (λ r. r.name) program.roots ++ map (λ x. x.name) program.caches in
@@ -70,7 +70,7 @@ module _ (program : Program) (settled : Settled program) where
   means-one name a b (MeansNode.by_tag none has e) (MeansNode.by_word {w} is plain) = absurd (none w is)
   means-one name a b (MeansNode.by_tag {node} {s} none has e) (MeansNode.by_tag {node = other} {s = t} no_word there f) = node-one node other s t has there (e ∙ sym f)
 
-  no-pointer : (name : List ℕ) (a : TypeId) (w : TypeWord) → MeansNode program name a → IsWordOf program name w → w.pointer ≡ true → ⊥
+  no-pointer : (name : List ℕ) (a : TypeId) (w : Typedef) → MeansNode program name a → IsWordOf program name w → w.pointer ≡ true → ⊥
   no-pointer name a w (MeansNode.by_word {w = v} is plain) at pointer = let same = ap (λ x. x.pointer) (word-one name v w is at) in cc
   no-pointer name a w (MeansNode.by_tag none has e) at pointer = none w at
 

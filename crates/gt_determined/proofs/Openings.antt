@@ -16,7 +16,7 @@ use Rattle.gt_pages.specs.Ledger.{Sound}
 use Rattle.gt_graph.specs.Objects.{Object, blocks_of, pairs_in}
 use Rattle.gt_graph.specs.Places.{Places, ArePlacesOf, ledger_of}
 use Rattle.gt_graph.specs.Good.{IsObject, ArePairsOf, IsGraph}
-use Rattle.gt_next.specs.declared.TheConstants.{MAX_MIN_EXPAND, MAX_MIN_HEAPSIZE}
+use Rattle.gt_types.specs.declared.limits.TheConstants.{MAX_MIN_EXPAND, MAX_MIN_HEAPSIZE}
 use Rattle.gt_next.specs.States.{State, IsOpening, IsGoodState, meaning, count_of_variables}
 
 none-in : (caches : List Cache) → pairs_in (map (λ cache. []) caches) ≡ 0

@@ -8,7 +8,6 @@ ghost use Rattle.gt_resolve.specs.Resolution.{Resolves};
 ghost use Rattle.gt_headers.specs.Headers.{Declares, IsHeaderStop};
 ghost use Rattle.gt_headers.specs.Reading.{AreRead};
 
-use crate::MAX_HEADERS;
 use crate::reading::read_all;
 use crate::sizes::lay_out;
 use gt_drafts::Draft;
@@ -18,7 +17,7 @@ use gt_options::settle;
 use gt_resolve::{few, resolve};
 use gt_settled::declared_is_settled;
 use gt_sound::{read_is_well_made, resolved_is_sound};
-use gt_types::{Bytes, Program, Stop};
+use gt_types::{Bytes, MAX_HEADERS, Program, Stop};
 use std::alloc::Global;
 
 /// What headers declare: a program, and how its structures and its static record lie.

@@ -8,6 +8,3 @@ mod sizes;
 
 pub use declaring::{Declared, are_within_limits, declare};
 pub use laws::{declared_programs_are_settled, numbers, one_outcome, some_outcome, text_places};
-
-/// The most headers of a call.
-pub const MAX_HEADERS: usize = 64;

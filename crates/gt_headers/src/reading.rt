@@ -3,11 +3,10 @@ ghost use Rattle.std.specs.Prelude.{◌≤◌, ◌<◌, ◌^◌, All, IfErr, IfO
 ghost use Rattle.gt_headers.specs.Reading.{AreRead, IsRead};
 ghost use Rattle.gt_headers.specs.Stops.{IsReadingStop, IsTextStop};
 
-use crate::MAX_HEADERS;
 use gt_items::Items;
 use gt_lex::lex;
 use gt_parse::parse;
-use gt_types::{Bytes, Stop};
+use gt_types::{Bytes, MAX_HEADERS, Stop};
 use std::alloc::Global;
 
 // The items of a text, or the first fault of its tokens, or else of its items.

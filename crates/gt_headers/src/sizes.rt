@@ -8,12 +8,11 @@ ghost use Rattle.gt_resolve.specs.Placings.{faults_from};
 ghost use Rattle.gt_headers.specs.Sizes.{IsSizeFault};
 ghost use Rattle.gt_headers.specs.Stops.{IsSizeStop};
 
-use crate::MAX_HEADERS;
 use gt_items::Items;
 use gt_layout::laws::one_layout;
 use gt_layout::{LayoutStop, Layouts, layout};
 use gt_resolve::place;
-use gt_types::{Program, Stop};
+use gt_types::{MAX_HEADERS, Program, Stop};
 use std::alloc::Global;
 
 /// The layouts of the program that these files declare, or the fault of its sizes.

@@ -6,7 +6,7 @@ use Rattle.std.specs.Str.{bytes_eq}
 use Rattle.std.proofs.lemmas.Option.{none-some}
 use Rattle.gt_types.specs.declared.types.TypeId.{TypeId}
 use Rattle.gt_types.specs.declared.program.Structure.{Structure}
-use Rattle.gt_types.specs.declared.program.TypeWord.{TypeWord}
+use Rattle.gt_types.specs.declared.program.Typedef.{Typedef}
 use Rattle.gt_types.specs.declared.program.Program.{Program}
 use Rattle.gt_types.specs.Contains.{HasStructure}
 use Rattle.gt_types.specs.Settled.{Settled}
@@ -18,7 +18,7 @@ use Rattle.gt_kinds.proofs.Naming.{found-name, here, none-named, node-one, there
 
 -- no typedef has a name
 abbrev pub NoWord : Program → List ℕ → Type 0
-NoWord program name = (w : TypeWord) → ¬ IsWordOf program name w
+NoWord program name = (w : Typedef) → ¬ IsWordOf program name w
 
 -- no structure has a tag
 abbrev pub NoTag : Program → List ℕ → Type 0
@@ -27,21 +27,21 @@ NoTag program name = (node : TypeId) (s : Structure) → HasStructure program no
 module _ {program : Program} (settled : Settled program) (name : List ℕ) where
   -- ---- a typedef
 
-  module _ (w : TypeWord) (is : IsWordOf program name w) where
+  module _ (w : Typedef) (is : IsWordOf program name w) where
     node-by-word : w.pointer ≡ false → (other : TypeId) → MeansNode program name other → other ≡ w.id
-    node-by-word plain other (MeansNode.by_word {w = v} also p) = ap (λ (x : TypeWord). x.id) (word-one settled name v w also is)
+    node-by-word plain other (MeansNode.by_word {w = v} also p) = ap (λ (x : Typedef). x.id) (word-one settled name v w also is)
     node-by-word plain other (MeansNode.by_tag none has same) = absurd (none w is)
 
     pub no-node : w.pointer ≡ true → (other : TypeId) → ¬ MeansNode program name other
     no-node pointer other (MeansNode.by_word {w = v} also p) =
-        let same : v.pointer ≡ w.pointer = ap (λ (x : TypeWord). x.pointer) (word-one settled name v w also is) in cc
+        let same : v.pointer ≡ w.pointer = ap (λ (x : Typedef). x.pointer) (word-one settled name v w also is) in cc
     no-node pointer other (MeansNode.by_tag none has same) = none w is
 
     pointer-by-word : (other : TypeId) → MeansPointer program name other → other ≡ w.id
-    pointer-by-word other also = let same = ap (λ (x : TypeWord). x.id) (word-one settled name also.0 w also.1 is) in cc
+    pointer-by-word other also = let same = ap (λ (x : Typedef). x.id) (word-one settled name also.0 w also.1 is) in cc
 
     no-pointer : w.pointer ≡ false → (other : TypeId) → ¬ MeansPointer program name other
-    no-pointer plain other also = let same = ap (λ (x : TypeWord). x.pointer) (word-one settled name also.0 w also.1 is) in cc
+    no-pointer plain other also = let same = ap (λ (x : Typedef). x.pointer) (word-one settled name also.0 w also.1 is) in cc
 
     word-means-node : w.pointer ≡ false → Means program name (Some (Node w.id))
     word-means-node plain = (MeansNode.by_word {w = w} is plain, node-by-word plain, no-pointer plain)
@@ -78,7 +78,7 @@ module _ {program : Program} (settled : Settled program) (name : List ℕ) where
 
 -- a name means one structure at most
 pub nodes-one : {program : Program} → Settled program → (name : List ℕ) (n m : TypeId) → MeansNode program name n → MeansNode program name m → n ≡ m
-nodes-one settled name n m (MeansNode.by_word {w = v} is p) (MeansNode.by_word {w = w} also q) = ap (λ (x : TypeWord). x.id) (word-one settled name v w is also)
+nodes-one settled name n m (MeansNode.by_word {w = v} is p) (MeansNode.by_word {w = w} also q) = ap (λ (x : Typedef). x.id) (word-one settled name v w is also)
 nodes-one settled name n m (MeansNode.by_word {w = v} is p) (MeansNode.by_tag none has same) = absurd (none v is)
 nodes-one settled name n m (MeansNode.by_tag none has same) (MeansNode.by_word {w = w} also q) = absurd (none w also)
 nodes-one settled name n m (MeansNode.by_tag {s = s} none has same) (MeansNode.by_tag {s = t} never other like) = let one : s.name ≡ t.name = cc in node-one settled n m s t has other one
@@ -86,15 +86,15 @@ nodes-one settled name n m (MeansNode.by_tag {s = s} none has same) (MeansNode.b
 -- ---- what an index finds
 
 -- a typedef that is found by its place
-pub word-found : (program : Program) (name : List ℕ) (place : ℕ) → position_from (λ (w : TypeWord). bytes_eq w.name name) 0 program.words ≡ Some place
-    → (found : Option (Bor TypeWord)) → option_copied found ≡ slice_get program.words place → MatchOption found (NoWord program name) (λ w. IsWordOf program name w.now)
+pub word-found : (program : Program) (name : List ℕ) (place : ℕ) → position_from (λ (w : Typedef). bytes_eq w.name name) 0 program.words ≡ Some place
+    → (found : Option (Bor Typedef)) → option_copied found ≡ slice_get program.words place → MatchOption found (NoWord program name) (λ w. IsWordOf program name w.now)
 word-found program name place e None item =
-    let there = found-name (λ (w : TypeWord). w.name) program.words name place e in absurd (none-some there.0 (item ∙ there.1))
+    let there = found-name (λ (w : Typedef). w.name) program.words name place e in absurd (none-some there.0 (item ∙ there.1))
 word-found program name place e (Some w) item =
-    let there = found-name (λ (v : TypeWord). v.name) program.words name place e in
+    let there = found-name (λ (v : Typedef). v.name) program.words name place e in
     let same = some-same (slice_get program.words place) w.now there.0 (sym item) there.1 in
-    (here program.words place w.now (sym item), subst (λ (v : TypeWord). v.name ≡ name) (sym same) there.2)
+    (here program.words place w.now (sym item), subst (λ (v : Typedef). v.name ≡ name) (sym same) there.2)
 
-pub word-missed : (program : Program) (name : List ℕ) → position_from (λ (w : TypeWord). bytes_eq w.name name) 0 program.words ≡ None → NoWord program name
+pub word-missed : (program : Program) (name : List ℕ) → position_from (λ (w : Typedef). bytes_eq w.name name) 0 program.words ≡ None → NoWord program name
 word-missed program name none w is =
-    let k = there program.words w is.0 in none-named (λ (v : TypeWord). v.name) program.words name none k.0 w k.1 is.1
+    let k = there program.words w is.0 in none-named (λ (v : Typedef). v.name) program.words name none k.0 w k.1 is.1

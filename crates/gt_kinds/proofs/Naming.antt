@@ -8,7 +8,7 @@ use Rattle.std.proofs.lemmas.Option.{none-some, slice_get-get_or, slice_get_with
 use Rattle.std.proofs.lemmas.Slice.Eq.{bytes_eq-Decides}
 use Rattle.gt_types.specs.declared.types.TypeId.{TypeId}
 use Rattle.gt_types.specs.declared.program.Structure.{Structure}
-use Rattle.gt_types.specs.declared.program.TypeWord.{TypeWord}
+use Rattle.gt_types.specs.declared.program.Typedef.{Typedef}
 use Rattle.gt_types.specs.declared.program.Program.{Program}
 use Rattle.gt_types.specs.Contains.{HasStructure}
 use Rattle.gt_types.specs.Settled.{Settled, global_names}
@@ -80,13 +80,13 @@ module _ {program : Program} (settled : Settled program) where
   abbrev front : List (List ℕ)
   front = map (λ r. r.name) program.roots ++ map (λ c. c.name) program.caches
 
-  named : (k : ℕ) (w : TypeWord) → slice_get program.words k ≡ Some w → slice_get (global_names program) (length front + k) ≡ Some w.name
+  named : (k : ℕ) (w : Typedef) → slice_get program.words k ≡ Some w → slice_get (global_names program) (length front + k) ≡ Some w.name
   named k w at =
-      after front (map (λ (v : TypeWord). v.name) program.words) k
-      ∙ slice_get-map (λ (v : TypeWord). v.name) program.words k ∙ ap (option_map (λ (v : TypeWord). v.name)) at
+      after front (map (λ (v : Typedef). v.name) program.words) k
+      ∙ slice_get-map (λ (v : Typedef). v.name) program.words k ∙ ap (option_map (λ (v : Typedef). v.name)) at
 
   -- one typedef has a name
-  pub word-one : (name : List ℕ) (w v : TypeWord) → IsWordOf program name w → IsWordOf program name v → w ≡ v
+  pub word-one : (name : List ℕ) (w v : Typedef) → IsWordOf program name w → IsWordOf program name v → w ≡ v
   word-one name w v one other =
       let k = there program.words w one.0 in
       let l = there program.words v other.0 in

@@ -2,7 +2,7 @@
 use Rattle.std.proofs.Common.{◌≡◌, ℕ, true, false, List, Some, None, refl, sym, ap, subst}
 use Rattle.std.specs.Prelude.{◌≢◌, MatchOption, Option}
 use Rattle.gt_types.specs.declared.types.TypeId.{TypeId}
-use Rattle.gt_types.specs.declared.program.TypeWord.{TypeWord}
+use Rattle.gt_types.specs.declared.program.Typedef.{Typedef}
 use Rattle.gt_types.specs.declared.program.Program.{Program}
 use Rattle.gt_types.specs.Paths.{MayStand}
 use Rattle.gt_types.specs.Settled.{Settled}
@@ -79,7 +79,7 @@ module _ {program : Program} {type : TypeName} (settled : Settled program) where
   kinds-one k l (IsKindOf.pointers_by_word {w} plain is pointer may) (IsKindOf.structures {node = o} also other stands) = absurd (no-node settled type.name w is pointer o other)
   kinds-one k l (IsKindOf.pointers_by_word plain is pointer may) (IsKindOf.pointers starred not other stands) = absurd (cc)
   kinds-one k l (IsKindOf.pointers_by_word {w = w} plain is pointer may) (IsKindOf.pointers_by_word {w = v} also other named stands) =
-      ap (λ (x : TypeWord). Pointers x.id) (word-one settled type.name w v is other)
+      ap (λ (x : Typedef). Pointers x.id) (word-one settled type.name w v is other)
   kinds-one k l (IsKindOf.pointers_by_word plain is pointer may) (IsKindOf.strings starred same) = absurd (cc)
   kinds-one k l (IsKindOf.strings starred same) (IsKindOf.structures plain other stands) = absurd (cc)
   kinds-one k l (IsKindOf.strings starred same) (IsKindOf.pointers also not other stands) = absurd (not same)

@@ -1,7 +1,7 @@
 -- No promise: what a name alone means, and which type means strings.
 use Rattle.std.specs.Prelude.{◌≡◌, ℕ, true, cond, codes, List, Option, Some, None}
 use Rattle.gt_types.specs.declared.types.TypeId.{TypeId}
-use Rattle.gt_types.specs.declared.program.TypeWord.{TypeWord}
+use Rattle.gt_types.specs.declared.program.Typedef.{Typedef}
 use Rattle.gt_types.specs.declared.program.Program.{Program}
 use Rattle.gt_script.specs.declared.command.TypeName.{TypeName}
 use Rattle.gt_next.specs.Kinds.{IsWordOf, MeansNode}
@@ -10,10 +10,10 @@ use Rattle.gt_kinds.specs.declared.meaning.Meaning.TheVariants.{Node, Pointer}
 
 -- a name of a typedef means a pointer to this structure
 abbrev pub MeansPointer : Program → List ℕ → TypeId → Type 0
-MeansPointer program name node = (w : TypeWord) × IsWordOf program name w × (w.pointer ≡ true) × (w.id ≡ node)
+MeansPointer program name node = (w : Typedef) × IsWordOf program name w × (w.pointer ≡ true) × (w.id ≡ node)
 
 -- what a typedef means
-abbrev pub meaning_of : TypeWord → Meaning
+abbrev pub meaning_of : Typedef → Meaning
 meaning_of w = cond w.pointer (Pointer w.id) (Node w.id)
 
 -- a name means a structure, or a pointer to one, or nothing, and nothing else

@@ -5,7 +5,7 @@ ghost use Rattle.std.specs.Char.{is_ascii};
 ghost use Rattle.std.specs.Str.{bytes_eq};
 ghost use Rattle.gt_types.specs.declared.types.TypeId.{TypeId};
 ghost use Rattle.gt_types.specs.declared.program.Structure.{Structure};
-ghost use Rattle.gt_types.specs.declared.program.TypeWord.{TypeWord};
+ghost use Rattle.gt_types.specs.declared.program.Typedef.{Typedef};
 ghost use Rattle.gt_types.specs.Contains.{HasStructure};
 ghost use Rattle.gt_types.specs.Settled.{Settled};
 ghost use Rattle.gt_tree.specs.Blocks.{Kind, Nodes};
@@ -18,7 +18,7 @@ ghost use Rattle.gt_kinds.specs.Meanings.{IsOfStrings, Means, meaning_of};
 use crate::index::ProgramNames;
 use gt_paths::may_stand;
 use gt_script::TypeName;
-use gt_types::{Program, TypeId, TypeWord, Word};
+use gt_types::{Program, TypeId, Typedef, Word};
 use gt_value::BlockKind;
 
 // What a name alone means: a structure, or a pointer to one.
@@ -37,7 +37,7 @@ fn is_word(word: &Word, ascii: &str) -> bool
 }
 
 // What a typedef means.
-fn meaning_of(word: &TypeWord) -> Meaning
+fn meaning_of(word: &Typedef) -> Meaning
     ensures { result ≡ meaning_of word.now }
 {
     if word.pointer {
@@ -67,9 +67,9 @@ fn node_in(kind: BlockKind) -> Option<TypeId>
 
 impl ProgramNames {
     // The typedef of a name.
-    fn word<'a>(&self, program: &'a Program, name: &Word) -> Option<&'a TypeWord>
+    fn word<'a>(&self, program: &'a Program, name: &Word) -> Option<&'a Typedef>
         requires names { AreNamesOf program.now self.now }
-        ensures word { MatchOption result ((w : TypeWord) → ¬ IsWordOf program.now name.now w) (λ w. IsWordOf program.now name.now w.now) }
+        ensures word { MatchOption result ((w : Typedef) → ¬ IsWordOf program.now name.now w) (λ w. IsWordOf program.now name.now w.now) }
     {
         match self.words.get(name) {
             None => None,

@@ -3,7 +3,7 @@ ghost use Rattle.std.specs.Prelude.{◌≡◌, ℕ, List, [], IfOk};
 ghost use Rattle.gt_kinds.specs.Places.{places_from};
 
 use gt_names::Table;
-use gt_types::{Cache, Root, Structure, TypeWord, Word};
+use gt_types::{Cache, Root, Structure, Typedef, Word};
 use std::alloc::{AllocError, Global};
 
 /// A thing of a program that has a name.
@@ -39,7 +39,7 @@ impl Named for Cache {
     }
 }
 
-impl Named for TypeWord {
+impl Named for Typedef {
     ghost called = { λ w. w.name };
 
     fn name(&self) -> &Word {

@@ -1,8 +1,5 @@
 // Marked globals that are maps: `hash_map<K, V> *NAME`.
-ghost use Rattle.std.specs.Prelude.{◌≡◌, IsTrue};
-ghost use Rattle.std.specs.List.{list_all};
-ghost use Rattle.std.specs.Char.{is_ascii};
-ghost use Rattle.std.specs.Str.{bytes_eq};
+ghost use Rattle.std.specs.Prelude.{◌≡◌};
 ghost use Rattle.gt_marked.specs.Outcome.{Gives};
 ghost use Rattle.gt_marked.specs.Marked.{comma_at, greater_at, pointed_at, traits_at, is_cache, cache_name_at, cache_at};
 
@@ -12,7 +9,7 @@ use crate::types::{Place, base_type, name, stars, without_qualifiers};
 use crate::unread::{Unread, unexpected};
 use gt_items::{Item, Name, PointedType, RawCache, RawOption};
 use gt_search::{Lexeme, UNSUPPORTED};
-use gt_types::{List, Word};
+use gt_types::List;
 use std::alloc::Global;
 
 /// A map that is a cache, after the sign `<`.
@@ -88,15 +85,7 @@ fn is_cache(options: &List<RawOption>) -> bool
     options
         .as_slice()
         .iter()
-        .any(|option| is_word(&option.name.word, "cache"))
-}
-
-// Whether a word is this one of ASCII characters.
-fn is_word(word: &Word, ascii: &str) -> bool
-    requires { IsTrue (list_all is_ascii ascii.now) }
-    ensures { result ≡ bytes_eq word.now ascii.now }
-{
-    word.as_str() == ascii
+        .any(|option| option.name.word.is("cache"))
 }
 
 fn comma(tokens: &[Lexeme]) -> Result<&[Lexeme], Unread>

@@ -8,8 +8,8 @@ use crate::declarators::declarators;
 use crate::types::{Place, base_type};
 use crate::unread::Unread;
 use gt_items::RawField;
-use gt_search::{Bracket, Lexeme, Piece, UNSUPPORTED};
-use gt_types::List;
+use gt_search::{Bracket, Lexeme, UNSUPPORTED};
+use gt_types::{List, Word};
 use std::alloc::Global;
 
 /// Fields up to a closing brace, one or more.
@@ -66,7 +66,7 @@ fn no_label(tokens: &[Lexeme]) -> Result<&[Lexeme], Unread>
     Ok(tokens)
 }
 
-fn is_access(word: &Piece) -> bool
+fn is_access(word: &Word) -> bool
     ensures { result ≡ is_access word.now }
 {
     word.is("public") || word.is("private") || word.is("protected")

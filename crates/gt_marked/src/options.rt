@@ -10,8 +10,8 @@ use crate::strings::{strings, unescaped};
 use crate::unread::{Unread, unexpected};
 use gt_expr::BAD_EXPR;
 use gt_items::{Parameter, RawOption};
-use gt_search::{Bracket, Lexeme, Piece, Spot};
-use gt_types::{Bytes, List, Stop};
+use gt_search::{Bracket, Lexeme, Spot};
+use gt_types::{Bytes, List, Stop, Word};
 use std::alloc::Global;
 
 /// The options up to the bracket that closes a marker; none where it is closed at once.
@@ -106,7 +106,7 @@ fn parameter(alloc: Global, name: &Spot, text: &[u8]) -> Result<Parameter, Unrea
 }
 
 // Whether the text of an option is an expression.
-fn takes_expression(name: &Piece) -> bool
+fn takes_expression(name: &Word) -> bool
     ensures { result ≡ takes_expression name.now }
 {
     name.is("length")

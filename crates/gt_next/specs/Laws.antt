@@ -10,7 +10,7 @@ use Rattle.gt_script.specs.declared.command.Command.TheVariants as command
 use Rattle.gt_script.specs.declared.command.Line.{Line}
 use Rattle.gt_script.specs.declared.command.Route.{Route}
 use Rattle.gt_io.specs.Held.{Held}
-use Rattle.gt_next.specs.declared.TheConstants.{MAX_MIN_EXPAND, MAX_MIN_HEAPSIZE}
+use Rattle.gt_types.specs.declared.limits.TheConstants.{MAX_MIN_EXPAND, MAX_MIN_HEAPSIZE}
 use Rattle.gt_next.specs.declared.answer.Answer.{Answer}
 use Rattle.gt_next.specs.declared.answer.Answer.TheVariants.{Made, Refused}
 use Rattle.gt_next.specs.declared.answer.Why.{Why}

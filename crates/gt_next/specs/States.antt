@@ -10,7 +10,8 @@ use Rattle.gt_tree.specs.Fits.{IsZeroRecord}
 use Rattle.gt_io.specs.Held.{Held}
 use Rattle.gt_graph.specs.Objects.{Object, blocks_of, object_of}
 use Rattle.gt_graph.specs.Good.{Heap, IsGood}
-use Rattle.gt_next.specs.declared.TheConstants.{MAX_VARIABLES, MAX_MIN_EXPAND, MAX_MIN_HEAPSIZE, MAX_ALLOCATED}
+use Rattle.gt_types.specs.declared.limits.TheConstants.{MAX_MIN_EXPAND, MAX_MIN_HEAPSIZE}
+use Rattle.gt_next.specs.declared.TheConstants.{MAX_VARIABLES, MAX_ALLOCATED}
 
 -- variables: names of objects under names
 abbrev pub Variables : Type 0

@@ -1,6 +1,7 @@
 //! The numbers of which the definitions speak, each as it is. The call does nothing: its clauses are laws.
 ghost use Rattle.std.specs.Prelude.{◌≡◌};
-ghost use Rattle.gt_next.specs.declared.TheConstants.{MAX_ALLOCATED, MAX_BLOCK, MAX_MIN_EXPAND, MAX_MIN_HEAPSIZE, MAX_VARIABLES};
+ghost use Rattle.gt_types.specs.declared.limits.TheConstants.{MAX_MIN_EXPAND, MAX_MIN_HEAPSIZE};
+ghost use Rattle.gt_next.specs.declared.TheConstants.{MAX_ALLOCATED, MAX_BLOCK, MAX_VARIABLES};
 
 /// How many bytes a block may have, how many variables may be bound, and the limits of a good state.
 pub fn numbers()

@@ -11,12 +11,6 @@ pub use laws::numbers;
 /// The most bytes of a block.
 pub const MAX_BLOCK: u32 = 1048576;
 
-/// The largest percentage by which a heap may grow before a collection.
-pub const MAX_MIN_EXPAND: u32 = 1000;
-
-/// The most units of 1,024 bytes below which a heap counts as so large.
-pub const MAX_MIN_HEAPSIZE: u32 = 1048576;
-
 /// The most bytes that all blocks together can have.
 pub const MAX_ALLOCATED: u64 = 67108864;
 

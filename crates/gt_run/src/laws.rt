@@ -1,14 +1,15 @@
 //! The numbers of which the definitions speak, each as it is, and that one refusal comes first. The calls do nothing: their
 //! clauses are laws.
 ghost use Rattle.std.specs.Prelude.{◌≡◌, ℕ, List, Some};
-ghost use Rattle.gt_words.specs.declared.TheConstants.{DEFAULT_PAGES, MIN_PAGES, MAX_PAGES, DEFAULT_MIN_EXPAND, MAX_MIN_EXPAND, DEFAULT_MIN_HEAPSIZE, MAX_MIN_HEAPSIZE, MAX_GENERATED, MAX_GENERATED_DIGITS, MAX_HEADERS};
+ghost use Rattle.gt_types.specs.declared.limits.TheConstants.{MAX_MIN_EXPAND, MAX_MIN_HEAPSIZE, MAX_HEADERS};
+ghost use Rattle.gt_words.specs.declared.TheConstants.{DEFAULT_PAGES, DEFAULT_MIN_EXPAND, DEFAULT_MIN_HEAPSIZE, MAX_GENERATED, MAX_GENERATED_DIGITS};
 ghost use Rattle.gt_front.specs.declared.TheConstants.{MAX_HEADER_BYTES, MAX_SCRIPT_BYTES, SCRIPT_SYNTAX, SCRIPT_TOO_LONG};
-ghost use Rattle.gt_space.specs.declared.TheConstants.{PAGE_BYTES, HEAP_START, MAX_STATICS, MIN_PAGES as least_pages, MAX_PAGES as most_pages};
+ghost use Rattle.gt_space.specs.declared.TheConstants.{PAGE_BYTES, HEAP_START, MAX_STATICS, MIN_PAGES, MAX_PAGES};
 ghost use Rattle.gt_graph.specs.Good.{MAX_PAIRS};
 ghost use Rattle.gt_io.specs.Held.{Held};
 ghost use Rattle.gt_space.specs.Range.{Range};
 ghost use Rattle.gt_front.specs.Texts.{Texts};
-ghost use Rattle.gt_next.specs.declared.TheConstants.{MAX_ALLOCATED, MAX_MIN_EXPAND as most_expand, MAX_MIN_HEAPSIZE as most_heapsize, MAX_VARIABLES};
+ghost use Rattle.gt_next.specs.declared.TheConstants.{MAX_ALLOCATED, MAX_VARIABLES};
 ghost use Rattle.gt_run.specs.Comes.{IsRefusedFirst, IsTold};
 ghost use Rattle.gt_run.specs.Runs.{Runs};
 
@@ -28,10 +29,9 @@ pub fn numbers()
     ensures files { (MAX_HEADER_BYTES ≡ 1048576) × (MAX_SCRIPT_BYTES ≡ 33554432) }
     ensures faults { (SCRIPT_SYNTAX ≡ 25) × (SCRIPT_TOO_LONG ≡ 26) }
     ensures space { (HEAP_START ≡ 268435456) × (PAGE_BYTES ≡ 4096) × (MAX_STATICS ≡ 1048576) }
-    ensures space_pages { (least_pages ≡ 16) × (most_pages ≡ 16384) }
     ensures variables { MAX_VARIABLES ≡ 65536 }
     ensures pairs { MAX_PAIRS ≡ 1048576 }
-    ensures settings { (most_expand ≡ 1000) × (most_heapsize ≡ 1048576) × (MAX_ALLOCATED ≡ 67108864) }
+    ensures allocated { MAX_ALLOCATED ≡ 67108864 }
 {}
 
 /// With the contents of the files fixed, at most one refusal comes first, other than read faults, which no content decides;

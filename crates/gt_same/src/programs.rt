@@ -1,5 +1,5 @@
 use crate::Same;
-use gt_types::{Cache, Chain, Field, Program, Root, Structure, TypeWord, Word};
+use gt_types::{Cache, Chain, Field, Program, Root, Structure, Typedef, Word};
 
 impl Same for Word {
     fn is_same(&self, other: &Word) -> bool {
@@ -41,8 +41,8 @@ impl Same for Cache {
     }
 }
 
-impl Same for TypeWord {
-    fn is_same(&self, other: &TypeWord) -> bool {
+impl Same for Typedef {
+    fn is_same(&self, other: &Typedef) -> bool {
         self == other
     }
 }

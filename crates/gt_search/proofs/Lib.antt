@@ -1,4 +1,3 @@
-pub mod AsciiWords
 pub mod Cuts
 mod Determined
 mod ItemEnds

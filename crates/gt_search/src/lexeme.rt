@@ -1,11 +1,11 @@
-use crate::piece::Piece;
 use gt_items::{Keyword, Name};
+use gt_types::{Copied, Word};
 use std::alloc::{AllocError, Global};
 
 /// Where a token stands, and its characters.
 #[derive(Debug, Drop)]
 pub struct Spot {
-    pub word: Piece,
+    pub word: Word,
     pub start: u32,
     pub end: u32,
 }
@@ -68,7 +68,7 @@ impl Spot {
         ensures { IfOk result (λ name. name ≡ name_of self.now) }
     {
         Ok(Name {
-            word: self.word.word(alloc)?,
+            word: self.word.copy(alloc)?,
             at: self.start,
         })
     }

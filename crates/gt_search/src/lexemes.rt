@@ -4,9 +4,9 @@ ghost use Rattle.gt_lex.specs.Texts.{IsLexed};
 ghost use Rattle.gt_search.specs.Lexemes.{identifier_lexeme, type_lexeme, mark_lexeme, lexeme_of, lexemes_of};
 
 use crate::lexeme::{Bracket, Lexeme, Spot, TypeWord};
-use crate::piece::Piece;
 use gt_items::Keyword;
 use gt_lex::{Kind, Lexed, Token, token_slices};
+use gt_types::Word;
 use std::alloc::{AllocError, Global};
 use std::rc::RcStr;
 use std::str;
@@ -24,7 +24,9 @@ pub fn read_lexemes(alloc: Global, text: &[u8], lexed: &Lexed) -> Result<Vec<Lex
     let mut made = Vec::new(alloc);
     for token in lexed.tokens.as_slice() {
         let Token { kind, start, end } = *token;
-        let word = Piece::of(&shared, start, end)?;
+        let Some(word) = Word::part(shared.clone()?, start, end) else {
+            unreachable!()
+        };
         made.push(lexeme(kind, Spot { word, start, end }))?;
     }
     Ok(made)

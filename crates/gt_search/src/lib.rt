@@ -7,7 +7,6 @@ mod faults;
 pub mod laws;
 mod lexeme;
 mod lexemes;
-mod piece;
 mod search;
 mod stack;
 
@@ -15,5 +14,4 @@ pub use faults::{BAD_MARKER_PLACE, UNCLOSED, UNEXPECTED, UNSUPPORTED};
 pub use laws::{one_search, some_search};
 pub use lexeme::{Bracket, Lexeme, Spot, TypeWord};
 pub use lexemes::read_lexemes;
-pub use piece::Piece;
 pub use search::{End, find_items};

@@ -10,7 +10,7 @@ use Rattle.gt_tree.specs.Fits.{IsZeroRecord}
 use Rattle.gt_io.specs.Held.{Held}
 use Rattle.gt_graph.specs.Objects.{blocks_of}
 use Rattle.gt_objects.specs.Holding.{IsHeapOf, opening}
-use Rattle.gt_next.specs.declared.TheConstants.{MAX_MIN_EXPAND, MAX_MIN_HEAPSIZE}
+use Rattle.gt_types.specs.declared.limits.TheConstants.{MAX_MIN_EXPAND, MAX_MIN_HEAPSIZE}
 use Rattle.gt_next.specs.States.{IsOpening, State, count_of_variables, meaning, no_variables}
 use Rattle.gt_schema.specs.Schemas.{IsSchema}
 use Rattle.gt_caches.specs.Pairs.{pairs_of}

@@ -9,7 +9,7 @@ ghost use Rattle.gt_graph.specs.Objects.{blocks_of};
 ghost use Rattle.gt_objects.specs.Holding.{IsHeapOf, opening};
 ghost use Rattle.gt_io.specs.Held.{Held};
 ghost use Rattle.gt_space.specs.declared.TheConstants.{MIN_PAGES, MAX_PAGES};
-ghost use Rattle.gt_next.specs.declared.TheConstants.{MAX_MIN_EXPAND, MAX_MIN_HEAPSIZE};
+ghost use Rattle.gt_types.specs.declared.limits.TheConstants.{MAX_MIN_EXPAND, MAX_MIN_HEAPSIZE};
 ghost use Rattle.gt_next.specs.States.{State, IsOpening};
 ghost use Rattle.gt_schema.specs.Schemas.{IsSchema};
 ghost use Rattle.gt_session.specs.Sessions.{StandsFor};

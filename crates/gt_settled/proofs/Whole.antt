@@ -9,10 +9,10 @@ use Rattle.gt_types.specs.declared.program.Cache.{Cache}
 use Rattle.gt_types.specs.declared.program.Program.{Program}
 use Rattle.gt_types.specs.declared.program.Root.{Root}
 use Rattle.gt_types.specs.declared.program.Structure.{Structure}
-use Rattle.gt_types.specs.declared.program.TypeWord.{TypeWord}
+use Rattle.gt_types.specs.declared.program.Typedef.{Typedef}
 use Rattle.gt_types.specs.Names.{IsName}
 use Rattle.gt_types.specs.Paths.{IsInner, MayStand}
-use Rattle.gt_types.specs.Settled.{Settled, IsCache, IsRoot, IsTypeWord, global_names}
+use Rattle.gt_types.specs.Settled.{Settled, IsCache, IsRoot, IsTypedef, global_names}
 use Rattle.gt_layout.specs.Planes.{AreLaidOut}
 use Rattle.gt_layout.specs.declared.planes.Plane.{Plane}
 use Rattle.gt_drafts.specs.declared.draft.Draft.{Draft}
@@ -82,9 +82,9 @@ module _ (draft : Draft) (planes : List Plane) (program : Program) (is : program
   names_same : global_names program ≡ sounds.global_names draft
   names_same =
       ap global_names is
-      ∙ ap (λ (names : List (List ℕ)). names ++ map (λ (c : Cache). c.name) (map cache_of draft.caches) ++ map (λ (w : TypeWord). w.name) (map word_of draft.words)) (map_map (λ (r : Root). r.name) (root_of draft planes) draft.roots)
-      ∙ ap (λ (names : List (List ℕ)). map (λ (r : DraftRoot). r.name.word) draft.roots ++ names ++ map (λ (w : TypeWord). w.name) (map word_of draft.words)) (map_map (λ (c : Cache). c.name) cache_of draft.caches)
-      ∙ ap (λ (names : List (List ℕ)). map (λ (r : DraftRoot). r.name.word) draft.roots ++ map (λ (c : DraftCache). c.name.word) draft.caches ++ names) (map_map (λ (w : TypeWord). w.name) word_of draft.words)
+      ∙ ap (λ (names : List (List ℕ)). names ++ map (λ (c : Cache). c.name) (map cache_of draft.caches) ++ map (λ (w : Typedef). w.name) (map word_of draft.words)) (map_map (λ (r : Root). r.name) (root_of draft planes) draft.roots)
+      ∙ ap (λ (names : List (List ℕ)). map (λ (r : DraftRoot). r.name.word) draft.roots ++ names ++ map (λ (w : Typedef). w.name) (map word_of draft.words)) (map_map (λ (c : Cache). c.name) cache_of draft.caches)
+      ∙ ap (λ (names : List (List ℕ)). map (λ (r : DraftRoot). r.name.word) draft.roots ++ map (λ (c : DraftCache). c.name.word) draft.caches ++ names) (map_map (λ (w : Typedef). w.name) word_of draft.words)
 
   roots_good : All (IsRoot program) program.roots
   roots_good = all_places (IsRoot program) program.roots (λ k r there.
@@ -108,17 +108,17 @@ module _ (draft : Draft) (planes : List Plane) (program : Program) (is : program
       let from = map_at cache_of draft.caches k c (sym (ap (λ (p : Program). slice_get p.caches k) is) ∙ there) in
       subst (λ (x : Cache). IsCache program x) (sym from.2) (cache_good k from.0 from.1))
 
-  word_good : (k : ℕ) (w : DraftWord) → slice_get draft.words k ≡ Some w → IsTypeWord program (word_of w)
+  word_good : (k : ℕ) (w : DraftWord) → slice_get draft.words k ≡ Some w → IsTypedef program (word_of w)
   word_good k w at =
       let one = at_place (λ (v : DraftWord). IsName v.name × (v.id < length draft.structures)) draft.words k w sound.words at in
       let ds = present draft.structures w.id one.1 in
       let made = structure_at draft planes program is w.id ds.0 ds.1 in
       record { name = one.0; there = (made.0, made.1) }
 
-  words_good : All (IsTypeWord program) program.words
-  words_good = all_places (IsTypeWord program) program.words (λ k w there.
+  words_good : All (IsTypedef program) program.words
+  words_good = all_places (IsTypedef program) program.words (λ k w there.
       let from = map_at word_of draft.words k w (sym (ap (λ (p : Program). slice_get p.words k) is) ∙ there) in
-      subst (λ (x : TypeWord). IsTypeWord program x) (sym from.2) (word_good k from.0 from.1))
+      subst (λ (x : Typedef). IsTypedef program x) (sym from.2) (word_good k from.0 from.1))
 
   settled_by : Settled program
   settled_by = record {

@@ -1,2 +1,3 @@
+mod AsciiWords
 mod Orders
 mod Texts

@@ -12,7 +12,7 @@ use Rattle.gt_types.specs.declared.program.Field.{Field}
 use Rattle.gt_types.specs.declared.program.Structure.{Structure}
 use Rattle.gt_types.specs.declared.program.Root.{Root}
 use Rattle.gt_types.specs.declared.program.Cache.{Cache}
-use Rattle.gt_types.specs.declared.program.TypeWord.{TypeWord}
+use Rattle.gt_types.specs.declared.program.Typedef.{Typedef}
 use Rattle.gt_types.specs.declared.program.Program.{Program}
 use Rattle.gt_types.specs.Names.{IsName}
 use Rattle.gt_types.specs.Shapes.{innermost, count_of, is_field_type, is_root_type, is_pointer, is_plain_pointer}
@@ -115,7 +115,7 @@ pub record IsCache (program : Program) (c : Cache) : Type 0 where
   pub value : MayStand program c.value
 
 -- a type word, whose structure is there
-pub record IsTypeWord (program : Program) (w : TypeWord) : Type 0 where
+pub record IsTypedef (program : Program) (w : Typedef) : Type 0 where
   pub name : IsName w.name
   pub there : (s : Structure) × HasStructure program w.id s
 
@@ -137,4 +137,4 @@ pub record Settled (program : Program) : Type 0 where
   pub structures : (node : TypeId) (s : Structure) → HasStructure program node s → IsStructure program node s
   pub roots : All (IsRoot program) program.roots
   pub caches : All (IsCache program) program.caches
-  pub words : All (IsTypeWord program) program.words
+  pub words : All (IsTypedef program) program.words

@@ -20,11 +20,11 @@ pub use evaluation::eval;
 pub use expressions::{Base, Expr, Op};
 pub use faults::{Fault, Stop};
 pub use limits::{
-    MAX_BOUND, MAX_CACHES, MAX_DEPTH, MAX_DIMENSIONS, MAX_FIELDS, MAX_ROOTS, MAX_STRUCTURES,
-    TOO_LARGE,
+    MAX_BOUND, MAX_CACHES, MAX_DEPTH, MAX_DIMENSIONS, MAX_FIELDS, MAX_HEADERS, MAX_MIN_EXPAND,
+    MAX_MIN_HEAPSIZE, MAX_ROOTS, MAX_STRUCTURES, TOO_LARGE,
 };
 pub use list::List;
-pub use program::{Active, Cache, Chain, ChainKind, Field, Program, Root, Structure, TypeWord};
+pub use program::{Active, Cache, Chain, ChainKind, Field, Program, Root, Structure, Typedef};
 pub use reader::Reader;
 pub use sqlite_items::Boxed;
 pub use types::{PtrKind, Scalar, Target, Ty, TypeId, Width};

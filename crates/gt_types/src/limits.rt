@@ -21,3 +21,12 @@ pub const MAX_BOUND: u32 = 1048576;
 
 /// The size in bytes that stands for every greater one of a field that is never scanned. No layout has room for it.
 pub const TOO_LARGE: u32 = 1048577;
+
+/// How many headers a call may give.
+pub const MAX_HEADERS: usize = 64;
+
+/// The largest percentage by which the heap can have to grow before a collection.
+pub const MAX_MIN_EXPAND: u32 = 1000;
+
+/// The most KiB below which a heap can count as so large.
+pub const MAX_MIN_HEAPSIZE: u32 = 1048576;

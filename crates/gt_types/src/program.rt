@@ -62,7 +62,7 @@ pub struct Cache {
 
 /// A typedef name that means a structure, or, where `pointer` is true, a pointer to one.
 #[derive(Debug, PartialEq, Eq, Drop)]
-pub struct TypeWord {
+pub struct Typedef {
     pub name: Word,
     pub pointer: bool,
     pub id: TypeId,
@@ -74,7 +74,7 @@ pub struct Program {
     pub structures: List<Structure>,
     pub roots: List<Root>,
     pub caches: List<Cache>,
-    pub words: List<TypeWord>,
+    pub words: List<Typedef>,
 }
 
 impl Copied for Field {
@@ -128,9 +128,9 @@ impl Copied for Cache {
     }
 }
 
-impl Copied for TypeWord {
-    fn copy(&self, alloc: Global) -> Result<TypeWord, AllocError> {
-        Ok(TypeWord {
+impl Copied for Typedef {
+    fn copy(&self, alloc: Global) -> Result<Typedef, AllocError> {
+        Ok(Typedef {
             name: self.name.copy(alloc)?,
             pointer: self.pointer,
             id: self.id,

@@ -8,7 +8,9 @@ use Rattle.clap.specs.Faults.{fault_of}
 use Rattle.clap.specs.Kinds.{Kinds}
 use Rattle.gt_words.specs.declared.call.Settings.{Settings}
 use Rattle.gt_words.specs.declared.call.Call.{Call}
-use Rattle.gt_words.specs.declared.TheConstants.{DEFAULT_PAGES, MIN_PAGES, MAX_PAGES, DEFAULT_MIN_EXPAND, MAX_MIN_EXPAND, DEFAULT_MIN_HEAPSIZE, MAX_MIN_HEAPSIZE, MAX_GENERATED, MAX_HEADERS}
+use Rattle.gt_types.specs.declared.limits.TheConstants.{MAX_MIN_EXPAND, MAX_MIN_HEAPSIZE, MAX_HEADERS}
+use Rattle.gt_space.specs.declared.TheConstants.{MIN_PAGES, MAX_PAGES}
+use Rattle.gt_words.specs.declared.TheConstants.{DEFAULT_PAGES, DEFAULT_MIN_EXPAND, DEFAULT_MIN_HEAPSIZE, MAX_GENERATED}
 use Rattle.gt_words.specs.Numbers.{is_decimal_of, value_of, digits_in, number_in}
 use Rattle.gt_words.specs.Commands.{our_app}
 use Rattle.gt_words.specs.Calls.{◌>>=◌, number_or_of, settings_of, name_of, names_of, headers_of, generated_of, generated_call, file_call, script_call, found_call, unless_refused, call_of}

@@ -8,11 +8,11 @@ ghost use Rattle.gt_words.specs.Calls.{number_or_of, settings_of, name_of, names
 use crate::number::{digits_in, number_in};
 use crate::{
     Call, DEFAULT_MIN_EXPAND, DEFAULT_MIN_HEAPSIZE, DEFAULT_PAGES, MAX_GENERATED,
-    MAX_GENERATED_DIGITS, MAX_HEADERS, MAX_MIN_EXPAND, MAX_MIN_HEAPSIZE, MAX_PAGES, MIN_PAGES,
-    Script, Settings,
+    MAX_GENERATED_DIGITS, Script, Settings,
 };
 use clap::ArgMatches;
-use gt_types::{List, Word};
+use gt_space::{MAX_PAGES, MIN_PAGES};
+use gt_types::{List, MAX_HEADERS, MAX_MIN_EXPAND, MAX_MIN_HEAPSIZE, Word};
 use std::alloc::{AllocError, Global};
 
 /// The call that the matches ask for, where each of its parts has its form and range.

@@ -15,29 +15,14 @@ pub use words::read_words;
 /// How many pages the space has where no word says it.
 pub const DEFAULT_PAGES: u32 = 4096;
 
-/// The fewest pages that the space may have.
-pub const MIN_PAGES: u32 = 16;
-
-/// The most pages that the space may have.
-pub const MAX_PAGES: u32 = 16384;
-
 /// By how many percent the allocated bytes grow before a collection is worth while, where no word says it.
 pub const DEFAULT_MIN_EXPAND: u32 = 30;
 
-/// The most percent that the words may say.
-pub const MAX_MIN_EXPAND: u32 = 1000;
-
 /// The KiB below which a heap counts as so large, where no word says it.
 pub const DEFAULT_MIN_HEAPSIZE: u32 = 4096;
-
-/// The most KiB that the words may say.
-pub const MAX_MIN_HEAPSIZE: u32 = 1048576;
 
 /// The greatest N of a generated script.
 pub const MAX_GENERATED: u32 = 100000;
 
 /// How many digits the N of a generated script may have, zeros in front among them.
 pub const MAX_GENERATED_DIGITS: usize = 6;
-
-/// How many headers may be given.
-pub const MAX_HEADERS: usize = 64;

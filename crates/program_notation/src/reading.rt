@@ -5,7 +5,7 @@ use crate::refusal::Refusal;
 use crate::types::{desc, ty};
 use gt_types::{
     Active, Cache, Chain, ChainKind, Expr, Field, List, Program, Root, Structure, Ty, TypeId,
-    TypeWord, Word,
+    Typedef, Word,
 };
 use std::alloc::{AllocError, Global};
 
@@ -24,7 +24,7 @@ struct Draft {
     chains: Vec<NamedChain>,
     roots: List<Root>,
     caches: List<Cache>,
-    words: List<TypeWord>,
+    words: List<Typedef>,
 }
 
 /// The program of the lines, or why they are none.
@@ -199,7 +199,7 @@ impl Draft {
             _ => return Err(Refusal::UnknownWord),
         };
         let id = names.structure(line)?;
-        Ok(self.words.push(TypeWord { name, pointer, id })?)
+        Ok(self.words.push(Typedef { name, pointer, id })?)
     }
 
     // The program, where the paths of chains are places of fields.

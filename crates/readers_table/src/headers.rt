@@ -2,7 +2,7 @@
 // and names of typedefs.
 use gt_headers::{are_within_limits, declare};
 use gt_types::{
-    Bytes, Cache, Fault, Program, PtrKind, Root, Stop, Structure, Target, Ty, TypeId, TypeWord,
+    Bytes, Cache, Fault, Program, PtrKind, Root, Stop, Structure, Target, Ty, TypeId, Typedef,
 };
 use std::alloc::{AllocError, Global};
 
@@ -59,7 +59,7 @@ fn cache_text(alloc: Global, cache: &Cache) -> Result<String, AllocError> {
     )
 }
 
-fn word_text(alloc: Global, word: &TypeWord) -> Result<String, AllocError> {
+fn word_text(alloc: Global, word: &Typedef) -> Result<String, AllocError> {
     let star = if word.pointer { "*" } else { "" };
     format!(in alloc; "word {}={star}{}", word.name.as_str(), word.id.0)
 }

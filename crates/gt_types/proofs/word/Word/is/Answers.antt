@@ -1,7 +1,7 @@
 use Rattle.std.proofs.Common.{◌∙◌, ap}
 use Rattle.std.specs.Str.{bytes_eq}
-use Rattle.gt_search.proofs.AsciiWords.{IsAscii-word, bytes_eq-encodes}
-use Rattle.gt_search.proofs.piece.Piece.is.Goals as goal
+use Rattle.gt_types.proofs.AsciiWords.{IsAscii-word, bytes_eq-encodes}
+use Rattle.gt_types.proofs.word.Word.is.Goals as goal
 
 pub returns : goal.returns
 returns c =
