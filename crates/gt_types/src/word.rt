@@ -91,6 +91,15 @@ impl Word {
         })
     }
 
+    /// The same, where the text is expected to stand in this word from a byte of it on.
+    #[inline(always)]
+    pub fn near(&self, alloc: Global, place: usize, text: &str) -> Result<Word, AllocError>
+        ensures text { IfOk result (λ w. w ≡ chars text.now) }
+    {
+        let start = (self.start as usize).saturating_add(place);
+        Word::at(alloc, &self.text, start, text)
+    }
+
     /// The word as a text.
     #[inline(always)]
     pub fn as_str(&self) -> &str
