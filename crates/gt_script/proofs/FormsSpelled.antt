@@ -18,7 +18,7 @@ use Rattle.gt_script.specs.declared.pieces.Piece.TheVariants.{Plain, Quoted}
 use Rattle.gt_script.specs.Texts.{◌>>=◌, following}
 use Rattle.gt_script.specs.Cutting.{is_blank, without_blanks, words_within, words_of}
 use Rattle.gt_script.specs.Values.{name_at, variable_at, type_at, integer_at, given_at, file_at}
-use Rattle.gt_script.specs.Steps.{path_at}
+use Rattle.gt_script.specs.Paths.{path_at}
 use Rattle.gt_script.specs.Commands.{plain_new_at, sized_new_at, new_at, array_at, text_at, block_at, set_at, get_at, drop_at, print_at, put_at, find_at, collect_at, save_at, load_at, tables_at, heap_at, stats_at, variable_command_at, place_command_at, command_at, told_at, line_of}
 use Rattle.gt_script.specs.Scanning.{spoken_at, said_at, line_at}
 use Rattle.gt_script.specs.Language.{IsNamed, IsVariable, IsTyped, AreWords, no_words, blank_first, word_first, is_plain, is_quoted, IsForm, is_new, is_new_sized, is_array, is_string, is_block, is_set, is_get, is_drop, is_print, is_put, is_find, is_collect, is_collect_force, is_save, is_load, is_tables, is_heap, is_stats, IsSpelled, is_comment_of, is_passed_over, IsLine, IsPassedOver, IsRefused}

@@ -11,6 +11,7 @@ mod WordsSpelled
 mod NamesSpelled
 mod NumbersSpelled
 mod PathsSpelled
+mod StepTexts
 mod FormsSpelled
 mod Settled
 mod Splits

@@ -13,7 +13,8 @@ use Rattle.gt_script.specs.declared.command.Hop.{Hop}
 use Rattle.gt_script.specs.declared.command.Hop.TheVariants.{Name, Index}
 use Rattle.gt_script.specs.Texts.{◌>>=◌, following, before}
 use Rattle.gt_script.specs.Values.{name_at, decimal_at}
-use Rattle.gt_script.specs.Steps.{begins_step, cut_steps, index_at, hop_at, hops_at, route_at, path_at}
+use Rattle.gt_script.specs.Steps.{begins_step, cut_steps, index_at, hop_at, hops_at}
+use Rattle.gt_script.specs.Paths.{route_at, path_at}
 use Rattle.gt_script.specs.Language.{IsName, IsDecimal, AreSteps, no_steps, field_first, element_first, IsPath}
 use Rattle.gt_script.proofs.Options.{bind_some, map_or_some}
 use Rattle.gt_script.proofs.NamesSpelled.{dark, dark_dot, dark_bracket, name_dark, dark_lacks, after_taken, before_taken, before_again, name_taken, name_again, name_not_dollar}
@@ -22,7 +23,7 @@ use Rattle.gt_script.proofs.NumbersSpelled.{decimal_taken, decimal_again, mapped
 -- ---- what is read is spelled so
 
 -- pieces one after another
-abbrev joined : List (List ℕ) → List ℕ
+abbrev pub joined : List (List ℕ) → List ℕ
 joined [] = []
 joined (text ∷ texts) = text ++ joined texts
 
@@ -35,7 +36,7 @@ joined_here c cs false e h =
     let cut : cut_steps (c ∷ cs) ≡ (c ∷ (cut_steps cs).0, (cut_steps cs).1) = rw e refl in
     rw cut (ap (λ (l : List ℕ). c ∷ l) h)
 
-cut_joined : (text : List ℕ) → text ≡ (cut_steps text).0 ++ joined (cut_steps text).1
+pub cut_joined : (text : List ℕ) → text ≡ (cut_steps text).0 ++ joined (cut_steps text).1
 unfolding cut_steps
 cut_joined [] = refl
 cut_joined (c ∷ cs) = joined_here c cs (begins_step c) refl (cut_joined cs)
@@ -61,7 +62,7 @@ step_taken text rest hop hops e more =
           subst (λ (h : Hop). AreSteps (text ++ rest) (h ∷ hops)) n.2 here
     ]
 
-steps_taken : (texts : List (List ℕ)) (hops : List Hop) → hops_at texts ≡ Some hops → AreSteps (joined texts) hops
+pub steps_taken : (texts : List (List ℕ)) (hops : List Hop) → hops_at texts ≡ Some hops → AreSteps (joined texts) hops
 unfolding hops_at
 steps_taken [] hops e = subst (λ (hs : List Hop). AreSteps [] hs) (same_Some [] hops e) no_steps
 steps_taken (text ∷ texts) hops e =

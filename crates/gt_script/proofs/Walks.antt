@@ -1,24 +1,11 @@
 -- Paths, from left to right.
-use Rattle.std.proofs.Common.{◌≡◌, ℕ, suc, ◌+◌, Bool, true, false, not, List, [], ◌∷◌, ◌++◌, length, take, drop, Option, Some, None, refl, sym, ap, subst, ◌∙◌, append_assoc, arith}
+use Rattle.std.proofs.Common.{◌≡◌, ℕ, suc, ◌+◌, Bool, true, false, not, List, [], ◌∷◌, take, drop, Option, Some, None, refl, sym, ap, subst, ◌∙◌, arith}
 use Rattle.std.specs.List.{prefix_len}
-use Rattle.std.proofs.Math.Seq.{take-length, drop-length}
-use Rattle.std.proofs.lemmas.List.{append-nil}
 use Rattle.gt_script.specs.declared.command.Hop.{Hop}
 use Rattle.gt_script.specs.Texts.{◌>>=◌}
 use Rattle.gt_script.specs.Values.{name_at}
-use Rattle.gt_script.specs.Steps.{begins_step, cut_steps, hop_at, hops_at, route_at}
-
--- what was read before, and what is still read
-abbrev pub with_hops : List Hop → Option (List Hop) → Option (List Hop)
-with_hops front read = read >>= λ hops. Some (front ++ hops)
-
-pub none_before : (read : Option (List Hop)) → with_hops [] read ≡ read
-none_before None = refl
-none_before (Some hops) = refl
-
-pub regroup : (front : List Hop) (hop : Hop) (read : Option (List Hop)) → with_hops front (read >>= λ hops. Some (hop ∷ hops)) ≡ with_hops (front ++ hop ∷ []) read
-regroup front hop None = refl
-regroup front hop (Some hops) = ap (λ (hs : List Hop). Some hs) (sym (append_assoc front (hop ∷ []) hops))
+use Rattle.gt_script.specs.Steps.{begins_step, cut_steps, hops_at}
+use Rattle.gt_script.specs.Paths.{route_at}
 
 -- how many bytes stand before the first step
 abbrev pub place : List ℕ → ℕ
@@ -67,60 +54,27 @@ cut_mark : (mark : ℕ) (others : List ℕ) → begins_step mark ≡ true → cu
 unfolding cut_steps
 cut_mark mark others e = rw (e, cut_front others) refl
 
-module _ (front : List Hop) (rest others : List ℕ) (mark n : ℕ) (all : Option (List Hop)) (e : rest ≡ mark ∷ others) (begins : (cut_steps rest).0 ≡ []) (at : n ≡ place others)
-    (read : with_hops front (hops_at (cut_steps rest).1) ≡ all) where
-  steps : (cut_steps rest).1 ≡ (mark ∷ take (place others) others) ∷ (cut_steps others).1
-  steps =
+module _ (text others : List ℕ) (mark n : ℕ) (e : text ≡ mark ∷ others) (begins : (cut_steps text).0 ≡ []) (at : n ≡ place others) where
+  whole : cut_steps text ≡ ([], (mark ∷ take (place others) others) ∷ (cut_steps others).1)
+  whole =
       let is_mark = mark_step mark others (begins_step mark) refl (subst (λ (r : List ℕ). (cut_steps r).0 ≡ []) e begins) in
-      ap (λ (r : List ℕ). (cut_steps r).1) e ∙ ap (λ (p : List ℕ × List (List ℕ)). p.1) (cut_mark mark others is_mark)
+      ap cut_steps e ∙ cut_mark mark others is_mark
 
-  step_is : (step : List ℕ) → step ≡ take (1 + n) rest → step ≡ mark ∷ take (place others) others
+  step_is : (step : List ℕ) → step ≡ take (1 + n) text → step ≡ mark ∷ take (place others) others
   step_is step s = let len : 1 + n ≡ suc (place others) = omega (arith, at) in s ∙ ap (λ (r : List ℕ). take (1 + n) r) e ∙ ap (λ k. take k (mark ∷ others)) len
 
-  after_is : (after : List ℕ) → after ≡ drop (1 + n) rest → after ≡ drop (place others) others
+  after_is : (after : List ℕ) → after ≡ drop (1 + n) text → after ≡ drop (place others) others
   after_is after s = let len : 1 + n ≡ suc (place others) = omega (arith, at) in s ∙ ap (λ (r : List ℕ). drop (1 + n) r) e ∙ ap (λ k. drop k (mark ∷ others)) len
 
-  -- a step more
-  pub begins_on : (after : List ℕ) → after ≡ drop (1 + n) rest → (cut_steps after).0 ≡ []
-  begins_on after s = ap (λ (r : List ℕ). (cut_steps r).0) (after_is after s) ∙ ap (λ (p : List ℕ × List (List ℕ)). p.0) (cut_back others)
+  pub after_begins : (after : List ℕ) → after ≡ drop (1 + n) text → (cut_steps after).0 ≡ []
+  after_begins after s = ap (λ (r : List ℕ). (cut_steps r).0) (after_is after s) ∙ ap (λ (p : List ℕ × List (List ℕ)). p.0) (cut_back others)
 
-  pub reads_on : (step after : List ℕ) (hop : Hop) → step ≡ take (1 + n) rest → after ≡ drop (1 + n) rest → hop_at step ≡ Some hop → with_hops (front ++ hop ∷ []) (hops_at (cut_steps after).1) ≡ all
-  unfolding hops_at
-  reads_on step after hop s t h =
-      let is_hop : hop_at (mark ∷ take (place others) others) ≡ Some hop = ap hop_at (sym (step_is step s)) ∙ h in
+  -- the first step and those after it
+  pub first_cut : (step after : List ℕ) → step ≡ take (1 + n) text → after ≡ drop (1 + n) text → cut_steps text ≡ ([], step ∷ (cut_steps after).1)
+  first_cut step after s t =
       let back : (cut_steps after).1 ≡ (cut_steps others).1 = ap (λ (r : List ℕ). (cut_steps r).1) (after_is after t) ∙ ap (λ (p : List ℕ × List (List ℕ)). p.1) (cut_back others) in
-      let one : hops_at (cut_steps rest).1 ≡ (hops_at (cut_steps others).1 >>= λ hops. Some (hop ∷ hops)) = ap hops_at steps ∙ rw is_hop refl in
-      rw back (sym (regroup front hop (hops_at (cut_steps others).1)) ∙ ap (with_hops front) (sym one) ∙ read)
-
-  -- a text that is no step
-  pub reads_none : (step : List ℕ) → step ≡ take (1 + n) rest → hop_at step ≡ None → None ≡ all
-  unfolding hops_at
-  reads_none step s h =
-      let no_hop : hop_at (mark ∷ take (place others) others) ≡ None = ap hop_at (sym (step_is step s)) ∙ h in
-      let none : hops_at (cut_steps rest).1 ≡ None = ap hops_at steps ∙ rw no_hop refl in
-      ap (with_hops front) (sym none) ∙ read
-
--- no step more
-pub reads_all : (front : List Hop) (rest : List ℕ) (all : Option (List Hop)) → rest ≡ [] → with_hops front (hops_at (cut_steps rest).1) ≡ all → Some front ≡ all
-unfolding cut_steps hops_at
-reads_all front rest all e read =
-    let whole : with_hops front (hops_at (cut_steps rest).1) ≡ Some front = rw e (ap (λ (hs : List Hop). Some hs) (append-nil front)) in
-    sym whole ∙ read
-
--- a text that is one step
-pub one_step : (text others : List ℕ) (mark : ℕ) → text ≡ mark ∷ others → (cut_steps text).0 ≡ [] → place others ≡ length others → (cut_steps text).1 ≡ text ∷ []
-unfolding cut_steps
-one_step text others mark e begins all =
-    let is_mark = mark_step mark others (begins_step mark) refl (subst (λ (r : List ℕ). (cut_steps r).0 ≡ []) e begins) in
-    let front : take (place others) others ≡ others = ap (λ k. take k others) all ∙ take-length others in
-    let back : (cut_steps others).1 ≡ [] =
-    sym (ap (λ (p : List ℕ × List (List ℕ)). p.1) (cut_back others)) ∙ ap (λ k. (cut_steps (drop k others)).1) all ∙ ap (λ (r : List ℕ). (cut_steps r).1) (drop-length others) in
-    let cut : (cut_steps (mark ∷ others)).1 ≡ (mark ∷ take (place others) others) ∷ (cut_steps others).1 = ap (λ (p : List ℕ × List (List ℕ)). p.1) (cut_mark mark others is_mark) in
-    rw e (cut ∙ rw (front, back) refl)
-
-pub reads_one : (text : List ℕ) (hop : Option Hop) (hops : Option (List Hop)) → (cut_steps text).1 ≡ text ∷ [] → hop ≡ hop_at text → hops ≡ (hop >>= λ hop. Some (hop ∷ [])) → hops ≡ hops_at (cut_steps text).1
-unfolding hops_at
-reads_one text hop hops cut read is = is ∙ rw (cut, read) refl
+      whole ∙ ap (λ (x : List ℕ). let y : List ℕ × List (List ℕ) = ([], x ∷ (cut_steps others).1) in y) (sym (step_is step s))
+      ∙ ap (λ (xs : List (List ℕ)). let y : List ℕ × List (List ℕ) = ([], step ∷ xs) in y) (sym back)
 
 -- a path by its name and its steps, cut in two
 pub route_is : (variable : Bool) (text start after : List ℕ) (n : ℕ) → n ≡ place text → start ≡ take n text → after ≡ drop n text

@@ -9,7 +9,7 @@ use Rattle.gt_script.specs.declared.pieces.Piece.{Piece}
 use Rattle.gt_script.specs.declared.pieces.Piece.TheVariants.{Plain, Quoted}
 use Rattle.gt_script.specs.Texts.{◌>>=◌, following}
 use Rattle.gt_script.specs.Values.{name_at, variable_at, type_at, integer_at, given_at, file_at}
-use Rattle.gt_script.specs.Steps.{path_at}
+use Rattle.gt_script.specs.Paths.{path_at}
 
 -- $v T
 unfoldable pub plain_new_at : List ℕ → List ℕ → Option Command

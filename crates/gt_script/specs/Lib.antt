@@ -2,9 +2,10 @@ pub mod Texts
 pub mod Cutting
 pub mod Values
 pub mod Steps
+pub mod SameSteps
+pub mod Paths
 pub mod Commands
 pub mod Language
 pub mod Outcome
 pub mod Scanning
-pub mod ShortLists
 pub mod Integers

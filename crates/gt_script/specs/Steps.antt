@@ -1,7 +1,6 @@
--- What a word means where a path is wanted.
-use Rattle.std.specs.Prelude.{ℕ, Bool, true, false, ◌||◌, ◌==◌, if◌then◌else◌, codes, List, [], ◌∷◌, Option, Some}
+-- What a text means where the steps of a path are wanted.
+use Rattle.std.specs.Prelude.{◌≡◌, IsTrue, ℕ, Bool, ◌||◌, ◌==◌, if◌then◌else◌, codes, List, [], ◌∷◌, Option, Some, None, is_some}
 use Rattle.std.specs.Option.{option_map, option_map_or}
-use Rattle.gt_script.specs.declared.command.Route.{Route}
 use Rattle.gt_script.specs.declared.command.Hop.{Hop}
 use Rattle.gt_script.specs.declared.command.Hop.TheVariants.{Name, Index}
 use Rattle.gt_script.specs.Texts.{◌>>=◌, following, before}
@@ -35,13 +34,14 @@ hops_at (text ∷ texts) = do
   hops ← hops_at texts
   Some (hop ∷ hops)
 
--- a name and the steps from there
-unfoldable pub route_at : Bool → List ℕ → Option Route
-route_at variable text = do
-  name ← name_at (cut_steps text).0
-  steps ← hops_at (cut_steps text).1
-  Some (record { variable = variable; name = name; steps = steps })
+-- a text is steps, with nothing before the first
+abbrev pub AreStepsIn : List ℕ → Type 0
+AreStepsIn text = ((cut_steps text).0 ≡ []) × IsTrue (is_some (hops_at (cut_steps text).1))
 
--- a path begins at a variable where $ stands in front, else at a root
-unfoldable pub path_at : List ℕ → Option Route
-path_at text = option_map_or (route_at true) (following (codes "$") text) (route_at false text)
+-- the steps that a text is
+abbrev pub steps_or : Option (List Hop) → List Hop
+steps_or (Some hops) = hops
+steps_or None = []
+
+abbrev pub steps_in : List ℕ → List Hop
+steps_in text = steps_or (hops_at (cut_steps text).1)

@@ -1,4 +1,4 @@
-use crate::{Number, ShortList};
+use crate::{Number, Steps};
 use gt_types::{Bytes, Word};
 
 /// A line of a script. The answer to a quiet line is printed only where it is a refusal.
@@ -96,7 +96,7 @@ pub struct TypeName {
 pub struct Route {
     pub variable: bool,
     pub name: Word,
-    pub steps: ShortList<Hop>,
+    pub steps: Steps,
 }
 
 /// A step of a path: to a field, or to an element counted from 0.

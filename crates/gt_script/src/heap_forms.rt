@@ -3,18 +3,18 @@ ghost use Rattle.std.specs.Prelude.{◌≡◌, [], ◌∷◌, IfOk};
 ghost use Rattle.gt_script.specs.Commands.{collect_at, save_at, load_at, tables_at, heap_at, stats_at, command_at};
 
 use crate::Command;
-use crate::names::Names;
 use crate::naming::file_name;
 use crate::numbers::integer;
 use crate::pieces::Piece;
 use crate::place_forms::place_command;
+use crate::source::Source;
 use std::alloc::AllocError;
 
 /// The command that a first word and the words after it are.
 #[tactic(auto, unfolding(crate::specs::Commands::command_at))]
 #[inline(always)]
 pub fn command(
-    names: &mut Names,
+    source: &Source,
     verb: &[u8],
     words: &[Piece<'_>],
 ) -> Result<Option<Command>, AllocError>
@@ -24,10 +24,10 @@ pub fn command(
         return Ok(collect(words));
     }
     if verb == b"save".as_slice() {
-        return save(names, words);
+        return save(source, words);
     }
     if verb == b"load".as_slice() {
-        return load(names, words);
+        return load(source, words);
     }
     if verb == b"tables".as_slice() {
         return Ok(tables(words));
@@ -38,7 +38,7 @@ pub fn command(
     if verb == b"stats".as_slice() {
         return Ok(stats(words));
     }
-    place_command(names, verb, words)
+    place_command(source, verb, words)
 }
 
 #[tactic(auto, unfolding(crate::specs::Commands::collect_at))]
@@ -58,13 +58,13 @@ fn collect_by(word: &Piece<'_>) -> Option<Command>
     ensures { result ≡ collect_at (word.now ∷ []) }
 {
     match word {
-        Piece::Plain(word) if word.as_slice() == b"force".as_slice() => Some(Command::CollectForce),
+        Piece::Plain(word) if word.bytes() == b"force".as_slice() => Some(Command::CollectForce),
         _ => None,
     }
 }
 
 #[tactic(auto, unfolding(crate::specs::Commands::save_at))]
-fn save(names: &mut Names, words: &[Piece<'_>]) -> Result<Option<Command>, AllocError>
+fn save(source: &Source, words: &[Piece<'_>]) -> Result<Option<Command>, AllocError>
     ensures { IfOk result (λ found. found ≡ save_at words.now) }
 {
     let [file, page] = words else {
@@ -73,17 +73,17 @@ fn save(names: &mut Names, words: &[Piece<'_>]) -> Result<Option<Command>, Alloc
     let (Piece::Quoted(file), Piece::Plain(page)) = (file, page) else {
         return Ok(None);
     };
-    let Some(file) = file_name(names, file.as_slice())? else {
+    let Some(file) = file_name(source, file.as_slice())? else {
         return Ok(None);
     };
-    let Some(page) = integer(page.as_slice()) else {
+    let Some(page) = integer(page.bytes()) else {
         return Ok(None);
     };
     Ok(Some(Command::Save { file, page }))
 }
 
 #[tactic(auto, unfolding(crate::specs::Commands::load_at))]
-fn load(names: &mut Names, words: &[Piece<'_>]) -> Result<Option<Command>, AllocError>
+fn load(source: &Source, words: &[Piece<'_>]) -> Result<Option<Command>, AllocError>
     ensures { IfOk result (λ found. found ≡ load_at words.now) }
 {
     let [file] = words else {
@@ -92,7 +92,7 @@ fn load(names: &mut Names, words: &[Piece<'_>]) -> Result<Option<Command>, Alloc
     let Piece::Quoted(file) = file else {
         return Ok(None);
     };
-    let Some(file) = file_name(names, file.as_slice())? else {
+    let Some(file) = file_name(source, file.as_slice())? else {
         return Ok(None);
     };
     Ok(Some(Command::Load { file }))

@@ -6,7 +6,8 @@ ghost use Rattle.gt_text.specs.Identifier.{continues_identifier_of};
 ghost use Rattle.gt_script.specs.Values.{is_identifier_of, variable_at, named_type, type_at, file_at};
 
 use crate::TypeName;
-use crate::names::Names;
+use crate::slices::Slice;
+use crate::source::Source;
 use gt_text::{continues_identifier, starts_identifier};
 use gt_types::Word;
 use std::alloc::AllocError;
@@ -36,49 +37,49 @@ fn all_continue(text: &str) -> bool
     text.chars().all(|c| continues_identifier(c))
 }
 
-// The name of the variable that a text is.
-#[tactic(auto, unfolding(crate::specs::Values::variable_at, crate::specs::Texts::following))]
-pub fn variable(names: &mut Names, text: &[u8]) -> Result<Option<Word>, AllocError>
-    ensures { IfOk result (λ found. found ≡ variable_at text.now) }
+// The name of the variable that a word is.
+#[tactic(auto, unfolding(crate::specs::Values::variable_at))]
+pub fn variable(source: &Source, word: &Slice<'_>) -> Result<Option<Word>, AllocError>
+    ensures { IfOk result (λ found. found ≡ variable_at word.now) }
 {
-    let [b'$', text @ ..] = text else {
+    let Some(name) = word.after(b'$') else {
         return Ok(None);
     };
-    names.name(text)
+    source.name(&name)
 }
 
-// The type that a text is.
-#[tactic(auto, unfolding(crate::specs::Values::type_at, crate::specs::Texts::before))]
-pub fn type_name(names: &mut Names, text: &[u8]) -> Result<Option<TypeName>, AllocError>
-    ensures { IfOk result (λ found. found ≡ type_at text.now) }
+// The type that a word is.
+#[tactic(auto, unfolding(crate::specs::Values::type_at))]
+pub fn type_name(source: &Source, word: &Slice<'_>) -> Result<Option<TypeName>, AllocError>
+    ensures { IfOk result (λ found. found ≡ type_at word.now) }
 {
-    match text.strip_suffix(b"*") {
-        Some(text) => named_type(names, true, text),
-        None => named_type(names, false, text),
+    match word.before(b'*') {
+        Some(name) => named_type(source, true, &name),
+        None => named_type(source, false, word),
     }
 }
 
-fn named_type(names: &mut Names, star: bool, text: &[u8]) -> Result<Option<TypeName>, AllocError>
-    ensures { IfOk result (λ found. found ≡ named_type star text.now) }
+fn named_type(source: &Source, star: bool, name: &Slice<'_>) -> Result<Option<TypeName>, AllocError>
+    ensures { IfOk result (λ found. found ≡ named_type star name.now) }
 {
-    let Some(name) = names.name(text)? else {
+    let Some(name) = source.name(name)? else {
         return Ok(None);
     };
     Ok(Some(TypeName { name, star }))
 }
 
-// The name of a file that a quoted text is.
+// The name of a file that a quoted text is. It may have escapes, so it is copied.
 #[tactic(auto, unfolding(crate::specs::Values::file_at))]
-pub fn file_name(names: &mut Names, text: &[u8]) -> Result<Option<Word>, AllocError>
+pub fn file_name(source: &Source, text: &[u8]) -> Result<Option<Word>, AllocError>
     ensures { IfOk result (λ found. found ≡ file_at text.now) }
 {
     if text.is_empty() || has_zero(text) {
         return Ok(None);
     }
-    let Some(shared) = names.text(text)? else {
+    let Ok(text) = str::from_utf8(text) else {
         return Ok(None);
     };
-    Ok(Some(Word::from_shared(shared)))
+    Ok(Some(Word::of(source.alloc(), text)?))
 }
 
 fn has_zero(text: &[u8]) -> bool

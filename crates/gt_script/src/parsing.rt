@@ -5,9 +5,10 @@ ghost use Rattle.gt_script.specs.Outcome.{Parsed, IsScriptStop};
 ghost use Rattle.gt_script.specs.Scanning.{outcome_of, IsOutcomeUnlessMemory};
 
 use crate::Line;
-use crate::names::Names;
 use crate::parts::first_line;
 use crate::pieces::Piece;
+use crate::slices::Slice;
+use crate::source::Source;
 use crate::statements::{is_utf8, statement};
 use crate::stop::{MAX_COMMANDS, ScriptStop};
 use gt_types::List;
@@ -43,9 +44,9 @@ pub fn parse_script(alloc: Global, text: &[u8]) -> Result<List<Line>, ScriptStop
     ensures lines { IfOk result (λ lines. Parsed text.now lines) }
     ensures fault { IfErr result (IsScriptStop text.now) }
 {
-    let mut names = Names::new(alloc)?;
+    let source = Source::of(alloc, text)?;
     let mut words = Vec::new(alloc);
-    match read_script(&mut names, &mut words, is_utf8(text), text) {
+    match read_script(&source, &mut words, is_utf8(text), text) {
         Ok(lines) => Ok(lines),
         Err(stop) => Err(stop),
     }
@@ -53,7 +54,7 @@ pub fn parse_script(alloc: Global, text: &[u8]) -> Result<List<Line>, ScriptStop
 
 // The same, as the outcome of reading line by line. It may be known that the script is UTF-8.
 fn read_script<'a>(
-    names: &mut Names,
+    source: &Source,
     words: &mut Vec<Piece<'a>>,
     known: bool,
     text: &'a [u8],
@@ -62,14 +63,15 @@ fn read_script<'a>(
     requires utf8 { IsTrue known → IsUtf8 text.now }
     ensures { IsOutcomeUnlessMemory result (outcome_of text.now) }
 {
-    let mut lines = List::new(names.alloc());
+    let mut lines = List::new(source.alloc());
     let mut number: u32 = 0;
     let mut rest = text;
     while !rest.is_empty() {
-        let (text, after) = first_line(rest);
+        let (line, after) = first_line(rest);
+        let line = Slice::of(line, text.len().saturating_sub(rest.len()));
         number += 1;
         rest = after;
-        let Some(said) = statement(names, words, known, text)? else {
+        let Some(said) = statement(source, words, known, &line)? else {
             return Err(ScriptStop::ScriptSyntax { line: number });
         };
         let Some(line) = said else {

@@ -33,18 +33,21 @@ pub fn is_blank(byte: u8) -> bool
 #[inline(always)]
 pub fn read_words<'a>(
     alloc: Global,
-    text: &'a [u8],
+    text: &Slice<'a>,
     words: &mut Vec<Piece<'a>>,
 ) -> Result<bool, AllocError>
     ensures { IfOk result (λ done. cond done (Some words.new.items) None ≡ few_of text.now) }
 {
     words.clear();
-    let mut rest = without_blanks(text);
+    let bytes = text.bytes();
+    let end = text.place().wrapping_add(bytes.len());
+    let mut rest = without_blanks(bytes);
     while !rest.is_empty() {
         if words.len() == MOST_WORDS {
             return Ok(false);
         }
-        let Some((word, after)) = word_at(alloc, rest)? else {
+        let place = end.wrapping_sub(rest.len());
+        let Some((word, after)) = word_at(alloc, &Slice::of(rest, place))? else {
             return Ok(false);
         };
         words.push(word)?;
@@ -70,15 +73,15 @@ fn without_blanks(text: &[u8]) -> &[u8]
 // The first word and what stands after it.
 #[tactic(auto, unfolding(crate::specs::Cutting::word_at))]
 #[inline(always)]
-fn word_at<'a>(alloc: Global, text: &'a [u8]) -> Result<Option<(Piece<'a>, &'a [u8])>, AllocError>
+fn word_at<'a>(alloc: Global, text: &Slice<'a>) -> Result<Option<(Piece<'a>, &'a [u8])>, AllocError>
     ensures { IfOk result (λ found. option_map (λ r. (r.0, r.1.now)) found ≡ word_at text.now) }
 {
-    match front(text) {
+    match front(text.bytes()) {
         None => Ok(None),
         Some((b'"', inside)) => quoted_word(alloc, inside),
         Some((_, others)) => {
             let (word, after) = text.split_at(1 + plain_len(others));
-            Ok(Some((Piece::Plain(Slice::of(word)), after)))
+            Ok(Some((Piece::Plain(word), after.bytes())))
         }
     }
 }

@@ -3,10 +3,10 @@ ghost use Rattle.std.specs.Prelude.{◌≡◌, IfOk};
 ghost use Rattle.gt_script.specs.Commands.{set_at, print_at, put_at, find_at, place_command_at};
 
 use crate::Command;
-use crate::names::Names;
 use crate::naming::variable;
 use crate::pieces::Piece;
 use crate::routes::{given, path};
+use crate::source::Source;
 use crate::variable_forms::variable_command;
 use std::alloc::AllocError;
 
@@ -14,30 +14,30 @@ use std::alloc::AllocError;
 #[tactic(auto, unfolding(crate::specs::Commands::place_command_at))]
 #[inline(always)]
 pub fn place_command(
-    names: &mut Names,
+    source: &Source,
     verb: &[u8],
     words: &[Piece<'_>],
 ) -> Result<Option<Command>, AllocError>
     ensures { IfOk result (λ found. found ≡ place_command_at verb.now words.now) }
 {
     if verb == b"set".as_slice() {
-        return set(names, words);
+        return set(source, words);
     }
     if verb == b"print".as_slice() {
-        return print(names, words);
+        return print(source, words);
     }
     if verb == b"put".as_slice() {
-        return put(names, words);
+        return put(source, words);
     }
     if verb == b"find".as_slice() {
-        return find(names, words);
+        return find(source, words);
     }
-    variable_command(names, verb, words)
+    variable_command(source, verb, words)
 }
 
 #[tactic(auto, unfolding(crate::specs::Commands::set_at))]
 #[inline(always)]
-fn set(names: &mut Names, words: &[Piece<'_>]) -> Result<Option<Command>, AllocError>
+fn set(source: &Source, words: &[Piece<'_>]) -> Result<Option<Command>, AllocError>
     ensures { IfOk result (λ found. found ≡ set_at words.now) }
 {
     let [place, value] = words else {
@@ -46,17 +46,17 @@ fn set(names: &mut Names, words: &[Piece<'_>]) -> Result<Option<Command>, AllocE
     let (Piece::Plain(place), Piece::Plain(value)) = (place, value) else {
         return Ok(None);
     };
-    let Some(path) = path(names, place.as_slice())? else {
+    let Some(path) = path(source, place)? else {
         return Ok(None);
     };
-    let Some(value) = given(names, value.as_slice())? else {
+    let Some(value) = given(source, value)? else {
         return Ok(None);
     };
     Ok(Some(Command::Set { path, value }))
 }
 
 #[tactic(auto, unfolding(crate::specs::Commands::print_at))]
-fn print(names: &mut Names, words: &[Piece<'_>]) -> Result<Option<Command>, AllocError>
+fn print(source: &Source, words: &[Piece<'_>]) -> Result<Option<Command>, AllocError>
     ensures { IfOk result (λ found. found ≡ print_at words.now) }
 {
     let [place] = words else {
@@ -65,14 +65,14 @@ fn print(names: &mut Names, words: &[Piece<'_>]) -> Result<Option<Command>, Allo
     let Piece::Plain(place) = place else {
         return Ok(None);
     };
-    let Some(path) = path(names, place.as_slice())? else {
+    let Some(path) = path(source, place)? else {
         return Ok(None);
     };
     Ok(Some(Command::Print { path }))
 }
 
 #[tactic(auto, unfolding(crate::specs::Commands::put_at))]
-fn put(names: &mut Names, words: &[Piece<'_>]) -> Result<Option<Command>, AllocError>
+fn put(source: &Source, words: &[Piece<'_>]) -> Result<Option<Command>, AllocError>
     ensures { IfOk result (λ found. found ≡ put_at words.now) }
 {
     let [cache, key, value] = words else {
@@ -81,20 +81,20 @@ fn put(names: &mut Names, words: &[Piece<'_>]) -> Result<Option<Command>, AllocE
     let (Piece::Plain(cache), Piece::Plain(key), Piece::Plain(value)) = (cache, key, value) else {
         return Ok(None);
     };
-    let Some(cache) = names.name(cache.as_slice())? else {
+    let Some(cache) = source.name(cache)? else {
         return Ok(None);
     };
-    let Some(key) = variable(names, key.as_slice())? else {
+    let Some(key) = variable(source, key)? else {
         return Ok(None);
     };
-    let Some(value) = variable(names, value.as_slice())? else {
+    let Some(value) = variable(source, value)? else {
         return Ok(None);
     };
     Ok(Some(Command::Put { cache, key, value }))
 }
 
 #[tactic(auto, unfolding(crate::specs::Commands::find_at))]
-fn find(names: &mut Names, words: &[Piece<'_>]) -> Result<Option<Command>, AllocError>
+fn find(source: &Source, words: &[Piece<'_>]) -> Result<Option<Command>, AllocError>
     ensures { IfOk result (λ found. found ≡ find_at words.now) }
 {
     let [cache, key] = words else {
@@ -103,10 +103,10 @@ fn find(names: &mut Names, words: &[Piece<'_>]) -> Result<Option<Command>, Alloc
     let (Piece::Plain(cache), Piece::Plain(key)) = (cache, key) else {
         return Ok(None);
     };
-    let Some(cache) = names.name(cache.as_slice())? else {
+    let Some(cache) = source.name(cache)? else {
         return Ok(None);
     };
-    let Some(key) = variable(names, key.as_slice())? else {
+    let Some(key) = variable(source, key)? else {
         return Ok(None);
     };
     Ok(Some(Command::Find { cache, key }))

@@ -1,12 +1,15 @@
 // A word of a line, where it stands in the text.
-ghost use Rattle.std.specs.Prelude.{◌≡◌};
+ghost use Rattle.std.specs.Prelude.{◌≡◌, ◌≤◌, [], ◌∷◌, length, take, drop};
+ghost use Rattle.gt_script.specs.Texts.{following, before};
 
 use std::marker::Model;
 
-/// Bytes of the script that contracts see as the list of their values.
+/// Bytes of a script that contracts see as the list of their values, and the place in the script at which they are expected to begin.
+/// The place only says where to look for them: nothing is promised of it.
 #[derive(Drop)]
 pub struct Slice<'a> {
     bytes: &'a [u8],
+    place: usize,
 }
 
 impl<'a> Model for Slice<'a> {
@@ -19,16 +22,60 @@ impl<'a> Model for Slice<'a> {
 
 impl<'a> Slice<'a> {
     #[inline(always)]
-    pub fn of(bytes: &'a [u8]) -> Slice<'a>
+    pub fn of(bytes: &'a [u8], place: usize) -> Slice<'a>
         ensures { result ≡ bytes.now }
     {
-        Slice { bytes }
+        Slice { bytes, place }
     }
 
     #[inline(always)]
-    pub fn as_slice(&self) -> &[u8]
+    pub fn bytes(&self) -> &'a [u8]
         ensures { result.now ≡ self.now }
     {
         self.bytes
+    }
+
+    pub fn place(&self) -> usize {
+        self.place
+    }
+
+    // What stands before and after a place.
+    #[inline(always)]
+    pub fn split_at(&self, at: usize) -> (Slice<'a>, Slice<'a>)
+        requires { at ≤ length self.now }
+        ensures front { result.0 ≡ take at self.now }
+        ensures back { result.1 ≡ drop at self.now }
+    {
+        let (front, back) = self.bytes.split_at(at);
+        (
+            Slice::of(front, self.place),
+            Slice::of(back, self.place.wrapping_add(at)),
+        )
+    }
+
+    // What stands after a byte, where the slice begins with it.
+    #[tactic(auto, unfolding(crate::specs::Texts::following))]
+    #[inline(always)]
+    pub fn after(&self, byte: u8) -> Option<Slice<'a>>
+        ensures { result ≡ following (byte ∷ []) self.now }
+    {
+        match self.bytes {
+            [first, rest @ ..] if *first == byte => {
+                Some(Slice::of(rest, self.place.wrapping_add(1)))
+            }
+            _ => None,
+        }
+    }
+
+    // What stands before a byte, where the slice ends with it.
+    #[tactic(auto, unfolding(crate::specs::Texts::before))]
+    #[inline(always)]
+    pub fn before(&self, byte: u8) -> Option<Slice<'a>>
+        ensures { result ≡ before (byte ∷ []) self.now }
+    {
+        match self.bytes {
+            [rest @ .., last] if *last == byte => Some(Slice::of(rest, self.place)),
+            _ => None,
+        }
     }
 }

@@ -14,8 +14,9 @@ ghost use Rattle.gt_script.specs.Scanning.{spoken_at, said_at, line_at};
 use crate::Line;
 use crate::front::front;
 use crate::heap_forms::command;
-use crate::names::Names;
 use crate::pieces::{Piece, is_blank, read_words};
+use crate::slices::Slice;
+use crate::source::Source;
 use std::alloc::AllocError;
 
 // Whether a text is UTF-8.
@@ -33,15 +34,16 @@ pub fn is_utf8(text: &[u8]) -> bool
 #[tactic(auto, unfolding(crate::specs::Scanning::line_at))]
 #[inline(always)]
 pub fn statement<'a>(
-    names: &mut Names,
+    source: &Source,
     words: &mut Vec<Piece<'a>>,
     known: bool,
-    text: &'a [u8],
+    text: &Slice<'a>,
 ) -> Result<Option<Option<Line>>, AllocError>
     requires { IsTrue known → IsUtf8 text.now }
     ensures { IfOk result (λ found. found ≡ line_at text.now) }
 {
-    said(names, words, known, without_return(text))
+    let line = Slice::of(without_return(text.bytes()), text.place());
+    said(source, words, known, &line)
 }
 
 // A line without its carriage return.
@@ -59,21 +61,22 @@ fn without_return(text: &[u8]) -> &[u8]
 #[tactic(auto, unfolding(crate::specs::Scanning::said_at))]
 #[inline(always)]
 fn said<'a>(
-    names: &mut Names,
+    source: &Source,
     words: &mut Vec<Piece<'a>>,
     known: bool,
-    text: &'a [u8],
+    text: &Slice<'a>,
 ) -> Result<Option<Option<Line>>, AllocError>
     requires { IsTrue known → IsUtf8 text.now }
     ensures { IfOk result (λ found. found ≡ said_at text.now) }
 {
-    if !is_readable(known, text) {
+    let bytes = text.bytes();
+    if !is_readable(known, bytes) {
         return Ok(None);
     }
-    if is_passed_over(text) {
+    if is_passed_over(bytes) {
         return Ok(Some(None));
     }
-    match spoken(names, words, text)? {
+    match spoken(source, words, text)? {
         None => Ok(None),
         Some(line) => Ok(Some(Some(line))),
     }
@@ -123,23 +126,23 @@ fn is_comment(text: &[u8]) -> bool
 // The line that a text is.
 #[inline(always)]
 fn spoken<'a>(
-    names: &mut Names,
+    source: &Source,
     words: &mut Vec<Piece<'a>>,
-    text: &'a [u8],
+    text: &Slice<'a>,
 ) -> Result<Option<Line>, AllocError>
     ensures { IfOk result (λ found. found ≡ spoken_at text.now) }
 {
-    let done = read_words(names.alloc(), text, words)?;
+    let done = read_words(source.alloc(), text, words)?;
     if !done {
         return Ok(None);
     }
-    line(names, words)
+    line(source, words)
 }
 
 // The line that words are.
 #[tactic(auto, unfolding(crate::specs::Commands::line_of, crate::specs::Texts::following))]
 #[inline(always)]
-fn line(names: &mut Names, words: &[Piece<'_>]) -> Result<Option<Line>, AllocError>
+fn line(source: &Source, words: &[Piece<'_>]) -> Result<Option<Line>, AllocError>
     ensures { IfOk result (λ found. found ≡ line_of words.now) }
 {
     let [word, words @ ..] = words else {
@@ -148,8 +151,8 @@ fn line(names: &mut Names, words: &[Piece<'_>]) -> Result<Option<Line>, AllocErr
     let Piece::Plain(word) = word else {
         return Ok(None);
     };
-    let (quiet, verb) = verb_of(word.as_slice());
-    told(names, quiet, verb, words)
+    let (quiet, verb) = verb_of(word.bytes());
+    told(source, quiet, verb, words)
 }
 
 // Whether a first word makes its line quiet, and the word without the mark of that.
@@ -166,14 +169,14 @@ fn verb_of(word: &[u8]) -> (bool, &[u8])
 
 #[inline(always)]
 fn told(
-    names: &mut Names,
+    source: &Source,
     quiet: bool,
     verb: &[u8],
     words: &[Piece<'_>],
 ) -> Result<Option<Line>, AllocError>
     ensures { IfOk result (λ found. found ≡ told_at quiet words.now verb.now) }
 {
-    let Some(command) = command(names, verb, words)? else {
+    let Some(command) = command(source, verb, words)? else {
         return Ok(None);
     };
     Ok(Some(Line { quiet, command }))

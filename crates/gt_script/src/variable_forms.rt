@@ -3,56 +3,56 @@ ghost use Rattle.std.specs.Prelude.{◌≡◌, IfOk};
 ghost use Rattle.gt_script.specs.Commands.{new_at, plain_new_at, sized_new_at, array_at, text_at, block_at, get_at, drop_at, variable_command_at};
 
 use crate::Command;
-use crate::names::Names;
 use crate::naming::{type_name, variable};
 use crate::numbers::integer;
 use crate::pieces::Piece;
 use crate::routes::path;
 use crate::slices::Slice;
+use crate::source::Source;
 use gt_types::Copied;
 use std::alloc::AllocError;
 
 /// The command that a first word and the words after it are, where it begins with a variable.
 #[tactic(auto, unfolding(crate::specs::Commands::variable_command_at))]
 pub fn variable_command(
-    names: &mut Names,
+    source: &Source,
     verb: &[u8],
     words: &[Piece<'_>],
 ) -> Result<Option<Command>, AllocError>
     ensures { IfOk result (λ found. found ≡ variable_command_at verb.now words.now) }
 {
     if verb == b"new".as_slice() {
-        return new(names, words);
+        return new(source, words);
     }
     if verb == b"array".as_slice() {
-        return array(names, words);
+        return array(source, words);
     }
     if verb == b"string".as_slice() {
-        return text(names, words);
+        return text(source, words);
     }
     if verb == b"block".as_slice() {
-        return block(names, words);
+        return block(source, words);
     }
     if verb == b"get".as_slice() {
-        return get(names, words);
+        return get(source, words);
     }
     if verb == b"drop".as_slice() {
-        return drop_variable(names, words);
+        return drop_variable(source, words);
     }
     Ok(None)
 }
 
 #[tactic(auto, unfolding(crate::specs::Commands::new_at))]
-fn new(names: &mut Names, words: &[Piece<'_>]) -> Result<Option<Command>, AllocError>
+fn new(source: &Source, words: &[Piece<'_>]) -> Result<Option<Command>, AllocError>
     ensures { IfOk result (λ found. found ≡ new_at words.now) }
 {
     match words {
         [var, ty] => match (var, ty) {
-            (Piece::Plain(var), Piece::Plain(ty)) => plain_new(names, var, ty),
+            (Piece::Plain(var), Piece::Plain(ty)) => plain_new(source, var, ty),
             _ => Ok(None),
         },
         [var, ty, n] => match (var, ty, n) {
-            (Piece::Plain(var), Piece::Plain(ty), Piece::Plain(n)) => sized_new(names, var, ty, n),
+            (Piece::Plain(var), Piece::Plain(ty), Piece::Plain(n)) => sized_new(source, var, ty, n),
             _ => Ok(None),
         },
         _ => Ok(None),
@@ -61,16 +61,16 @@ fn new(names: &mut Names, words: &[Piece<'_>]) -> Result<Option<Command>, AllocE
 
 #[tactic(auto, unfolding(crate::specs::Commands::plain_new_at))]
 fn plain_new(
-    names: &mut Names,
+    source: &Source,
     var: &Slice<'_>,
     ty: &Slice<'_>,
 ) -> Result<Option<Command>, AllocError>
     ensures { IfOk result (λ found. found ≡ plain_new_at var.now ty.now) }
 {
-    let Some(var) = variable(names, var.as_slice())? else {
+    let Some(var) = variable(source, var)? else {
         return Ok(None);
     };
-    let Some(ty) = type_name(names, ty.as_slice())? else {
+    let Some(ty) = type_name(source, ty)? else {
         return Ok(None);
     };
     Ok(Some(Command::New { var, ty, n: None }))
@@ -78,20 +78,20 @@ fn plain_new(
 
 #[tactic(auto, unfolding(crate::specs::Commands::sized_new_at))]
 fn sized_new(
-    names: &mut Names,
+    source: &Source,
     var: &Slice<'_>,
     ty: &Slice<'_>,
     n: &Slice<'_>,
 ) -> Result<Option<Command>, AllocError>
     ensures { IfOk result (λ found. found ≡ sized_new_at var.now ty.now n.now) }
 {
-    let Some(var) = variable(names, var.as_slice())? else {
+    let Some(var) = variable(source, var)? else {
         return Ok(None);
     };
-    let Some(ty) = type_name(names, ty.as_slice())? else {
+    let Some(ty) = type_name(source, ty)? else {
         return Ok(None);
     };
-    let Some(n) = integer(n.as_slice()) else {
+    let Some(n) = integer(n.bytes()) else {
         return Ok(None);
     };
     Ok(Some(Command::New {
@@ -102,7 +102,7 @@ fn sized_new(
 }
 
 #[tactic(auto, unfolding(crate::specs::Commands::array_at))]
-fn array(names: &mut Names, words: &[Piece<'_>]) -> Result<Option<Command>, AllocError>
+fn array(source: &Source, words: &[Piece<'_>]) -> Result<Option<Command>, AllocError>
     ensures { IfOk result (λ found. found ≡ array_at words.now) }
 {
     let [var, ty, n] = words else {
@@ -111,20 +111,20 @@ fn array(names: &mut Names, words: &[Piece<'_>]) -> Result<Option<Command>, Allo
     let (Piece::Plain(var), Piece::Plain(ty), Piece::Plain(n)) = (var, ty, n) else {
         return Ok(None);
     };
-    let Some(var) = variable(names, var.as_slice())? else {
+    let Some(var) = variable(source, var)? else {
         return Ok(None);
     };
-    let Some(ty) = type_name(names, ty.as_slice())? else {
+    let Some(ty) = type_name(source, ty)? else {
         return Ok(None);
     };
-    let Some(n) = integer(n.as_slice()) else {
+    let Some(n) = integer(n.bytes()) else {
         return Ok(None);
     };
     Ok(Some(Command::Array { var, ty, n }))
 }
 
 #[tactic(auto, unfolding(crate::specs::Commands::text_at))]
-fn text(names: &mut Names, words: &[Piece<'_>]) -> Result<Option<Command>, AllocError>
+fn text(source: &Source, words: &[Piece<'_>]) -> Result<Option<Command>, AllocError>
     ensures { IfOk result (λ found. found ≡ text_at words.now) }
 {
     let [var, text] = words else {
@@ -133,15 +133,15 @@ fn text(names: &mut Names, words: &[Piece<'_>]) -> Result<Option<Command>, Alloc
     let (Piece::Plain(var), Piece::Quoted(text)) = (var, text) else {
         return Ok(None);
     };
-    let Some(var) = variable(names, var.as_slice())? else {
+    let Some(var) = variable(source, var)? else {
         return Ok(None);
     };
-    let text = text.copy(names.alloc())?;
+    let text = text.copy(source.alloc())?;
     Ok(Some(Command::Text { var, text }))
 }
 
 #[tactic(auto, unfolding(crate::specs::Commands::block_at))]
-fn block(names: &mut Names, words: &[Piece<'_>]) -> Result<Option<Command>, AllocError>
+fn block(source: &Source, words: &[Piece<'_>]) -> Result<Option<Command>, AllocError>
     ensures { IfOk result (λ found. found ≡ block_at words.now) }
 {
     let [var, n] = words else {
@@ -150,17 +150,17 @@ fn block(names: &mut Names, words: &[Piece<'_>]) -> Result<Option<Command>, Allo
     let (Piece::Plain(var), Piece::Plain(n)) = (var, n) else {
         return Ok(None);
     };
-    let Some(var) = variable(names, var.as_slice())? else {
+    let Some(var) = variable(source, var)? else {
         return Ok(None);
     };
-    let Some(n) = integer(n.as_slice()) else {
+    let Some(n) = integer(n.bytes()) else {
         return Ok(None);
     };
     Ok(Some(Command::Block { var, n }))
 }
 
 #[tactic(auto, unfolding(crate::specs::Commands::get_at))]
-fn get(names: &mut Names, words: &[Piece<'_>]) -> Result<Option<Command>, AllocError>
+fn get(source: &Source, words: &[Piece<'_>]) -> Result<Option<Command>, AllocError>
     ensures { IfOk result (λ found. found ≡ get_at words.now) }
 {
     let [var, place] = words else {
@@ -169,17 +169,17 @@ fn get(names: &mut Names, words: &[Piece<'_>]) -> Result<Option<Command>, AllocE
     let (Piece::Plain(var), Piece::Plain(place)) = (var, place) else {
         return Ok(None);
     };
-    let Some(var) = variable(names, var.as_slice())? else {
+    let Some(var) = variable(source, var)? else {
         return Ok(None);
     };
-    let Some(path) = path(names, place.as_slice())? else {
+    let Some(path) = path(source, place)? else {
         return Ok(None);
     };
     Ok(Some(Command::Get { var, path }))
 }
 
 #[tactic(auto, unfolding(crate::specs::Commands::drop_at))]
-fn drop_variable(names: &mut Names, words: &[Piece<'_>]) -> Result<Option<Command>, AllocError>
+fn drop_variable(source: &Source, words: &[Piece<'_>]) -> Result<Option<Command>, AllocError>
     ensures { IfOk result (λ found. found ≡ drop_at words.now) }
 {
     let [var] = words else {
@@ -188,7 +188,7 @@ fn drop_variable(names: &mut Names, words: &[Piece<'_>]) -> Result<Option<Comman
     let Piece::Plain(var) = var else {
         return Ok(None);
     };
-    let Some(var) = variable(names, var.as_slice())? else {
+    let Some(var) = variable(source, var)? else {
         return Ok(None);
     };
     Ok(Some(Command::Drop { var }))

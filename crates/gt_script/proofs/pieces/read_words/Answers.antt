@@ -3,7 +3,7 @@ use Rattle.std.specs.Option.{option_map}
 use Rattle.std.proofs.lemmas.Bool.{eqb-true}
 use Rattle.std.proofs.lemmas.Bool.Decides.{nat_tests}
 use Rattle.std.proofs.lemmas.List.{nil_from_length, length-append}
-use Rattle.gt_script.specs.Cutting.{word_at}
+use Rattle.gt_script.specs.Cutting.{without_blanks, word_at}
 use Rattle.gt_script.specs.Scanning.{few}
 use Rattle.gt_script.proofs.ManyWords.{few_short, too_many}
 use Rattle.gt_script.proofs.Cuts.{starts, goes_on, ends, is_done, word_at-shorter, without_blanks-shorter}
@@ -11,19 +11,19 @@ use Rattle.gt_script.proofs.pieces.read_words.Goals as goal
 
 pub loop-rest-init : goal.loop-rest-init
 loop-rest-init c = record {
-  so_far = rw c.clear.ensures.items (starts c.args.text.now c.without_blanks-rest.result.now c.without_blanks-rest.ensures);
+  so_far = rw c.clear.ensures.items (starts c.args.text.now c.without_blanks-rest.result.now (c.without_blanks-rest.ensures ∙ ap without_blanks c.bytes-bytes.ensures));
   few = rw c.clear.ensures.items (omega arith);
 }
 
 pub loop-rest-smaller : goal.loop-rest-smaller
 loop-rest-smaller c =
-    let word : word_at c.loop-rest.rest.now ≡ Some (c.in-Some.word, c.in-Some.after.now) = sym c.in_ok-word.ensures ∙ ap (option_map (λ r. (r.0, r.1.now))) c.in-Some.is in
+    let word : word_at c.loop-rest.rest.now ≡ Some (c.in-Some.word, c.in-Some.after.now) = ap word_at (sym c.of.ensures) ∙ sym c.in_ok-word.ensures ∙ ap (option_map (λ r. (r.0, r.1.now))) c.in-Some.is in
     omega (arith, word_at-shorter c.loop-rest.rest.now (c.in-Some.word, c.in-Some.after.now) word, without_blanks-shorter c.in-Some.after.now, ap length c.without_blanks-rest-in-loop-rest.ensures)
 
 pub loop-rest-preserved : goal.loop-rest-preserved
 loop-rest-preserved c =
     let some : length c.loop-rest.rest.now ≢ 0 = grind (arith, nat_tests, c.loop-rest-test.ensures) in
-    let word : word_at c.loop-rest.rest.now ≡ Some (c.in-Some.word, c.in-Some.after.now) = sym c.in_ok-word.ensures ∙ ap (option_map (λ r. (r.0, r.1.now))) c.in-Some.is in
+    let word : word_at c.loop-rest.rest.now ≡ Some (c.in-Some.word, c.in-Some.after.now) = ap word_at (sym c.of.ensures) ∙ sym c.in_ok-word.ensures ∙ ap (option_map (λ r. (r.0, r.1.now))) c.in-Some.is in
     record {
       so_far = rw c.in_ok-push.ensures.items
           (goes_on c.args.text.now c.loop-rest.words.items c.loop-rest.rest.now c.in-Some.after.now c.without_blanks-rest-in-loop-rest.result.now c.in-Some.word c.loop-rest.invariant.so_far some word c.without_blanks-rest-in-loop-rest.ensures);
@@ -34,7 +34,7 @@ loop-rest-preserved c =
 pub returns-in_default : goal.returns-in_default
 returns-in_default c =
     let some : length c.loop-rest.rest.now ≢ 0 = grind (arith, nat_tests, c.loop-rest-test.ensures) in
-    ap few (ends c.args.text.now c.loop-rest.words.items c.loop-rest.rest.now c.loop-rest.invariant.so_far some (sym c.in_ok-word.ensures ∙ ap (option_map (λ r. (r.0, r.1.now))) c.in_default.is))
+    ap few (ends c.args.text.now c.loop-rest.words.items c.loop-rest.rest.now c.loop-rest.invariant.so_far some (ap word_at (sym c.of.ensures) ∙ sym c.in_ok-word.ensures ∙ ap (option_map (λ r. (r.0, r.1.now))) c.in_default.is))
 
 pub returns-then-len-eq-MOST_WORDS : goal.returns-then-len-eq-MOST_WORDS
 returns-then-len-eq-MOST_WORDS c =
