@@ -44,7 +44,7 @@ pub fn reach<'a>(alloc: Global, s: &'a Session, path: &Route) -> Result<Reached<
     ensures refused { (why : Why) → result ≡ Err (Refused why) → (told : Option Held) (state : State) → StandsFor s.now told state → RefusesPath s.now.schema.program state path.now why }
 {
     match start_of(s, path) {
-        Ok(start) => walk(alloc, &s.schema, &s.objects, start, path.steps.as_slice()),
+        Ok(start) => walk(alloc, &s.schema, &s.objects, start, &path.steps),
         Err(why) => Err(WalkFail::Refused(why)),
     }
 }

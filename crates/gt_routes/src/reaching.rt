@@ -341,7 +341,7 @@ pub fn walk<'a>(
     schema: &'a Schema,
     objects: &'a Objects,
     start: Start,
-    steps: &[Hop],
+    steps: &gt_script::Steps,
 ) -> Result<Reached<'a>, WalkFail>
     requires schema { IsSchema schema.now }
     requires ready { (heap : Heap) × IsHeapOf schema.now.program schema.now.layouts objects.now heap }
@@ -352,11 +352,17 @@ pub fn walk<'a>(
     ensures refused { (why : Why) → result ≡ Err (Refused why) → (heap : Heap) → IsHeapOf schema.now.program schema.now.layouts objects.now heap → RefusesWalk schema.now.program heap.graph (start_of start) steps.now why }
 {
     let mut at = begin(alloc, schema, objects, start)?;
-    for hop in steps {
-        at = match step(alloc, schema, objects, at, hop) {
+    let mut hops = steps.hops();
+    'steps: loop {
+        let Ok(first) = hops.take_first(alloc) else {
+            return Err(WalkFail::Memory);
+        };
+        let Some(hop) = first else {
+            return Ok(at);
+        };
+        at = match step(alloc, schema, objects, at, &hop) {
             Ok(next) => next,
             Err(stop) => return Err(stop),
         };
     }
-    Ok(at)
 }

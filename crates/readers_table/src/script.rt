@@ -109,8 +109,9 @@ fn value_text(alloc: Global, value: &Given) -> Result<String, AllocError> {
 fn path_text(alloc: Global, path: &Route) -> Result<String, AllocError> {
     let start = if path.variable { "variable" } else { "root" };
     let mut text = format!(in alloc; "{start} {}", path.name.as_str())?;
-    for step in path.steps.as_slice() {
-        let step = match step {
+    let mut hops = path.steps.hops();
+    while let Some(hop) = hops.take_first(alloc)? {
+        let step = match hop {
             Hop::Name(name) => format!(in alloc; ", {}", name.as_str())?,
             Hop::Index(at) => format!(in alloc; ", at {at}")?,
         };
