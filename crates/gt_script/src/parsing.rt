@@ -1,6 +1,7 @@
 // The lines of a script.
-ghost use Rattle.std.specs.Prelude.{◌≡◌, ◌<◌, ◌^◌, length, IfOk, IfErr, IsTrue, MatchResult, Ok, Err};
+ghost use Rattle.std.specs.Prelude.{◌≡◌, ◌<◌, ◌^◌, length, IfOk, IfErr, MatchResult, Ok, Err};
 ghost use Rattle.std.specs.Str.{IsUtf8};
+ghost use Rattle.gt_script.specs.declared.statements.Known.TheVariants.{All};
 ghost use Rattle.gt_script.specs.Outcome.{Parsed, IsScriptStop};
 ghost use Rattle.gt_script.specs.Scanning.{outcome_of, IsOutcomeUnlessMemory};
 
@@ -9,7 +10,7 @@ use crate::parts::first_line;
 use crate::pieces::Piece;
 use crate::slices::Slice;
 use crate::source::Source;
-use crate::statements::{is_utf8, statement};
+use crate::statements::{Known, statement};
 use crate::stop::{MAX_COMMANDS, ScriptStop};
 use gt_types::List;
 use std::alloc::Global;
@@ -44,23 +45,42 @@ pub fn parse_script(alloc: Global, text: &[u8]) -> Result<List<Line>, ScriptStop
     ensures lines { IfOk result (λ lines. Parsed text.now lines) }
     ensures fault { IfErr result (IsScriptStop text.now) }
 {
-    let source = Source::of(alloc, text)?;
     let mut words = Vec::new(alloc);
-    match read_script(&source, &mut words, is_utf8(text), text) {
+    let (front, known) = utf8_front(text);
+    let source = Source::of(alloc, front)?;
+    match read_script(&source, &mut words, known, text) {
         Ok(lines) => Ok(lines),
         Err(stop) => Err(stop),
     }
 }
 
-// The same, as the outcome of reading line by line. It may be known that the script is UTF-8.
+// The front of a text as far as it is UTF-8, and what is known then.
+fn utf8_front(text: &[u8]) -> (&str, Known)
+    ensures known { result.1 ≡ All → IsUtf8 text.now }
+{
+    match str::from_utf8(text) {
+        Ok(all) => (all, Known::All),
+        Err(error) => (text_of(text, error.valid_up_to()), Known::Nothing),
+    }
+}
+
+// The text of so many bytes.
+fn text_of(bytes: &[u8], len: usize) -> &str {
+    let Some(front) = bytes.get(..len) else {
+        return "";
+    };
+    str::from_utf8(front).unwrap_or("")
+}
+
+// The same, as the outcome of reading line by line.
 fn read_script<'a>(
     source: &Source,
     words: &mut Vec<Piece<'a>>,
-    known: bool,
+    known: Known,
     text: &'a [u8],
 ) -> Result<List<Line>, ScriptStop>
     requires short { length text.now < 2 ^ 32 }
-    requires utf8 { IsTrue known → IsUtf8 text.now }
+    requires utf8 { known ≡ All → IsUtf8 text.now }
     ensures { IsOutcomeUnlessMemory result (outcome_of text.now) }
 {
     let mut lines = List::new(source.alloc());

@@ -17,12 +17,8 @@ pub struct Source {
 }
 
 impl Source {
-    // The text of these bytes.
-    pub fn of(alloc: Global, bytes: &[u8]) -> Result<Source, AllocError> {
-        let text = match str::from_utf8(bytes) {
-            Ok(text) => text,
-            Err(error) => utf8_front(bytes, error.valid_up_to()),
-        };
+    // A copy of a text.
+    pub fn of(alloc: Global, text: &str) -> Result<Source, AllocError> {
         Ok(Source {
             alloc,
             text: RcStr::from_str(alloc, text)?,
@@ -52,14 +48,6 @@ impl Source {
         };
         Ok(Some(self.word(slice.place(), name)?))
     }
-}
-
-// The text of so many bytes at the front.
-fn utf8_front(bytes: &[u8], len: usize) -> &str {
-    let Some(front) = bytes.get(..len) else {
-        return "";
-    };
-    str::from_utf8(front).unwrap_or("")
 }
 
 // The name that bytes are.

@@ -1,10 +1,11 @@
 // What a line of a script says.
-ghost use Rattle.std.specs.Prelude.{◌≡◌, true, false, List, codes, IfOk, IsTrue};
+ghost use Rattle.std.specs.Prelude.{◌≡◌, true, false, List, codes, IfOk};
 ghost use Rattle.std.specs.Option.{option_map_or};
 ghost use Rattle.std.specs.List.{list_all};
 ghost use Rattle.std.specs.Str.{IsUtf8, is_utf8};
 ghost use Rattle.std.specs.Str.Lines.{strip_carriage_return};
 ghost use Rattle.gt_script.specs.declared.pieces.Piece.{Piece};
+ghost use Rattle.gt_script.specs.declared.statements.Known.TheVariants.{All};
 ghost use Rattle.gt_script.specs.Texts.{following};
 ghost use Rattle.gt_script.specs.Cutting.{is_blank};
 ghost use Rattle.gt_script.specs.Commands.{told_at, line_of};
@@ -19,8 +20,15 @@ use crate::slices::Slice;
 use crate::source::Source;
 use std::alloc::AllocError;
 
+/// What of a script is known to be UTF-8: all of it, or nothing, so that each line is tested.
+#[derive(Clone, Copy, PartialEq, Eq)]
+pub enum Known {
+    All,
+    Nothing,
+}
+
 // Whether a text is UTF-8.
-pub fn is_utf8(text: &[u8]) -> bool
+fn is_utf8(text: &[u8]) -> bool
     ensures { result ≡ is_utf8 text.now }
 {
     let Ok(_) = str::from_utf8(text) else {
@@ -36,10 +44,10 @@ pub fn is_utf8(text: &[u8]) -> bool
 pub fn statement<'a>(
     source: &Source,
     words: &mut Vec<Piece<'a>>,
-    known: bool,
+    known: Known,
     text: &Slice<'a>,
 ) -> Result<Option<Option<Line>>, AllocError>
-    requires { IsTrue known → IsUtf8 text.now }
+    requires { known ≡ All → IsUtf8 text.now }
     ensures { IfOk result (λ found. found ≡ line_at text.now) }
 {
     let line = Slice::of(without_return(text.bytes()), text.place());
@@ -63,10 +71,10 @@ fn without_return(text: &[u8]) -> &[u8]
 fn said<'a>(
     source: &Source,
     words: &mut Vec<Piece<'a>>,
-    known: bool,
+    known: Known,
     text: &Slice<'a>,
 ) -> Result<Option<Option<Line>>, AllocError>
-    requires { IsTrue known → IsUtf8 text.now }
+    requires { known ≡ All → IsUtf8 text.now }
     ensures { IfOk result (λ found. found ≡ said_at text.now) }
 {
     let bytes = text.bytes();
@@ -84,14 +92,14 @@ fn said<'a>(
 
 // Whether a text is UTF-8, which may be known.
 #[inline(always)]
-fn is_readable(known: bool, text: &[u8]) -> bool
-    requires { IsTrue known → IsUtf8 text.now }
+fn is_readable(known: Known, text: &[u8]) -> bool
+    requires { known ≡ All → IsUtf8 text.now }
     ensures { result ≡ is_utf8 text.now }
 {
-    if known {
-        return true;
+    match known {
+        Known::All => true,
+        Known::Nothing => is_utf8(text),
     }
-    is_utf8(text)
 }
 
 #[tactic(auto, unfolding(crate::specs::Language::is_passed_over))]

@@ -1,5 +1,3 @@
-use Rattle.std.proofs.Common.{sym, ◌∙◌}
-use Rattle.std.proofs.lemmas.Str.{IsUtf8-from_is_utf8}
 use Rattle.gt_script.proofs.Settled.{lines_are, stop_is}
 use Rattle.gt_script.proofs.parsing.parse_script.Goals as goal
 
@@ -8,6 +6,3 @@ returns-in-Ok c = record { lines = lines_are c.args.text.now c.in-Ok.lines c.in-
 
 pub returns : goal.returns
 returns c = record { lines = tt; fault = stop_is c.args.text.now c.in-Err.stop c.in-Err.ensures }
-
-pub read_script-requires-clause-utf8 : goal.read_script-requires-clause-utf8
-read_script-requires-clause-utf8 c = λ known. IsUtf8-from_is_utf8 c.args.text.now (sym c.is_utf8.ensures ∙ known)
