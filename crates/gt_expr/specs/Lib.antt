@@ -1,6 +1,6 @@
-pub mod Characters
 pub mod Expression
 pub mod Grammar
+pub mod Characters
+pub mod Spelling
 pub mod Parts
 pub mod Reading
-pub mod Spelling

@@ -1,10 +1,10 @@
-pub mod FieldGrammar
-pub mod Fields
-pub mod Groups
-pub mod Marked
-pub mod MarkedGrammar
-pub mod MarkerGrammar
-pub mod Markers
 pub mod Outcome
+pub mod MarkerGrammar
 pub mod TypeGrammar
+pub mod FieldGrammar
+pub mod MarkedGrammar
+pub mod Groups
+pub mod Markers
 pub mod Types
+pub mod Fields
+pub mod Marked

@@ -1,5 +1,5 @@
-pub mod Answers
-pub mod Header
 pub mod ItemGrammar
+pub mod Header
+pub mod Answers
 pub mod Reading
 pub mod Unmarked

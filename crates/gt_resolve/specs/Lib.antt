@@ -1,5 +1,5 @@
 pub mod Drafts
-pub mod Faults
-pub mod Placings
 pub mod Redefinitions
+pub mod Placings
+pub mod Faults
 pub mod Resolution
