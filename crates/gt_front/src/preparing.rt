@@ -8,7 +8,7 @@ ghost use Rattle.gt_front.specs.Asks.{Asks};
 ghost use Rattle.gt_front.specs.Halts.{Halts, HaltsAfter};
 ghost use Rattle.gt_front.specs.Order.{AskNoFile, FailsIn, IsReadAs, IsReadFor};
 
-use crate::stages::{called, declared, lines_of, read_texts};
+use crate::stages::{declare_texts, lines_of, read_call, read_texts};
 use crate::{FileWhy, Refusal};
 use gt_headers::Declared;
 use gt_io::Files;
@@ -61,7 +61,7 @@ pub fn prepare<F: Files>(alloc: Global, words: &[Word], files: &mut F) -> Result
     ensures cause { (word : ℕ) (line : List ℕ) → result ≡ Err (Halt.Refused (Refusal.File word FileWhy.Fault) line) → Rose (F.faults files.old) (F.faults files.new) }
     ensures failed { (word : ℕ) (line : List ℕ) → result ≡ Err (Halt.Refused (Refusal.File word FileWhy.Fault) line) → FailsIn F.reads words.now files.old word files.new }
 {
-    let call = match called(alloc, words) {
+    let call = match read_call(alloc, words) {
         Ok(call) => call,
         Err(halt) => return Err(halt),
     };
@@ -69,7 +69,11 @@ pub fn prepare<F: Files>(alloc: Global, words: &[Word], files: &mut F) -> Result
         Ok(found) => found,
         Err(halt) => return Err(halt),
     };
-    let Declared { program, layouts } = match declared(alloc, &call, found.headers.as_slice()) {
+    let Declared { program, layouts } = match declare_texts(
+        alloc,
+        &call,
+        found.headers.as_slice(),
+    ) {
         Ok(declared) => declared,
         Err(halt) => return Err(halt),
     };

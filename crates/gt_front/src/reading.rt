@@ -73,14 +73,14 @@ pub fn read_file<F: Files>(
 {
     match files.read(alloc, name, limit) {
         Ok(Some(bytes)) => Ok(bytes),
-        Ok(None) => Err(refused(word, FileWhy::Missing)),
-        Err(ReadFail::TooLong) => Err(refused(word, FileWhy::TooLong)),
-        Err(ReadFail::Failed) => Err(refused(word, FileWhy::Fault)),
+        Ok(None) => Err(refuse(word, FileWhy::Missing)),
+        Err(ReadFail::TooLong) => Err(refuse(word, FileWhy::TooLong)),
+        Err(ReadFail::Failed) => Err(refuse(word, FileWhy::Fault)),
         Err(ReadFail::Memory) => Err(ReadStop::Memory),
     }
 }
 
-fn refused(word: u32, why: FileWhy) -> ReadStop
+fn refuse(word: u32, why: FileWhy) -> ReadStop
     ensures { result ≡ ReadStop.Refused word why }
 {
     ReadStop::Refused { word, why }

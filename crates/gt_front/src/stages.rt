@@ -37,7 +37,7 @@ pub struct Found {
 }
 
 /// What the arguments ask for.
-pub fn called(alloc: Global, words: &[Word]) -> Result<Call, Halt>
+pub fn read_call(alloc: Global, words: &[Word]) -> Result<Call, Halt>
     ensures called { IfOk result (λ call. call_of words.now ≡ Some call) }
     ensures ranges { IfOk result IsInRange }
     ensures halted { (told : Option Held) (texts : Texts) → IfErr result (HaltsBy words.now told texts nothing) }
@@ -45,7 +45,7 @@ pub fn called(alloc: Global, words: &[Word]) -> Result<Call, Halt>
 {
     match read_words(alloc, words) {
         Ok(Some(call)) => Ok(call),
-        Ok(None) => Err(refused(Refusal::Words, words_line(alloc))),
+        Ok(None) => Err(halt(Refusal::Words, words_line(alloc))),
         Err(_) => Err(Halt::Memory),
     }
 }
@@ -65,7 +65,7 @@ pub fn read_texts<F: Files>(alloc: Global, call: &Call, files: &mut F) -> Result
 {
     match &call.script {
         Script::File(name) => read_files(alloc, call, name, files),
-        Script::Generated { n, .. } => match generated(alloc, *n) {
+        Script::Generated { n, .. } => match generate_texts(alloc, *n) {
             Ok(found) => Ok(found),
             Err(_) => Err(Halt::Memory),
         },
@@ -92,16 +92,16 @@ fn read_files<F: Files>(
 {
     let headers = match read_headers(alloc, files, call.headers.as_slice()) {
         Ok(texts) => texts,
-        Err(stop) => return Err(not_read(alloc, call, stop)),
+        Err(stop) => return Err(halt_reading(alloc, call, stop)),
     };
     match read_file(alloc, files, name, 0, MAX_SCRIPT_BYTES) {
         Ok(script) => Ok(Found { headers, script }),
-        Err(stop) => Err(not_read(alloc, call, stop)),
+        Err(stop) => Err(halt_reading(alloc, call, stop)),
     }
 }
 
 /// The program that the headers with these texts declare, with its layouts.
-pub fn declared(alloc: Global, call: &Call, texts: &[Bytes]) -> Result<Declared, Halt>
+pub fn declare_texts(alloc: Global, call: &Call, texts: &[Bytes]) -> Result<Declared, Halt>
     requires within { AreWithin call.now texts.now }
     ensures declared { IfOk result (λ declared. Declares texts.now declared.program) }
     ensures laid { IfOk result (λ declared. IsLaidOut declared.program declared.layouts) }
@@ -114,7 +114,7 @@ pub fn declared(alloc: Global, call: &Call, texts: &[Bytes]) -> Result<Declared,
     match declare(alloc, texts) {
         Ok(declared) => Ok(declared),
         Err(Stop::Memory) => Err(Halt::Memory),
-        Err(Stop::At(fault)) => Err(refused(
+        Err(Stop::At(fault)) => Err(halt(
             Refusal::Header(fault),
             fault_line(alloc, call, texts, fault),
         )),
@@ -134,14 +134,14 @@ pub fn lines_of(alloc: Global, call: &Call, text: &[u8]) -> Result<List<Line>, H
         Ok(lines) => Ok(lines),
         Err(ScriptStop::Memory) => Err(Halt::Memory),
         Err(ScriptStop::ScriptSyntax { line }) => {
-            Err(faulty_script(alloc, call, SCRIPT_SYNTAX, line))
+            Err(halt_script(alloc, call, SCRIPT_SYNTAX, line))
         }
-        Err(ScriptStop::ScriptTooLong) => Err(faulty_script(alloc, call, SCRIPT_TOO_LONG, 0)),
+        Err(ScriptStop::ScriptTooLong) => Err(halt_script(alloc, call, SCRIPT_TOO_LONG, 0)),
     }
 }
 
 // The texts of a generated script of n nodes.
-fn generated(alloc: Global, n: u32) -> Result<Found, AllocError>
+fn generate_texts(alloc: Global, n: u32) -> Result<Found, AllocError>
     requires few { n ≤ 100000 }
     ensures texts { IfOk result (λ found. texts_of found ≡ generated_texts n) }
     ensures one { IfOk result (λ found. length found.headers.items ≡ 1) }
@@ -155,7 +155,7 @@ fn generated(alloc: Global, n: u32) -> Result<Found, AllocError>
 }
 
 // The halt at a file that was not read.
-fn not_read(alloc: Global, call: &Call, stop: ReadStop) -> Halt
+fn halt_reading(alloc: Global, call: &Call, stop: ReadStop) -> Halt
     requires there { HasWord call.now stop }
     ensures halted { (words : List (List ℕ)) (told : Option Held) (name : List ℕ) (texts : Texts)
         → Calls words call.now name → IsStopOf told name call.now.headers stop → HaltsAt words told texts stop result }
@@ -163,7 +163,7 @@ fn not_read(alloc: Global, call: &Call, stop: ReadStop) -> Halt
 {
     match stop {
         ReadStop::Memory => Halt::Memory,
-        ReadStop::Refused { word, why } => refused(
+        ReadStop::Refused { word, why } => halt(
             Refusal::File { word, why },
             file_line(alloc, call, word, why_text(why)),
         ),
@@ -171,19 +171,19 @@ fn not_read(alloc: Global, call: &Call, stop: ReadStop) -> Halt
 }
 
 // The halt at a fault of the script.
-fn faulty_script(alloc: Global, call: &Call, number: u8, line: u32) -> Halt
+fn halt_script(alloc: Global, call: &Call, number: u8, line: u32) -> Halt
     ensures halted { (words : List (List ℕ)) (told : Option Held) (texts : Texts)
         → Comes words told texts (Refusal.Script number line) → call_of words ≡ Some call.now → HaltsBy words told texts (whole texts) result }
     ensures same { (other : Refusal) (bytes : List ℕ) → result ≡ Halt.Refused other bytes → other ≡ Refusal.Script number line }
 {
-    refused(
+    halt(
         Refusal::Script { number, line },
         script_line(alloc, call, number, line),
     )
 }
 
 // The halt with a refusal and its line, where there was memory for the line.
-fn refused(refusal: Refusal, line: Result<Bytes, AllocError>) -> Halt
+fn halt(refusal: Refusal, line: Result<Bytes, AllocError>) -> Halt
     ensures halted { (words : List (List ℕ)) (told : Option Held) (texts : Texts)
         → Comes words told texts refusal → IfOk line (IsRefusalLine words texts refusal) → HaltsBy words told texts (extent_for texts refusal) result }
     ensures same { (other : Refusal) (bytes : List ℕ) → result ≡ Halt.Refused other bytes → other ≡ refusal }

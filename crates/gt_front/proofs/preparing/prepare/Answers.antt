@@ -34,8 +34,8 @@ returns-in-Err-read_texts-clause-failed g c = λ word line is.
     HaltsAfter-failed g.F.Files.reads c.args.words.now (g.F.Files.told c.args.files.now) c.args.files.now c.read_texts.new.files word line c.in-Err-read_texts.halt halt
     (returns-in-Err-read_texts-clause-stopped g c)
 
-pub returns-in-Err-declared-clause-stopped : goal.returns-in-Err-declared-clause-stopped
-returns-in-Err-declared-clause-stopped g c =
+pub returns-in-Err-declare_texts-clause-stopped : goal.returns-in-Err-declare_texts-clause-stopped
+returns-in-Err-declare_texts-clause-stopped g c =
     let words = c.args.words.now in
     let told = g.F.Files.told c.args.files.now in
     let call = c.in-Ok.call in
@@ -46,13 +46,13 @@ returns-in-Err-declared-clause-stopped g c =
     let G : List (List ℕ) → Type 0 = λ headers. IsReadAs g.F.Files.reads call.script call.headers (record { headers = headers; script = found.script }) c.args.files.now c.read_texts.new.files in
     let reads = subst R (sym c.as_slice.ensures.value) (c.in-Ok-read_texts.ensures.read words called) in
     let given = subst G (sym c.as_slice.ensures.value) c.in-Ok-read_texts.ensures.files in
-    HaltsAfter-by g.F.Files.reads words told c.args.files.now c.read_texts.new.files texts (whole texts) c.in-Err-declared.halt
-    (c.in-Err-declared.ensures.halted words told found.script reads) (call, called, given)
+    HaltsAfter-by g.F.Files.reads words told c.args.files.now c.read_texts.new.files texts (whole texts) c.in-Err-declare_texts.halt
+    (c.in-Err-declare_texts.ensures.halted words told found.script reads) (call, called, given)
 
-pub returns-in-Err-declared-clause-halted : goal.returns-in-Err-declared-clause-halted
-returns-in-Err-declared-clause-halted g c =
-    Halts-after g.F.Files.reads c.args.words.now (g.F.Files.told c.args.files.now) c.args.files.now c.read_texts.new.files c.in-Err-declared.halt
-    (returns-in-Err-declared-clause-stopped g c)
+pub returns-in-Err-declare_texts-clause-halted : goal.returns-in-Err-declare_texts-clause-halted
+returns-in-Err-declare_texts-clause-halted g c =
+    Halts-after g.F.Files.reads c.args.words.now (g.F.Files.told c.args.files.now) c.args.files.now c.read_texts.new.files c.in-Err-declare_texts.halt
+    (returns-in-Err-declare_texts-clause-stopped g c)
 
 pub returns-in-Err-lines_of-clause-stopped : goal.returns-in-Err-lines_of-clause-stopped
 returns-in-Err-lines_of-clause-stopped g c =
@@ -69,7 +69,7 @@ returns-in-Err-lines_of-clause-stopped g c =
     let reads = subst (λ h. R h script) (sym c.as_slice.ensures.value) (subst (R found.headers.items) (sym c.as_slice-2.ensures.bytes) (c.in-Ok-read_texts.ensures.read words called)) in
     let given = subst (λ h. G h script) (sym c.as_slice.ensures.value) (subst (G found.headers.items) (sym c.as_slice-2.ensures.bytes) c.in-Ok-read_texts.ensures.files) in
     HaltsAfter-by g.F.Files.reads words told c.args.files.now c.read_texts.new.files texts (whole texts) c.in-Err-lines_of.halt
-    (c.in-Err-lines_of.ensures.halted words told headers c.in-Ok-declared.declared.program reads c.in-Ok-declared.ensures.declared) (call, called, given)
+    (c.in-Err-lines_of.ensures.halted words told headers c.in-Ok-declare_texts.declared.program reads c.in-Ok-declare_texts.ensures.declared) (call, called, given)
 
 pub returns-in-Err-lines_of-clause-halted : goal.returns-in-Err-lines_of-clause-halted
 returns-in-Err-lines_of-clause-halted g c =
@@ -83,14 +83,14 @@ pub returns-clause-given : goal.returns-clause-given
 returns-clause-given g c =
     let words = c.args.words.now in
     let told = g.F.Files.told c.args.files.now in
-    let program = c.in-Ok-declared.declared.program in
+    let program = c.in-Ok-declare_texts.declared.program in
     let lines = c.in-Ok-lines_of.lines in
     let D : List (List ℕ) → Type 0 = λ headers. Declares headers program in
     let P : List ℕ → Type 0 = λ script. Parsed script lines in
     let asks : Asks words told c.in-Ok.call program lines = record {
       texts = texts_of c.in-Ok-read_texts.found;
       reads = c.in-Ok-read_texts.ensures.read words c.in-Ok.ensures.called;
-      declares = subst D c.as_slice.ensures.value c.in-Ok-declared.ensures.declared;
+      declares = subst D c.as_slice.ensures.value c.in-Ok-declare_texts.ensures.declared;
       parsed = subst P c.as_slice-2.ensures.bytes c.in-Ok-lines_of.ensures.parsed;
     } in
     (asks, c.in-Ok-read_texts.ensures.files)

@@ -19,8 +19,8 @@ returns-in-Err-clause-halted g c =
     let S : List (List ℕ) → Type 0 = λ names. IsStopIn told names c.in-Err.stop in
     let calls : Calls words c.args.call.now c.args.name.now = record { called = called; script = c.requires.script } in
     let R : List (List ℕ) → Type 0 = λ names. HasStopped reads c.args.files.now (headers_from 1 names) c.in-Err.stop c.read_headers.new.files in
-    HaltsAfter-at reads words told c.args.files.now c.read_headers.new.files no_texts c.args.call.now c.args.name.now calls c.in-Err.stop c.not_read.result
-    (c.not_read.ensures.halted words told c.args.name.now no_texts calls
+    HaltsAfter-at reads words told c.args.files.now c.read_headers.new.files no_texts c.args.call.now c.args.name.now calls c.in-Err.stop c.halt_reading.result
+    (c.halt_reading.ensures.halted words told c.args.name.now no_texts calls
     (IsStopOf-headers told c.args.name.now c.args.call.now.headers c.in-Err.stop (subst S same c.in-Err.ensures.stopped)))
     (HasStopped-append reads c.args.files.now c.read_headers.new.files (headers_from 1 c.args.call.now.headers) (script_file c.args.name.now ∷ []) c.in-Err.stop
     (subst R same c.in-Err.ensures.stops))
@@ -53,8 +53,8 @@ returns-in-Err-read_file-clause-halted g c =
     let T : Option Held → Type 0 = λ t. IsStopAt t (script_file c.args.name.now) c.in-Err-read_file.stop in
     let calls : Calls words c.args.call.now c.args.name.now = record { called = called; script = c.requires.script } in
     let R : List (List ℕ) → Type 0 = λ names. AreRead reads c.args.files.now (headers_from 1 names) c.in-Ok.texts.items c.read_headers.new.files in
-    HaltsAfter-at reads words told c.args.files.now c.read_file.new.files no_texts c.args.call.now c.args.name.now calls c.in-Err-read_file.stop c.not_read-in-Err-read_file.result
-    (c.not_read-in-Err-read_file.ensures.halted words told c.args.name.now no_texts calls
+    HaltsAfter-at reads words told c.args.files.now c.read_file.new.files no_texts c.args.call.now c.args.name.now calls c.in-Err-read_file.stop c.halt_reading-in-Err-read_file.result
+    (c.halt_reading-in-Err-read_file.ensures.halted words told c.args.name.now no_texts calls
     (IsStopOf-script told c.args.name.now c.args.call.now.headers c.in-Ok.texts.items c.in-Err-read_file.stop (subst H same c.in-Ok.ensures.read)
     (subst T c.read_headers.ensures.told c.in-Err-read_file.ensures.stopped)))
     (HasStopped-script reads c.args.files.now c.read_headers.new.files c.read_file.new.files c.args.name.now c.args.call.now.headers c.in-Ok.texts.items c.in-Err-read_file.stop

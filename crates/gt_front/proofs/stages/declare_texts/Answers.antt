@@ -1,7 +1,7 @@
 use Rattle.std.proofs.Common.{subst}
 use Rattle.gt_headers.specs.Headers.{IsHeaderStop, IsFirstFault}
 use Rattle.gt_headers.proofs.FaultPlaces.{fault_within}
-use Rattle.gt_front.proofs.stages.declared.Goals as goal
+use Rattle.gt_front.proofs.stages.declare_texts.Goals as goal
 
 pub fault_line-requires-clause-counted : goal.fault_line-requires-clause-counted
 fault_line-requires-clause-counted c =
@@ -17,5 +17,5 @@ pub returns-in-Err-At-clause-halted : goal.returns-in-Err-At-clause-halted
 returns-in-Err-At-clause-halted c =
     λ words told script reads.
     let fault : IsFirstFault c.args.texts.now c.in-Err-At.fault = subst (IsHeaderStop c.args.texts.now) c.in-Err-At.field-0-is c.in-Err-At.ensures.stopped in
-    c.refused.ensures.halted words told (record { headers = c.args.texts.now; script = script }) (c.args.call.now, reads, fault)
+    c.halt.ensures.halted words told (record { headers = c.args.texts.now; script = script }) (c.args.call.now, reads, fault)
     (c.fault_line.ensures.line words script reads.called)
