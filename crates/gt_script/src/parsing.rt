@@ -10,7 +10,7 @@ use crate::parts::first_line;
 use crate::pieces::Piece;
 use crate::slices::Slice;
 use crate::source::Source;
-use crate::statements::{Known, statement};
+use crate::statements::{Known, read_line};
 use crate::stop::{MAX_COMMANDS, ScriptStop};
 use gt_types::List;
 use std::alloc::Global;
@@ -91,7 +91,7 @@ fn read_script<'a>(
         let line = Slice::of(line, text.len().saturating_sub(rest.len()));
         number += 1;
         rest = after;
-        let Some(said) = statement(source, words, known, &line)? else {
+        let Some(said) = read_line(source, words, known, &line)? else {
             return Err(ScriptStop::ScriptSyntax { line: number });
         };
         let Some(line) = said else {

@@ -5,7 +5,7 @@ ghost use Rattle.gt_script.specs.Cutting.{is_blank, without_blanks, ends_word, q
 ghost use Rattle.gt_script.specs.Scanning.{few_of};
 
 use crate::front::front;
-use crate::quotes::quoted;
+use crate::quotes::read_quoted;
 use crate::slices::Slice;
 use gt_types::Bytes;
 use std::alloc::{AllocError, Global};
@@ -103,7 +103,7 @@ fn quoted_word<'a>(
 ) -> Result<Option<(Piece<'a>, &'a [u8])>, AllocError>
     ensures { IfOk result (λ found. option_map (λ r. (r.0, r.1.now)) found ≡ quoted_word_at text.now) }
 {
-    let Some((bytes, after)) = quoted(alloc, text)? else {
+    let Some((bytes, after)) = read_quoted(alloc, text)? else {
         return Ok(None);
     };
     if !ends_word(after) {

@@ -5,7 +5,7 @@ ghost use Rattle.gt_script.specs.Commands.{set_at, print_at, put_at, find_at, pl
 use crate::Command;
 use crate::naming::variable;
 use crate::pieces::Piece;
-use crate::routes::{given, path};
+use crate::routes::{path, read_value};
 use crate::source::Source;
 use crate::variable_forms::variable_command;
 use std::alloc::AllocError;
@@ -49,7 +49,7 @@ fn set(source: &Source, words: &[Piece<'_>]) -> Result<Option<Command>, AllocErr
     let Some(path) = path(source, place)? else {
         return Ok(None);
     };
-    let Some(value) = given(source, value)? else {
+    let Some(value) = read_value(source, value)? else {
         return Ok(None);
     };
     Ok(Some(Command::Set { path, value }))

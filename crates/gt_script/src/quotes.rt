@@ -22,7 +22,7 @@ fn escape(letter: u8) -> Option<u8>
 }
 
 // After an opening quote: the bytes up to the closing one, and what stands after it.
-pub fn quoted(alloc: Global, text: &[u8]) -> Result<Option<(Bytes, &[u8])>, AllocError>
+pub fn read_quoted(alloc: Global, text: &[u8]) -> Result<Option<(Bytes, &[u8])>, AllocError>
     ensures { IfOk result (λ found. option_map (λ r. (r.0, r.1.now)) found ≡ quoted_at false text.now) }
 {
     let mut bytes = Vec::new(alloc);

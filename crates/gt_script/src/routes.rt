@@ -45,7 +45,7 @@ fn route(source: &Source, variable: bool, text: &Slice<'_>) -> Result<Option<Rou
 // The value that a word gives.
 #[tactic(auto, unfolding(crate::specs::Values::given_at))]
 #[inline(always)]
-pub fn given(source: &Source, word: &Slice<'_>) -> Result<Option<Given>, AllocError>
+pub fn read_value(source: &Source, word: &Slice<'_>) -> Result<Option<Given>, AllocError>
     ensures { IfOk result (λ found. found ≡ given_at word.now) }
 {
     if word.bytes() == b"null".as_slice() {

@@ -41,7 +41,7 @@ fn is_utf8(text: &[u8]) -> bool
 /// is not tried again.
 #[tactic(auto, unfolding(crate::specs::Scanning::line_at))]
 #[inline(always)]
-pub fn statement<'a>(
+pub fn read_line<'a>(
     source: &Source,
     words: &mut Vec<Piece<'a>>,
     known: Known,
@@ -51,7 +51,7 @@ pub fn statement<'a>(
     ensures { IfOk result (λ found. found ≡ line_at text.now) }
 {
     let line = Slice::of(without_return(text.bytes()), text.place());
-    said(source, words, known, &line)
+    read_text(source, words, known, &line)
 }
 
 // A line without its carriage return.
@@ -68,7 +68,7 @@ fn without_return(text: &[u8]) -> &[u8]
 // The same of a text without its carriage return.
 #[tactic(auto, unfolding(crate::specs::Scanning::said_at))]
 #[inline(always)]
-fn said<'a>(
+fn read_text<'a>(
     source: &Source,
     words: &mut Vec<Piece<'a>>,
     known: Known,
@@ -84,7 +84,7 @@ fn said<'a>(
     if is_passed_over(bytes) {
         return Ok(Some(None));
     }
-    match spoken(source, words, text)? {
+    match read_command(source, words, text)? {
         None => Ok(None),
         Some(line) => Ok(Some(Some(line))),
     }
@@ -133,7 +133,7 @@ fn is_comment(text: &[u8]) -> bool
 
 // The line that a text is.
 #[inline(always)]
-fn spoken<'a>(
+fn read_command<'a>(
     source: &Source,
     words: &mut Vec<Piece<'a>>,
     text: &Slice<'a>,
@@ -160,7 +160,7 @@ fn line(source: &Source, words: &[Piece<'_>]) -> Result<Option<Line>, AllocError
         return Ok(None);
     };
     let (quiet, verb) = verb_of(word.bytes());
-    told(source, quiet, verb, words)
+    read_form(source, quiet, verb, words)
 }
 
 // Whether a first word makes its line quiet, and the word without the mark of that.
@@ -176,7 +176,7 @@ fn verb_of(word: &[u8]) -> (bool, &[u8])
 }
 
 #[inline(always)]
-fn told(
+fn read_form(
     source: &Source,
     quiet: bool,
     verb: &[u8],

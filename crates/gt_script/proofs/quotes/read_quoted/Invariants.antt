@@ -1,7 +1,7 @@
 use Rattle.std.proofs.Common.{◌≡◌, false, length}
 use Rattle.gt_script.specs.Cutting.{quoted_at}
 use Rattle.gt_script.proofs.Quoting.{with_bytes}
-use Rattle.gt_script.proofs.quotes.quoted.Given as goal
+use Rattle.gt_script.proofs.quotes.read_quoted.Given as goal
 
 abbrev pub invariant-bytes : goal.invariant-bytes
 invariant-bytes l = with_bytes l.bytes.items (quoted_at l.escaped l.rest) ≡ quoted_at false l.text

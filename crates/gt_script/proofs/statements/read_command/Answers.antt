@@ -5,7 +5,7 @@ use Rattle.gt_script.specs.Texts.{◌>>=◌}
 use Rattle.gt_script.specs.Commands.{line_of}
 use Rattle.gt_script.specs.Scanning.{few_of, spoken_at}
 use Rattle.gt_script.proofs.ManyWords.{spoken_few}
-use Rattle.gt_script.proofs.statements.spoken.Goals as goal
+use Rattle.gt_script.proofs.statements.read_command.Goals as goal
 
 pub returns-then-not-done : goal.returns-then-not-done
 returns-then-not-done c =

@@ -1,6 +1,6 @@
 use Rattle.std.proofs.Common.{refl, sym}
 use Rattle.gt_script.proofs.Quoting.{known, at_end, meaningless, meant, closed, begun, itself}
-use Rattle.gt_script.proofs.quotes.quoted.Goals as goal
+use Rattle.gt_script.proofs.quotes.read_quoted.Goals as goal
 
 pub returns-in-None : goal.returns-in-None
 returns-in-None c = at_end c.bytes.bytes.items c.bytes.escaped _ (known c.bytes.bytes.items c.bytes.rest.now _ c.bytes.escaped _ _ refl c.in-None.ensures c.bytes.invariant)
