@@ -1,9 +1,10 @@
 -- What a structure takes with room for elements at its end: its size without, or more where an array with a length inside it ends later.
-use Rattle.std.proofs.Common.{◌≡◌, ◌≢◌, ℕ, ◌+◌, ◌*◌, ◌%◌, ◌≤◌, ◌<◌, max, true, false, IsTrue, Option, Some, None, option_map, IfOk, Result, Vec, Global, List, [], ◌∷◌, map, get_or, sym, ap, subst, ◌∙◌, refl, ◌⊎◌, inl, inr, arith}
+use Rattle.std.proofs.Common.{◌≡◌, ◌≢◌, ℕ, ◌+◌, ◌*◌, ◌%◌, ◌≤◌, ◌<◌, max, true, false, IsTrue, Option, Some, None, option_map, IfOk, Result, Vec, Global, List, [], ◌∷◌, length, map, get_or, sym, ap, subst, ◌∙◌, refl, ◌⊎◌, inl, inr, arith}
 use Rattle.std.specs.List.{All, Contains}
 use Rattle.std.specs.Prelude.{slice_get, option_to_list}
 use Rattle.std.proofs.lemmas.Result.{IfOk-weaker}
 use Rattle.std.proofs.lemmas.Bool.{cases_lt, cases_eq}
+use Rattle.std.proofs.lemmas.Option.{slice_get_cases}
 use Rattle.std.proofs.lemmas.List.Elements.{All-nil, All-cons, All-head, All-tail, All-contains, Contains-get_or}
 use Rattle.gt_types.specs.declared.expressions.Expr.{Expr}
 use Rattle.gt_types.specs.declared.types.TypeId.{TypeId}
@@ -257,8 +258,7 @@ module _ (program : Program) (planes : List Plane) (capacity : ℕ) (settled : S
         let own = fills node size sized at.0 at.1 in
         let in_bound : 8 * size ≤ 8 * bound = All-head (λ end. end ≤ 8 * bound) (8 * size) others all in
         let in_size = own.plane_in in
-        All-cons (IsIn bound) f rest
-        (
+        All-cons (IsIn bound) f rest (
           omega (arith, node-end planes f node desc at.0 type at.1, in_size, in_bound),
           λ inner d tail e is.
               let both : ty.Node node desc ≡ ty.Node inner d = sym type ∙ e in
@@ -287,7 +287,7 @@ module _ (program : Program) (planes : List Plane) (capacity : ℕ) (settled : S
 
   -- ---- the size by the plane and the list
 
-  pub room_size : (node : TypeId) (s : Structure) (plane : Plane) (tails : List TailSpot) (end result : ℕ) → HasStructure program node s → slice_get planes node.0 ≡ Some plane → 0 < plane.align → AreTails program planes node tails
+  room_size : (node : TypeId) (s : Structure) (plane : Plane) (tails : List TailSpot) (end result : ℕ) → HasStructure program node s → slice_get planes node.0 ≡ Some plane → 0 < plane.align → AreTails program planes node tails
       → end ≡ end_of_tails capacity tails → result ≡ up (max end plane.size) plane.align → SizeAt program planes capacity node result
   room_size node s plane tails end result has got some are is value =
       let found = sized program planes capacity settled laid (λ place p at. positive program planes place p laid at) node s has in
@@ -300,6 +300,15 @@ module _ (program : Program) (planes : List Plane) (capacity : ℕ) (settled : S
       let high : up (max end plane.size) plane.align ≤ found.0 = least_multiple (max end plane.size) plane.align found.0 some (omega (arith, most, is, plane_in)) own.whole in
       let same : found.0 ≡ result = omega (arith, low, high, value) in
       subst (SizeAt program planes capacity node) same found.1
+
+  pub room_size_there : (node : TypeId) (plane : Plane) (tails : List TailSpot) (end most result : ℕ) → node.0 < length program.structures → slice_get planes node.0 ≡ Some plane → AreTails program planes node tails
+      → end ≡ end_of_tails capacity tails → most ≡ max end plane.size → result ≡ up most plane.align → SizeAt program planes capacity node result
+  room_size_there node plane tails end most result within got are is greater value = go (slice_get_cases program.structures node.0).1
+    where
+      go : ((s : Structure) × (node.0 < length program.structures) × (slice_get program.structures node.0 ≡ Some s) × (get_or program.structures node.0 s ≡ s)) ⊎ ((length program.structures ≤ node.0) × (slice_get program.structures node.0 ≡ None))
+          → SizeAt program planes capacity node result
+      go (inl (s, _, has, _)) = room_size node s plane tails end result has got (positive program planes node.0 plane laid got) are is (value ∙ ap (λ n. up n plane.align) greater)
+      go (inr past) = absurd (omega (arith, within, past.0))
 
 -- ---- the elements of arrays that are not too large
 

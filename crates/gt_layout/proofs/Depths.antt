@@ -85,10 +85,10 @@ module _ (program : Program) (planes : List Plane) (settled : Settled program) (
   step node s has inner plane at =
       let fields = (settled.structures node s has).fields in
       let placeable : All (λ (f : Field). IsTrue (is_placeable (storage_of planes f.ty))) s.fields = λ k d lt.
-          placeable_field planes (get_or s.fields k d).ty (fields k d lt).shape (λ other held.
-          let f = get_or s.fields k d in
-          let there = inner_there program node s f other settled has (Contains-get_or s.fields k d lt) held in
-          aligned_at other.0 (slice_get planes other.0) refl (inner other there.0 there.1 there.2)) in
+      placeable_field planes (get_or s.fields k d).ty (fields k d lt).shape (λ other held.
+      let f = get_or s.fields k d in
+      let there = inner_there program node s f other settled has (Contains-get_or s.fields k d lt) held in
+      aligned_at other.0 (slice_get planes other.0) refl (inner other there.0 there.1 there.2)) in
       let each = All-map (λ f. IsTrue (is_alignment (align_of f))) (λ (f : Field). storage_of planes f.ty) s.fields (λ k d lt. align_placeable (storage_of planes (get_or s.fields k d).ty) (placeable k d lt)) in
       subst (λ n. IsTrue (is_alignment n)) (sym (laid.each node.0 s plane has at).align) (greatest_aligned (storages_of planes s.fields) each)
 

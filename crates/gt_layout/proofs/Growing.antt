@@ -1,11 +1,12 @@
 -- The arrays with a length inside a structure, from those inside its members.
-use Rattle.std.proofs.Common.{◌≡◌, ◌≢◌, ℕ, zero, suc, ◌+◌, ◌≤◌, ◌<◌, max, true, false, Option, Some, None, option_map, List, [], ◌∷◌, ◌++◌, length, take, get_or, set, replicate, map, sym, ap, subst, ◌∙◌, refl, ◌⊎◌, inl, inr, arith, length-set}
+use Rattle.std.proofs.Common.{◌≡◌, ◌≢◌, ℕ, zero, suc, ◌+◌, ◌≤◌, ◌<◌, max, true, false, Option, Some, None, option_map, IfOk, Result, append-nil, List, [], ◌∷◌, ◌++◌, length, take, get_or, set, replicate, map, sym, ap, subst, ◌∙◌, refl, ◌⊎◌, inl, inr, arith, length-set}
 use Rattle.std.specs.List.{All, Contains, filter_map, insert}
 use Rattle.std.specs.Prelude.{slice_get, option_to_list}
-use Rattle.std.proofs.lemmas.Bool.{cases_eq}
+use Rattle.std.proofs.lemmas.Bool.{cases_eq, cases_lt}
+use Rattle.std.proofs.lemmas.Result.{IfOk-weaker}
 use Rattle.std.proofs.lemmas.List.{take_all, take_more, length-replicate, get_or-replicate}
 use Rattle.std.proofs.lemmas.Option.{get_or_from_slice_get, slice_get_read, slice_get_within, none-some, same_Some}
-use Rattle.std.proofs.lemmas.List.Elements.{All-nil, All-cons, All-weaker, Contains-append_left, Contains-push, Contains-push_cases}
+use Rattle.std.proofs.lemmas.List.Elements.{All-nil, All-cons, All-weaker, Contains-append_left, Contains-push, Contains-push_cases, filter_map-append}
 use Rattle.gt_types.specs.declared.expressions.Expr.{Expr}
 use Rattle.gt_types.specs.declared.types.TypeId.{TypeId}
 use Rattle.gt_types.specs.declared.types.Ty.{Ty}
@@ -299,3 +300,29 @@ other-member program planes before known now items i f tails sum within at so_fa
       right = so_far.right;
       gathered = tails-flat program planes items i f tails within at so_far.gathered flat;
     }))
+
+-- ---- one structure after another
+
+pub found-below : (before now : List (Option Growth)) (place other : ℕ) → KeepsFound before now → ((each : ℕ) → each < place → IsFound before each) → IsFound now place → other < place + 1 → IsFound now other
+found-below before now place other keeps below here less = go (cases_lt other place)
+  where
+    go : (other < place) ⊎ (place ≤ other) → IsFound now other
+    go (inl lower) = keeps.kept other (below other lower)
+    go (inr least) = let same : place ≡ other = omega (arith, least, less) in subst (IsFound now) same here
+
+pub growths-of : {E : Type 0} (program : Program) (planes : List Plane) (known : List (Option Growth)) (place : ℕ) (result : Result (List Growth) E) → length known ≡ length program.structures → AreFound program planes known
+    → ((other : ℕ) → other < place → IsFound known other) → length program.structures ≤ place → IfOk result (λ growths. growths ≡ found_of known) → IfOk result (AreGrowths program planes)
+growths-of program planes known place result all right found past made =
+    IfOk-weaker result (λ growths. growths ≡ found_of known) (AreGrowths program planes) (λ growths is. growths-made program planes known growths all right (λ other within. found other (omega (arith, within, all, past))) is) made
+
+pub found-more : (known : List (Option Growth)) (g : Growth) → found_of (known ++ Some g ∷ []) ≡ found_of known ++ g ∷ []
+found-more known g = filter_map-append (λ (h : Option Growth). h) known (Some g ∷ [])
+
+pub found-no_more : (known : List (Option Growth)) → found_of (known ++ None ∷ []) ≡ found_of known
+found-no_more known = filter_map-append (λ (h : Option Growth). h) known (None ∷ []) ∙ append-nil (found_of known)
+
+-- how a structure grows by the list of all
+pub growth-at : (program : Program) (planes : List Plane) (growths slice : List Growth) (node : TypeId) (g : Growth) → AreGrowths program planes growths → slice ≡ growths → node.0 < length program.structures → g ≡ get_or slice node.0 g
+    → AreTails program planes node g.tails
+growth-at program planes growths slice node g are same within at =
+    are.each node.0 g (slice_get_read growths (length growths) node.0 g refl (omega (arith, within, are.all)) (at ∙ ap (λ gs. get_or gs node.0 g) same))

@@ -163,10 +163,7 @@ fn find_tails(
 }
 
 // Nothing found yet of so many structures.
-fn none_found(
-    alloc: Global,
-    structures: &[Structure],
-) -> Result<Vec<Option<Growth>>, AllocError>
+fn none_found(alloc: Global, structures: &[Structure]) -> Result<Vec<Option<Growth>>, AllocError>
     ensures { IfOk result (λ known. known.items ≡ replicate (length structures.now) None) }
 {
     let mut known = Vec::new(alloc);

@@ -1,5 +1,5 @@
 // How large a structure is with room for so many elements at its end.
-ghost use Rattle.std.specs.Prelude.{◌≡◌, ◌≤◌, ◌<◌, ◌^◌, length, All};
+ghost use Rattle.std.specs.Prelude.{◌≡◌, ◌≤◌, ◌<◌, ◌+◌, ◌*◌, ◌^◌, length, All};
 ghost use Rattle.gt_types.specs.Settled.{Settled};
 ghost use Rattle.gt_layout.specs.declared.planes.TheConstants.{MAX_SIZE};
 ghost use Rattle.gt_layout.specs.Planes.{IsLaidOut};
@@ -29,7 +29,18 @@ impl Layouts {
     }
 }
 
-// The byte after the last element, with room for so many elements in each array.
+impl TailSpot {
+    // The byte after the last element, with room for so many.
+    fn end(self, capacity: u32) -> u64
+        requires { self.elem_size ≤ MAX_SIZE }
+        ensures end { result ≡ self.offset + capacity * self.elem_size }
+        ensures small { result < 2 ^ 53 }
+    {
+        self.offset as u64 + capacity as u64 * self.elem_size as u64
+    }
+}
+
+// The byte after the last element of all these arrays, with room for so many in each.
 fn end_of_tails(tails: &[TailSpot], capacity: u32) -> u64
     requires small { All (λ tail. tail.elem_size ≤ MAX_SIZE) tails.now }
     ensures end { result ≡ end_of_tails capacity tails.now }
@@ -37,8 +48,7 @@ fn end_of_tails(tails: &[TailSpot], capacity: u32) -> u64
 {
     let mut end = 0;
     for tail in tails {
-        let room = capacity as u64 * tail.elem_size as u64;
-        end = (tail.offset as u64 + room).max(end);
+        end = tail.end(capacity).max(end);
     }
     end
 }

@@ -62,12 +62,12 @@ pub find_tails-loop-field-preserved : goal.find_tails-loop-field-preserved
 find_tails-loop-field-preserved t c = elim c.match-field.branch [
   | find_tails-in-Node+in_ok-find_growth+in_ok-add_tails w ↦
       member-found c.args.program.now c.args.planes.now c.args.known.now.items c.loop-field.known.items w.find_growth.new.known.items c.match-field.known.items c.as_slice-field-items.result.now c.loop-field.field-index
-          c.field-item.result c.loop-field.tails.items w.tails_at.result.now c.match-field.tails.items w.in-Node.id w.in-Node.desc
-          c.loop-field-test.true c.field-item.is c.loop-field.invariant w.in-Node.is w.in_ok-find_growth.ensures.keeps w.in_ok-find_growth.ensures.right w.in_ok-find_growth.ensures.found
-          (λ growth at. w.tails_at.ensures growth (subst (λ ks. slice_get ks w.in-Node.id.0 ≡ Some (Some growth)) (sym w.as_slice-in-Node.ensures.value) at)) (ap (λ v. v.items) w.known-is) (ap (λ v. v.items) w.tails-is ∙ w.in_ok-add_tails.ensures)
+      c.field-item.result c.loop-field.tails.items w.tails_at.result.now c.match-field.tails.items w.in-Node.id w.in-Node.desc
+      c.loop-field-test.true c.field-item.is c.loop-field.invariant w.in-Node.is w.in_ok-find_growth.ensures.keeps w.in_ok-find_growth.ensures.right w.in_ok-find_growth.ensures.found
+      (λ growth at. w.tails_at.ensures growth (subst (λ ks. slice_get ks w.in-Node.id.0 ≡ Some (Some growth)) (sym w.as_slice-in-Node.ensures.value) at)) (ap (λ v. v.items) w.known-is) (ap (λ v. v.items) w.tails-is ∙ w.in_ok-add_tails.ensures)
   | find_tails-in_default w ↦
       other-member c.args.program.now c.args.planes.now c.args.known.now.items c.loop-field.known.items c.match-field.known.items c.as_slice-field-items.result.now c.loop-field.field-index
-          c.field-item.result c.loop-field.tails.items c.match-field.tails.items c.loop-field-test.true c.field-item.is c.loop-field.invariant w.in_default.not-Node (ap (λ v. v.items) w.known-is) (ap (λ v. v.items) w.tails-is)
+      c.field-item.result c.loop-field.tails.items c.match-field.tails.items c.loop-field-test.true c.field-item.is c.loop-field.invariant w.in_default.not-Node (ap (λ v. v.items) w.known-is) (ap (λ v. v.items) w.tails-is)
 ]
 
 pub find_tails-returns-clause-tails : goal.find_tails-returns-clause-tails

@@ -37,13 +37,13 @@ returns-in-Beyond-clause-stop c =
     (subst (λ (ps : List Plane). IsFirst (IsLargeAt c.args.program.now ps) c.first_too_large-structure.result) c.as_slice.ensures.value c.first_too_large-structure.ensures)
     (statics_of c.as_slice-3.result.now c.in_ok-known.known.items c.as_slice-2.result.now c.args.program.now.roots c.in_ok-plane.field-0 _ c.as_slice-3.ensures.value c.as_slice-2.ensures.items c.in-Beyond.is c.in_ok-plane.ensures)
 
-pub growths_of-in-None-requires-clause-laid_out : goal.growths_of-in-None-requires-clause-laid_out
-growths_of-in-None-requires-clause-laid_out c =
+pub growths_of-requires-clause-laid_out : goal.growths_of-requires-clause-laid_out
+growths_of-requires-clause-laid_out c =
     subst (AreLaidOut c.args.program.now) (sym c.as_slice-in-None-2.ensures.value)
     (known_laid c.args.program.now c.in_ok-known.known.items c.requires c.in_ok-known.ensures (subst (λ (ps : List Plane). (place : ℕ) → ¬ IsLargeAt c.args.program.now ps place) c.as_slice.ensures.value c.in-None.ensures))
 
-pub growths_of-in-None-requires-clause-within : goal.growths_of-in-None-requires-clause-within
-growths_of-in-None-requires-clause-within c =
+pub growths_of-requires-clause-within : goal.growths_of-requires-clause-within
+growths_of-requires-clause-within c =
     subst (λ (ps : List Plane). (place : ℕ) → ¬ IsTooLarge c.args.program.now ps place) (sym c.as_slice-in-None-2.ensures.value)
     (subst (λ (ps : List Plane). (place : ℕ) → ¬ IsLargeAt c.args.program.now ps place) c.as_slice.ensures.value c.in-None.ensures)
 
