@@ -5,7 +5,7 @@ use Rattle.std.specs.Prelude.{slice_get, option_to_list}
 use Rattle.std.proofs.lemmas.Bool.{cases_eq, cases_lt}
 use Rattle.std.proofs.lemmas.Result.{IfOk-weaker}
 use Rattle.std.proofs.lemmas.List.{take_all, take_more, length-replicate, get_or-replicate}
-use Rattle.std.proofs.lemmas.Option.{get_or_from_slice_get, slice_get_read, slice_get_within, none-some, same_Some}
+use Rattle.std.proofs.lemmas.Option.{get_or_from_slice_get, slice_get-get_or, slice_get_read, slice_get_within, none-some, same_Some}
 use Rattle.std.proofs.lemmas.List.Elements.{All-nil, All-cons, All-weaker, Contains-append_left, Contains-push, Contains-push_cases, filter_map-append}
 use Rattle.gt_types.specs.declared.expressions.Expr.{Expr}
 use Rattle.gt_types.specs.declared.types.TypeId.{TypeId}
@@ -238,12 +238,70 @@ growths-made program planes known growths all right found is =
 
 -- ---- one array more
 
-pub place-after : (elem_size : ℕ) (tails : List TailSpot) (place : ℕ) → length tails ≤ place → All (λ (tail : TailSpot). tail.elem_size < elem_size) (take place tails) → IsPlaceOf elem_size tails (length tails)
-place-after elem_size tails place past before = record {
-  inside = omega arith;
-  before = subst (All (λ (tail : TailSpot). tail.elem_size < elem_size)) (take_all place tails past ∙ sym (take_all (length tails) tails (omega arith))) before;
-  here = λ tail at. absurd (omega (arith, slice_get_within tails (length tails) tail at));
+-- the first array whose elements are not smaller lies between two places
+pub record IsBetween (elem_size : ℕ) (tails : List TailSpot) (low high : ℕ) : Type 0 where
+  pub ordered : low ≤ high
+  pub inside : high ≤ length tails
+  pub before : (place : ℕ) (tail : TailSpot) → place < low → slice_get tails place ≡ Some tail → tail.elem_size < elem_size
+  pub after : (place : ℕ) (tail : TailSpot) → high ≤ place → slice_get tails place ≡ Some tail → elem_size ≤ tail.elem_size
+
+pub between-all : (elem_size : ℕ) (tails : List TailSpot) (low high : ℕ) → low ≡ 0 → high ≡ length tails → IsBetween elem_size tails low high
+between-all elem_size tails low high none all = record {
+  ordered = omega (arith, none);
+  inside = omega (arith, all);
+  before = λ place tail less at. absurd (omega (arith, none, less));
+  after = λ place tail past at. absurd (omega (arith, all, past, slice_get_within tails place tail at));
 }
+
+-- in rising order
+earlier-smaller : (tails : List TailSpot) (i j : ℕ) (x y : TailSpot) → Rise tails → i ≤ j → slice_get tails i ≡ Some x → slice_get tails j ≡ Some y → x.elem_size ≤ y.elem_size
+earlier-smaller tails i j x y rise le at at' = go (cases_lt i j)
+  where
+    go : (i < j) ⊎ (j ≤ i) → x.elem_size ≤ y.elem_size
+    go (inl less) =
+        let lower = rise i j x less (slice_get_within tails j y at') in
+        let first : get_or tails i x ≡ x = get_or_from_slice_get tails i x x at in
+        let second : get_or tails j x ≡ y = get_or_from_slice_get tails j y x at' in
+        omega (arith, lower, ap (λ (t : TailSpot). t.elem_size) first, ap (λ (t : TailSpot). t.elem_size) second)
+    go (inr least) =
+        let same : i ≡ j = omega (arith, le, least) in
+        let equal : x ≡ y = same_Some x y (sym at ∙ ap (λ k. slice_get tails k) same ∙ at') in
+        omega (arith, ap (λ (t : TailSpot). t.elem_size) equal)
+
+pub between-upper : (elem_size : ℕ) (tails : List TailSpot) (low high middle : ℕ) (d : TailSpot) → Rise tails → IsBetween elem_size tails low high → middle < high → (get_or tails middle d).elem_size < elem_size
+    → IsBetween elem_size tails (middle + 1) high
+between-upper elem_size tails low high middle d rise between less smaller = record {
+  ordered = omega (arith, less);
+  inside = between.inside;
+  before = λ place tail lower there.
+      let le = earlier-smaller tails place middle tail (get_or tails middle d) rise (omega (arith, lower)) there (slice_get-get_or tails middle d (omega (arith, less, between.inside))) in
+      omega (arith, le, smaller);
+  after = between.after;
+}
+
+pub between-lower : (elem_size : ℕ) (tails : List TailSpot) (low high middle : ℕ) (d : TailSpot) → Rise tails → IsBetween elem_size tails low high → low ≤ middle → middle < high → elem_size ≤ (get_or tails middle d).elem_size
+    → IsBetween elem_size tails low middle
+between-lower elem_size tails low high middle d rise between least less larger = record {
+  ordered = least;
+  inside = omega (arith, less, between.inside);
+  before = between.before;
+  after = λ place tail past there.
+      let le = earlier-smaller tails middle place (get_or tails middle d) tail rise past (slice_get-get_or tails middle d (omega (arith, less, between.inside))) there in
+      omega (arith, le, larger);
+}
+
+pub place-between : (elem_size : ℕ) (tails : List TailSpot) (low high : ℕ) → IsBetween elem_size tails low high → high ≤ low → IsPlaceOf elem_size tails low
+place-between elem_size tails low high between met = record {
+  inside = omega (arith, between.ordered, between.inside, met);
+  before = all-taken tails low (omega (arith, between.ordered, between.inside, met)) (λ place tail less at. between.before place tail less at);
+  here = λ tail at. between.after low tail met at;
+}
+  where
+    all-taken : (ts : List TailSpot) (n : ℕ) → n ≤ length ts → ((place : ℕ) (tail : TailSpot) → place < n → slice_get ts place ≡ Some tail → tail.elem_size < elem_size) → All (λ (tail : TailSpot). tail.elem_size < elem_size) (take n ts)
+    all-taken ts zero le each = All-nil (λ (tail : TailSpot). tail.elem_size < elem_size)
+    all-taken [] (suc n) le each = All-nil (λ (tail : TailSpot). tail.elem_size < elem_size)
+    all-taken (t ∷ ts) (suc n) le each =
+        All-cons (λ (tail : TailSpot). tail.elem_size < elem_size) t (take n ts) (each zero t (omega arith) refl) (all-taken ts n (omega (arith, le)) (λ place tail less at. each (suc place) tail (omega (arith, less)) at))
 
 pub merged-in : (tail x : TailSpot) (tails : List TailSpot) (place : ℕ) → IsPlaceOf tail.elem_size tails place → slice_get tails place ≡ Some x → x.elem_size ≡ tail.elem_size
     → set tails place (tail_spot (max x.offset tail.offset) x.elem_size) ≡ with_tail tail tails

@@ -1,5 +1,5 @@
 // How structures grow with the room at their end.
-ghost use Rattle.std.specs.Prelude.{◌≡◌, ◌<◌, ℕ, Some, None, IfOk, OnOk, filter_map, option_to_list, length, replicate, slice_get, All};
+ghost use Rattle.std.specs.Prelude.{◌≡◌, ◌<◌, ℕ, Some, None, IfOk, OnOk, filter_map, option_to_list, length, replicate, slice_get, AllPairs};
 ghost use Rattle.std.specs.Bool.{Decides};
 ghost use Rattle.gt_types.specs.Settled.{Settled};
 ghost use Rattle.gt_layout.specs.declared.planes.Growth.{Growth};
@@ -14,20 +14,27 @@ use crate::tails::{last_offset, tail_of};
 use gt_types::{List, MAX_DEPTH, Program, Structure, Ty};
 use std::alloc::{AllocError, Global};
 
-// The first of these arrays whose elements are not smaller.
+// The first of these arrays whose elements are not smaller, found by halves.
 fn place_of(tails: &[TailSpot], elem_size: u32) -> usize
+    requires { AllPairs (λ tail other. tail.elem_size < other.elem_size) tails.now }
     ensures { IsPlaceOf elem_size tails.now result }
 {
-    for (place, tail) in tails.iter().enumerate() {
-        if tail.elem_size >= elem_size {
-            return place;
+    let mut low = 0;
+    let mut high = tails.len();
+    while low < high {
+        let middle = low + (high - low) / 2;
+        if tails[middle].elem_size < elem_size {
+            low = middle + 1;
+        } else {
+            high = middle;
         }
     }
-    tails.len()
+    low
 }
 
 // Adds an array with a length: where there are arrays of such elements already, the last of them counts.
 fn add_tail(tails: &mut Vec<TailSpot>, tail: TailSpot) -> Result<(), AllocError>
+    requires { AllPairs (λ known other. known.elem_size < other.elem_size) tails.old.items }
     ensures { OnOk result (tails.new.items ≡ with_tail tail tails.old.items) }
 {
     let place = place_of(tails.as_slice(), tail.elem_size);
@@ -41,6 +48,7 @@ fn add_tail(tails: &mut Vec<TailSpot>, tail: TailSpot) -> Result<(), AllocError>
 
 // Adds arrays with a length.
 fn add_tails(tails: &mut Vec<TailSpot>, more: &[TailSpot]) -> Result<(), AllocError>
+    requires { AllPairs (λ tail other. tail.elem_size < other.elem_size) tails.old.items }
     ensures { OnOk result (tails.new.items ≡ with_tails more.now tails.old.items) }
 {
     for tail in more {

@@ -1,12 +1,16 @@
-use Rattle.std.proofs.Common.{◌<◌, arith}
-use Rattle.std.proofs.lemmas.List.Elements.{All-more}
-use Rattle.gt_layout.specs.declared.planes.TailSpot.{TailSpot}
-use Rattle.gt_layout.proofs.Growing.{place-after}
+use Rattle.std.proofs.Common.{◌+◌, ◌-◌, ◌/◌, arith}
+use Rattle.gt_layout.proofs.Growing.{between-lower, between-upper, place-between}
 use Rattle.gt_layout.proofs.growths.place_of.Goals as goal
 
-pub loop-place-preserved : goal.loop-place-preserved
-loop-place-preserved c k d within =
-    All-more (λ (tail : TailSpot). tail.elem_size < c.args.elem_size) c.args.tails.now c.loop-place.place (record { offset = 0; elem_size = 0 }) c.loop-place-test.true c.loop-place.invariant c.if-tail-elem_size.false k d within
+pub loop-low-preserved-then-tails-middle : goal.loop-low-preserved-then-tails-middle
+loop-low-preserved-then-tails-middle c =
+    between-upper c.args.elem_size c.args.tails.now c.loop-low.low c.loop-low.high (c.loop-low.low + (c.loop-low.high - c.loop-low.low) / 2) (record { offset = 0; elem_size = 0 }) c.requires c.loop-low.invariant
+    (omega (arith, c.loop-low-test.true)) c.if-tails-middle.true
+
+pub loop-low-preserved : goal.loop-low-preserved
+loop-low-preserved c =
+    between-lower c.args.elem_size c.args.tails.now c.loop-low.low c.loop-low.high (c.loop-low.low + (c.loop-low.high - c.loop-low.low) / 2) (record { offset = 0; elem_size = 0 }) c.requires c.loop-low.invariant
+    (omega arith) (omega (arith, c.loop-low-test.true)) c.if-tails-middle.false
 
 pub returns : goal.returns
-returns c = place-after c.args.elem_size c.args.tails.now c.loop-place.place (omega (arith, c.loop-place-test.false)) c.loop-place.invariant
+returns c = place-between c.args.elem_size c.args.tails.now c.loop-low.low c.loop-low.high c.loop-low.invariant (omega (arith, c.loop-low-test.false))

@@ -1,7 +1,9 @@
-use Rattle.std.proofs.Common.{◌<◌, take}
-use Rattle.std.specs.List.{All}
-use Rattle.gt_layout.specs.declared.planes.TailSpot.{TailSpot}
+use Rattle.std.proofs.Common.{◌-◌}
+use Rattle.gt_layout.proofs.Growing.{IsBetween}
 use Rattle.gt_layout.proofs.growths.place_of.Given as goal
 
-abbrev pub invariant-loop-place : goal.invariant-loop-place
-invariant-loop-place l = All (λ (tail : TailSpot). tail.elem_size < l.elem_size) (take l.place l.tails)
+abbrev pub decreases-loop-low : goal.decreases-loop-low
+decreases-loop-low l = l.high - l.low
+
+abbrev pub invariant-loop-low : goal.invariant-loop-low
+invariant-loop-low l = IsBetween l.elem_size l.tails l.low l.high
