@@ -1,10 +1,10 @@
 -- What a structure takes with room for elements at its end: its size without, or more where an array with a length inside it ends later.
-use Rattle.std.proofs.Common.{◌≡◌, ◌≢◌, ℕ, ◌+◌, ◌*◌, ◌%◌, ◌≤◌, ◌<◌, max, true, false, IsTrue, Option, Some, None, option_map, IfOk, Result, Vec, Global, List, [], ◌∷◌, length, map, get_or, sym, ap, subst, ◌∙◌, refl, ◌⊎◌, inl, inr, arith}
+use Rattle.std.proofs.Common.{◌≡◌, ◌≢◌, ℕ, ◌+◌, ◌-◌, ◌*◌, ◌%◌, ◌≤◌, ◌<◌, max, true, false, IsTrue, Option, Some, None, option_map, IfOk, Result, Vec, Global, List, [], ◌∷◌, length, map, get_or, sym, ap, subst, ◌∙◌, refl, ◌⊎◌, inl, inr, arith}
 use Rattle.std.specs.List.{All, Contains}
 use Rattle.std.specs.Prelude.{slice_get, option_to_list}
 use Rattle.std.proofs.lemmas.Result.{IfOk-weaker}
 use Rattle.std.proofs.lemmas.Bool.{cases_lt, cases_eq}
-use Rattle.std.proofs.lemmas.Option.{slice_get_cases}
+use Rattle.std.proofs.lemmas.Option.{get_or_from_slice_get, slice_get-get_or, slice_get_cases}
 use Rattle.std.proofs.lemmas.List.Elements.{All-nil, All-cons, All-head, All-tail, All-contains, Contains-get_or}
 use Rattle.gt_types.specs.declared.expressions.Expr.{Expr}
 use Rattle.gt_types.specs.declared.types.TypeId.{TypeId}
@@ -32,9 +32,10 @@ use Rattle.gt_layout.specs.Planes.{AreLaidOut, IsSize, greatest, is_alignment}
 use Rattle.gt_layout.specs.Excess.{IsTooLarge}
 use Rattle.gt_layout.specs.Growths.{AreTails, HasTail, at_end, in_member, end_of_tails, tail_spot}
 use Rattle.gt_layout.specs.Capacity.{SizeAt, MemberEnds}
-use Rattle.gt_layout.specs.Progress.{own_tail, type_id}
+use Rattle.gt_layout.specs.Progress.{HoldsWithinDepth, IsWithinDepth, own_tail, type_id}
 use Rattle.gt_layout.proofs.Placing.{up, up_after, up_multiple}
 use Rattle.gt_layout.proofs.Multiples.{least_multiple}
+use Rattle.gt_layout.proofs.Laying.{held_within}
 use Rattle.gt_layout.proofs.LastFields.{last-ends}
 use Rattle.gt_layout.proofs.TailLists.{end-inside, end-least}
 use Rattle.gt_layout.proofs.Growing.{of-struct, of-union, struct-tails}
@@ -100,6 +101,19 @@ positive program planes place plane laid at = omega (arith, subst (λ (o : Optio
 small_by : (n : ℕ) → (MAX_SIZE < n) ⊎ (n ≤ MAX_SIZE) → ¬ (MAX_SIZE < n) → n ≤ MAX_SIZE
 small_by n (inl large) never = absurd (never large)
 small_by n (inr small) never = small
+
+-- ---- the structures of members
+
+pub shallow_fields : (program : Program) (place depth : ℕ) (s : Structure) (fields : List Field) → Settled program → slice_get program.structures place ≡ Some s → IsWithinDepth program place depth → fields ≡ s.fields
+    → All (λ (f : Field). HoldsWithinDepth program f.ty depth) fields
+shallow_fields program place depth s fields settled there shallow same =
+    subst (λ (fs : List Field). All (λ (f : Field). HoldsWithinDepth program f.ty depth) fs) (sym same)
+    (λ k d within. held_within program place depth s (get_or s.fields k d) k settled there within (get_or_from_slice_get s.fields k (get_or s.fields k d) (get_or s.fields k d) (slice_get-get_or s.fields k d within)) shallow)
+
+-- what a member that is a structure needs
+pub node_within : (program : Program) (type : Ty) (node : TypeId) (desc : Option Expr) (depth : ℕ) → HoldsWithinDepth program type depth → type ≡ ty.Node node desc
+    → (node.0 < length program.structures) × (1 ≤ depth) × IsWithinDepth program node.0 (depth - 1)
+node_within program type node desc depth shallow is = shallow node (held-node type node desc is)
 
 -- ---- the ends of the members of a union
 
@@ -309,6 +323,25 @@ module _ (program : Program) (planes : List Plane) (capacity : ℕ) (settled : S
           → SizeAt program planes capacity node result
       go (inl (s, _, has, _)) = room_size node s plane tails end result has got (positive program planes node.0 plane laid got) are is (value ∙ ap (λ n. up n plane.align) greater)
       go (inr past) = absurd (omega (arith, within, past.0))
+
+  -- the size is the least one with room for the plane and for the arrays
+  pub least_room : (node : TypeId) (plane : Plane) (tails : List TailSpot) (size : ℕ) → slice_get planes node.0 ≡ Some plane → AreTails program planes node tails → SizeAt program planes capacity node size
+      → IsSize plane.align (8 * plane.size ∷ 8 * end_of_tails capacity tails ∷ []) size
+  least_room node plane tails size got are sized =
+      let own = fills node size sized plane got in
+      let end = end_of_tails capacity tails in
+      let plane_in = own.plane_in in
+      let most = end-least capacity size tails (λ k d lt. own.tails_in (get_or tails k d) (are.there k d lt)) in
+      record {
+        room = record {
+          whole = own.whole;
+          inside = All-cons (λ n. n ≤ 8 * size) (8 * plane.size) (8 * end ∷ []) (omega (arith, plane_in)) (All-cons (λ n. n ≤ 8 * size) (8 * end) [] (omega (arith, most)) (All-nil (λ n. n ≤ 8 * size)));
+        };
+        least = λ other room.
+            let first = All-head (λ n. n ≤ 8 * other) (8 * plane.size) (8 * end ∷ []) room.inside in
+            let second = All-head (λ n. n ≤ 8 * other) (8 * end) [] (All-tail (λ n. n ≤ 8 * other) (8 * plane.size) (8 * end ∷ []) room.inside) in
+            own.least other room.whole (omega (arith, first)) (λ tail inside. let le = end-inside capacity tails tail (are.last tail inside) in omega (arith, le, second));
+      }
 
 -- ---- the elements of arrays that are not too large
 

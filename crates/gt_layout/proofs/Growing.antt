@@ -1,11 +1,11 @@
 -- The arrays with a length inside a structure, from those inside its members.
-use Rattle.std.proofs.Common.{◌≡◌, ◌≢◌, ℕ, zero, suc, ◌+◌, ◌≤◌, ◌<◌, max, true, false, Option, Some, None, option_map, IfOk, Result, append-nil, List, [], ◌∷◌, ◌++◌, length, take, get_or, set, replicate, map, sym, ap, subst, ◌∙◌, refl, ◌⊎◌, inl, inr, arith, length-set}
+use Rattle.std.proofs.Common.{◌≡◌, ◌≢◌, ℕ, zero, suc, ◌+◌, ◌≤◌, ◌<◌, max, true, false, Option, Some, None, option_map, IfOk, Result, append-nil, List, [], ◌∷◌, ◌++◌, length, take, get_or, set, map, sym, ap, subst, ◌∙◌, refl, ◌⊎◌, inl, inr, arith, length-set}
 use Rattle.std.specs.List.{All, Contains, filter_map, insert}
 use Rattle.std.specs.Prelude.{slice_get, option_to_list}
 use Rattle.std.proofs.lemmas.Bool.{cases_eq, cases_lt}
 use Rattle.std.proofs.lemmas.Result.{IfOk-weaker}
-use Rattle.std.proofs.lemmas.List.{take_all, take_more, length-replicate, get_or-replicate}
-use Rattle.std.proofs.lemmas.Option.{get_or_from_slice_get, slice_get-get_or, slice_get_read, slice_get_within, none-some, same_Some}
+use Rattle.std.proofs.lemmas.List.{take_all, take_more}
+use Rattle.std.proofs.lemmas.Option.{get_or_from_slice_get, slice_get-get_or, slice_get_read, slice_get_within, same_Some}
 use Rattle.std.proofs.lemmas.List.Elements.{All-nil, All-cons, All-weaker, Contains-append_left, Contains-push, Contains-push_cases, filter_map-append}
 use Rattle.gt_types.specs.declared.expressions.Expr.{Expr}
 use Rattle.gt_types.specs.declared.types.TypeId.{TypeId}
@@ -158,9 +158,6 @@ tails-whole program planes place s items i tails has union same all found =
 
 -- ---- what was found
 
-pub keeps-itself : (known : List (Option Growth)) → KeepsFound known known
-keeps-itself known = record { all = refl; kept = λ place found. found }
-
 pub keeps-on : (a b c : List (Option Growth)) → KeepsFound a b → KeepsFound b c → KeepsFound a c
 keeps-on a b c first second = record { all = second.all ∙ first.all; kept = λ place found. second.kept place (first.kept place found) }
 
@@ -196,14 +193,6 @@ one-more program planes before known place g within keeps right new = record {
   right = λ other h at. right-set program planes known place other g h within right new (cases_eq other place) at;
   found = found-same known place g within;
 }
-
-abbrev none_yet : Option Growth
-none_yet = None
-
-pub nothing-found : (program : Program) (planes : List Plane) (count : ℕ) → AreFound program planes (replicate count None)
-nothing-found program planes count place g there =
-    let none : get_or (replicate count none_yet) place none_yet ≡ None = get_or-replicate count place none_yet none_yet (omega (arith, length-replicate count none_yet, slice_get_within (replicate count none_yet) place (Some g) there)) in
-    absurd (none-some g (sym none ∙ get_or_from_slice_get (replicate count none_yet) place (Some g) none_yet there))
 
 -- ---- how all structures grow
 
@@ -244,14 +233,6 @@ pub record IsBetween (elem_size : ℕ) (tails : List TailSpot) (low high : ℕ) 
   pub inside : high ≤ length tails
   pub before : (place : ℕ) (tail : TailSpot) → place < low → slice_get tails place ≡ Some tail → tail.elem_size < elem_size
   pub after : (place : ℕ) (tail : TailSpot) → high ≤ place → slice_get tails place ≡ Some tail → elem_size ≤ tail.elem_size
-
-pub between-all : (elem_size : ℕ) (tails : List TailSpot) (low high : ℕ) → low ≡ 0 → high ≡ length tails → IsBetween elem_size tails low high
-between-all elem_size tails low high none all = record {
-  ordered = omega (arith, none);
-  inside = omega (arith, all);
-  before = λ place tail less at. absurd (omega (arith, none, less));
-  after = λ place tail past at. absurd (omega (arith, all, past, slice_get_within tails place tail at));
-}
 
 -- in rising order
 earlier-smaller : (tails : List TailSpot) (i j : ℕ) (x y : TailSpot) → Rise tails → i ≤ j → slice_get tails i ≡ Some x → slice_get tails j ≡ Some y → x.elem_size ≤ y.elem_size
