@@ -26,9 +26,9 @@ use Rattle.gt_layout.specs.declared.planes.Plane.{Plane}
 use Rattle.gt_layout.specs.declared.planes.Spot.{Spot}
 use Rattle.gt_layout.specs.declared.storages.Storage.{Storage}
 use Rattle.gt_layout.specs.Storages.{bytes_of, extent_at, extent_of, extent_of_plane, storage_of, storages_of}
-use Rattle.gt_layout.specs.Places.{end_of, end_at, begin_at, ends, Lie}
+use Rattle.gt_layout.specs.Places.{end_of, end_at, begin_at, ends, Lie, last_offset}
 use Rattle.gt_layout.specs.Planes.{AreLaidOut}
-use Rattle.gt_layout.specs.Capacity.{SizeAt, MemberEnds, last_offset}
+use Rattle.gt_layout.specs.Capacity.{SizeAt, MemberEnds}
 use Rattle.gt_layout.specs.Progress.{IsWithinDepth, HoldsWithinDepth}
 use Rattle.gt_layout.proofs.Capacities.{shallow_fields}
 use Rattle.gt_tree.proofs.PathBits.{some-same}

@@ -28,7 +28,7 @@ pub record IsDraft (is_union : Bool) (fs : List Storage) (last most : ℕ) (plac
 pub alignment_between : (n : ℕ) → IsTrue (is_alignment n) → (1 ≤ n) × (n ≤ 8)
 alignment_between n is = (grind arith, grind arith)
 
-align_placeable : (f : Storage) → IsTrue (is_placeable f) → IsTrue (is_alignment (align_of f))
+pub align_placeable : (f : Storage) → IsTrue (is_placeable f) → IsTrue (is_alignment (align_of f))
 align_placeable (Bytes e) placeable = placeable
 align_placeable (Bits unit count) placeable = grind arith
 

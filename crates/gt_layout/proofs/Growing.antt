@@ -1,343 +1,367 @@
--- Unions with room at their end, from the members that may grow and the end of the others.
-use Rattle.std.proofs.Common.{◌≡◌, ◌≢◌, ℕ, ◌+◌, ◌-◌, ◌*◌, ◌/◌, ◌^◌, ◌≤◌, ◌<◌, max, Bool, true, false, cond, Option, Some, None, List, [], ◌∷◌, ◌++◌, map, length, take, get_or, set, replicate, sym, ap, subst, ◌∙◌, refl, ◌⊎◌, inl, inr, arith}
-use Rattle.std.specs.List.{All}
-use Rattle.std.specs.Prelude.{◌||◌, if◌then◌else◌, is_some, option_map, slice_get}
-use Rattle.std.proofs.lemmas.Bool.{cases_eq}
-use Rattle.std.proofs.lemmas.List.{take_all, take_more, length-map, length-replicate, get_or-replicate}
-use Rattle.std.proofs.lemmas.Option.{get_or_from_slice_get, slice_get-get_or, slice_get-map, slice_get_within, slice_get_cases, none-some, same_Some}
-use Rattle.std.proofs.lemmas.List.Elements.{All-nil, All-cons, All-head, All-tail, All-push}
+-- The arrays with a length inside a structure, from those inside its members.
+use Rattle.std.proofs.Common.{◌≡◌, ◌≢◌, ℕ, zero, suc, ◌+◌, ◌≤◌, ◌<◌, max, true, false, Option, Some, None, option_map, IfOk, Result, append-nil, List, [], ◌∷◌, ◌++◌, length, take, get_or, set, map, sym, ap, subst, ◌∙◌, refl, ◌⊎◌, inl, inr, arith, length-set}
+use Rattle.std.specs.List.{All, Contains, filter_map, insert}
+use Rattle.std.specs.Prelude.{slice_get, option_to_list}
+use Rattle.std.proofs.lemmas.Bool.{cases_eq, cases_lt}
+use Rattle.std.proofs.lemmas.Result.{IfOk-weaker}
+use Rattle.std.proofs.lemmas.List.{take_all, take_more}
+use Rattle.std.proofs.lemmas.Option.{get_or_from_slice_get, slice_get-get_or, slice_get_read, slice_get_within, same_Some}
+use Rattle.std.proofs.lemmas.List.Elements.{All-nil, All-cons, All-weaker, Contains-append_left, Contains-push, Contains-push_cases, filter_map-append}
 use Rattle.gt_types.specs.declared.expressions.Expr.{Expr}
 use Rattle.gt_types.specs.declared.types.TypeId.{TypeId}
 use Rattle.gt_types.specs.declared.types.Ty.{Ty}
-use Rattle.gt_types.specs.declared.types.Ty.TheOpen as part
-use Rattle.gt_types.specs.declared.types.Ty.TheFolds.{fold-roll-Ty}
-use Rattle.gt_types.specs.declared.types.Ty.TheVariants.{rolls-Node}
 use Rattle.gt_types.specs.declared.types.Ty.TheVariants as ty
 use Rattle.gt_types.specs.declared.program.Field.{Field}
 use Rattle.gt_types.specs.declared.program.Structure.{Structure}
 use Rattle.gt_types.specs.declared.program.Program.{Program}
 use Rattle.gt_types.specs.Contains.{HasStructure}
-use Rattle.gt_types.specs.Shapes.{is_structure}
 use Rattle.gt_types.specs.Tails.{tail_of}
-use Rattle.gt_types.specs.Settled.{Settled}
-use Rattle.gt_layout.specs.declared.planes.Extent.{Extent}
 use Rattle.gt_layout.specs.declared.planes.Growth.{Growth}
 use Rattle.gt_layout.specs.declared.planes.Plane.{Plane}
-use Rattle.gt_layout.specs.Storages.{extent_at, extent_of, extent_of_plane, extent_step, held_storage, storage_of}
-use Rattle.gt_layout.specs.Places.{end_of}
-use Rattle.gt_layout.specs.Planes.{AreLaidOut}
-use Rattle.gt_layout.specs.Excess.{IsTooLarge}
-use Rattle.gt_layout.specs.Growths.{fixed, fixed_end, growing, growing_in, growth, growth_of, grows_there, listed}
-use Rattle.gt_layout.specs.Capacity.{of_struct, MemberEnds, none, of_structure, of_field}
-use Rattle.gt_layout.specs.Progress.{IsWithinDepth, HoldsWithinDepth, IsNodeWithin, NodeEnds, HaveSizes, HaveEnds, IsSizeByDepth, AreSizes}
-use Rattle.gt_layout.proofs.Capacities.{append_members, end_same, exact_fields, node_within, shallow_fields, union_size}
+use Rattle.gt_layout.specs.declared.planes.TailSpot.{TailSpot}
+use Rattle.gt_layout.specs.Storages.{extent_of}
+use Rattle.gt_layout.specs.Places.{last_offset}
+use Rattle.gt_layout.specs.Growths.{HasTail, at_end, in_member, Reaches, AreTails, AreGrowths, tail_spot}
+use Rattle.gt_layout.specs.Progress.{AreFound, IsFound, IsPlaceOf, KeepsFound, type_id, with_tail, with_tails}
 use Rattle.gt_layout.proofs.Laying.{get-set_same, get-set_other}
-use Rattle.gt_layout.proofs.Placing.{up}
+use Rattle.gt_layout.proofs.TailLists.{Rise, rise-nil, rise-cons, more-all, more-new, more-old, more-rise, same-tails, with-inserted, with-merged}
 
--- ---- how a union grows, member after member
+-- ---- the arrays with a length inside a structure are one list
 
-onto : (o : Option TypeId) (xs ys : List TypeId) → listed o ++ (xs ++ ys) ≡ (listed o ++ xs) ++ ys
-onto (Some node) xs ys = refl
-onto None xs ys = refl
+pub tails-only : (program : Program) (planes : List Plane) (node : TypeId) (xs ys : List TailSpot) → AreTails program planes node xs → AreTails program planes node ys → xs ≡ ys
+tails-only program planes node xs ys a b =
+    same-tails xs ys a.rising b.rising (All-weaker (HasTail program planes node) (Reaches ys) b.last xs a.there) (All-weaker (HasTail program planes node) (Reaches xs) a.last ys b.there)
 
-alone : (o : Option TypeId) → listed o ++ [] ≡ listed o
-alone (Some node) = refl
-alone None = refl
+module _ (program : Program) (planes : List Plane) where
+  -- ---- a struct
 
-growing-push : (program : Program) (xs : List Field) (f : Field) → growing_in program (xs ++ f ∷ []) ≡ growing_in program xs ++ listed (growing program f.ty)
-growing-push program [] f = alone (growing program f.ty)
-growing-push program (x ∷ xs) f =
-    ap (λ (ns : List TypeId). listed (growing program x.ty) ++ ns) (growing-push program xs f) ∙ onto (growing program x.ty) (growing_in program xs) (listed (growing program f.ty))
+  pub of-struct : (node : TypeId) (s : Structure) (plane : Plane) (tail : TailSpot) → HasStructure program node s → slice_get planes node.0 ≡ Some plane → s.is_union ≡ false → HasTail program planes node tail
+      → (elem : Ty) × (tail_of s.fields ≡ Some elem) × (tail ≡ tail_spot (last_offset plane.fields) (extent_of planes elem).size)
+  of-struct node s plane tail has got struct (at_end {s = r} {plane = flat} {elem} h g u t) =
+      let same : r ≡ s = cc in
+      let even : flat ≡ plane = cc in
+      (elem, subst (λ x. tail_of x.fields ≡ Some elem) same t, ap (λ p. tail_spot (last_offset p.fields) (extent_of planes elem).size) even)
+  of-struct node s plane tail has got struct (in_member {s = r} h u c e inner) =
+      let same : r ≡ s = cc in
+      let union = subst (λ x. x.is_union ≡ true) same u in
+      absurd (cc)
 
-max-swap : (a b c d : ℕ) → c ≡ max b d → max a c ≡ max b (max a d)
-max-swap a b c d e = omega (arith, e)
+  pub struct-tails : (node : TypeId) (s : Structure) (plane : Plane) → HasStructure program node s → slice_get planes node.0 ≡ Some plane → s.is_union ≡ false
+      → (o : Option Ty) → tail_of s.fields ≡ o → AreTails program planes node (option_to_list (option_map (λ elem. tail_spot (last_offset plane.fields) (extent_of planes elem).size) o))
+  struct-tails node s plane has got struct None t = record {
+    there = All-nil (HasTail program planes node);
+    last = λ tail is. let found = of-struct node s plane tail has got struct is in let some = found.1 in absurd (cc);
+    rising = rise-nil;
+  }
+  struct-tails node s plane has got struct (Some elem) t =
+      let tail = tail_spot (last_offset plane.fields) (extent_of planes elem).size in
+      record {
+        there = All-cons (HasTail program planes node) tail [] (at_end has got struct t) (All-nil (HasTail program planes node));
+        last = λ other is.
+            let found = of-struct node s plane other has got struct is in
+            let some = found.1 in
+            let same : found.0 ≡ elem = cc in
+            let equal : tail ≡ other = ap (λ e. tail_spot (last_offset plane.fields) (extent_of planes e).size) (sym same) ∙ sym found.2 in
+            (0, tail, omega arith, refl, (ap (λ (x : TailSpot). x.elem_size) equal, omega (arith, ap (λ (x : TailSpot). x.offset) equal)));
+        rising = rise-cons tail [] (All-nil (λ (y : TailSpot). tail.elem_size < y.elem_size)) rise-nil;
+      }
 
--- the end of one member, where it may not grow
-abbrev pub fixed_of : Program → List Plane → Field → ℕ
-fixed_of program planes f = fixed (growing program f.ty) (end_of (held_storage (storage_of planes f.ty)) 0)
+  -- ---- a union
 
-fixed-push : (program : Program) (planes : List Plane) (xs : List Field) (f : Field) → fixed_end program planes (xs ++ f ∷ []) ≡ max (fixed_of program planes f) (fixed_end program planes xs)
-fixed-push program planes [] f = refl
-fixed-push program planes (x ∷ xs) f =
-    max-swap (fixed_of program planes x) (fixed_of program planes f) (fixed_end program planes (xs ++ f ∷ [])) (fixed_end program planes xs) (fixed-push program planes xs f)
+  -- an array with a length lies in a member
+  abbrev pub IsInMember : List Field → TailSpot → Type 0
+  IsInMember fields tail = (f : Field) × (inner : TypeId) × (desc : Option Expr) × Contains fields f × (f.ty ≡ ty.Node inner desc) × HasTail program planes inner tail
 
--- what is found of the members so far
-pub record IsGrowing (program : Program) (planes : List Plane) (fields : List Field) (end : ℕ) (nodes : List TypeId) : Type 0 where
-  pub end_is : end ≡ fixed_end program planes fields
-  pub nodes_are : nodes ≡ growing_in program fields
+  -- what was found of these members
+  pub record Gathered (fields : List Field) (tails : List TailSpot) : Type 0 where
+    pub there : All (IsInMember fields) tails
+    pub last : (tail : TailSpot) → IsInMember fields tail → Reaches tails tail
+    pub rising : Rise tails
 
-pub growing-more : (program : Program) (planes : List Plane) (items : List Field) (i : ℕ) (f : Field) (end end' : ℕ) (nodes nodes' : List TypeId) → i < length items → f ≡ get_or items i f
-    → IsGrowing program planes (take i items) end nodes → end' ≡ max (fixed_of program planes f) end → nodes' ≡ nodes ++ listed (growing program f.ty) → IsGrowing program planes (take (i + 1) items) end' nodes'
-growing-more program planes items i f end end' nodes nodes' within at before more_end more_nodes =
-    subst (λ (fs : List Field). IsGrowing program planes fs end' nodes') (sym (take_more items i f within ∙ ap (λ (g : Field). take i items ++ g ∷ []) (sym at))) (record {
-      end_is = more_end ∙ ap (max (fixed_of program planes f)) before.end_is ∙ sym (fixed-push program planes (take i items) f);
-      nodes_are = more_nodes ∙ ap (λ (ns : List TypeId). ns ++ listed (growing program f.ty)) before.nodes_are ∙ sym (growing-push program (take i items) f);
-    })
+  pub gathered-none : Gathered [] []
+  gathered-none = record {
+    there = All-nil (IsInMember []);
+    last = λ tail is. absurd (no-member is.0 is.3);
+    rising = rise-nil;
+  }
+    where
+      no-member : (f : Field) → Contains [] f → ⊥
+      no-member f c = absurd (omega (arith, c.1))
 
-pub growth-is : (program : Program) (planes : List Plane) (s : Structure) (items : List Field) (i : ℕ) (end : ℕ) (nodes : List TypeId) → s.is_union ≡ true → items ≡ s.fields → length items ≤ i
-    → IsGrowing program planes (take i items) end nodes → growth end nodes ≡ growth_of program planes s
-growth-is program planes s items i end nodes union same all found =
-    let whole = take_all i items all ∙ same in
-    ap (λ (n : ℕ). growth n nodes) (found.end_is ∙ ap (fixed_end program planes) whole)
-    ∙ ap (growth (fixed_end program planes s.fields)) (found.nodes_are ∙ ap (growing_in program) whole)
-    ∙ sym (ap (λ b. if b then growth (fixed_end program planes s.fields) (growing_in program s.fields) else growth 0 []) union)
+  still : (fields : List Field) (f : Field) (tail : TailSpot) → IsInMember fields tail → IsInMember (fields ++ f ∷ []) tail
+  still fields f tail (g, inner, desc, c, e, is) = (g, inner, desc, Contains-append_left fields (f ∷ []) g c, e, is)
 
--- ---- members that may not grow
+  pub gathered-flat : (fields : List Field) (f : Field) (tails : List TailSpot) → Gathered fields tails → ((inner : TypeId) (desc : Option Expr) → f.ty ≡ ty.Node inner desc → ⊥) → Gathered (fields ++ f ∷ []) tails
+  gathered-flat fields f tails before flat = record {
+    there = All-weaker (IsInMember fields) (IsInMember (fields ++ f ∷ [])) (still fields f) tails before.there;
+    last = λ tail is. go tail is (Contains-push_cases fields f is.0 is.3);
+    rising = before.rising;
+  }
+    where
+      go : (tail : TailSpot) → (is : IsInMember (fields ++ f ∷ []) tail) → Contains fields is.0 ⊎ (f ≡ is.0) → Reaches tails tail
+      go tail (g, inner, desc, c, e, is) (inl old) = before.last tail (g, inner, desc, old, e, is)
+      go tail (g, inner, desc, c, e, is) (inr new) = absurd (flat inner desc (ap (λ x. x.ty) new ∙ e))
 
-from-zero : (n : ℕ) → 0 + n ≡ n
-from-zero n = omega arith
+  pub gathered-node : (fields : List Field) (f : Field) (tails its : List TailSpot) (inner : TypeId) (desc : Option Expr) → Gathered fields tails → f.ty ≡ ty.Node inner desc → AreTails program planes inner its
+      → Gathered (fields ++ f ∷ []) (with_tails its tails)
+  gathered-node fields f tails its inner desc before type new = record {
+    there = more-all (IsInMember (fields ++ f ∷ [])) its tails
+        (All-weaker (HasTail program planes inner) (IsInMember (fields ++ f ∷ [])) (λ tail is. (f, inner, desc, Contains-push fields f, type, is)) its new.there)
+        (All-weaker (IsInMember fields) (IsInMember (fields ++ f ∷ [])) (still fields f) tails before.there);
+    last = λ tail is. go tail is (Contains-push_cases fields f is.0 is.3);
+    rising = more-rise its tails before.rising;
+  }
+    where
+      go : (tail : TailSpot) → (is : IsInMember (fields ++ f ∷ []) tail) → Contains fields is.0 ⊎ (f ≡ is.0) → Reaches (with_tails its tails) tail
+      go tail (g, other, d, c, e, is) (inl old) = more-old its tails tail (before.last tail (g, other, d, old, e, is))
+      go tail (g, other, d, c, e, is) (inr same) =
+          let both : ty.Node inner desc ≡ ty.Node other d = sym type ∙ ap (λ x. x.ty) same ∙ e in
+          let equal : other ≡ inner = cc in
+          more-new its tails tail (new.last tail (subst (λ n. HasTail program planes n tail) equal is))
 
-extent-node : (planes : List Plane) (node : TypeId) (desc : Option Expr) → extent_of planes (ty.Node node desc) ≡ extent_at planes node.0
-extent-node planes node desc = ap (extent_of planes) (sym (rolls-Node node desc)) ∙ fold-roll-Ty Extent (extent_step planes) (part.Node node desc)
+  pub of-union : (node : TypeId) (s : Structure) (tail : TailSpot) → HasStructure program node s → s.is_union ≡ true → HasTail program planes node tail → IsInMember s.fields tail
+  of-union node s tail has union (at_end {s = r} h g u t) =
+      let same : r ≡ s = cc in
+      let struct = subst (λ x. x.is_union ≡ false) same u in
+      absurd (cc)
+  of-union node s tail has union (in_member {inner} {s = r} {f} {desc} h u c e is) =
+      let same : r ≡ s = cc in
+      (f, inner, desc, subst (λ x. Contains x.fields f) same c, e, is)
 
-some-is : (a b : TypeId) → Some a ≡ Some b → a ≡ b
-some-is a b e = cc
+  pub union-tails : (node : TypeId) (s : Structure) (tails : List TailSpot) → HasStructure program node s → s.is_union ≡ true → Gathered s.fields tails → AreTails program planes node tails
+  union-tails node s tails has union found = record {
+    there = All-weaker (IsInMember s.fields) (HasTail program planes node) (λ tail is. in_member has union is.3 is.4 is.5) tails found.there;
+    last = λ tail is. found.last tail (of-union node s tail has union is);
+    rising = found.rising;
+  }
 
-growing-type : (program : Program) (type : Ty) (node : TypeId) → growing program type ≡ Some node → (desc : Option Expr) × (type ≡ ty.Node node desc)
-growing-type program (ty.Node other desc) node e = go (grows_there (slice_get program.structures other.0)) e
+-- ---- the steps of the code
+
+pub tails-flat : (program : Program) (planes : List Plane) (items : List Field) (i : ℕ) (f : Field) (tails : List TailSpot) → i < length items → f ≡ get_or items i f → Gathered program planes (take i items) tails
+    → ((inner : TypeId) (desc : Option Expr) → f.ty ≡ ty.Node inner desc → ⊥) → Gathered program planes (take (i + 1) items) tails
+tails-flat program planes items i f tails within at before flat =
+    subst (λ (fs : List Field). Gathered program planes fs tails) (sym (take_more items i f within ∙ ap (λ (g : Field). take i items ++ g ∷ []) (sym at)))
+    (gathered-flat program planes (take i items) f tails before flat)
+
+pub tails-more : (program : Program) (planes : List Plane) (known : List (Option Growth)) (items : List Field) (i : ℕ) (f : Field) (tails more now : List TailSpot) (inner : TypeId) (desc : Option Expr) → i < length items
+    → f ≡ get_or items i f → Gathered program planes (take i items) tails → f.ty ≡ ty.Node inner desc → AreFound program planes known → (found : IsFound known inner.0)
+    → ((growth : Growth) → slice_get known inner.0 ≡ Some (Some growth) → more ≡ growth.tails) → now ≡ with_tails more tails → Gathered program planes (take (i + 1) items) now
+tails-more program planes known items i f tails more now inner desc within at before type right found is sum =
+    let its : AreTails program planes inner more = subst (AreTails program planes inner) (sym (is found.0 found.1)) (right inner.0 found.0 found.1) in
+    subst (λ (fs : List Field). Gathered program planes fs now) (sym (take_more items i f within ∙ ap (λ (g : Field). take i items ++ g ∷ []) (sym at)))
+    (subst (Gathered program planes (take i items ++ f ∷ [])) (sym sum) (gathered-node program planes (take i items) f tails more inner desc before type its))
+
+pub tails-whole : (program : Program) (planes : List Plane) (place : ℕ) (s : Structure) (items : List Field) (i : ℕ) (tails : List TailSpot) → slice_get program.structures place ≡ Some s → s.is_union ≡ true
+    → items ≡ s.fields → length items ≤ i → Gathered program planes (take i items) tails → AreTails program planes (type_id place) tails
+tails-whole program planes place s items i tails has union same all found =
+    union-tails program planes (type_id place) s tails has union (subst (λ (fs : List Field). Gathered program planes fs tails) (take_all i items all ∙ same) found)
+
+-- ---- what was found
+
+pub keeps-on : (a b c : List (Option Growth)) → KeepsFound a b → KeepsFound b c → KeepsFound a c
+keeps-on a b c first second = record { all = second.all ∙ first.all; kept = λ place found. second.kept place (first.kept place found) }
+
+abbrev growth : List TailSpot → Growth
+growth tails = record { tails = tails }
+
+found-same : (known : List (Option Growth)) (place : ℕ) (g : Growth) → place < length known → IsFound (set known place (Some g)) place
+found-same known place g within = (g, get-set_same known place (Some g) within)
+
+found-set : (known : List (Option Growth)) (place other : ℕ) (g : Growth) → place < length known → (other ≡ place) ⊎ (other ≢ place) → IsFound known other → IsFound (set known place (Some g)) other
+found-set known place other g within (inl same) found = subst (IsFound (set known place (Some g))) (sym same) (found-same known place g within)
+found-set known place other g within (inr apart) found = (found.0, get-set_other known place other (Some g) apart ∙ found.1)
+
+right-set : (program : Program) (planes : List Plane) (known : List (Option Growth)) (place other : ℕ) (g h : Growth) → place < length known → AreFound program planes known → AreTails program planes (type_id place) g.tails
+    → (other ≡ place) ⊎ (other ≢ place) → slice_get (set known place (Some g)) other ≡ Some (Some h) → AreTails program planes (type_id other) h.tails
+right-set program planes known place other g h within right new (inl same) at =
+    let first : slice_get (set known place (Some g)) place ≡ Some (Some h) = subst (λ n. slice_get (set known place (Some g)) n ≡ Some (Some h)) same at in
+    let is : h ≡ g = same_Some h g (same_Some (Some h) (Some g) (sym first ∙ get-set_same known place (Some g) within)) in
+    subst (λ n. AreTails program planes (type_id n) h.tails) (sym same) (subst (λ (x : Growth). AreTails program planes (type_id place) x.tails) (sym is) new)
+right-set program planes known place other g h within right new (inr apart) at = right other h (sym (get-set_other known place other (Some g) apart) ∙ at)
+
+-- it was found how one structure more grows
+pub record OneMore (program : Program) (planes : List Plane) (before now : List (Option Growth)) (place : ℕ) : Type 0 where
+  pub keeps : KeepsFound before now
+  pub right : AreFound program planes now
+  pub found : IsFound now place
+
+pub one-more : (program : Program) (planes : List Plane) (before known : List (Option Growth)) (place : ℕ) (g : Growth) → place < length known → KeepsFound before known → AreFound program planes known
+    → AreTails program planes (type_id place) g.tails → OneMore program planes before (set known place (Some g)) place
+one-more program planes before known place g within keeps right new = record {
+  keeps = keeps-on before known (set known place (Some g)) keeps
+      (record { all = length-set known place (Some g); kept = λ other found. found-set known place other g within (cases_eq other place) found });
+  right = λ other h at. right-set program planes known place other g h within right new (cases_eq other place) at;
+  found = found-same known place g within;
+}
+
+-- ---- how all structures grow
+
+abbrev pub found_of : List (Option Growth) → List Growth
+found_of known = filter_map (λ (g : Option Growth). g) known
+
+found-all : (known : List (Option Growth)) → ((place : ℕ) → place < length known → IsFound known place) → map Some (found_of known) ≡ known
+found-all [] all = refl
+found-all (None ∷ known) all = let first = all 0 (omega arith) in let at = first.1 in absurd (cc)
+found-all (Some g ∷ known) all = ap (λ gs. Some g ∷ gs) (found-all known (λ place within. all (suc place) (omega (arith, within))))
+
+get-found : (known : List (Option Growth)) (growths : List Growth) (place : ℕ) (g : Growth) → map Some growths ≡ known → slice_get growths place ≡ Some g → slice_get known place ≡ Some (Some g)
+get-found known growths place g same at = sym (ap (λ ks. slice_get ks place) same) ∙ get-map growths place at
   where
-    go : (b : Bool) → cond b (Some other) None ≡ Some node → (d : Option Expr) × (ty.Node other desc ≡ ty.Node node d)
-    go true h = (desc, ap (λ n. ty.Node n desc) (some-is other node h))
-    go false h = absurd (cc)
-growing-type program type node e = absurd (cc)
+    get-map : (gs : List Growth) (k : ℕ) → slice_get gs k ≡ Some g → slice_get (map Some gs) k ≡ Some (Some g)
+    get-map [] k e = absurd (cc)
+    get-map (x ∷ gs) zero e = ap Some e
+    get-map (x ∷ gs) (suc k) e = get-map gs k e
 
-stays : (b : Bool) (node : TypeId) → cond b (Some node) None ≡ None → b ≡ false
-stays true node e = absurd (cc)
-stays false node e = refl
+length-some : (growths : List Growth) → length (map Some growths) ≡ length growths
+length-some [] = refl
+length-some (g ∷ gs) = ap suc (length-some gs)
 
-flat-struct : (a : Bool) (o : Option Ty) → (a || is_some o) ≡ false → (a ≡ false) × (o ≡ None)
-flat-struct true o e = absurd (cc)
-flat-struct false None e = (refl, refl)
-flat-struct false (Some t) e = absurd (cc)
+pub growths-made : (program : Program) (planes : List Plane) (known : List (Option Growth)) (growths : List Growth) → length known ≡ length program.structures → AreFound program planes known
+    → ((place : ℕ) → place < length known → IsFound known place) → growths ≡ found_of known → AreGrowths program planes growths
+growths-made program planes known growths all right found is =
+    let same : map Some growths ≡ known = ap (map Some) is ∙ found-all known found in
+    record {
+      all = sym (length-some growths) ∙ ap length same ∙ all;
+      each = λ place g at. right place g (get-found known growths place g same at);
+    }
 
-module _ (program : Program) (planes : List Plane) (capacity depth : ℕ) (laid : AreLaidOut program planes) where
-  abbrev Ends : List Field → List ℕ → Type 0
-  Ends fs es = MemberEnds program planes capacity fs es
+-- ---- one array more
 
-  abbrev held_end : Ty → ℕ
-  held_end type = end_of (held_storage (storage_of planes type)) 0
+-- the first array whose elements are not smaller lies between two places
+pub record IsBetween (elem_size : ℕ) (tails : List TailSpot) (low high : ℕ) : Type 0 where
+  pub ordered : low ≤ high
+  pub inside : high ≤ length tails
+  pub before : (place : ℕ) (tail : TailSpot) → place < low → slice_get tails place ≡ Some tail → tail.elem_size < elem_size
+  pub after : (place : ℕ) (tail : TailSpot) → high ≤ place → slice_get tails place ≡ Some tail → elem_size ≤ tail.elem_size
 
-  other-by : (f : Field) (type : Ty) → f.ty ≡ type → growing program type ≡ None → end_of (storage_of planes type) 0 ≤ 8388608 → HoldsWithinDepth program type depth → Ends (f ∷ []) (held_end type ∷ [])
-  other-by f (ty.Node node desc) is off exact shallow =
-      let inside = node_within program (ty.Node node desc) node desc depth shallow refl in
-      let at = slice_get-get_or planes node.0 (record { size = 0; align = 0; fields = [] }) (omega (arith, inside.0, laid.all)) in
-      let plane = get_or planes node.0 (record { size = 0; align = 0; fields = [] }) in
-      let sized = end_same (storage_of planes (ty.Node node desc)) exact ∙ ap (λ (e : Extent). 0 + 8 * e.size) (extent-node planes node desc ∙ ap extent_of_plane at) in
-      let value : held_end (ty.Node node desc) ≡ 8 * plane.size = sized ∙ from-zero (8 * plane.size) in
-      go inside.0 plane at value (slice_get_cases program.structures node.0).1
-    where
-      go : node.0 < length program.structures → (plane : Plane) → slice_get planes node.0 ≡ Some plane → held_end (ty.Node node desc) ≡ 8 * plane.size
-          → ((s : Structure) × (node.0 < length program.structures) × (slice_get program.structures node.0 ≡ Some s) × (get_or program.structures node.0 s ≡ s)) ⊎ ((length program.structures ≤ node.0) × (slice_get program.structures node.0 ≡ None))
-          → Ends (f ∷ []) (held_end (ty.Node node desc) ∷ [])
-      go within plane at value (inr past) = absurd (omega (arith, within, past.0))
-      go within plane at value (inl (s, _, has, _)) =
-          let flat = flat-struct s.is_union (tail_of s.fields) (sym (ap grows_there has) ∙ stays (grows_there (slice_get program.structures node.0)) node off) in
-          subst (λ n. Ends (f ∷ []) (n ∷ [])) (sym value) (of_structure is (of_struct has at flat.0 flat.1) none)
-  other-by f type is off exact shallow =
-      subst (λ n. Ends (f ∷ []) (n ∷ [])) (ap (λ t. end_of (storage_of planes t) 0) is ∙ sym (end_same (storage_of planes type) exact)) (of_field (ap is_structure is) none)
+-- in rising order
+earlier-smaller : (tails : List TailSpot) (i j : ℕ) (x y : TailSpot) → Rise tails → i ≤ j → slice_get tails i ≡ Some x → slice_get tails j ≡ Some y → x.elem_size ≤ y.elem_size
+earlier-smaller tails i j x y rise le at at' = go (cases_lt i j)
+  where
+    go : (i < j) ⊎ (j ≤ i) → x.elem_size ≤ y.elem_size
+    go (inl less) =
+        let lower = rise i j x less (slice_get_within tails j y at') in
+        let first : get_or tails i x ≡ x = get_or_from_slice_get tails i x x at in
+        let second : get_or tails j x ≡ y = get_or_from_slice_get tails j y x at' in
+        omega (arith, lower, ap (λ (t : TailSpot). t.elem_size) first, ap (λ (t : TailSpot). t.elem_size) second)
+    go (inr least) =
+        let same : i ≡ j = omega (arith, le, least) in
+        let equal : x ≡ y = same_Some x y (sym at ∙ ap (λ k. slice_get tails k) same ∙ at') in
+        omega (arith, ap (λ (t : TailSpot). t.elem_size) equal)
 
-  -- ---- all members, from those that may grow and the end of the others
+pub between-upper : (elem_size : ℕ) (tails : List TailSpot) (low high middle : ℕ) (d : TailSpot) → Rise tails → IsBetween elem_size tails low high → middle < high → (get_or tails middle d).elem_size < elem_size
+    → IsBetween elem_size tails (middle + 1) high
+between-upper elem_size tails low high middle d rise between less smaller = record {
+  ordered = omega (arith, less);
+  inside = between.inside;
+  before = λ place tail lower there.
+      let le = earlier-smaller tails place middle tail (get_or tails middle d) rise (omega (arith, lower)) there (slice_get-get_or tails middle d (omega (arith, less, between.inside))) in
+      omega (arith, le, smaller);
+  after = between.after;
+}
 
-  record Woven (fs : List Field) (es : List ℕ) : Type 0 where
-    ends : List ℕ
-    are : Ends fs ends
-    to : (bound : ℕ) → All (λ end. end ≤ bound) es → fixed_end program planes fs ≤ bound → All (λ end. end ≤ bound) ends
-    from : (bound : ℕ) → All (λ end. end ≤ bound) ends → All (λ end. end ≤ bound) es × (fixed_end program planes fs ≤ bound)
+pub between-lower : (elem_size : ℕ) (tails : List TailSpot) (low high middle : ℕ) (d : TailSpot) → Rise tails → IsBetween elem_size tails low high → low ≤ middle → middle < high → elem_size ≤ (get_or tails middle d).elem_size
+    → IsBetween elem_size tails low middle
+between-lower elem_size tails low high middle d rise between least less larger = record {
+  ordered = least;
+  inside = omega (arith, less, between.inside);
+  before = between.before;
+  after = λ place tail past there.
+      let le = earlier-smaller tails middle place (get_or tails middle d) tail rise past (slice_get-get_or tails middle d (omega (arith, less, between.inside))) there in
+      omega (arith, le, larger);
+}
 
-  abbrev IsExact : Field → Type 0
-  IsExact f = end_of (storage_of planes f.ty) 0 ≤ 8388608
+pub place-between : (elem_size : ℕ) (tails : List TailSpot) (low high : ℕ) → IsBetween elem_size tails low high → high ≤ low → IsPlaceOf elem_size tails low
+place-between elem_size tails low high between met = record {
+  inside = omega (arith, between.ordered, between.inside, met);
+  before = all-taken tails low (omega (arith, between.ordered, between.inside, met)) (λ place tail less at. between.before place tail less at);
+  here = λ tail at. between.after low tail met at;
+}
+  where
+    all-taken : (ts : List TailSpot) (n : ℕ) → n ≤ length ts → ((place : ℕ) (tail : TailSpot) → place < n → slice_get ts place ≡ Some tail → tail.elem_size < elem_size) → All (λ (tail : TailSpot). tail.elem_size < elem_size) (take n ts)
+    all-taken ts zero le each = All-nil (λ (tail : TailSpot). tail.elem_size < elem_size)
+    all-taken [] (suc n) le each = All-nil (λ (tail : TailSpot). tail.elem_size < elem_size)
+    all-taken (t ∷ ts) (suc n) le each =
+        All-cons (λ (tail : TailSpot). tail.elem_size < elem_size) t (take n ts) (each zero t (omega arith) refl) (all-taken ts n (omega (arith, le)) (λ place tail less at. each (suc place) tail (omega (arith, less)) at))
 
-  abbrev IsShallow : Field → Type 0
-  IsShallow f = HoldsWithinDepth program f.ty depth
+pub merged-in : (tail x : TailSpot) (tails : List TailSpot) (place : ℕ) → IsPlaceOf tail.elem_size tails place → slice_get tails place ≡ Some x → x.elem_size ≡ tail.elem_size
+    → set tails place (tail_spot (max x.offset tail.offset) x.elem_size) ≡ with_tail tail tails
+merged-in tail x tails place is at same = with-merged tail x tails place at is.before same
 
-  weave : (fs : List Field) → All IsExact fs → All IsShallow fs → (es : List ℕ) → NodeEnds program planes capacity (growing_in program fs) es → Woven fs es
-  weave [] exact shallow [] are = record { ends = []; are = none; to = λ bound all le. All-nil (λ end. end ≤ bound); from = λ bound all. (All-nil (λ end. end ≤ bound), omega arith) }
-  weave [] exact shallow (e ∷ es) are = absurd are
-  weave (f ∷ fs) exact shallow es are =
-      go (weave fs (All-tail IsExact f fs exact) (All-tail IsShallow f fs shallow)) (growing program f.ty) refl es are
-    where
-      end : ℕ
-      end = held_end f.ty
+pub inserted-in : (tail : TailSpot) (tails : List TailSpot) (place : ℕ) → IsPlaceOf tail.elem_size tails place → ((x : TailSpot) → slice_get tails place ≡ Some x → x.elem_size ≢ tail.elem_size) → insert tails place tail ≡ with_tail tail tails
+inserted-in tail tails place is other = with-inserted tail tails place is.inside is.before (λ x at. let apart = other x at in let least = is.here x at in less tail.elem_size x.elem_size least apart)
+  where
+    less : (m n : ℕ) → m ≤ n → n ≢ m → m < n
+    less m n le apart = omega (arith, le, apart)
 
-      go : ((xs : List ℕ) → NodeEnds program planes capacity (growing_in program fs) xs → Woven fs xs) → (o : Option TypeId) → growing program f.ty ≡ o → (xs : List ℕ)
-          → NodeEnds program planes capacity (listed o ++ growing_in program fs) xs → Woven (f ∷ fs) xs
-      go later None is xs nodes =
-          let rest = later xs nodes in
-          let one = other-by f f.ty refl is (All-head IsExact f fs exact) (All-head IsShallow f fs shallow) in
-          let same : fixed_of program planes f ≡ held_end f.ty = ap (λ o. fixed o (held_end f.ty)) is in
-          record {
-            ends = held_end f.ty ∷ rest.ends;
-            are = append_members program planes capacity (f ∷ []) fs (held_end f.ty ∷ []) rest.ends one rest.are;
-            to = λ bound all le.
-                let both : max (fixed_of program planes f) (fixed_end program planes fs) ≤ bound = le in
-                All-cons (λ end. end ≤ bound) (held_end f.ty) rest.ends (omega (arith, both, same)) (rest.to bound all (omega (arith, both)));
-            from = λ bound all.
-                let head = All-head (λ end. end ≤ bound) (held_end f.ty) rest.ends all in
-                let more = rest.from bound (All-tail (λ end. end ≤ bound) (held_end f.ty) rest.ends all) in
-                let low = more.1 in
-                (more.0, omega (arith, head, low, same));
-          }
-      go later (Some node) is [] nodes = absurd nodes
-      go later (Some node) is (x ∷ xs) nodes =
-          let rest = later xs nodes.1 in
-          let type = growing-type program f.ty node is in
-          let one = subst (λ k. Ends (f ∷ []) (k ∷ [])) (sym nodes.0.2) (of_structure type.1 nodes.0.1 none) in
-          let same : fixed_of program planes f ≡ 0 = ap (λ o. fixed o (held_end f.ty)) is in
-          record {
-            ends = x ∷ rest.ends;
-            are = append_members program planes capacity (f ∷ []) fs (x ∷ []) rest.ends one rest.are;
-            to = λ bound all le.
-                let both : max (fixed_of program planes f) (fixed_end program planes fs) ≤ bound = le in
-                All-cons (λ end. end ≤ bound) x rest.ends (All-head (λ end. end ≤ bound) x xs all) (rest.to bound (All-tail (λ end. end ≤ bound) x xs all) (omega (arith, both)));
-            from = λ bound all.
-                let more = rest.from bound (All-tail (λ end. end ≤ bound) x rest.ends all) in
-                let low = more.1 in
-                (All-cons (λ end. end ≤ bound) x xs (All-head (λ end. end ≤ bound) x rest.ends all) more.0, omega (arith, low, same));
-          }
+pub merged-read : (tail a b x : TailSpot) (slice tails : List TailSpot) (place offset : ℕ) → IsPlaceOf tail.elem_size slice place → slice ≡ tails → place < length tails → a ≡ get_or tails place a → a.elem_size ≡ tail.elem_size
+    → b ≡ get_or tails place b → x ≡ get_or tails place x → offset ≡ max b.offset tail.offset → set tails place (tail_spot offset x.elem_size) ≡ with_tail tail tails
+merged-read tail a b x slice tails place offset is same within at_a equal at_b at_x most =
+    let at = slice_get_read tails (length tails) place x refl within at_x in
+    let a_x : a ≡ x = same_Some a x (sym (slice_get_read tails (length tails) place a refl within at_a) ∙ at) in
+    let b_x : b ≡ x = same_Some b x (sym (slice_get_read tails (length tails) place b refl within at_b) ∙ at) in
+    ap (λ n. set tails place (tail_spot n x.elem_size)) (most ∙ ap (λ (y : TailSpot). max y.offset tail.offset) b_x)
+    ∙ merged-in tail x tails place (subst (λ ts. IsPlaceOf tail.elem_size ts place) same is) at (ap (λ (y : TailSpot). y.elem_size) (sym a_x) ∙ equal)
 
-  below : (xs : List ℕ) (m n : ℕ) → m ≤ n → All (λ end. end ≤ m) xs → All (λ end. end ≤ n) xs
-  below xs m n le all = λ k d short. omega (arith, le, all k d short)
+pub inserted-past : (tail : TailSpot) (slice tails : List TailSpot) (place : ℕ) → IsPlaceOf tail.elem_size slice place → slice ≡ tails → length tails ≤ place → insert tails place tail ≡ with_tail tail tails
+inserted-past tail slice tails place is same past =
+    inserted-in tail tails place (subst (λ ts. IsPlaceOf tail.elem_size ts place) same is) (λ x at. absurd (omega (arith, past, slice_get_within tails place x at)))
 
-  pub have-ends : (fs : List Field) (last : ℕ) → All IsExact fs → All IsShallow fs → HaveSizes program planes capacity (growing_in program fs) last
-      → HaveEnds program planes capacity fs (max (fixed_end program planes fs) last)
-  have-ends fs last exact shallow have =
-      let w = weave fs exact shallow have.ends have.are in
-      record {
-        ends = w.ends;
-        are = w.are;
-        inside = w.to (max (fixed_end program planes fs) last) (below have.ends last (max (fixed_end program planes fs) last) (omega arith) have.inside) (omega arith);
-        least = λ bound all. let f = w.from bound all in let low = f.1 in omega (arith, low, have.least bound f.0);
-      }
+pub inserted-read : (tail a : TailSpot) (slice tails : List TailSpot) (place : ℕ) → IsPlaceOf tail.elem_size slice place → slice ≡ tails → place < length tails → a ≡ get_or tails place a → a.elem_size ≢ tail.elem_size
+    → insert tails place tail ≡ with_tail tail tails
+inserted-read tail a slice tails place is same within at_a other =
+    inserted-in tail tails place (subst (λ ts. IsPlaceOf tail.elem_size ts place) same is) (λ x at.
+    let a_x : a ≡ x = same_Some a x (sym (slice_get_read tails (length tails) place a refl within at_a) ∙ at) in
+    λ e. other (ap (λ (y : TailSpot). y.elem_size) a_x ∙ e))
 
-  nodes-by : (type : Ty) (nodes : List TypeId) → HoldsWithinDepth program type depth → All (IsNodeWithin program depth) nodes → All (IsNodeWithin program depth) (listed (growing program type) ++ nodes)
-  nodes-by type nodes shallow all = go (growing program type) refl
-    where
-      go : (o : Option TypeId) → growing program type ≡ o → All (IsNodeWithin program depth) (listed o ++ nodes)
-      go None is = all
-      go (Some node) is = let t = growing-type program type node is in All-cons (IsNodeWithin program depth) node nodes (node_within program type node t.0 depth shallow t.1) all
+-- what was found after so many members of a union
+pub record FoundSoFar (program : Program) (planes : List Plane) (before known : List (Option Growth)) (fields : List Field) (tails : List TailSpot) : Type 0 where
+  pub keeps : KeepsFound before known
+  pub right : AreFound program planes known
+  pub gathered : Gathered program planes fields tails
 
-  pub nodes-within : (fs : List Field) → All IsShallow fs → All (IsNodeWithin program depth) (growing_in program fs)
-  nodes-within [] all = All-nil (IsNodeWithin program depth)
-  nodes-within (f ∷ fs) all = nodes-by f.ty (growing_in program fs) (All-head IsShallow f fs all) (nodes-within fs (All-tail IsShallow f fs all))
-
-  fixed-small : (f : Field) → IsExact f → (o : Option TypeId) → fixed o (held_end f.ty) ≤ 8388608
-  fixed-small f exact None = let same = end_same (storage_of planes f.ty) exact in omega (arith, exact, same)
-  fixed-small f exact (Some node) = omega arith
-
-  pub fixed-within : (fs : List Field) → All IsExact fs → fixed_end program planes fs ≤ 8388608
-  fixed-within [] all = omega arith
-  fixed-within (f ∷ fs) all =
-      let one = fixed-small f (All-head IsExact f fs all) (growing program f.ty) in
-      let rest = fixed-within fs (All-tail IsExact f fs all) in
-      omega (arith, one, rest)
-
--- ---- the structures that may grow, one after another
-
-append_nodes : (program : Program) (planes : List Plane) (capacity : ℕ) (ms ns : List TypeId) (es hs : List ℕ) → NodeEnds program planes capacity ms es → NodeEnds program planes capacity ns hs
-    → NodeEnds program planes capacity (ms ++ ns) (es ++ hs)
-append_nodes program planes capacity [] ns [] hs are more = more
-append_nodes program planes capacity [] ns (e ∷ es) hs are more = absurd are
-append_nodes program planes capacity (m ∷ ms) ns [] hs are more = absurd are
-append_nodes program planes capacity (m ∷ ms) ns (e ∷ es) hs are more = (are.0, append_nodes program planes capacity ms ns es hs are.1 more)
-
-all_front : {X : Type 0} (P : X → Type 0) (xs : List X) (y : X) → All P (xs ++ y ∷ []) → All P xs × P y
-all_front P [] y all = (All-nil P, All-head P y [] all)
-all_front P (x ∷ xs) y all = let rest = all_front P xs y (All-tail P x (xs ++ y ∷ []) all) in (All-cons P x xs (All-head P x (xs ++ y ∷ []) all) rest.0, rest.1)
-
-pub no_nodes : (program : Program) (planes : List Plane) (capacity : ℕ) → HaveSizes program planes capacity [] 0
-no_nodes program planes capacity = record { ends = []; are = _; inside = All-nil (λ end. end ≤ 0); least = λ bound all. omega arith; small = λ depth shallow. omega arith }
-
-pub node_end : (program : Program) (planes : List Plane) (capacity : ℕ) (node : TypeId) (size most : ℕ) → IsSizeByDepth program planes capacity node size → IsNodeWithin program most node → 8 * size ≤ 8 * (2 ^ 53 + most * 2 ^ 32)
-node_end program planes capacity node size most sized inner = omega (arith, inner.1, sized.small (most - 1) inner.2)
-
-pub more_nodes : (program : Program) (planes : List Plane) (capacity : ℕ) (nodes : List TypeId) (i : ℕ) (node d : TypeId) (last size last' : ℕ) → i < length nodes → node ≡ get_or nodes i d
-    → HaveSizes program planes capacity (take i nodes) last → IsSizeByDepth program planes capacity node size → last' ≡ max (8 * size) last → HaveSizes program planes capacity (take (i + 1) nodes) last'
-more_nodes program planes capacity nodes i node d last size last' within at before sized is =
-    subst (λ (ns : List TypeId). HaveSizes program planes capacity ns last') (sym (take_more nodes i d within ∙ ap (λ (n : TypeId). take i nodes ++ n ∷ []) (sym at))) (record {
-      ends = before.ends ++ 8 * size ∷ [];
-      are = append_nodes program planes capacity (take i nodes) (node ∷ []) before.ends (8 * size ∷ []) before.are ((size, sized.is, refl), _);
-      inside = All-push (λ n. n ≤ last') before.ends (8 * size) (λ k d less. omega (arith, before.inside k d less, is)) (omega (arith, is));
-      least = λ bound all. let both = all_front (λ n. n ≤ bound) before.ends (8 * size) all in omega (arith, is, before.least bound both.0, both.1);
-      small = λ depth shallow.
-          let both = all_front (IsNodeWithin program depth) (take i nodes) node shallow in
-          let one = node_end program planes capacity node size depth sized both.1 in
-          omega (arith, is, one, before.small depth both.0);
+pub member-found : (program : Program) (planes : List Plane) (before known found now : List (Option Growth)) (items : List Field) (i : ℕ) (f : Field) (tails more sum : List TailSpot) (inner : TypeId) (desc : Option Expr) → i < length items
+    → f ≡ get_or items i f → FoundSoFar program planes before known (take i items) tails → f.ty ≡ ty.Node inner desc → KeepsFound known found → AreFound program planes found → IsFound found inner.0
+    → ((growth : Growth) → slice_get found inner.0 ≡ Some (Some growth) → more ≡ growth.tails) → now ≡ found → sum ≡ with_tails more tails → FoundSoFar program planes before now (take (i + 1) items) sum
+member-found program planes before known found now items i f tails more sum inner desc within at so_far type keeps right there is same total =
+    subst (λ ks. FoundSoFar program planes before ks (take (i + 1) items) sum) (sym same) (record {
+      keeps = keeps-on before known found so_far.keeps keeps;
+      right = right;
+      gathered = tails-more program planes found items i f tails more sum inner desc within at so_far.gathered type right there is total;
     })
 
--- ---- the size of a union
+pub other-member : (program : Program) (planes : List Plane) (before known now : List (Option Growth)) (items : List Field) (i : ℕ) (f : Field) (tails sum : List TailSpot) → i < length items
+    → f ≡ get_or items i f → FoundSoFar program planes before known (take i items) tails → ((inner : TypeId) (desc : Option Expr) → f.ty ≡ ty.Node inner desc → ⊥) → now ≡ known → sum ≡ tails
+    → FoundSoFar program planes before now (take (i + 1) items) sum
+other-member program planes before known now items i f tails sum within at so_far flat same none =
+    subst (λ ks. FoundSoFar program planes before ks (take (i + 1) items) sum) (sym same) (subst (FoundSoFar program planes before known (take (i + 1) items)) (sym none) (record {
+      keeps = so_far.keeps;
+      right = so_far.right;
+      gathered = tails-flat program planes items i f tails within at so_far.gathered flat;
+    }))
 
--- how the structure of a number grows
-pub growth-there : (program : Program) (planes : List Plane) (growths : List Growth) (node : TypeId) (s : Structure) (g : Growth) → growths ≡ map (growth_of program planes) program.structures
-    → HasStructure program node s → g ≡ get_or growths node.0 g → s.is_union ≡ true → (g.end ≡ fixed_end program planes s.fields) × (g.nodes ≡ growing_in program s.fields)
-growth-there program planes growths node s g are has got union =
-    let within = slice_get_within program.structures node.0 s has in
-    let long : length growths ≡ length program.structures = ap length are ∙ length-map program.structures (growth_of program planes) in
-    let at : slice_get growths node.0 ≡ Some g = slice_get-get_or growths node.0 g (omega (arith, within, long)) ∙ ap Some (sym got) in
-    let same : Some g ≡ Some (growth_of program planes s) =
-    sym at ∙ ap (λ (gs : List Growth). slice_get gs node.0) are ∙ slice_get-map (growth_of program planes) program.structures node.0 ∙ ap (option_map (growth_of program planes)) has in
-    let is : g ≡ growth_of program planes s = same_Some g (growth_of program planes s) same in
-    let whole : growth_of program planes s ≡ growth (fixed_end program planes s.fields) (growing_in program s.fields) =
-    ap (λ b. if b then growth (fixed_end program planes s.fields) (growing_in program s.fields) else growth 0 []) union in
-    (ap (λ (h : Growth). h.end) (is ∙ whole), ap (λ (h : Growth). h.nodes) (is ∙ whole))
+-- ---- one structure after another
 
-module _ (program : Program) (planes : List Plane) (growths : List Growth) (capacity : ℕ) (node : TypeId) (s : Structure) (g : Growth) (plane : Plane) (settled : Settled program) (laid : AreLaidOut program planes)
-    (small : (place : ℕ) → ¬ IsTooLarge program planes place) (are : growths ≡ map (growth_of program planes) program.structures) (has : HasStructure program node s) (at : slice_get planes node.0 ≡ Some plane)
-    (union : s.is_union ≡ true) (got : g ≡ get_or growths node.0 g) where
-  grown : (g.end ≡ fixed_end program planes s.fields) × (g.nodes ≡ growing_in program s.fields)
-  grown = growth-there program planes growths node s g are has got union
+pub found-below : (before now : List (Option Growth)) (place other : ℕ) → KeepsFound before now → ((each : ℕ) → each < place → IsFound before each) → IsFound now place → other < place + 1 → IsFound now other
+found-below before now place other keeps below here less = go (cases_lt other place)
+  where
+    go : (other < place) ⊎ (place ≤ other) → IsFound now other
+    go (inl lower) = keeps.kept other (below other lower)
+    go (inr least) = let same : place ≡ other = omega (arith, least, less) in subst (IsFound now) same here
 
-  exact : All (λ (f : Field). end_of (storage_of planes f.ty) 0 ≤ 8388608) s.fields
-  exact = exact_fields program planes node.0 s plane s.fields settled laid small has at union refl
+pub growths-of : {E : Type 0} (program : Program) (planes : List Plane) (known : List (Option Growth)) (place : ℕ) (result : Result (List Growth) E) → length known ≡ length program.structures → AreFound program planes known
+    → ((other : ℕ) → other < place → IsFound known other) → length program.structures ≤ place → IfOk result (λ growths. growths ≡ found_of known) → IfOk result (AreGrowths program planes)
+growths-of program planes known place result all right found past made =
+    IfOk-weaker result (λ growths. growths ≡ found_of known) (AreGrowths program planes) (λ growths is. growths-made program planes known growths all right (λ other within. found other (omega (arith, within, all, past))) is) made
 
-  inside : (depth : ℕ) → IsWithinDepth program node.0 depth → All (λ (f : Field). HoldsWithinDepth program f.ty depth) s.fields
-  inside depth shallow = shallow_fields program node.0 depth s s.fields settled has shallow refl
+pub found-more : (known : List (Option Growth)) (g : Growth) → found_of (known ++ Some g ∷ []) ≡ found_of known ++ g ∷ []
+found-more known g = filter_map-append (λ (h : Option Growth). h) known (Some g ∷ [])
 
-  pub growing-within : (nodes : List TypeId) (depth : ℕ) → nodes ≡ g.nodes → IsWithinDepth program node.0 depth → All (IsNodeWithin program depth) nodes
-  growing-within nodes depth same shallow =
-      subst (All (IsNodeWithin program depth)) (sym (same ∙ grown.1)) (nodes-within program planes capacity depth laid s.fields (inside depth shallow))
+pub found-no_more : (known : List (Option Growth)) → found_of (known ++ None ∷ []) ≡ found_of known
+found-no_more known = filter_map-append (λ (h : Option Growth). h) known (None ∷ []) ∙ append-nil (found_of known)
 
-  pub last-within : (nodes : List TypeId) (end last depth : ℕ) → nodes ≡ g.nodes → HaveSizes program planes capacity nodes end → last ≡ max end g.end → IsWithinDepth program node.0 depth
-      → last ≤ 8 * (2 ^ 53 + depth * 2 ^ 32)
-  last-within nodes end last depth same have is shallow =
-      let most = have.small depth (growing-within nodes depth same shallow) in
-      let others = fixed-within program planes capacity depth laid s.fields exact in
-      let fixed_is = grown.0 in
-      omega (arith, most, others, fixed_is, is)
-
-  pub union-sized : (nodes : List TypeId) (end last size depth : ℕ) → nodes ≡ g.nodes → HaveSizes program planes capacity nodes end → last ≡ max end g.end → IsWithinDepth program node.0 depth → 0 < plane.align
-      → plane.align < 2 ^ 32 → size ≡ up ((last + 7) / 8) plane.align → size < (last + 7) / 8 + plane.align → IsSizeByDepth program planes capacity node size
-  union-sized nodes end last size depth same have is shallow some narrow value near =
-      let own = subst (λ ns. HaveSizes program planes capacity ns end) (same ∙ grown.1) have in
-      let fixed_is = grown.0 in
-      let both : max (fixed_end program planes s.fields) end ≡ last = omega (arith, is, fixed_is) in
-      let ends = subst (HaveEnds program planes capacity s.fields) both (have-ends program planes capacity depth laid s.fields end exact (inside depth shallow) own) in
-      record {
-        is = union_size program planes capacity node s plane s.fields last size has at union refl ends some value;
-        small = λ most other. let high = last-within nodes end last most same have is other in omega (arith, near, narrow, high);
-      }
-
--- ---- the table of sizes
-
-abbrev none_yet : Option ℕ
-none_yet = None
-
-absent : (count place size : ℕ) → slice_get (replicate count none_yet) place ≡ Some (Some size) → ⊥
-absent count place size there =
-    let none : get_or (replicate count none_yet) place none_yet ≡ None = get_or-replicate count place none_yet none_yet (omega (arith, length-replicate count none_yet, slice_get_within (replicate count none_yet) place (Some size) there)) in
-    none-some size (sym none ∙ get_or_from_slice_get (replicate count none_yet) place (Some size) none_yet there)
-
-pub no_sizes : (program : Program) (planes : List Plane) (capacity count : ℕ) → AreSizes program planes capacity (replicate count None)
-no_sizes program planes capacity count place size there = absurd (absent count place size there)
-
-each_set : (program : Program) (planes : List Plane) (capacity : ℕ) (known : List (Option ℕ)) (node : TypeId) (size place other : ℕ) → AreSizes program planes capacity known → node.0 < length known
-    → IsSizeByDepth program planes capacity node size → (place ≡ node.0) ⊎ (place ≢ node.0) → slice_get (set known node.0 (Some size)) place ≡ Some (Some other) → IsSizeByDepth program planes capacity (record { 0 = place }) other
-each_set program planes capacity known node size place other sizes within sized (inl same) at =
-    let first : slice_get (set known node.0 (Some size)) node.0 ≡ Some (Some other) = subst (λ (n : ℕ). slice_get (set known node.0 (Some size)) n ≡ Some (Some other)) same at in
-    let is : other ≡ size = same_Some other size (same_Some (Some other) (Some size) (sym first ∙ get-set_same known node.0 (Some size) within)) in
-    subst (λ (n : ℕ). IsSizeByDepth program planes capacity (record { 0 = n }) other) (sym same) (subst (λ (n : ℕ). IsSizeByDepth program planes capacity node n) (sym is) sized)
-each_set program planes capacity known node size place other sizes within sized (inr apart) at = sizes place other (sym (get-set_other known node.0 place (Some size) apart) ∙ at)
-
--- a size more is in the table
-pub one_size : (program : Program) (planes : List Plane) (capacity : ℕ) (known : List (Option ℕ)) (node : TypeId) (size : ℕ) → AreSizes program planes capacity known → node.0 < length known
-    → IsSizeByDepth program planes capacity node size → AreSizes program planes capacity (set known node.0 (Some size))
-one_size program planes capacity known node size sizes within sized place other at = each_set program planes capacity known node size place other sizes within sized (cases_eq place node.0) at
+-- how a structure grows by the list of all
+pub growth-at : (program : Program) (planes : List Plane) (growths slice : List Growth) (node : TypeId) (g : Growth) → AreGrowths program planes growths → slice ≡ growths → node.0 < length program.structures → g ≡ get_or slice node.0 g
+    → AreTails program planes node g.tails
+growth-at program planes growths slice node g are same within at =
+    are.each node.0 g (slice_get_read growths (length growths) node.0 g refl (omega (arith, within, are.all)) (at ∙ ap (λ gs. get_or gs node.0 g) same))

@@ -1,38 +1,44 @@
 -- A settled program has one layout: laid out again and again from nothing, it changes no more after as many times as structures
 -- stand one inside another.
-use Rattle.std.proofs.Common.{◌≡◌, ℕ, zero, suc, ◌-◌, ◌≤◌, ◌<◌, false, IsTrue, Option, Some, None, option_map, List, [], ◌∷◌, map, length, get_or, sym, ap, subst, ◌∙◌, refl, ◌⊎◌, inl, inr, arith}
+use Rattle.std.proofs.Common.{◌≡◌, ℕ, zero, suc, ◌+◌, ◌-◌, ◌≤◌, ◌<◌, Bool, true, false, IsTrue, Option, Some, None, option_map, List, [], ◌∷◌, ◌++◌, map, length, take, get_or, sym, ap, subst, ◌∙◌, refl, ◌⊎◌, inl, inr, arith}
 use Rattle.std.specs.List.{All}
-use Rattle.std.specs.Prelude.{slice_get}
-use Rattle.std.proofs.lemmas.List.{length-map}
-use Rattle.std.proofs.lemmas.Option.{get_or_from_slice_get, same_Some, none-some, slice_get-map, slice_get-get_or, slice_get_cases, slice_get_past}
+use Rattle.std.specs.Prelude.{slice_get, option_to_list}
+use Rattle.std.proofs.lemmas.List.{length-map, take_all, take_more}
+use Rattle.std.proofs.lemmas.Option.{get_or_from_slice_get, same_Some, none-some, slice_get-map, slice_get-get_or, slice_get_cases, slice_get_past, slice_get_within}
 use Rattle.std.proofs.lemmas.List.Elements.{All-head, All-tail, All-map}
 use Rattle.gt_types.specs.declared.limits.TheConstants.{MAX_DEPTH}
+use Rattle.gt_types.specs.declared.expressions.Expr.{Expr}
 use Rattle.gt_types.specs.declared.types.TypeId.{TypeId}
+use Rattle.gt_types.specs.declared.types.Ty.TheVariants as ty
 use Rattle.gt_types.specs.declared.program.Field.{Field}
 use Rattle.gt_types.specs.declared.program.Structure.{Structure}
 use Rattle.gt_types.specs.declared.program.Root.{Root}
 use Rattle.gt_types.specs.declared.program.Program.{Program}
-use Rattle.gt_types.specs.Contains.{held_by}
-use Rattle.gt_types.specs.Shapes.{is_field_type}
+use Rattle.gt_types.specs.Contains.{HasStructure, held_by}
+use Rattle.gt_types.specs.Tails.{tail_of}
+use Rattle.gt_types.specs.Shapes.{is_field_type, is_structure}
 use Rattle.gt_types.specs.Settled.{Settled}
 use Rattle.gt_fields.specs.declared.field_names.FieldNames.{FieldNames}
 use Rattle.gt_fields.specs.FieldNames.{field_names}
 use Rattle.gt_unions.specs.declared.tables.Unions.{Unions}
 use Rattle.gt_unions.specs.Tables.{union_tables}
 use Rattle.gt_layout.specs.declared.planes.Growth.{Growth}
-use Rattle.gt_layout.specs.Growths.{growth_of}
+use Rattle.gt_layout.specs.declared.planes.TailSpot.{TailSpot}
+use Rattle.gt_layout.specs.Growths.{AreTails, AreGrowths, tail_spot}
 use Rattle.gt_layout.specs.declared.planes.Plane.{Plane}
 use Rattle.gt_layout.specs.declared.planes.Layouts.{Layouts}
 use Rattle.gt_layout.specs.declared.storages.Storage.{Storage}
-use Rattle.gt_layout.specs.Storages.{extent_at, extent_of_plane, storage_of, storages_of}
+use Rattle.gt_layout.specs.Storages.{extent_at, extent_of, extent_of_plane, storage_of, storages_of}
 use Rattle.gt_layout.specs.Planes.{IsPlane, AreLaidOut, IsLaidOut, root_storages}
-use Rattle.gt_layout.specs.Places.{align_of}
+use Rattle.gt_layout.specs.Places.{align_of, last_offset}
 use Rattle.gt_layout.specs.Laws.{HasOneLayout}
-use Rattle.gt_layout.specs.Progress.{IsWithinDepth}
+use Rattle.gt_layout.specs.Progress.{IsWithinDepth, with_tails}
 use Rattle.gt_layout.proofs.Placing.{plane_of, IsPossible, greatest_some}
 use Rattle.gt_layout.proofs.PlaneOf.{plane_is, plane_only}
 use Rattle.gt_layout.proofs.Types.{same_storage, possible_field, root_field}
 use Rattle.gt_layout.proofs.Laying.{held_within, shapes_of}
+use Rattle.gt_layout.proofs.Growing.{Gathered, gathered-none, gathered-flat, gathered-node, struct-tails, tails-only, union-tails}
+use Rattle.gt_layout.proofs.Depths.{OfInner, by_depth, held-node, inner_there, node_cases}
 
 abbrev node_at : ℕ → TypeId
 node_at i = record { 0 = i }
@@ -184,24 +190,100 @@ ideal_laid program settled =
     fixed_laid program (after MAX_DEPTH program) settled
     (same_list (after MAX_DEPTH program) (layer program (after MAX_DEPTH program)) (λ place. settles program MAX_DEPTH settled place (λ n inner nests. settled.depth n (node_at place) inner nests)))
 
+-- ---- how structures grow
+
+module _ (program : Program) (planes : List Plane) (settled : Settled program) (laid : AreLaidOut program planes) where
+  abbrev HasTails : TypeId → Type 0
+  HasTails node = (tails : List TailSpot) × AreTails program planes node tails
+
+  -- what is found of the members of a union, one after another
+  gather : (node : TypeId) (s : Structure) → HasStructure program node s → OfInner program HasTails node → (n : ℕ) → n ≤ length s.fields → (tails : List TailSpot) × Gathered program planes (take n s.fields) tails
+  gather node s has inner zero le = ([], gathered-none program planes)
+  gather node s has inner (suc n) le = go (gather node s has inner n (omega (arith, le))) (slice_get_cases s.fields n).1
+    where
+      go : (tails : List TailSpot) × Gathered program planes (take n s.fields) tails
+          → ((f : Field) × (n < length s.fields) × (slice_get s.fields n ≡ Some f) × (get_or s.fields n f ≡ f)) ⊎ ((length s.fields ≤ n) × (slice_get s.fields n ≡ None))
+          → (tails : List TailSpot) × Gathered program planes (take (suc n) s.fields) tails
+      go before (inr past) = absurd (omega (arith, le, past.0))
+      go before (inl (f, lt, _, at)) = by_type (node_cases f.ty)
+        where
+          more : take (suc n) s.fields ≡ take n s.fields ++ f ∷ []
+          more = let next : suc n ≡ n + 1 = omega arith in ap (λ k. take k s.fields) next ∙ take_more s.fields n f lt ∙ ap (λ (g : Field). take n s.fields ++ g ∷ []) at
+
+          by_type : ((other : TypeId) × (desc : Option Expr) × (f.ty ≡ ty.Node other desc)) ⊎ ((is_structure f.ty ≡ false) × ((other : TypeId) (desc : Option Expr) → f.ty ≡ ty.Node other desc → ⊥))
+              → (tails : List TailSpot) × Gathered program planes (take (suc n) s.fields) tails
+          by_type (inr flat) = (before.0, subst (λ fs. Gathered program planes fs before.0) (sym more) (gathered-flat program planes (take n s.fields) f before.0 before.1 flat.1))
+          by_type (inl (other, desc, type)) =
+              let there = inner_there program node s f other settled has (n, lt, at) (held-node f.ty other desc type) in
+              let its = inner other there.0 there.1 there.2 in
+              (with_tails its.0 before.0, subst (λ fs. Gathered program planes fs (with_tails its.0 before.0)) (sym more) (gathered-node program planes (take n s.fields) f before.0 its.0 other desc before.1 type its.1))
+
+  tails-by : (node : TypeId) (s : Structure) (union : Bool) → s.is_union ≡ union → HasStructure program node s → OfInner program HasTails node → HasTails node
+  tails-by node s true union has inner =
+      let found = gather node s has inner (length s.fields) (omega arith) in
+      (found.0, union-tails program planes node s found.0 has union (subst (λ fs. Gathered program planes fs found.0) (take_all (length s.fields) s.fields (omega arith)) found.1))
+  tails-by node s false struct has inner =
+      let plane = get_or planes node.0 (plane_of false []) in
+      let at = slice_get-get_or planes node.0 (plane_of false []) (omega (arith, slice_get_within program.structures node.0 s has, laid.all)) in
+      (option_to_list (option_map (λ elem. tail_spot (last_offset plane.fields) (extent_of planes elem).size) (tail_of s.fields)), struct-tails program planes node s plane has at struct (tail_of s.fields) refl)
+
+  tails_of : (node : TypeId) (s : Structure) → HasStructure program node s → HasTails node
+  tails_of node s has = by_depth program HasTails (λ other t there inner. tails-by other t t.is_union refl there inner) settled node s has
+
+  -- an entry for each place, where there is one for each
+  entries : {X : Type 0} (P : ℕ → X → Type 0) (count : ℕ) → ((place : ℕ) → place < count → (x : X) × P place x) → (xs : List X) × (length xs ≡ count) × ((place : ℕ) (x : X) → slice_get xs place ≡ Some x → P place x)
+  entries P zero each = ([], refl, λ place x e. absurd (none-some x e))
+  entries {X} P (suc count) each =
+      let first = each 0 (omega arith) in
+      let rest = entries (λ place x. P (suc place) x) count (λ place lt. each (suc place) (omega (arith, lt))) in
+      (first.0 ∷ rest.0, ap suc rest.1, λ place x e. at first.0 rest.0 first.1 rest.2 place x e)
+    where
+      at : (y : X) (ys : List X) → P 0 y → ((place : ℕ) (x : X) → slice_get ys place ≡ Some x → P (suc place) x) → (place : ℕ) (x : X) → slice_get (y ∷ ys) place ≡ Some x → P place x
+      at y ys here later zero x e = subst (P 0) (same_Some y x e) here
+      at y ys here later (suc place) x e = later place x e
+
+  growths_there : (growths : List Growth) × AreGrowths program planes growths
+  growths_there =
+      let found = entries (λ place (g : Growth). AreTails program planes (node_at place) g.tails) (length program.structures) (λ place lt. one place (slice_get_cases program.structures place).1 lt) in
+      (found.0, record { all = found.1; each = found.2 })
+    where
+      one : (place : ℕ)
+          → ((s : Structure) × (place < length program.structures) × (slice_get program.structures place ≡ Some s) × (get_or program.structures place s ≡ s)) ⊎ ((length program.structures ≤ place) × (slice_get program.structures place ≡ None))
+          → place < length program.structures → (g : Growth) × AreTails program planes (node_at place) g.tails
+      one place (inl (s, _, has, _)) lt = let its = tails_of (node_at place) s has in (record { tails = its.0 }, its.1)
+      one place (inr past) lt = absurd (omega (arith, lt, past.0))
+
+-- structures grow in one way
+only_growths : (program : Program) (planes : List Plane) (a b : List Growth) → AreGrowths program planes a → AreGrowths program planes b → a ≡ b
+only_growths program planes a b is is' = same_list a b (λ place. same_at place (slice_get_cases a place).1)
+  where
+    same_at : (place : ℕ) → ((g : Growth) × (place < length a) × (slice_get a place ≡ Some g) × (get_or a place g ≡ g)) ⊎ ((length a ≤ place) × (slice_get a place ≡ None)) → slice_get a place ≡ slice_get b place
+    same_at place (inr (past, none)) = none ∙ sym (slice_get_past b place (omega (arith, past, is.all, is'.all)))
+    same_at place (inl (g, lt, at, _)) =
+        let h = get_or b place g in
+        let at' = slice_get-get_or b place g (omega (arith, lt, is.all, is'.all)) in
+        let tails : g.tails ≡ h.tails = tails-only program planes (node_at place) g.tails h.tails (is.each place g at) (is'.each place h at') in
+        let same : g ≡ h = ap (λ (ts : List TailSpot). let k : Growth = record { tails = ts } in k) tails in
+        at ∙ ap (λ (k : Growth). Some k) same ∙ sym at'
+
 -- the layouts of a program
-pub ideal_layouts : Program → Layouts
-ideal_layouts program = record {
+pub ideal_layouts : (program : Program) → Settled program → Layouts
+ideal_layouts program settled = record {
   structures = ideal program;
   statics = plane_of false (root_storages (ideal program) program.roots);
   names = field_names program.structures;
   unions = union_tables program;
-  growths = map (growth_of program (ideal program)) program.structures;
+  growths = (growths_there program (ideal program) settled (ideal_laid program settled)).0;
 }
 
-pub ideal_is : (program : Program) → Settled program → IsLaidOut program (ideal_layouts program)
+pub ideal_is : (program : Program) → (settled : Settled program) → IsLaidOut program (ideal_layouts program settled)
 unfolding ideal_layouts
 ideal_is program settled = record {
   structures = ideal_laid program settled;
   statics = plane_is false (root_storages (ideal program) program.roots) (possible_roots program (ideal program) settled (λ place. some_align program (ideal program) place (ideal_laid program settled)));
   names = refl;
   unions = refl;
-  growths = refl;
+  growths = (growths_there program (ideal program) settled (ideal_laid program settled)).1;
 }
 
 abbrev layouts_of : List Plane → Plane → FieldNames → Unions → List Growth → Layouts
@@ -223,7 +305,7 @@ only_layouts program a b settled is is' =
     (plane_only false (root_storages a.structures program.roots) a.statics (possible a is.structures) is.statics
     ∙ ap (λ ps. plane_of false (root_storages ps program.roots)) same ∙ sym (plane_only false (root_storages b.structures program.roots) b.statics (possible b is'.structures) is'.statics))
     (is.names ∙ sym is'.names) (is.unions ∙ sym is'.unions)
-    (is.growths ∙ ap (λ (ps : List Plane). map (growth_of program ps) program.structures) same ∙ sym is'.growths)
+    (only_growths program b.structures a.growths b.growths (subst (λ (ps : List Plane). AreGrowths program ps a.growths) same is.growths) is'.growths)
 
 pub one_layout : (program : Program) → Settled program → HasOneLayout program
-one_layout program settled = (ideal_layouts program, ideal_is program settled, λ other is. only_layouts program other (ideal_layouts program) settled is (ideal_is program settled))
+one_layout program settled = (ideal_layouts program settled, ideal_is program settled, λ other is. only_layouts program other (ideal_layouts program settled) settled is (ideal_is program settled))

@@ -5,9 +5,13 @@ pub mod Drafting
 pub mod Agreement
 pub mod Types
 pub mod Laying
+pub mod TailLists
+pub mod Growing
+pub mod Depths
+pub mod LastFields
+pub mod Sized
 pub mod Ideal
+pub mod Capacities
 pub mod Beyond
 pub mod Whole
 pub mod Placed
-pub mod Capacities
-pub mod Growing

@@ -16,7 +16,7 @@ use Rattle.gt_fields.specs.FieldNames.{field_names}
 use Rattle.gt_unions.specs.declared.tables.Unions.{Unions}
 use Rattle.gt_unions.specs.Tables.{union_tables}
 use Rattle.gt_layout.specs.declared.planes.Growth.{Growth}
-use Rattle.gt_layout.specs.Growths.{growth_of}
+use Rattle.gt_layout.specs.Growths.{AreGrowths}
 use Rattle.gt_layout.specs.declared.planes.TheConstants.{MAX_SIZE}
 use Rattle.gt_layout.specs.declared.planes.Plane.{Plane}
 use Rattle.gt_layout.specs.declared.planes.Spot.{Spot}
@@ -206,7 +206,7 @@ beyond_stop program known structure root layouts settled held_all first beyond i
 pub stop_beyond : (program : Program) (known : List Plane) (structure : Option ℕ) (root : ℕ) → Settled program → AreHeldPlanes program known → IsFirst (IsLargeAt program known) structure
     → IsBeyondRecord known program.roots root → Exceeds program structure (Some root)
 stop_beyond program known structure root settled held_all first beyond =
-    beyond_stop program known structure root (ideal_layouts program) settled held_all first beyond (ideal_is program settled)
+    beyond_stop program known structure root (ideal_layouts program settled) settled held_all first beyond (ideal_is program settled)
 
 none_past : (ns : List ℕ) (bound place : ℕ) → All (λ n. n ≤ bound) ns → (place < length ns) ⊎ (length ns ≤ place) → get_or ns place 0 ≤ bound
 none_past ns bound place all (inl within) = all place 0 within
@@ -236,7 +236,7 @@ some_stop program known place statics layouts settled held_all first within is =
 pub stop_some : (program : Program) (known : List Plane) (place : ℕ) (statics : Plane) → Settled program → AreHeldPlanes program known → IsFirst (IsLargeAt program known) (Some place)
     → IsWithinRecord known program.roots statics → Exceeds program (Some place) None
 stop_some program known place statics settled held_all first within =
-    some_stop program known place statics (ideal_layouts program) settled held_all first within (ideal_is program settled)
+    some_stop program known place statics (ideal_layouts program settled) settled held_all first within (ideal_is program settled)
 
 small_by : (p : Plane) → (MAX_SIZE < p.size) ⊎ (p.size ≤ MAX_SIZE) → ¬ (MAX_SIZE < p.size) → held p ≡ p
 small_by p (inl large) never = absurd (never large)
@@ -269,7 +269,7 @@ layouts_of structures statics names unions growths = record { structures = struc
 
 pub all_laid_out : (program : Program) (known structures : List Plane) (statics : Plane) (names : FieldNames) (unions : Unions) (growths : List Growth) → Settled program → AreHeldPlanes program known
     → ((other : ℕ) → ¬ IsLargeAt program known other) → IsWithinRecord known program.roots statics → structures ≡ known → names ≡ field_names program.structures → unions ≡ union_tables program
-    → growths ≡ map (growth_of program known) program.structures → IsLaidOut program (layouts_of structures statics names unions growths)
+    → AreGrowths program known growths → IsLaidOut program (layouts_of structures statics names unions growths)
 all_laid_out program known structures statics names unions growths settled held_all none within same named united grown =
     subst (λ (ps : List Plane). IsLaidOut program (layouts_of ps statics names unions growths)) (sym same)
     (record { structures = known_laid program known settled held_all none; statics = within.is; names = named; unions = united; growths = grown })

@@ -11,16 +11,9 @@ use Rattle.gt_types.specs.Contains.{HasStructure}
 use Rattle.gt_types.specs.Shapes.{is_structure}
 use Rattle.gt_types.specs.Tails.{tail_of}
 use Rattle.gt_layout.specs.declared.planes.Plane.{Plane}
-use Rattle.gt_layout.specs.declared.planes.Spot.{Spot}
 use Rattle.gt_layout.specs.Storages.{extent_of, storage_of}
-use Rattle.gt_layout.specs.Places.{end_of}
+use Rattle.gt_layout.specs.Places.{end_of, last_offset}
 use Rattle.gt_layout.specs.Planes.{IsSize}
-
--- the offset of the last field
-abbrev pub last_offset : List Spot → ℕ
-last_offset [] = 0
-last_offset (s ∷ []) = s.offset
-last_offset (s ∷ t ∷ ss) = last_offset (t ∷ ss)
 
 mutual
   -- The size of a structure at a capacity. A struct that ends in an array with a length has room for so many elements from

@@ -1,55 +1,47 @@
--- How unions grow with the number of elements for which there is room at their end.
-use Rattle.std.specs.Prelude.{ℕ, max, Bool, false, ◌||◌, cond, if◌then◌else◌, List, [], ◌∷◌, ◌++◌, Option, Some, None, is_some, slice_get}
+-- How structures grow with the number of elements for which there is room at their end.
+use Rattle.std.specs.Prelude.{◌≡◌, ◌≤◌, ◌<◌, ℕ, ◌+◌, ◌*◌, max, true, false, List, [], ◌∷◌, Option, Some, length, slice_get, All, AllPairs, Any, Contains}
+use Rattle.gt_types.specs.declared.expressions.Expr.{Expr}
 use Rattle.gt_types.specs.declared.types.TypeId.{TypeId}
 use Rattle.gt_types.specs.declared.types.Ty.{Ty}
+use Rattle.gt_types.specs.declared.types.Ty.TheVariants as ty
 use Rattle.gt_types.specs.declared.program.Field.{Field}
 use Rattle.gt_types.specs.declared.program.Structure.{Structure}
 use Rattle.gt_types.specs.declared.program.Program.{Program}
-use Rattle.gt_types.specs.Contains.{itself}
+use Rattle.gt_types.specs.Contains.{HasStructure}
 use Rattle.gt_types.specs.Tails.{tail_of}
 use Rattle.gt_layout.specs.declared.planes.Growth.{Growth}
 use Rattle.gt_layout.specs.declared.planes.Plane.{Plane}
-use Rattle.gt_layout.specs.Storages.{held_storage, storage_of}
-use Rattle.gt_layout.specs.Places.{end_of}
+use Rattle.gt_layout.specs.declared.planes.TailSpot.{TailSpot}
+use Rattle.gt_layout.specs.Storages.{extent_of}
+use Rattle.gt_layout.specs.Places.{last_offset}
 
--- a structure may grow: it is a union, or ends in an array with a length
-abbrev pub grows : Structure → Bool
-grows s = s.is_union || is_some (tail_of s.fields)
+abbrev pub tail_spot : ℕ → ℕ → TailSpot
+tail_spot offset elem_size = record { offset = offset; elem_size = elem_size }
 
-abbrev pub grows_there : Option Structure → Bool
-grows_there (Some s) = grows s
-grows_there None = false
+-- An array with a length lies in a structure: as the last field of a struct, or in a member of a union, which begins where the
+-- union does.
+pub data HasTail (program : Program) (planes : List Plane) : TypeId → TailSpot → Type 0 where
+  at_end : {node : TypeId} {s : Structure} {plane : Plane} {elem : Ty} → HasStructure program node s → slice_get planes node.0 ≡ Some plane
+      → s.is_union ≡ false → tail_of s.fields ≡ Some elem → HasTail program planes node (tail_spot (last_offset plane.fields) (extent_of planes elem).size)
+  in_member : {node inner : TypeId} {s : Structure} {f : Field} {desc : Option Expr} {tail : TailSpot} → HasStructure program node s → s.is_union ≡ true
+      → Contains s.fields f → f.ty ≡ ty.Node inner desc → HasTail program planes inner tail → HasTail program planes node tail
 
-abbrev pub growing_node : Program → Option TypeId → Option TypeId
-growing_node program (Some node) = cond (grows_there (slice_get program.structures node.0)) (Some node) None
-growing_node program None = None
+-- an array of elements of this size begins there, or later
+abbrev pub Reaches : List TailSpot → TailSpot → Type 0
+Reaches tails tail = Any (λ other. (other.elem_size ≡ tail.elem_size) × (tail.offset ≤ other.offset)) tails
 
--- the structure that a type is, where it may grow
-abbrev pub growing : Program → Ty → Option TypeId
-growing program type = growing_node program (itself type)
+-- for each size of elements, once and in rising order, the last place in a structure at which an array of such elements begins
+pub record AreTails (program : Program) (planes : List Plane) (node : TypeId) (tails : List TailSpot) : Type 0 where
+  pub there : All (HasTail program planes node) tails
+  pub last : (tail : TailSpot) → HasTail program planes node tail → Reaches tails tail
+  pub rising : AllPairs (λ tail other. tail.elem_size < other.elem_size) tails
 
-abbrev pub listed : Option TypeId → List TypeId
-listed (Some node) = node ∷ []
-listed None = []
+-- how each structure of a program grows
+pub record AreGrowths (program : Program) (planes : List Plane) (growths : List Growth) : Type 0 where
+  pub all : length growths ≡ length program.structures
+  pub each : (place : ℕ) (growth : Growth) → slice_get growths place ≡ Some growth → AreTails program planes (record { 0 = place }) growth.tails
 
--- the structures of the members that may grow
-abbrev pub growing_in : Program → List Field → List TypeId
-growing_in program [] = []
-growing_in program (f ∷ fs) = listed (growing program f.ty) ++ growing_in program fs
-
--- the end of a member that may not grow
-abbrev pub fixed : Option TypeId → ℕ → ℕ
-fixed (Some node) end = 0
-fixed None end = end
-
--- the bit after the last one of the other members, each held within the limit
-abbrev pub fixed_end : Program → List Plane → List Field → ℕ
-fixed_end program planes [] = 0
-fixed_end program planes (f ∷ fs) = max (fixed (growing program f.ty) (end_of (held_storage (storage_of planes f.ty)) 0)) (fixed_end program planes fs)
-
-abbrev pub growth : ℕ → List TypeId → Growth
-growth end nodes = record { end = end; nodes = nodes }
-
--- how a union grows; a struct has no members
-abbrev pub growth_of : Program → List Plane → Structure → Growth
-growth_of program planes s = if s.is_union then growth (fixed_end program planes s.fields) (growing_in program s.fields) else growth 0 []
+-- the byte after the last element of these arrays, where there is room for so many in each; 0 where there are no arrays
+abbrev pub end_of_tails : ℕ → List TailSpot → ℕ
+end_of_tails capacity [] = 0
+end_of_tails capacity (tail ∷ tails) = max (tail.offset + capacity * tail.elem_size) (end_of_tails capacity tails)

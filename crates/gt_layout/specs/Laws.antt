@@ -1,15 +1,19 @@
 -- What follows for all layouts.
-use Rattle.std.specs.Prelude.{◌≡◌, ◌≤◌, ◌<◌, ℕ, ◌+◌, ◌*◌, ◌%◌, Bool, false, List, Some, slice_get}
+use Rattle.std.specs.Prelude.{◌≡◌, ◌≤◌, ◌<◌, ℕ, ◌+◌, ◌*◌, ◌%◌, Bool, false, List, [], ◌∷◌, Some, slice_get}
+use Rattle.gt_types.specs.declared.types.TypeId.{TypeId}
 use Rattle.gt_types.specs.declared.program.Structure.{Structure}
 use Rattle.gt_types.specs.declared.program.Program.{Program}
 use Rattle.gt_layout.specs.declared.planes.Spot.{Spot}
+use Rattle.gt_layout.specs.declared.planes.Growth.{Growth}
 use Rattle.gt_layout.specs.declared.planes.Plane.{Plane}
 use Rattle.gt_layout.specs.declared.planes.Layouts.{Layouts}
 use Rattle.gt_layout.specs.declared.storages.Storage.{Storage}
 use Rattle.gt_layout.specs.declared.storages.Storage.TheVariants.{Bytes, Bits}
 use Rattle.gt_layout.specs.Storages.{storages_of}
 use Rattle.gt_layout.specs.Places.{begin_at, end_at}
-use Rattle.gt_layout.specs.Planes.{IsLaidOut, root_storages}
+use Rattle.gt_layout.specs.Planes.{IsLaidOut, IsSize, root_storages}
+use Rattle.gt_layout.specs.Growths.{end_of_tails}
+use Rattle.gt_layout.specs.Capacity.{SizeAt}
 
 -- each settled program has exactly one layout
 abbrev pub HasOneLayout : Program → Type 0
@@ -38,3 +42,9 @@ pub record PlacesHold (program : Program) (layouts : Layouts) : Type 0 where
   pub structures : (place : ℕ) (s : Structure) (plane : Plane) → slice_get program.structures place ≡ Some s → slice_get layouts.structures place ≡ Some plane
       → ArePlaced s.is_union (storages_of layouts.structures s.fields) plane
   pub statics : ArePlaced false (root_storages layouts.structures program.roots) layouts.statics
+
+-- with room for elements at its end a structure takes the least size that holds both its plane and the last element of each array with
+-- a length in it
+abbrev pub SizesGrow : Program → Layouts → Type 0
+SizesGrow program layouts = (node : TypeId) (plane : Plane) (growth : Growth) (capacity size : ℕ) → slice_get layouts.structures node.0 ≡ Some plane → slice_get layouts.growths node.0 ≡ Some growth
+    → SizeAt program layouts.structures capacity node size → IsSize plane.align (8 * plane.size ∷ 8 * end_of_tails capacity growth.tails ∷ []) size

@@ -61,3 +61,9 @@ Lie false fields spots = Follow 0 fields spots
 abbrev pub ends : List Storage → List Spot → List ℕ
 ends (f ∷ fs) (s ∷ ss) = end_at f s ∷ ends fs ss
 ends _ _ = []
+
+-- the offset of the last field
+abbrev pub last_offset : List Spot → ℕ
+last_offset [] = 0
+last_offset (s ∷ []) = s.offset
+last_offset (s ∷ t ∷ ss) = last_offset (t ∷ ss)

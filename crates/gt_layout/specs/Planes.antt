@@ -13,7 +13,7 @@ use Rattle.gt_layout.specs.declared.storages.Storage.{Storage}
 use Rattle.gt_layout.specs.declared.storages.Storage.TheVariants.{Bytes, Bits}
 use Rattle.gt_layout.specs.Storages.{storage_of, storages_of}
 use Rattle.gt_layout.specs.Places.{Lie, ends, align_of}
-use Rattle.gt_layout.specs.Growths.{growth_of}
+use Rattle.gt_layout.specs.Growths.{AreGrowths}
 
 -- the greatest of numbers, and at least 1
 abbrev pub greatest : List ℕ → ℕ
@@ -49,13 +49,13 @@ pub record AreLaidOut (program : Program) (planes : List Plane) : Type 0 where
 abbrev pub root_storages : List Plane → List Root → List Storage
 root_storages planes roots = map (λ r. storage_of planes r.ty) roots
 
--- the layouts of a program: its planes, that of the static record, the names of its fields, the tables of its unions, and how each grows
+-- the layouts of a program: its planes, that of the static record, the names of its fields, the tables of its unions, and how each structure grows
 pub record IsLaidOut (program : Program) (layouts : Layouts) : Type 0 where
   pub structures : AreLaidOut program layouts.structures
   pub statics : IsPlaneOf false (root_storages layouts.structures program.roots) layouts.statics
   pub names : layouts.names ≡ field_names program.structures
   pub unions : layouts.unions ≡ union_tables program
-  pub growths : layouts.growths ≡ map (growth_of program layouts.structures) program.structures
+  pub growths : AreGrowths program layouts.structures layouts.growths
 
 -- ---- how planes are held in 32 bits
 

@@ -1,23 +1,26 @@
 -- No promise: what the proofs of laying out one structure after another need.
-use Rattle.std.specs.Prelude.{◌≡◌, ◌≢◌, ◌≤◌, ◌<◌, ◌⊎◌, ℕ, ◌+◌, ◌-◌, ◌*◌, ◌/◌, ◌^◌, Bool, true, false, Option, Some, List, [], ◌∷◌, length, slice_get, slice_index, All, IsTrue}
+use Rattle.std.specs.Prelude.{◌≡◌, ◌≢◌, ◌≤◌, ◌<◌, ◌⊎◌, ℕ, ◌+◌, ◌-◌, ◌*◌, ◌/◌, Bool, true, false, Option, Some, List, [], ◌∷◌, length, slice_get, slice_index, All, IsTrue, max, nat_lt, take, option_map}
 use Rattle.gt_types.specs.declared.types.TypeId.{TypeId}
 use Rattle.gt_types.specs.declared.program.Program.{Program}
 use Rattle.gt_types.specs.declared.types.Ty.{Ty}
-use Rattle.gt_types.specs.Contains.{HasStructure, Nests, held_by}
+use Rattle.gt_types.specs.Contains.{Nests, held_by}
+use Rattle.gt_types.specs.Tails.{tail_of}
 use Rattle.gt_layout.specs.declared.planes.Plane.{Plane}
 use Rattle.gt_layout.specs.declared.planes.Spot.{Spot}
 use Rattle.gt_layout.specs.declared.storages.Storage.{Storage}
+use Rattle.gt_layout.specs.Storages.{extent_of, held_extent}
 use Rattle.gt_layout.specs.Places.{LiesAfter}
 use Rattle.gt_types.specs.declared.program.Structure.{Structure}
 use Rattle.gt_types.specs.declared.program.Root.{Root}
 use Rattle.gt_layout.specs.declared.planes.TheConstants.{MAX_SIZE}
 use Rattle.gt_layout.specs.declared.layouts.Statics.{Statics}
 use Rattle.gt_layout.specs.declared.layouts.Statics.TheVariants.{Within, Beyond}
-use Rattle.gt_layout.specs.Places.{ends}
+use Rattle.gt_layout.specs.Places.{ends, last_offset}
 use Rattle.gt_layout.specs.Planes.{AreLaidOut, IsPlaneOf, root_storages, held, is_alignment}
 use Rattle.gt_layout.specs.Excess.{HasLargeElement, IsFirst}
-use Rattle.gt_layout.specs.Capacity.{SizeAt, MemberEnds}
-use Rattle.gt_types.specs.declared.program.Field.{Field}
+use Rattle.gt_layout.specs.declared.planes.Growth.{Growth}
+use Rattle.gt_layout.specs.declared.planes.TailSpot.{TailSpot}
+use Rattle.gt_layout.specs.Growths.{AreTails, tail_spot}
 
 -- the structure at a place is laid out
 abbrev pub IsLaid : List Plane → ℕ → Type 0
@@ -93,40 +96,45 @@ abbrev pub IsStatics : List Plane → List Root → Statics → Type 0
 IsStatics known roots (Within plane) = IsWithinRecord known roots plane
 IsStatics known roots (Beyond root) = IsBeyondRecord known roots root
 
--- the structure of this number is a union, where `true` is given, or a struct
-abbrev pub IsOfKind : Program → TypeId → Bool → Type 0
-IsOfKind program node is_union = (s : Structure) → HasStructure program node s → s.is_union ≡ is_union
+-- ---- how structures grow
 
--- the size of a structure at a capacity, with a bound by how deep structures stand inside it
-pub record IsSizeByDepth (program : Program) (planes : List Plane) (capacity : ℕ) (node : TypeId) (size : ℕ) : Type 0 where
-  pub is : SizeAt program planes capacity node size
-  pub small : (depth : ℕ) → IsWithinDepth program node.0 depth → size ≤ 2 ^ 53 + (depth + 1) * 2 ^ 32
+abbrev pub cond_tail : Bool → Bool → List TailSpot → List TailSpot → List TailSpot → List TailSpot
+cond_tail true later before after same = before
+cond_tail false true before after same = after
+cond_tail false false before after same = same
 
--- a table of the sizes of structures at a capacity by their places, with none for one that is not computed yet
-abbrev pub AreSizes : Program → List Plane → ℕ → List (Option ℕ) → Type 0
-AreSizes program planes capacity known = (place size : ℕ) → slice_get known place ≡ Some (Some size) → IsSizeByDepth program planes capacity (record { 0 = place }) size
+-- one array with a length more: where there are arrays of such elements already, the last of them counts
+abbrev pub with_tail : TailSpot → List TailSpot → List TailSpot
+with_tail tail [] = tail ∷ []
+with_tail tail (other ∷ tails) = cond_tail (nat_lt tail.elem_size other.elem_size) (nat_lt other.elem_size tail.elem_size) (tail ∷ other ∷ tails)
+    (other ∷ with_tail tail tails) (tail_spot (max other.offset tail.offset) other.elem_size ∷ tails)
 
--- a structure is in the program, and structures stand inside it less deep
-abbrev pub IsNodeWithin : Program → ℕ → TypeId → Type 0
-IsNodeWithin program depth node = (node.0 < length program.structures) × (1 ≤ depth) × IsWithinDepth program node.0 (depth - 1)
+abbrev pub with_tails : List TailSpot → List TailSpot → List TailSpot
+with_tails [] known = known
+with_tails (tail ∷ tails) known = with_tails tails (with_tail tail known)
 
--- the bit after the last one of each of these structures at a capacity
-abbrev pub NodeEnds : Program → List Plane → ℕ → List TypeId → List ℕ → Type 0
-NodeEnds program planes capacity [] [] = Unit {0}
-NodeEnds program planes capacity (node ∷ nodes) (end ∷ ends) = ((size : ℕ) × SizeAt program planes capacity node size × (end ≡ 8 * size)) × NodeEnds program planes capacity nodes ends
-NodeEnds program planes capacity _ _ = ⊥
+-- the array with a length at the end of a struct, with the size of its elements held within the limit
+abbrev pub own_tail : List Plane → Structure → Plane → Option TailSpot
+own_tail planes s plane = option_map (λ elem. tail_spot (last_offset plane.fields) (held_extent (extent_of planes elem)).size) (tail_of s.fields)
 
--- these structures end, at a capacity, at most at this bit, and one of them there
-pub record HaveSizes (program : Program) (planes : List Plane) (capacity : ℕ) (nodes : List TypeId) (last : ℕ) : Type 0 where
-  pub ends : List ℕ
-  pub are : NodeEnds program planes capacity nodes ends
-  pub inside : All (λ end. end ≤ last) ends
-  pub least : (bound : ℕ) → All (λ end. end ≤ bound) ends → last ≤ bound
-  pub small : (depth : ℕ) → All (IsNodeWithin program depth) nodes → last ≤ 8 * (2 ^ 53 + depth * 2 ^ 32)
+abbrev pub type_id : ℕ → TypeId
+type_id place = record { 0 = place }
 
--- the members of a union end, at a capacity, at most at this bit, and one of them there
-pub record HaveEnds (program : Program) (planes : List Plane) (capacity : ℕ) (fields : List Field) (last : ℕ) : Type 0 where
-  pub ends : List ℕ
-  pub are : MemberEnds program planes capacity fields ends
-  pub inside : All (λ end. end ≤ last) ends
-  pub least : (bound : ℕ) → All (λ end. end ≤ bound) ends → last ≤ bound
+-- the first of these arrays whose elements are not smaller
+pub record IsPlaceOf (elem_size : ℕ) (tails : List TailSpot) (place : ℕ) : Type 0 where
+  pub inside : place ≤ length tails
+  pub before : All (λ tail. tail.elem_size < elem_size) (take place tails)
+  pub here : (tail : TailSpot) → slice_get tails place ≡ Some tail → elem_size ≤ tail.elem_size
+
+-- how a structure grows was found
+abbrev pub IsFound : List (Option Growth) → ℕ → Type 0
+IsFound known place = (growth : Growth) × (slice_get known place ≡ Some (Some growth))
+
+-- what was found is right
+abbrev pub AreFound : Program → List Plane → List (Option Growth) → Type 0
+AreFound program planes known = (place : ℕ) (growth : Growth) → slice_get known place ≡ Some (Some growth) → AreTails program planes (type_id place) growth.tails
+
+-- what was found before is found now
+pub record KeepsFound (before now : List (Option Growth)) : Type 0 where
+  pub all : length now ≡ length before
+  pub kept : (place : ℕ) → IsFound before place → IsFound now place

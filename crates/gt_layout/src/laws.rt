@@ -3,7 +3,7 @@ ghost use Rattle.gt_types.specs.declared.program.Program.{Program};
 ghost use Rattle.gt_types.specs.Settled.{Settled};
 ghost use Rattle.gt_layout.specs.declared.planes.Layouts.{Layouts};
 ghost use Rattle.gt_layout.specs.Planes.{IsLaidOut};
-ghost use Rattle.gt_layout.specs.Laws.{HasOneLayout, PlacesHold};
+ghost use Rattle.gt_layout.specs.Laws.{HasOneLayout, PlacesHold, SizesGrow};
 
 /// Each settled program has exactly one layout.
 pub fn one_layout()
@@ -14,4 +14,10 @@ pub fn one_layout()
 /// them share a bit. A bit-field does not cross its storage unit.
 pub fn places()
     ensures { (program : Program) (layouts : Layouts) → Settled program → IsLaidOut program layouts → PlacesHold program layouts }
+{}
+
+/// With room for elements at its end a structure takes the least multiple of its alignment that is neither below its size without room
+/// nor below the end of the last element of an array with a length inside it.
+pub fn sizes_grow()
+    ensures { (program : Program) (layouts : Layouts) → Settled program → IsLaidOut program layouts → SizesGrow program layouts }
 {}

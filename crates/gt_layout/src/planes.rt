@@ -1,6 +1,6 @@
 // The types of a layout.
 use gt_fields::FieldNames;
-use gt_types::{List, TypeId};
+use gt_types::List;
 use gt_unions::Unions;
 use std::alloc::AllocError;
 
@@ -32,16 +32,23 @@ pub struct Plane {
     pub fields: List<Spot>,
 }
 
-/// How a union grows with the number of elements for which there is room: the structures of those members that may grow, which are
-/// unions and structs that end in an array with a length, and the bit after the last one of all other members.
+/// Where an array with a length begins inside a structure, in bytes from its start, and the bytes of one of its elements.
+#[derive(Clone, Copy, Debug, PartialEq, Eq)]
+pub struct TailSpot {
+    pub offset: u32,
+    pub elem_size: u32,
+}
+
+/// How a structure grows with the number of elements for which there is room at its end: for each size of elements, once and in
+/// rising order, the last place at which an array with a length of such elements begins inside it. A structure without such an
+/// array has none, and does not grow.
 #[derive(Debug, Drop)]
 pub struct Growth {
-    pub end: u64,
-    pub nodes: List<TypeId>,
+    pub tails: List<TailSpot>,
 }
 
 /// The layouts of the structures of a program, by place, and of the static record, which is a struct of the roots; the names of
-/// the fields, by which they are found; the members of the unions, by their tags; and how each union grows, by place.
+/// the fields, by which they are found; the members of the unions, by their tags; and how each structure grows, by place.
 #[derive(Drop)]
 pub struct Layouts {
     pub structures: List<Plane>,

@@ -2,7 +2,9 @@
 ghost use Rattle.std.specs.Prelude.{◌≡◌};
 ghost use Rattle.std.specs.Option.{option_copied};
 ghost use Rattle.gt_types.specs.Tails.{elements_of, tail_of};
+ghost use Rattle.gt_layout.specs.Places.{last_offset};
 
+use crate::planes::Spot;
 use gt_types::{Field, Ty};
 
 fn elements_of(ty: &Ty) -> Option<&Ty>
@@ -21,5 +23,15 @@ pub fn tail_of(fields: &[Field]) -> Option<&Ty>
     match fields {
         [.., last] => elements_of(&last.ty),
         [] => None,
+    }
+}
+
+/// The offset of the last field.
+pub fn last_offset(spots: &[Spot]) -> u32
+    ensures { result ≡ last_offset spots.now }
+{
+    match spots {
+        [.., last] => last.offset,
+        [] => 0,
     }
 }

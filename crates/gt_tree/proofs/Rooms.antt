@@ -20,9 +20,9 @@ use Rattle.gt_layout.specs.declared.planes.Spot.{Spot}
 use Rattle.gt_layout.specs.declared.storages.Storage.{Storage}
 use Rattle.gt_layout.specs.declared.storages.Storage.TheVariants.{Bytes}
 use Rattle.gt_layout.specs.Storages.{bytes_of, extent_of, storage_of, storages_of}
-use Rattle.gt_layout.specs.Places.{begin_at, end_at, end_of, Follow, Overlap, Lie}
+use Rattle.gt_layout.specs.Places.{begin_at, end_at, end_of, Follow, Overlap, Lie, last_offset}
 use Rattle.gt_layout.specs.Places.{ends as ends_at}
-use Rattle.gt_layout.specs.Capacity.{SizeAt, last_offset}
+use Rattle.gt_layout.specs.Capacity.{SizeAt}
 use Rattle.gt_tree.specs.Fits.{types_of}
 use Rattle.gt_tree.proofs.Types.{Plain, Plain-elem, Plain-field, Plain-tail, plain_at, bits_in, end_of-bits, extent-number, extent-opaque, extent-node, extent-array, extent-pointer, held-node, storage-plain}
 

@@ -19,10 +19,10 @@ use Rattle.gt_types.specs.Settled.{Settled, IsField, IsStruct, IsUnion, IsOfItsK
 use Rattle.gt_layout.specs.declared.planes.Plane.{Plane}
 use Rattle.gt_layout.specs.declared.planes.Spot.{Spot}
 use Rattle.gt_layout.specs.Storages.{extent_of, extent_of_plane, storage_of, storages_of}
-use Rattle.gt_layout.specs.Places.{begin_at, end_at, Follow, Overlap, Lie}
+use Rattle.gt_layout.specs.Places.{begin_at, end_at, Follow, Overlap, Lie, last_offset}
 use Rattle.gt_layout.specs.Places.{ends as ends_at}
 use Rattle.gt_layout.specs.Planes.{AreLaidOut}
-use Rattle.gt_layout.specs.Capacity.{SizeAt, MemberEnds, last_offset}
+use Rattle.gt_layout.specs.Capacity.{SizeAt, MemberEnds}
 use Rattle.gt_tree.specs.Fits.{types_of}
 use Rattle.gt_tree.proofs.Types.{bits_in, end_of-bits, extent-node, held-node}
 use Rattle.gt_tree.proofs.Rooms.{Room, Laid, Sound, room-field, room-desc, Laid-follow, Laid-tail, no_tails-none, no_tails-all}
