@@ -184,13 +184,10 @@ named() {
       for (; times > 0; times--) { printf "%s", part[1]; for (i = 2; i <= count; i++) printf "%s%s", name(), part[i] }
     }'
 }
-# The seconds that a reader takes for the file `script`, without those for a script of which the first line is refused.
+# The seconds that a reader takes for the file `script`, from its start to its end.
 read_script() {
-  local none
-  { echo x; cat "$work/script"; } >"$work/input"
-  none=$(seconds 5 "$1")
   cp "$work/script" "$work/input"
-  minus "$(seconds 5 "$1")" "$none"
+  seconds 5 "$1"
 }
 # The same for so many lines.
 read_lines() {

@@ -1,12 +1,13 @@
 -- The texts of steps, one after another.
-use Rattle.std.proofs.Common.{◌≡◌, ℕ, ◌<◌, Bool, true, false, List, [], ◌∷◌, ◌++◌, Option, Some, None, IsTrue, codes, encode_utf8_all, refl, sym, ap, subst, ◌∙◌, arith}
+use Rattle.std.proofs.Common.{◌≡◌, ◌≢◌, ◌≤◌, eqb, take, length, ℕ, ◌<◌, Bool, true, false, List, [], ◌∷◌, ◌++◌, Option, Some, None, IsTrue, codes, encode_utf8_all, refl, sym, ap, subst, ◌∙◌, arith}
 use Rattle.std.specs.Prelude.{◌&&◌, is_some}
 use Rattle.std.specs.List.{list_all}
 use Rattle.std.specs.Char.{is_digit}
 use Rattle.std.specs.Str.{IsUtf8, IsAscii, all_scalars, bytes_eq}
 use Rattle.std.specs.Option.{option_map, option_map_or}
 use Rattle.std.specs.Cmp.Lexicographic.{pointwise}
-use Rattle.std.proofs.lemmas.Bool.{and_parts}
+use Rattle.std.proofs.lemmas.Bool.{and_parts, false_from_ne_true, eqb-true}
+use Rattle.std.proofs.lemmas.List.{length-take-le}
 use Rattle.std.proofs.lemmas.Bool.Decides.{same_from_decides}
 use Rattle.std.proofs.lemmas.Slice.Eq.{bytes_eq-Decides}
 use Rattle.std.proofs.lemmas.Str.{IsUtf8-append, IsUtf8-from_ascii, encodes_same}
@@ -15,12 +16,13 @@ use Rattle.gt_script.specs.declared.command.Hop.{Hop}
 use Rattle.gt_script.specs.declared.command.Hop.TheVariants.{Name, Index}
 use Rattle.gt_script.specs.Texts.{◌>>=◌, following, before}
 use Rattle.gt_script.specs.Values.{name_at, decimal_at}
-use Rattle.gt_script.specs.Steps.{cut_steps, index_at, hop_at, hops_at, AreStepsIn, steps_in, steps_or}
+use Rattle.gt_script.specs.Steps.{cut_steps, index_at, hop_at, hops_at, AreStepsIn, steps_in, steps_or, steps_at}
 use Rattle.gt_script.specs.SameSteps.{same_step}
 use Rattle.gt_script.specs.Language.{IsName, AreSteps, no_steps, field_first, element_first}
 use Rattle.gt_script.proofs.Options.{bind_some}
 use Rattle.gt_script.proofs.NamesSpelled.{name_taken}
 use Rattle.gt_script.proofs.NumbersSpelled.{mapped_some}
+use Rattle.gt_script.proofs.Walks.{place, cut_front}
 use Rattle.gt_script.proofs.PathsSpelled.{joined, cut_joined, steps_taken}
 
 -- ---- they are UTF-8
@@ -64,6 +66,29 @@ known (Some hops) h = refl
 
 pub steps_known : (text : List ℕ) → AreStepsIn text → Some (steps_in text) ≡ hops_at (cut_steps text).1
 steps_known text h = known (hops_at (cut_steps text).1) h.1
+
+-- ---- a whole text
+
+pub begins_first : (text : List ℕ) (n : ℕ) → n ≡ place text → n ≡ 0 → (cut_steps text).0 ≡ []
+begins_first text n at zero = cut_front text ∙ ap (λ k. take k text) (sym at ∙ zero)
+
+pub begins_later : (text : List ℕ) (n : ℕ) → n ≡ place text → n ≤ length text → n ≢ 0 → None ≡ steps_at text
+unfolding steps_at
+begins_later text n at within some =
+    let front : length (cut_steps text).0 ≡ n = ap length (cut_front text ∙ ap (λ k. take k text) (sym at)) ∙ length-take-le n text within in
+    let not_empty : eqb (length (cut_steps text).0) 0 ≡ false = false_from_ne_true _ (λ e. some (sym front ∙ eqb-true _ 0 e)) in
+    rw not_empty refl
+
+pub steps_whole : (text : List ℕ) → (cut_steps text).0 ≡ [] → hops_at (cut_steps text).1 ≡ steps_at text
+unfolding steps_at
+steps_whole text e = rw e refl
+
+pub none_whole : (text : List ℕ) → (cut_steps text).0 ≡ [] → false ≡ is_some (hops_at (cut_steps text).1) → None ≡ steps_at text
+none_whole text e h = unknown (hops_at (cut_steps text).1) h ∙ steps_whole text e
+  where
+    unknown : (read : Option (List Hop)) → false ≡ is_some read → None ≡ read
+    unknown None h = refl
+    unknown (Some hops) h = absurd (cc)
 
 -- ---- the first of them
 

@@ -1,4 +1,4 @@
--- Reading a script line by line. Nothing is promised in these words.
+-- Reading a script line by line. Of these words the laws cite `line_at` alone.
 use Rattle.std.specs.Prelude.{◌≡◌, ℕ, suc, ◌==◌, nat_le, if◌then◌else◌, List, [], ◌∷◌, length, Option, Some, None, Result, Ok, Err}
 use Rattle.std.specs.Option.{option_map}
 use Rattle.std.specs.Str.{is_utf8}

@@ -1,5 +1,5 @@
 -- What a text means where the steps of a path are wanted.
-use Rattle.std.specs.Prelude.{◌≡◌, IsTrue, ℕ, Bool, ◌||◌, ◌==◌, if◌then◌else◌, codes, List, [], ◌∷◌, Option, Some, None, is_some}
+use Rattle.std.specs.Prelude.{◌≡◌, IsTrue, ℕ, Bool, ◌||◌, ◌==◌, if◌then◌else◌, codes, List, [], ◌∷◌, length, Option, Some, None, is_some}
 use Rattle.std.specs.Option.{option_map, option_map_or}
 use Rattle.gt_script.specs.declared.command.Hop.{Hop}
 use Rattle.gt_script.specs.declared.command.Hop.TheVariants.{Name, Index}
@@ -33,6 +33,10 @@ hops_at (text ∷ texts) = do
   hop ← hop_at text
   hops ← hops_at texts
   Some (hop ∷ hops)
+
+-- the steps that a whole text is
+unfoldable pub steps_at : List ℕ → Option (List Hop)
+steps_at text = if length (cut_steps text).0 == 0 then hops_at (cut_steps text).1 else None
 
 -- a text is steps, with nothing before the first
 abbrev pub AreStepsIn : List ℕ → Type 0

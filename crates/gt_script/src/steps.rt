@@ -8,7 +8,7 @@ ghost use Rattle.gt_script.specs.declared.command.Hop.{Hop};
 ghost use Rattle.gt_script.specs.declared.command.Hop.TheVariants.{Name, Index};
 ghost use Rattle.gt_script.specs.Texts.{following};
 ghost use Rattle.gt_script.specs.Values.{name_at};
-ghost use Rattle.gt_script.specs.Steps.{begins_step, cut_steps, index_at, hop_at, hops_at, AreStepsIn, steps_in};
+ghost use Rattle.gt_script.specs.Steps.{begins_step, cut_steps, index_at, hop_at, hops_at, steps_at, AreStepsIn, steps_in};
 ghost use Rattle.gt_script.specs.SameSteps.{same_step, same_step_equiv};
 
 use crate::Hop;
@@ -39,6 +39,23 @@ impl Model for Steps {
 }
 
 impl Steps {
+    /// The steps that a text is, written as in a script: `.name` leads to a field and `[n]` to an element; None where it is no steps. It
+    /// has a copy of the text. Its only error is out of memory.
+    pub fn parse(alloc: Global, text: &str) -> Result<Option<Steps>, AllocError>
+        ensures steps { IfOk result (λ found. found ≡ steps_at text.now) }
+    {
+        let bytes = text.as_bytes();
+        if step_place(bytes) != 0 {
+            return Ok(None);
+        }
+        if !are_steps(bytes) {
+            return Ok(None);
+        }
+        Ok(Some(Steps {
+            text: Word::of(alloc, text)?,
+        }))
+    }
+
     // The steps that a slice is, which begins with one where it has a byte.
     pub fn of(source: &Source, slice: &Slice<'_>) -> Result<Option<Steps>, AllocError>
         requires begins { (cut_steps slice.now).0 ≡ [] }

@@ -1,7 +1,7 @@
 // The commands of a script, each in other words.
 ghost use Rattle.std.specs.Prelude.{◌<◌, ◌^◌, length};
 
-use gt_script::{Command, Given, Hop, Line, Route, ScriptStop, TypeName, parse_script};
+use gt_script::{Command, Given, Hop, Line, Route, ScriptStop, Steps, TypeName, parse_script};
 use gt_types::List;
 use std::alloc::{AllocError, Global};
 
@@ -109,13 +109,30 @@ fn value_text(alloc: Global, value: &Given) -> Result<String, AllocError> {
 fn path_text(alloc: Global, path: &Route) -> Result<String, AllocError> {
     let start = if path.variable { "variable" } else { "root" };
     let mut text = format!(in alloc; "{start} {}", path.name.as_str())?;
+    let mut written = String::new(alloc);
     let mut hops = path.steps.hops();
     while let Some(hop) = hops.take_first(alloc)? {
-        let step = match hop {
-            Hop::Name(name) => format!(in alloc; ", {}", name.as_str())?,
-            Hop::Index(at) => format!(in alloc; ", at {at}")?,
-        };
-        text.push_str(step.as_str())?;
+        match hop {
+            Hop::Name(name) => {
+                text.push_str(format!(in alloc; ", {}", name.as_str())?.as_str())?;
+                written.push_str(format!(in alloc; ".{}", name.as_str())?.as_str())?;
+            }
+            Hop::Index(at) => {
+                text.push_str(format!(in alloc; ", at {at}")?.as_str())?;
+                written.push_str(format!(in alloc; "[{at}]")?.as_str())?;
+            }
+        }
+    }
+    if !are_steps(alloc, written.as_str(), &path.steps)? {
+        text.push_str(", which does not read back")?;
     }
     Ok(text)
+}
+
+// Whether a text is these steps.
+fn are_steps(alloc: Global, text: &str, steps: &Steps) -> Result<bool, AllocError> {
+    match Steps::parse(alloc, text)? {
+        Some(read) => Ok(read == *steps),
+        None => Ok(false),
+    }
 }
