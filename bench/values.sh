@@ -2,7 +2,7 @@
 # Times zero, a write, showing, storing, reading back and showing again of 50 values by the program value_table, which is built first: structures that
 # end in so many pointers, with ten times as many from row to row; then showing, storing and reading alone, so many times; and, by the program gtyheap,
 # `print` of a structure with so many unions, where reading finds the number that chooses each member by its name, and of unions of so many members; `set` of
-# that number, and in a union of so many members, one of which ends in an array; and the header of so many unions that begin with a large struct. Run by hand,
+# that number, and in a union of so many members, one or all of which end in an array; and the header of so many unions that begin with a large struct. Run by hand,
 # from any folder, after ./gtyheap. The values of the last row of the first table no longer fit the caches: it took 12.4 to 13.2 times as long as the one
 # before, on a busy machine, on 27 November 2026.
 . "$(dirname "$0")/shared.sh"
@@ -107,18 +107,21 @@ large=$(begin 4000)
 small=$(begin 400)
 row 'unions that begin with a large struct' 4000 "$large" 'a tenth' "$small" 12
 
-# The seconds of 2,000 lines `set` of a length in a union of so many members, of which one alone ends in an array of that length: each of them stores
-# the whole value.
+# The seconds of 2,000 lines `set` of a length in a union of so many members: the first ends in an array of that length, and the others are of
+# this type. Each line stores the whole value.
 length_sets() {
-  awk -v n="$1" 'BEGIN {
+  awk -v n="$1" -v type="$2" 'BEGIN {
     print "struct GTY(()) vec { int n; struct vec *GTY((length (\"%h.n\"))) elt[1]; };"
     print "union GTY((desc (\"0\"))) many {\n  struct vec GTY((tag (\"0\"))) v;"
-    for (i = 1; i < n; i++) printf "  int GTY((tag (\"%d\"))) m%d;\n", i, i
+    for (i = 1; i < n; i++) printf "  %s GTY((tag (\"%d\"))) m%d;\n", type, i, i
     print "};" }' >"$work/many.h"
   printf '@new $m many 4\n' >"$work/none.gty"
   { cat "$work/none.gty"; awk 'BEGIN { for (i = 0; i < 2000; i++) print "@set $m.v.n " i % 5 }'; } >"$work/sets.gty"
   lines_alone
 }
-large=$(length_sets 1000)
-small=$(length_sets 100)
+large=$(length_sets 1000 int)
+small=$(length_sets 100 int)
 row 'set in a union, members' 1000 "$large" 'a tenth' "$small" 2
+large=$(length_sets 1000 'struct vec')
+small=$(length_sets 100 'struct vec')
+row 'set in a union, members that grow' 1000 "$large" 'a tenth' "$small" 2
