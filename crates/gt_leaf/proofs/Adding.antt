@@ -2,7 +2,6 @@
 use Rattle.std.proofs.Common.{◌≡◌, ℕ, zero, suc, ◌+◌, List, [], ◌∷◌, refl, sym, subst, ◌⊎◌, arith, Some, inl, inr}
 use Rattle.std.specs.Prelude.{◌↔◌, Contains, fold, slice_get}
 use Rattle.gt_leaf.specs.Seeking.{with_each}
-use Rattle.gt_leaf.proofs.EndLemmas.{either-none, either-both, either-same}
 use Rattle.gt_leaf.proofs.Members.{nothing, first, later, first-or-later}
 
 next-place : (i j : ℕ) → suc i + j ≡ i + suc j
@@ -13,6 +12,30 @@ from-zero i = omega arith
 
 same-place : (i : ℕ) → i ≡ i + 0
 same-place i = omega arith
+
+-- ---- what is there, or what is added
+
+either-none : {A N : Type 0} → ¬ N → A ↔ (A ⊎ N)
+either-none not = (λ a. inl a, λ h. elim h [ inl a ↦ a | inr n ↦ absurd (not n) ])
+
+either-both : {A B C N M K : Type 0} → C ↔ (B ⊎ M) → B ↔ (A ⊎ N) → K ↔ (N ⊎ M) → C ↔ (A ⊎ K)
+either-both {A} {B} {C} {N} {M} {K} f g h = (there, back)
+  where
+    there : C → A ⊎ K
+    there c = elim (f.0 c) [ inl b ↦ elim (g.0 b) [ inl a ↦ inl a | inr n ↦ inr (h.1 (inl n)) ] | inr m ↦ inr (h.1 (inr m)) ]
+
+    more : N ⊎ M → C
+    more (inl n) = f.1 (inl (g.1 (inr n)))
+    more (inr m) = f.1 (inr m)
+
+    back : A ⊎ K → C
+    back (inl a) = f.1 (inl (g.1 (inl a)))
+    back (inr k) = more (h.0 k)
+
+either-same : {A C N K : Type 0} → C ↔ (A ⊎ N) → N ↔ K → C ↔ (A ⊎ K)
+either-same f h = (λ c. elim (f.0 c) [ inl a ↦ inl a | inr n ↦ inr (h.0 n) ], λ e. elim e [ inl a ↦ f.1 (inl a) | inr k ↦ f.1 (inr (h.1 k)) ])
+
+-- ---- steps
 
 -- a step adds to a list what is so
 pub record Adds {Y : Type 0} (g : List Y → List Y) (P : Y → Type 0) : Type 0 where

@@ -4,7 +4,7 @@ use Rattle.std.proofs.Common.{◌≡◌, ℕ, zero, suc, Bool, false, true, IsTr
 use Rattle.std.specs.Prelude.{Contains, IfSome, filter_map, slice_get, option_to_list}
 use Rattle.std.proofs.lemmas.List.Elements.{All-nil, All-same, All-contains}
 use Rattle.std.proofs.lemmas.Option.{slice_get_within, get_or_from_slice_get}
-use Rattle.gt_types.specs.declared.expressions.Base.TheVariants.{Here, Outer}
+use Rattle.gt_types.specs.declared.expressions.Base.TheVariants.{Here, Outer, Outermost}
 use Rattle.gt_types.specs.declared.expressions.Expr.{Expr}
 use Rattle.gt_types.specs.declared.types.TypeId.{TypeId}
 use Rattle.gt_types.specs.declared.types.Scalar.TheVariants as scalar
@@ -23,13 +23,13 @@ use Rattle.gt_types.specs.declared.program.Root.{Root}
 use Rattle.gt_types.specs.declared.program.Structure.{Structure}
 use Rattle.gt_types.specs.declared.program.Program.{Program}
 use Rattle.gt_types.specs.Shapes.{innermost, count_of, is_element, is_element_step, is_structure}
-use Rattle.gt_types.specs.Contains.{HasStructure, held_by, itself}
+use Rattle.gt_types.specs.Contains.{HasStructure, ContainsAtDepth, held_by, itself}
 use Rattle.gt_types.specs.Unions.{IsCommon}
 use Rattle.gt_types.specs.Paths.{paths_of, own_expressions, IsInner, IsOption, IsRootCount}
 use Rattle.gt_types.specs.Settled.{Settled, IsField, IsRoot, IsUnion, IsOfItsKind, IsDescOfRoot, NamesDescribed}
 use Rattle.gt_tree.specs.Trees.{Tree, Trees}
 use Rattle.gt_tree.specs.Blocks.{Kind, Nodes, Pointers, Strings, Chars, Raw, desc_of, element_type}
-use Rattle.gt_tree.specs.Scopes.{Held, Scope, outside, inside}
+use Rattle.gt_tree.specs.Scopes.{Held, Scope, outside, inside, first_of}
 use Rattle.gt_tree.specs.LeafLaws.{IsTypeIn}
 use Rattle.gt_tree.specs.PathLaws.{LeadsInScope}
 use Rattle.gt_tree.specs.FixedLaws.{MayHold}
@@ -38,7 +38,7 @@ use Rattle.gt_tree.proofs.FixedTypes.{sound_at, sound}
 use Rattle.gt_tree.proofs.FixedScopes.{IsAround, around-inside, IsReadable, option-leads, desc-leads, root_desc-leads, innermost-layer, innermost-array, innermost-tail}
 use Rattle.gt_tree.proofs.FixedValues.{in-array, in-tail}
 use Rattle.gt_tree.proofs.WriteScopes.{kind-desc, field-desc}
-use Rattle.gt_leaf.specs.Unread.{expressions_of, expressions_step, IsExpressionOf, BeginsAt}
+use Rattle.gt_leaf.specs.Unread.{expressions_of, expressions_step, IsExpressionOf, MayBeOutermost, BeginsAt}
 use Rattle.gt_leaf.proofs.Members.{contains-append, filter-contains}
 
 -- a type of an element of a block, of a root, or of a part of such a value, and the scope in which it stands
@@ -248,13 +248,24 @@ module _ {program : Program} where
 
 -- ---- where their paths begin
 
--- the paths of an expression from `%h` and `%1` begin at the structures of a scope
+-- the paths of an expression begin at the structures of a scope
 pub record Begins (program : Program) (s : Scope) (e : Expr) : Type 0 where
   pub here : (h : Held) → s.here ≡ Some h → BeginsAt program e Here h.node
   pub outer : (h : Held) → s.outer ≡ Some h → BeginsAt program e Outer h.node
+  pub outermost : (h : Held) → s.outermost ≡ Some h → BeginsAt program e Outermost h.node
 
 node-held : (n : TypeId) (v : Tree) (h : Held) → Some (record { node = n; value = v }) ≡ Some h → n ≡ h.node
 node-held n v h e = let same : record { node = n; value = v } ≡ h = cc in ap (λ x. x.node) same
+
+-- the outermost structure of a scope inside a structure may be so around that one
+outermost-around : (program : Program) (here outermost : Option Held) (node : TypeId) (v : Tree) → IsAround program here outermost node → (h : Held) → first_of outermost (Some (record { node = node; value = v })) ≡ Some h → MayBeOutermost program node h.node
+outermost-around program here None node v a h e = inl (sym (node-held node v h e))
+outermost-around program here (Some top) node v a h e = let same : top ≡ h = cc in inr (subst (λ (x : Held). ContainsAtDepth program x.node node) same (a.around top refl).1)
+
+-- so it is inside another one in there
+first-held : (o : Option Held) (a b h : Held) → first_of (first_of o (Some a)) (Some b) ≡ Some h → first_of o (Some a) ≡ Some h
+first-held None a b h e = e
+first-held (Some x) a b h e = e
 
 own-count : (x : Structure) (f : Field) (len : Expr) → Contains x.fields f → count_of f.ty ≡ Some len → Contains (own_expressions x) len
 own-count x f len c e =
@@ -265,16 +276,20 @@ own-itself x e is =
     (contains-append (filter_map (λ (g : Field). count_of g.ty) x.fields) (option_to_list x.desc) e).1 (inr (subst (λ o. Contains (option_to_list o) e) (sym is) (Contains-get (e ∷ []) 0 e refl)))
 
 module _ {program : Program} where
-  begins-alone : {a : Trees} (union : TypeId) (inner : Tree) (e : Expr) → BeginsAt program e Here union → Begins program (inside (outside a) union inner) e
-  begins-alone union inner e b = record { here = λ h is. subst (λ n. BeginsAt program e Here n) (node-held union inner h is) b; outer = λ h is. absurd (cc) }
+  begins-alone : {a : Trees} (union : TypeId) (inner : Tree) (e : Expr) → BeginsAt program e Here union → BeginsAt program e Outermost union → Begins program (inside (outside a) union inner) e
+  begins-alone union inner e b o = record {
+    here = λ h is. subst (λ n. BeginsAt program e Here n) (node-held union inner h is) b;
+    outer = λ h is. absurd (cc);
+    outermost = λ h is. subst (λ n. BeginsAt program e Outermost n) (node-held union inner h is) o;
+  }
 
-  kind-begins : (kind : Kind) (union : TypeId) (y : Structure) (e : Expr) → HasStructure program union y → innermost (element_type program kind) ≡ ty.Node union (Some e) → BeginsAt program e Here union
+  kind-begins : (kind : Kind) (union : TypeId) (y : Structure) (e : Expr) → HasStructure program union y → innermost (element_type program kind) ≡ ty.Node union (Some e) → BeginsAt program e Here union × BeginsAt program e Outermost union
   kind-begins (Nodes node) union y e has h =
       let same = sym (innermost-node node (desc_of (slice_get program.structures node.0))) ∙ h in
       let equal : node ≡ union = cc in
       let desc : desc_of (slice_get program.structures node.0) ≡ Some e = cc in
       let own : y.desc ≡ Some e = ap desc_of (sym has) ∙ ap (λ n. desc_of (slice_get program.structures n.0)) (sym equal) ∙ desc in
-      BeginsAt.own_here {node = union} {s = y} has (own-itself y e own)
+      (BeginsAt.own_here {node = union} {s = y} has (own-itself y e own), BeginsAt.own_outermost union {s = y} has (own-itself y e own) (inl refl))
   kind-begins (Pointers node) union y e has h = let none = innermost-layer (element_type program (Pointers node)) _ (outs-Ptr (Some (target.Node node)) pointer.Plain false) in absurd (cc)
   kind-begins Strings union y e has h = let none = innermost-layer (ty.Str None) _ (outs-Str None) in absurd (cc)
   kind-begins Chars union y e has h = let none = innermost-layer (ty.Num (scalar.Int W1 false)) _ (outs-Num (scalar.Int W1 false)) in absurd (cc)
@@ -283,10 +298,11 @@ module _ {program : Program} where
 module _ {program : Program} (settled : Settled program) {a : Trees} where
   count-begins : {s : Scope} {type : Ty} → Along program a s type → (len : Expr) → count_of type ≡ Some len → Begins program s len
   count-begins (Along.at_block kind may) len e = absurd (kind-count program kind len e)
-  count-begins (Along.at_root r contains) len e = record { here = λ h is. absurd (cc); outer = λ h is. absurd (cc) }
+  count-begins (Along.at_root r contains) len e = record { here = λ h is. absurd (cc); outer = λ h is. absurd (cc); outermost = λ h is. absurd (cc) }
   count-begins (Along.in_field {s} {node} {desc} {v} {x} {f} p has contains) len e = record {
     here = λ h is. subst (λ n. BeginsAt program len Here n) (node-held node v h is) (BeginsAt.own_here {node = node} {s = x} has (own-count x f len contains e));
     outer = λ h is. BeginsAt.length_outer node {s = x} {f = f} has contains e ((around settled p node (held-node node desc)).within h is);
+    outermost = λ h is. BeginsAt.own_outermost node {s = x} has (own-count x f len contains e) (outermost-around program s.here s.outermost node v (around settled p node (held-node node desc)) h is);
   }
   count-begins (Along.in_common p has o) len e = absurd (cc)
   count-begins (Along.in_array {type} {elem} {n} p e) len is =
@@ -296,11 +312,13 @@ module _ {program : Program} (settled : Settled program) {a : Trees} where
 
   desc-begins : {s : Scope} {type : Ty} → Along program a s type → (union : TypeId) (y : Structure) (e : Expr) → HasStructure program union y → innermost type ≡ ty.Node union (Some e) → (inner : Tree)
       → Begins program (inside s union inner) e
-  desc-begins (Along.at_block kind may) union y e has h inner = begins-alone union inner e (kind-begins kind union y e has h)
-  desc-begins (Along.at_root r contains) union y e has h inner = begins-alone union inner e (BeginsAt.root_here {r = r} contains h)
+  desc-begins (Along.at_block kind may) union y e has h inner = let b = kind-begins kind union y e has h in begins-alone union inner e b.0 b.1
+  desc-begins (Along.at_root r contains) union y e has h inner = begins-alone union inner e (BeginsAt.root_here {r = r} contains h) (BeginsAt.root_outermost {r = r} contains h)
   desc-begins (Along.in_field {s} {node} {desc} {v} {x} {f} p there contains) union y e has h inner = record {
     here = λ k is. subst (λ n. BeginsAt program e Here n) (node-held union inner k is) (BeginsAt.desc_here node {s = x} {f = f} there contains h);
     outer = λ k is. subst (λ n. BeginsAt program e Outer n) (node-held node v k is) (BeginsAt.desc_outer {union = union} {s = x} {f = f} there contains h);
+    outermost = λ k is. BeginsAt.desc_outermost node {union = union} {s = x} {f = f} there contains h
+        (outermost-around program s.here s.outermost node v (around settled p node (held-node node desc)) k (first-held s.outermost (record { node = node; value = v }) (record { node = union; value = inner }) k is));
   }
   desc-begins (Along.in_common {common = c} p there o) union y e has h inner = let n = innermost-node c None in absurd (cc)
   desc-begins (Along.in_array {type} {elem} {n} p arr) union y e has h inner = desc-begins p union y e has (innermost-array type elem n arr ∙ h) inner

@@ -13,7 +13,9 @@ pub mod SwapScopes
 pub mod Refits
 pub mod UnreadLaws
 pub mod Members
-pub mod EndLemmas
+pub mod RootLemmas
+pub mod OuterLists
+pub mod Quiet
 pub mod TableLemmas
 pub mod LeafTypes
 pub mod WordBytes

@@ -1,6 +1,6 @@
 -- Elements of lists: of one to which another is added where it is new, of those of each of several, and at the same places of two.
-use Rattle.std.proofs.Common.{◌≡◌, ℕ, zero, suc, ◌-◌, ◌||◌, Bool, true, false, Option, None, List, [], ◌∷◌, ◌++◌, map, length, refl, ap, sym, subst, ◌∙◌, ◌⊎◌, arith, Some, inl, inr, if◌then◌else◌}
-use Rattle.std.specs.Prelude.{◌↔◌, Contains, Any, flat_map, filter_map, slice_get}
+use Rattle.std.proofs.Common.{◌≡◌, ℕ, zero, suc, ◌||◌, Bool, true, false, Option, None, List, [], ◌∷◌, ◌++◌, map, refl, ap, sym, subst, ◌∙◌, ◌⊎◌, arith, Some, inl, inr, if◌then◌else◌}
+use Rattle.std.specs.Prelude.{◌↔◌, Contains, flat_map, filter_map, slice_get}
 use Rattle.std.specs.List.{list_any, cons_option, AllZip}
 use Rattle.std.proofs.lemmas.List.Elements.{Contains-append_left, Contains-append_right, Contains-append_cases, Contains-push, Contains-push_cases}
 use Rattle.std.proofs.lemmas.List.Folds.{list_any-from_Any}
@@ -45,18 +45,6 @@ module _ {X : Type 0} where
       go : (b : Bool) → list_any p xs ≡ b → Contains (if b then xs else xs ++ y ∷ []) x ↔ (Contains xs x ⊎ (y ≡ x))
       go true e = (λ c. inl c, λ h. elim h [ inl c ↦ c | inr is ↦ subst (Contains xs) is (found-there p xs y only e) ])
       go false e = (λ c. Contains-push_cases xs y x c, λ h. elim h [ inl c ↦ Contains-append_left xs (y ∷ []) x c | inr is ↦ subst (Contains (xs ++ y ∷ [])) is (Contains-push xs y) ])
-
-  -- ---- some element of two lists
-
-  pub any-append : (P : X → Type 0) (xs ys : List X) → Any P (xs ++ ys) ↔ (Any P xs ⊎ Any P ys)
-  any-append P xs ys = (there, back)
-    where
-      there : Any P (xs ++ ys) → Any P xs ⊎ Any P ys
-      there (i, x, h, e, p) = elim (Contains-append_cases xs ys x (i, h, e)) [ inl c ↦ inl (c.0, x, c.1, c.2, p) | inr c ↦ inr (c.0, x, c.1, c.2, p) ]
-
-      back : Any P xs ⊎ Any P ys → Any P (xs ++ ys)
-      back (inl (i, x, h, e, p)) = let c = Contains-append_left xs ys x (i, h, e) in (c.0, x, c.1, c.2, p)
-      back (inr (i, x, h, e, p)) = let c = Contains-append_right xs ys x (i, h, e) in (c.0, x, c.1, c.2, p)
 
   pub contains-append : (xs ys : List X) (x : X) → Contains (xs ++ ys) x ↔ (Contains xs x ⊎ Contains ys x)
   contains-append xs ys x = (λ c. Contains-append_cases xs ys x c, λ h. elim h [ inl c ↦ Contains-append_left xs ys x c | inr c ↦ Contains-append_right xs ys x c ])
@@ -107,24 +95,6 @@ module _ {X Y : Type 0} where
   pub filter-contains : (h : X → Option Y) (xs : List X) (y : Y) → Contains (filter_map h xs) y ↔ ((x : X) × Contains xs x × (h x ≡ Some y))
   filter-contains h [] y = (λ c. absurd (nothing y c), λ (x, c, e). absurd (nothing x c))
   filter-contains h (x ∷ xs) y = filter-step h x xs y (filter-contains h xs y)
-
--- ---- the last of a list
-
-last-step : {X : Type 0} (y z : X) (zs : List X) → slice_get (y ∷ z ∷ zs) (length (y ∷ z ∷ zs) - 1) ≡ slice_get (z ∷ zs) (length (z ∷ zs) - 1)
-last-step y z zs = let next : length (y ∷ z ∷ zs) - 1 ≡ suc (length (z ∷ zs) - 1) = omega arith in ap (λ i. slice_get (y ∷ z ∷ zs) i) next
-
-last-from : {X : Type 0} (x : X) (ys : List X) → slice_get ys (length ys - 1) ≡ Some x → (front : List X) × (ys ≡ front ++ x ∷ [])
-last-from x [] e = absurd (cc)
-last-from x (y ∷ []) e = let is : y ≡ x = cc in ([], ap (λ z. z ∷ []) is)
-last-from x (y ∷ z ∷ zs) e = let found = last-from x (z ∷ zs) (sym (last-step y z zs) ∙ e) in (y ∷ found.0, ap (λ l. y ∷ l) found.1)
-
-last-of : {X : Type 0} (x : X) (front : List X) → slice_get (front ++ x ∷ []) (length (front ++ x ∷ []) - 1) ≡ Some x
-last-of x [] = refl
-last-of x (y ∷ []) = last-step y x []
-last-of x (y ∷ z ∷ zs) = last-step y z (zs ++ x ∷ []) ∙ last-of x (z ∷ zs)
-
-pub last-is : {X : Type 0} (xs : List X) (x : X) → (slice_get xs (length xs - 1) ≡ Some x) ↔ ((front : List X) × (xs ≡ front ++ x ∷ []))
-last-is xs x = (last-from x xs, λ h. subst (λ ys. slice_get ys (length ys - 1) ≡ Some x) (sym h.1) (last-of x h.0))
 
 -- ---- two lists, place by place
 

@@ -1,6 +1,5 @@
 -- Where a leaf does not fit at its place in the bytes, no value fits with it.
-use Rattle.std.proofs.Common.{◌≡◌, ℕ, true, List, [], refl, ap, sym, subst, ◌∙◌, ◌⊎◌, Some, inl, inr}
-use Rattle.std.specs.Prelude.{Contains}
+use Rattle.std.proofs.Common.{◌≡◌, ℕ, true, List, refl, ap, sym, subst, ◌∙◌, ◌⊎◌, Some, None, inl, inr}
 use Rattle.gt_types.specs.declared.types.Ty.{Ty}
 use Rattle.gt_types.specs.declared.program.Root.{Root}
 use Rattle.gt_types.specs.declared.program.Program.{Program}
@@ -57,7 +56,7 @@ module _ (program : Program) (layouts : Layouts) (settled : Settled program) whe
       let here = subst (λ t. Assigns program blocks statics capacity t value path tree new) s.of_kind assigns in
       let lies = subst (λ t. PartLies program layouts.structures (outside statics) lies_in.Element true 0 t value path at.p) s.of_kind at.lies in
       let along : Along program statics (outside statics) (element_type program s.kind) = Along.at_block s.kind s.held in
-      let found = fits-there settled lies s.is.fits (outside statics) along (outside-same statics statics (λ i read. refl)) true (λ none. refl) tree (tree-alone at.p place leaf tree at.is m.alone means)
+      let found = fits-there settled lies s.is.fits (outside statics) along (outside-same statics statics (λ i read. refl)) None (λ none. refl) tree (tree-alone at.p place leaf tree at.is m.alone means)
       (covers-same (structures_on program (Some type) path) (structures_on program (Some (element_type program s.kind)) path) at.p.active (ap (λ t. structures_on program (Some t) path) (sym s.of_kind))) new here.fits here.reshapes in
       m.misfit (content-fits settled {t = found.scope} found.fits leaf means found.along found.same m.alone.word)
 
@@ -73,9 +72,9 @@ module _ (program : Program) (layouts : Layouts) (settled : Settled program) whe
       let is : w ≡ assigns.written = cc in
       let becomes = subst (λ y. AllReshape program (root_types program) y new) (sym is) assigns.reshapes in
       let type_is = get-map (λ (r : Root). r.ty) program.roots l.i l.r l.root in
-      let swap = put-swaps program (none_around true) lies_in.Root (root_types program) values l.i l.r.ty l.tree l.rest tree type_is l.there (alone-swap settled l.lies true tree alone covers) in
+      let swap = put-swaps program (none_around None) lies_in.Root (root_types program) values l.i l.r.ty l.tree l.rest tree type_is l.there (alone-swap settled l.lies None tree alone covers) in
       let same = outside-same values new (λ i read. root-swap swap i (λ unread. unread read) ∙ roots-kept becomes i) in
       let along : Along program values (outside values) l.r.ty = Along.at_root l.r (Contains-get program.roots l.i l.r l.root) in
       let one = all-at becomes assigns.fits l.i l.r.ty (with_part l.tree l.rest tree) type_is (put-there values l.i l.tree l.rest tree l.there) in
-      let found = fits-there settled l.lies (fit-at s.are.fit l.i l.r.ty l.tree type_is l.there) (outside new) along same true (λ none. refl) tree alone covers one.new one.fits one.reshapes in
+      let found = fits-there settled l.lies (fit-at s.are.fit l.i l.r.ty l.tree type_is l.there) (outside new) along same None (λ none. refl) tree alone covers one.new one.fits one.reshapes in
       m.misfit (content-fits settled {t = found.scope} found.fits leaf means found.along found.same m.alone.word)

@@ -1,5 +1,5 @@
 -- Where a leaf that no expression reads is written and a value fits, the leaf fits its place.
-use Rattle.std.proofs.Common.{◌≡◌, ℕ, zero, suc, Bool, true, false, ◌&&◌, IsTrue, List, [], ◌∷◌, refl, ap, sym, subst, ◌∙◌, arith, Option, Some, None, inl}
+use Rattle.std.proofs.Common.{◌≡◌, ℕ, zero, suc, Bool, true, false, ◌&&◌, IsTrue, List, ◌∷◌, refl, ap, sym, subst, ◌∙◌, arith, Option, Some, None}
 use Rattle.std.specs.Prelude.{◌==◌, pos, slice_get}
 use Rattle.gt_types.specs.declared.expressions.Expr.{Expr}
 use Rattle.gt_types.specs.declared.types.TypeId.{TypeId}
@@ -32,14 +32,13 @@ use Rattle.gt_value.specs.declared.places.LeafContent.{LeafContent}
 use Rattle.gt_value.specs.declared.places.LeafContent.TheVariants as content
 use Rattle.gt_value.specs.declared.places.LeafKind.{LeafKind}
 use Rattle.gt_value.specs.Places.{Part, PartLies, IsContentOf, leaf_kind}
-use Rattle.gt_leaf.specs.Unread.{Around, none_around, route, structures_from, IsUnread, MayReplace}
+use Rattle.gt_leaf.specs.Unread.{Enclosing, Around, none_around, route, structures_from, IsUnread, MayReplace}
 use Rattle.gt_leaf.specs.Writing.{LeafFits, has_word}
-use Rattle.gt_leaf.proofs.Arounds.{Covers, field-covers, array-covers, tail-covers}
-use Rattle.gt_leaf.proofs.Members.{first}
+use Rattle.gt_leaf.proofs.Arounds.{Covers, covers-all, begun, stands-itself, field-covers, array-covers, tail-covers}
 use Rattle.gt_leaf.proofs.Swaps.{Swap, swapped, with-member}
 use Rattle.gt_leaf.proofs.SwapReads.{reads-swapped}
 use Rattle.gt_leaf.proofs.Alongs.{Along, Contains-get}
-use Rattle.gt_leaf.proofs.SwapScopes.{ReadSame, ScopesSame, inside-same, not-outermost, same-count}
+use Rattle.gt_leaf.proofs.SwapScopes.{AllReadSame, ScopesSame, inside-same, not-outermost, same-count}
 use Rattle.gt_leaf.proofs.PlainParts.{plain-with, inactive, count-with}
 use Rattle.gt_leaf.proofs.Refits.{long-row, plain-leaf, active-same}
 use Rattle.gt_leaf.proofs.LeafTrees.{content-leaf}
@@ -164,77 +163,77 @@ pub record FitsThere (program : Program) (a : Trees) (blocks : Blocks) (capacity
   pub fits : Fits program blocks capacity scope p.type leaf
 
 module _ {program : Program} (settled : Settled program) where
-  reads-new : {h : Holder} {path : List ℕ} (direct : Bool) (node : TypeId) (desc : Option Expr) (v w n : Tree) → Swap program (none_around direct) h (ty.Node node desc) path v w → Reshapes program (ty.Node node desc) w n → ReadSame program direct node v n
-  reads-new {h} {path} direct node desc v w n swap r =
-      λ steps leads read. reads-swapped settled leads.1 leads.2 direct node (λ along. along) read (none_around direct) path (λ e. e) (first (node, route program (Some node) path) []) h desc v w swap ∙ reads-kept settled leads.1 leads.2 desc w n r
+  reads-new : {h : Holder} {path : List ℕ} (top : Option Enclosing) (node : TypeId) (desc : Option Expr) (v w n : Tree) → Swap program (none_around top) h (ty.Node node desc) path v w → Reshapes program (ty.Node node desc) w n → AllReadSame program top node v n
+  reads-new {h} {path} top node desc v w n swap r =
+      λ base begins steps leads read. reads-swapped settled leads.1 leads.2 base node (λ along. along) read (none_around top) path (stands-itself top (node, route program (Some node) path) base begins) h desc v w swap ∙ reads-kept settled leads.1 leads.2 desc w n r
 
-  pub alone-swap : {planes : List Plane} {around : Around} {s : Scope} {h : Holder} {active : Bool} {bit : ℕ} {type : Ty} {tree : Tree} {path : List ℕ} {p : Part} → PartLies program planes s h active bit type tree path p → (direct : Bool) (leaf : Tree) → StandsAlone program around p leaf
-      → Covers around p.active (structures_from program (none_around direct) (Some type) path) → Swap program (none_around direct) h type path tree (with_part tree path leaf)
-  alone-swap lies direct leaf alone covers = swapped lies (none_around direct) leaf alone.unread covers alone.may.0 alone.may.1 alone.plain
+  pub alone-swap : {planes : List Plane} {around : Around} {s : Scope} {h : Holder} {active : Bool} {bit : ℕ} {type : Ty} {tree : Tree} {path : List ℕ} {p : Part} → PartLies program planes s h active bit type tree path p → (top : Option Enclosing) (leaf : Tree) → StandsAlone program around p leaf
+      → Covers around p.active (structures_from program (none_around top) (Some type) path) → Swap program (none_around top) h type path tree (with_part tree path leaf)
+  alone-swap lies top leaf alone covers = swapped lies (none_around top) leaf alone.unread covers alone.may.0 alone.may.1 alone.plain
 
   -- the union has the member that it had
-  member-kept : {a : Trees} {blocks : Blocks} {capacity : ℕ} {s : Scope} (t : Scope) (named : Bool) (node : TypeId) (desc : Option Expr) (x : Structure) (member : Option ℕ) (o n : Tree) → HasStructure program node x → x.is_union ≡ true
-      → Along program a s (ty.Node node desc) → (s.outermost ≡ None → named ≡ true) → ScopesSame program s t → ReadSame program named node (Alt member o) n → Fits program blocks capacity s (ty.Node node desc) (Alt member o) → Fits program blocks capacity t (ty.Node node desc) n
+  member-kept : {a : Trees} {blocks : Blocks} {capacity : ℕ} {s : Scope} (t : Scope) (top : Option Enclosing) (node : TypeId) (desc : Option Expr) (x : Structure) (member : Option ℕ) (o n : Tree) → HasStructure program node x → x.is_union ≡ true
+      → Along program a s (ty.Node node desc) → (s.outermost ≡ None → top ≡ None) → ScopesSame program s t → AllReadSame program top node (Alt member o) n → Fits program blocks capacity s (ty.Node node desc) (Alt member o) → Fits program blocks capacity t (ty.Node node desc) n
       → (part : Tree) × (n ≡ Alt member part)
-  member-kept {s} t named node desc x member o n has union along outermost same read fits new_fits =
+  member-kept {s} t top node desc x member o n has union along outermost same read fits new_fits =
       let found = is-union node desc x (Alt member o) has union fits in
       let was_member : found.0 ≡ member = cc in
       let was = subst (λ m. IsActive program s node desc x (Alt member o) m) was_member found.3 in
-      let now = active-same settled t named node desc x (Alt member o) n member along outermost same read has union was in
+      let now = active-same settled t top node desc x (Alt member o) n member along outermost same read has union was in
       let new = is-union node desc x n has union new_fits in
       let is : new.0 ≡ member = sym new.3 ∙ now in
       (new.1, new.2 ∙ ap (λ m. Alt m new.1) is)
 
   module _ {a : Trees} where
     pub fits-there : {planes : List Plane} {blocks : Blocks} {capacity : ℕ} {around : Around} {s : Scope} {h : Holder} {active : Bool} {bit : ℕ} {type : Ty} {tree : Tree} {path : List ℕ} {p : Part} → PartLies program planes s h active bit type tree path p → Fits program blocks capacity s type tree
-        → (t : Scope) → Along program a s type → ScopesSame program s t → (direct : Bool) → (s.outermost ≡ None → direct ≡ true) → (leaf : Tree) → StandsAlone program around p leaf
-        → Covers around p.active (structures_from program (none_around direct) (Some type) path) → (new : Tree) → Fits program blocks capacity t type new → Reshapes program type (with_part tree path leaf) new → FitsThere program a blocks capacity p leaf
-    fits-there {blocks} {capacity} {type} PartLies.whole fits t along same direct outermost leaf alone covers new new_fits r =
+        → (t : Scope) → Along program a s type → ScopesSame program s t → (top : Option Enclosing) → (s.outermost ≡ None → top ≡ None) → (leaf : Tree) → StandsAlone program around p leaf
+        → Covers around p.active (structures_from program (none_around top) (Some type) path) → (new : Tree) → Fits program blocks capacity t type new → Reshapes program type (with_part tree path leaf) new → FitsThere program a blocks capacity p leaf
+    fits-there {blocks} {capacity} {type} PartLies.whole fits t along same top outermost leaf alone covers new new_fits r =
         record { scope = t; along = along; same = same; fits = subst (λ y. Fits program blocks capacity t type y) (sym (leaf-kept alone.may.1 r)) new_fits }
-    fits-there {blocks} {capacity} {s} {h} (PartLies.field {i} {node} {desc} {s = x} {f} {trees} {tree} {path} has struct laid get spot there lies) fits t along same direct outermost leaf alone covers new new_fits r =
+    fits-there {blocks} {capacity} {s} {h} (PartLies.field {i} {node} {desc} {s = x} {f} {trees} {tree} {path} has struct laid get spot there lies) fits t along same top outermost leaf alone covers new new_fits r =
         let w = with_part_of trees i path leaf in
         let found = struct-new node desc x w new has r in
         let ns = found.0 in
         let becomes : Reshapes program (ty.Node node desc) (Rec w) (Rec ns) = subst (λ y. Reshapes program (ty.Node node desc) (Rec w) y) found.1 r in
-        let read = reads-new {h = h} direct node desc (Rec trees) (Rec w) (Rec ns) (alone-swap (PartLies.field {scope = s} has struct laid get spot there lies) direct leaf alone covers) becomes in
+        let read = reads-new {h = h} top node desc (Rec trees) (Rec w) (Rec ns) (alone-swap (PartLies.field {scope = s} has struct laid get spot there lies) top leaf alone covers) becomes in
         let type_is = get-map (λ (g : Field). g.ty) x.fields i f get in
         let inner = fit-at (fits-struct node desc x trees has fits) i f.ty tree type_is there in
         let all = fits-struct node desc x ns has (subst (λ y. Fits program blocks capacity t (ty.Node node desc) y) found.1 new_fits) in
         let one = all-at found.2 all i f.ty (with_part tree path leaf) type_is (put-there trees i tree path leaf there) in
-        fits-there lies inner (inside t node (Rec ns)) (Along.in_field along has (Contains-get x.fields i f get)) (inside-same direct node (Rec trees) (Rec ns) same outermost read) false (not-outermost s node (Rec trees)) leaf alone (field-covers program direct node desc x f i path has get covers) one.new one.fits one.reshapes
-    fits-there {blocks} {capacity} {s} {h} (PartLies.member {i} {node} {desc} {s = x} {f} {tree} {path} has union get lies) fits t along same direct outermost leaf alone covers new new_fits r =
+        fits-there lies inner (inside t node (Rec ns)) (Along.in_field along has (Contains-get x.fields i f get)) (inside-same top node (Rec trees) (Rec ns) same outermost read) (begun program top node (i ∷ path)) (not-outermost s node (Rec trees) (begun program top node (i ∷ path))) leaf alone (field-covers program top node desc x f i path has get covers) one.new one.fits one.reshapes
+    fits-there {blocks} {capacity} {s} {h} (PartLies.member {i} {node} {desc} {s = x} {f} {tree} {path} has union get lies) fits t along same top outermost leaf alone covers new new_fits r =
         let v = Alt (Some i) tree in
         let w = with_part tree path leaf in
-        let swap = subst (λ y. Swap program (none_around direct) h (ty.Node node desc) (i ∷ path) v y) (sym (with-member i tree path leaf)) (alone-swap (PartLies.member {scope = s} has union get lies) direct leaf alone covers) in
+        let swap = subst (λ y. Swap program (none_around top) h (ty.Node node desc) (i ∷ path) v y) (sym (with-member i tree path leaf)) (alone-swap (PartLies.member {scope = s} has union get lies) top leaf alone covers) in
         let becomes = subst (λ y. Reshapes program (ty.Node node desc) y new) (sym (with-member i tree path leaf)) r in
-        let read = reads-new {h = h} direct node desc v (Alt (Some i) w) new swap becomes in
-        let kept = member-kept t direct node desc x (Some i) tree new has union along outermost same read fits new_fits in
+        let read = reads-new {h = h} top node desc v (Alt (Some i) w) new swap becomes in
+        let kept = member-kept t top node desc x (Some i) tree new has union along outermost same read fits new_fits in
         let n = kept.0 in
         let fits_n = subst (λ y. Fits program blocks capacity t (ty.Node node desc) y) kept.1 new_fits in
         let inner_becomes = member-new node desc x i i f w n has get refl (subst (λ y. Reshapes program (ty.Node node desc) (Alt (Some i) w) y) kept.1 becomes) in
         fits-there lies (fits-member node desc x i f tree has get fits) (inside t node (Alt (Some i) n)) (Along.in_field along has (Contains-get x.fields i f get))
-        (inside-same direct node v (Alt (Some i) n) same outermost (subst (λ y. ReadSame program direct node v y) kept.1 read)) false (not-outermost s node v) leaf alone (field-covers program direct node desc x f i path has get covers) n (fits-member node desc x i f n has get fits_n) inner_becomes
-    fits-there {blocks} {capacity} {s} {h} {active = was_active} {p} (PartLies.common {i} {node} {common} {desc} {s = x} {tree} {path} has common_is lies) fits t along same direct outermost leaf alone covers new new_fits r =
+        (inside-same top node v (Alt (Some i) n) same outermost (subst (λ y. AllReadSame program top node v y) kept.1 read)) (begun program top node (i ∷ path)) (not-outermost s node v (begun program top node (i ∷ path))) leaf alone (field-covers program top node desc x f i path has get covers) n (fits-member node desc x i f n has get fits_n) inner_becomes
+    fits-there {blocks} {capacity} {s} {h} {active = was_active} {p} (PartLies.common {i} {node} {common} {desc} {s = x} {tree} {path} has common_is lies) fits t along same top outermost leaf alone covers new new_fits r =
         let v = Alt None tree in
         let w = with_part tree path leaf in
-        let read = reads-new {h = h} direct node desc v (Alt None w) new (alone-swap {active = was_active} (PartLies.common {scope = s} {i = i} has common_is lies) direct leaf alone covers) r in
-        let kept = member-kept t direct node desc x None tree new has common_is.union along outermost same read fits new_fits in
+        let read = reads-new {h = h} top node desc v (Alt None w) new (alone-swap {active = was_active} (PartLies.common {scope = s} {i = i} has common_is lies) top leaf alone covers) r in
+        let kept = member-kept t top node desc x None tree new has common_is.union along outermost same read fits new_fits in
         let n = kept.0 in
         let fits_n = subst (λ y. Fits program blocks capacity t (ty.Node node desc) y) kept.1 new_fits in
         let inner = fits-common node common desc x n settled has common_is fits_n in
         let plain = plain-with tree path leaf (is-plain node desc tree fits) (plain-leaf p leaf alone.may (inactive lies refl)) in
         let is : w ≡ n = sym plain ∙ none-new node desc w n (subst (λ y. Reshapes program (ty.Node node desc) (Alt None w) y) kept.1 r) in
         fits-there lies (fits-common node common desc x tree settled has common_is fits) (inside t node (Alt None n)) (Along.in_common along has common_is)
-        (inside-same direct node v (Alt None n) same outermost (subst (λ y. ReadSame program direct node v y) kept.1 read)) false (not-outermost s node v) leaf alone (record { each = λ b c. inl (inactive lies refl); leads = λ e. inl (inactive lies refl) }) n inner (subst (λ y. Reshapes program (ty.Node common None) y n) (sym is) (self inner))
-    fits-there (PartLies.array {i} {n} {type} {elem} {trees} {tree} {path} e there lies) fits t along same direct outermost leaf alone covers new new_fits r =
+        (inside-same top node v (Alt None n) same outermost (subst (λ y. AllReadSame program top node v y) kept.1 read)) top (not-outermost s node v top) leaf alone (covers-all _ _ _ (inactive lies refl)) n inner (subst (λ y. Reshapes program (ty.Node common None) y n) (sym is) (self inner))
+    fits-there (PartLies.array {i} {n} {type} {elem} {trees} {tree} {path} e there lies) fits t along same top outermost leaf alone covers new new_fits r =
         let w = with_part_of trees i path leaf in
         let was = fits-array type elem n trees e fits in
         let now = is-array type elem n new e new_fits in
         let old = array-old type elem n e (Row w) now.0 (subst (λ y. Reshapes program type (Row w) y) now.1 r) in
         let rows : w ≡ old.0 = let row = old.1 in cc in
         let one = each-at (subst (λ y. EachReshapes program elem y now.0) (sym rows) old.2) now.3 (count-with trees i path leaf ∙ was.0 ∙ sym now.2) i (with_part tree path leaf) (put-there trees i tree path leaf there) in
-        fits-there lies (each-fit-at was.1 i tree there) t (Along.in_array along e) same direct outermost leaf alone (array-covers program direct type elem n i path e covers) one.new one.fits one.reshapes
-    fits-there {s} (PartLies.tail {i} {length} {type} {elem} {trees} {tree} {path} e there lies) fits t along same direct outermost leaf alone covers new new_fits r =
+        fits-there lies (each-fit-at was.1 i tree there) t (Along.in_array along e) same top outermost leaf alone (array-covers program top type elem n i path e covers) one.new one.fits one.reshapes
+    fits-there {s} (PartLies.tail {i} {length} {type} {elem} {trees} {tree} {path} e there lies) fits t along same top outermost leaf alone covers new new_fits r =
         let w = with_part_of trees i path leaf in
         let was = fits-tail type elem length trees e fits in
         let now = is-tail type elem length new e new_fits in
@@ -243,7 +242,7 @@ module _ {program : Program} (settled : Settled program) where
         let long : Some (pos (count trees)) ≡ Some (pos (count now.0)) = sym (long-row s type elem length trees e fits) ∙ same-count settled t type length along same (count-tail type elem length e) ∙ now.2 in
         let many : count trees ≡ count now.0 = cc in
         let one = each-at (subst (λ y. EachReshapes program elem y now.0) (sym rows) old.2) now.3 (count-with trees i path leaf ∙ many) i (with_part tree path leaf) (put-there trees i tree path leaf there) in
-        fits-there lies (each-fit-at was.1 i tree there) t (Along.in_tail along e) same direct outermost leaf alone (tail-covers program direct type elem length i path e covers) one.new one.fits one.reshapes
+        fits-there lies (each-fit-at was.1 i tree there) t (Along.in_tail along e) same top outermost leaf alone (tail-covers program top type elem length i path e covers) one.new one.fits one.reshapes
 
 -- ---- the leaf fits its place
 

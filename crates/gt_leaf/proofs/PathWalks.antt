@@ -1,9 +1,8 @@
 -- The number in which a path ends is found by the names of fields.
-use Rattle.std.proofs.Common.{◌≡◌, ℕ, Bool, true, false, List, [], ◌∷◌, ◌++◌, refl, ap, sym, subst, ◌∙◌, arith, Option, Some, None, if◌then◌else◌}
+use Rattle.std.proofs.Common.{◌≡◌, ℕ, Bool, true, false, List, [], ◌∷◌, refl, ap, sym, subst, ◌∙◌, Option, Some, None, if◌then◌else◌}
 use Rattle.std.specs.Prelude.{slice_get}
 use Rattle.std.specs.List.{position_from}
 use Rattle.std.specs.Str.{bytes_eq}
-use Rattle.std.proofs.lemmas.Slice.Eq.{bytes_eq-Decides}
 use Rattle.gt_types.specs.declared.expressions.Expr.{Expr}
 use Rattle.gt_types.specs.declared.types.TypeId.{TypeId}
 use Rattle.gt_types.specs.declared.types.Ty.{Ty}
@@ -14,7 +13,7 @@ use Rattle.gt_types.specs.declared.program.Program.{Program}
 use Rattle.gt_types.specs.Contains.{HasStructure, itself}
 use Rattle.gt_types.specs.Shapes.{is_number}
 use Rattle.gt_tree.specs.Scopes.{◌then◌}
-use Rattle.gt_tree.proofs.PathBits.{some-same, position-get}
+use Rattle.gt_tree.proofs.PathBits.{some-same}
 use Rattle.gt_leaf.specs.declared.fields.FieldPlace.{FieldPlace}
 use Rattle.gt_leaf.specs.Seeking.{Names, names_of_all, pick, field_at, number_there, pick_number, pick_structure, end_of, inner_of, inside, route_by}
 use Rattle.gt_leaf.specs.Tables.{field_place}
@@ -22,20 +21,6 @@ use Rattle.gt_leaf.specs.Unread.{Picks, EndsAt, inner_at, is_union, place_of, on
 use Rattle.gt_leaf.proofs.FirstNames.{get-names, picks-first, picks-none}
 
 module _ {program : Program} where
-  -- ---- the last name
-
-  -- the last name of a path that ends in a field is that of the field
-  pub ends-named : {begin node : TypeId} {names : List (List ℕ)} {i : ℕ} → EndsAt program begin names node i → (s : Structure) (f : Field) → HasStructure program node s → slice_get s.fields i ≡ Some f
-      → (front : List (List ℕ)) × (names ≡ front ++ f.name ∷ [])
-  ends-named (EndsAt.at_last {node} {name} {i} {f = g} (t, there, first_is, got)) s f has get =
-      let same : t ≡ s = some-same (slice_get program.structures node.0) t s there has in
-      let first = subst (λ x. position_from (λ g. bytes_eq g.name name) 0 x.fields ≡ Some i) same first_is in
-      let found = position-get (λ (g : Field). bytes_eq g.name name) s.fields 0 i first in
-      let here : i ≡ found.0 = omega (arith, found.2) in
-      let one : found.1 ≡ f = some-same (slice_get s.fields i) found.1 f (ap (slice_get s.fields) here ∙ found.3) get in
-      ([], ap (λ n. n ∷ []) (sym (sym (ap (λ (x : Field). x.name) one) ∙ (bytes_eq-Decides found.1.name name).0 found.4)))
-  ends-named (EndsAt.at_next {name} picks is rest) s f has get = let found = ends-named rest s f has get in (name ∷ found.0, ap (λ l. name ∷ l) found.1)
-
   -- a path has a name
   no-end : {begin node : TypeId} {names : List (List ℕ)} {i : ℕ} → EndsAt program begin names node i → ¬ (names ≡ [])
   no-end (EndsAt.at_last picks) e = cc

@@ -1,4 +1,4 @@
--- The numbers in which paths from `%h` and `%1` end are what is added step by step.
+-- The numbers in which paths end are what is added step by step.
 use Rattle.std.proofs.Common.{◌≡◌, ℕ, Bool, true, false, List, [], ◌∷◌, ◌++◌, refl, ap, sym, subst, ◌∙◌, ◌⊎◌, Option, Some, None, inl, inr, if◌then◌else◌}
 use Rattle.std.specs.Prelude.{◌↔◌, Contains, filter_map, option_to_list, nat_eq, slice_get}
 use Rattle.std.proofs.lemmas.Bool.Decides.{Decides-eqb}
@@ -21,12 +21,16 @@ use Rattle.gt_types.specs.Shapes.{innermost, count_of}
 use Rattle.gt_leaf.specs.declared.fields.FieldPlace.{FieldPlace}
 use Rattle.gt_leaf.specs.declared.readings.Reading.{Reading}
 use Rattle.gt_leaf.specs.declared.seeking.Start.{Start}
-use Rattle.gt_leaf.specs.Seeking.{Names, same_place, with_field, same_reading, with_reading, with_fields, with_end, end_of, route_by, same_base, starting, seek_step, seek_expr, seek_option, seek_counts, seek_own, seek_counts_of, seek_union, seek_outside, seek_desc, seek_descs, with_inner, with_inners, seek_inners, seek_structure, seek_all}
+use Rattle.gt_leaf.specs.Seeking.{Names, same_place, with_field, same_reading, with_reading, with_fields, with_end, end_of, route_by, same_base, starting, seek_step, seek_expr, seek_option, seek_counts, seek_own, seek_counts_of, seek_union, seek_given, seek_desc, seek_descs, with_inner, with_inners, seek_inners, seek_structure, seek_roots, seek_all, seek_inside, seek_outers, outers_at, seek_outermost, names_outermost, structure_names}
 use Rattle.gt_leaf.specs.Tables.{reading}
 use Rattle.gt_leaf.specs.Alike.{same-field, one-reading, same-read}
-use Rattle.gt_leaf.specs.Unread.{BeginsAt}
+use Rattle.gt_paths.specs.Containers.{or_none}
+use Rattle.gt_paths.specs.Numbers.{numbered}
+use Rattle.gt_leaf.specs.Outers.{ListsOuters, AreOutersOf}
+use Rattle.gt_leaf.specs.Unread.{MayBeOutermost, BeginsAt}
 use Rattle.gt_leaf.proofs.Adding.{Adds, adds-none, adds-both, adds-same, adds-fold, adds-each}
 use Rattle.gt_leaf.proofs.Alongs.{Contains-only}
+use Rattle.gt_leaf.proofs.Quiet.{quiet, own-quiet, given-quiet}
 use Rattle.gt_leaf.proofs.Members.{nothing, first, first-or-later, added, contains-append, filter-contains}
 
 -- ---- one place
@@ -192,36 +196,36 @@ module _ (program : Program) (index : List Names) where
 
   -- ---- the `desc` of a field or root
 
-  abbrev UnionEnds : Ty → Reading → Type 0
-  UnionEnds type y = (union : TypeId) × (e : Expr) × (type ≡ ty.Node union (Some e)) × EndOf (starting Here union.0) (paths_of e) y
+  abbrev UnionEnds : Base → Ty → Reading → Type 0
+  UnionEnds base type y = (union : TypeId) × (e : Expr) × (type ≡ ty.Node union (Some e)) × EndOf (starting base union.0) (paths_of e) y
 
-  of-union : (type : Ty) → Adds (seek_union program index type) (UnionEnds type)
-  of-union (ty.Node union desc) = adds-same (of-option (starting Here union.0) desc) (λ y. (there y, back y))
+  of-union : (base : Base) (type : Ty) → Adds (seek_union program index base type) (UnionEnds base type)
+  of-union base (ty.Node union desc) = adds-same (of-option (starting base union.0) desc) (λ y. (there y, back y))
     where
-      there : (y : Reading) → (e : Expr) × (desc ≡ Some e) × EndOf (starting Here union.0) (paths_of e) y → UnionEnds (ty.Node union desc) y
+      there : (y : Reading) → (e : Expr) × (desc ≡ Some e) × EndOf (starting base union.0) (paths_of e) y → UnionEnds base (ty.Node union desc) y
       there y (e, h, p) = (union, e, ap (ty.Node union) h, p)
 
-      back : (y : Reading) → UnionEnds (ty.Node union desc) y → (e : Expr) × (desc ≡ Some e) × EndOf (starting Here union.0) (paths_of e) y
+      back : (y : Reading) → UnionEnds base (ty.Node union desc) y → (e : Expr) × (desc ≡ Some e) × EndOf (starting base union.0) (paths_of e) y
       back y (other, e, h, p) =
           let one : union ≡ other = cc in
           let same : desc ≡ Some e = cc in
-          (e, same, subst (λ n. EndOf (starting Here n.0) (paths_of e) y) (sym one) p)
-  of-union type = adds-none (λ y (union, e, h, p). cc)
+          (e, same, subst (λ n. EndOf (starting base n.0) (paths_of e) y) (sym one) p)
+  of-union base type = adds-none (λ y (union, e, h, p). cc)
 
-  abbrev OutsideEnds : ℕ → Ty → Reading → Type 0
-  OutsideEnds at type y = (union : TypeId) × (e : Expr) × (type ≡ ty.Node union (Some e)) × EndOf (starting Outer at) (paths_of e) y
+  abbrev GivenEnds : Start → Ty → Reading → Type 0
+  GivenEnds at type y = (union : TypeId) × (e : Expr) × (type ≡ ty.Node union (Some e)) × EndOf at (paths_of e) y
 
-  of-outside : (at : ℕ) (type : Ty) → Adds (seek_outside program index at type) (OutsideEnds at type)
-  of-outside at (ty.Node union desc) = adds-same (of-option (starting Outer at) desc) (λ y. (λ (e, h, p). (union, e, ap (ty.Node union) h, p), λ (other, e, h, p). let same : desc ≡ Some e = cc in (e, same, p)))
-  of-outside at type = adds-none (λ y (union, e, h, p). cc)
+  of-given : (at : Start) (type : Ty) → Adds (seek_given program index at type) (GivenEnds at type)
+  of-given at (ty.Node union desc) = adds-same (of-option at desc) (λ y. (λ (e, h, p). (union, e, ap (ty.Node union) h, p), λ (other, e, h, p). let same : desc ≡ Some e = cc in (e, same, p)))
+  of-given at type = adds-none (λ y (union, e, h, p). cc)
 
   abbrev DescEnds : ℕ → Field → Reading → Type 0
-  DescEnds at f y = UnionEnds (innermost f.ty) y ⊎ OutsideEnds at (innermost f.ty) y
+  DescEnds at f y = UnionEnds Here (innermost f.ty) y ⊎ GivenEnds (starting Outer at) (innermost f.ty) y
 
   of-descs : (at : ℕ) (fields : List Field) → Adds (seek_descs program index at fields) (λ y. (f : Field) × Contains fields f × DescEnds at f y)
   of-descs at fields =
       adds-fold (λ f. seek_desc program index at f.ty) (DescEnds at)
-      (λ f. adds-both (of-union (innermost f.ty)) (of-outside at (innermost f.ty)) (λ y. (λ h. h, λ h. h))) fields
+      (λ f. adds-both (of-union Here (innermost f.ty)) (of-given (starting Outer at) (innermost f.ty)) (λ y. (λ h. h, λ h. h))) fields
 
   -- ---- what a structure contains
 
@@ -255,20 +259,47 @@ module _ (program : Program) (index : List Names) where
   of-structure at s =
       adds-both (adds-both (of-own (starting Here at) s) (of-descs at s.fields) (λ y. (λ h. h, λ h. h))) (of-seek_inners at (with_inners s.fields [])) (λ y. (λ h. h, λ h. h))
 
+  -- some path of the `desc` of a root ends there
+  abbrev RootEnds : Base → Reading → Type 0
+  RootEnds base y = (r : Root) × Contains program.roots r × UnionEnds base (innermost r.ty) y
+
+  of-roots : (base : Base) → Adds (seek_roots program index base) (RootEnds base)
+  of-roots base = adds-fold (λ (r : Root). seek_union program index base (innermost r.ty)) (λ r. UnionEnds base (innermost r.ty)) (λ r. of-union base (innermost r.ty)) program.roots
+
   abbrev ProgramEnds : Reading → Type 0
-  ProgramEnds y = ((i : ℕ) × (s : Structure) × (slice_get program.structures i ≡ Some s) × StructureEnds i s y) ⊎ ((r : Root) × Contains program.roots r × UnionEnds (innermost r.ty) y)
+  ProgramEnds y = ((i : ℕ) × (s : Structure) × (slice_get program.structures i ≡ Some s) × StructureEnds i s y) ⊎ RootEnds Here y
 
   of-program : Adds (seek_all program index) ProgramEnds
-  of-program =
-      adds-both (adds-each (seek_structure program index) StructureEnds of-structure program.structures)
-      (adds-fold (λ (r : Root). seek_union program index (innermost r.ty)) (λ r. UnionEnds (innermost r.ty)) (λ r. of-union (innermost r.ty)) program.roots) (λ y. (λ h. h, λ h. h))
+  of-program = adds-both (adds-each (seek_structure program index) StructureEnds of-structure program.structures) (of-roots Here) (λ y. (λ h. h, λ h. h))
+
+  -- ---- paths from `%0`
+
+  -- some path of an expression in a structure ends there
+  abbrev InsideEnds : Start → Structure → Reading → Type 0
+  InsideEnds at s y = OwnEnds at s y ⊎ ((f : Field) × Contains s.fields f × GivenEnds at (innermost f.ty) y)
+
+  of-inside : (at : Start) (s : Structure) → Adds (seek_inside program index at s) (InsideEnds at s)
+  of-inside at s = adds-both (of-own at s) (adds-fold (λ f. seek_given program index at (innermost f.ty)) (λ f. GivenEnds at (innermost f.ty)) (λ f. of-given at (innermost f.ty)) s.fields) (λ y. (λ h. h, λ h. h))
+
+  abbrev OuterEnds : List ℕ → Structure → Reading → Type 0
+  OuterEnds outers s y = (outer : ℕ) × Contains outers outer × InsideEnds (starting Outermost outer) s y
+
+  of-outers : (outers : List ℕ) (s : Structure) → Adds (seek_outers program index outers s) (OuterEnds outers s)
+  of-outers outers s = adds-fold (λ outer. seek_inside program index (starting Outermost outer) s) (λ outer. InsideEnds (starting Outermost outer) s) (λ outer. of-inside (starting Outermost outer) s) outers
+
+  abbrev OutermostEnds : List (List ℕ) → Reading → Type 0
+  OutermostEnds lists y = ((i : ℕ) × (s : Structure) × (slice_get program.structures i ≡ Some s) × OuterEnds (outers_at lists i) s y) ⊎ RootEnds Outermost y
+
+  of-outermost : (lists : List (List ℕ)) → Adds (seek_outermost program index lists) (OutermostEnds lists)
+  of-outermost lists =
+      adds-both (adds-each (λ i s. seek_outers program index (outers_at lists i) s) (λ i s. OuterEnds (outers_at lists i) s) (λ i s. of-outers (outers_at lists i) s) program.structures) (of-roots Outermost)
+      (λ y. (λ h. h, λ h. h))
 
   -- ---- where the paths begin
 
-  -- some path that begins at a structure ends at a place
-  pub record Seen (y : Reading) : Type 0 where
+  -- some path from a base that begins at a structure ends at a place
+  pub record Seen (base : Base) (y : Reading) : Type 0 where
     pub e : Expr
-    pub base : Base
     pub begin : TypeId
     pub begins : BeginsAt program e base begin
     pub names : List (List ℕ)
@@ -277,10 +308,9 @@ module _ (program : Program) (index : List Names) where
     pub from : begin.0 ≡ y.from
     pub along : route_by program index begin.0 names ≡ y.along
 
-  seen : (e : Expr) (base : Base) (begin : TypeId) (y : Reading) → BeginsAt program e base begin → EndOf (starting base begin.0) (paths_of e) y → Seen y
+  seen : (e : Expr) (base : Base) (begin : TypeId) (y : Reading) → BeginsAt program e base begin → EndOf (starting base begin.0) (paths_of e) y → Seen base y
   seen e base begin y b (way, c, (is, (h, from, along))) = record {
     e = e;
-    base = base;
     begin = begin;
     begins = b;
     names = way.1;
@@ -290,9 +320,6 @@ module _ (program : Program) (index : List Names) where
     along = along;
   }
 
-  abbrev numbered : ℕ → TypeId
-  numbered i = record { 0 = i }
-
   container : (at : ℕ) (s : Structure) (i : ℕ) → slice_get program.structures at ≡ Some s → Contains (with_inners s.fields []) i → ContainsStructure program (numbered at) (numbered i)
   container at s i has c =
       let found = (of-inners s.fields i).0 c in
@@ -300,26 +327,75 @@ module _ (program : Program) (index : List Names) where
       let is : inner ≡ numbered i = ap numbered found.2.2 in
       (s, found.0, has, found.1, subst (λ n. held_by found.0.ty ≡ Some n) is found.2.1)
 
-  structure-seen : (at : ℕ) (s : Structure) (y : Reading) → slice_get program.structures at ≡ Some s → StructureEnds at s y → Seen y
-  structure-seen at s y has (inl (inl (e, c, p))) = seen e Here (numbered at) y (BeginsAt.own_here {node = numbered at} {s = s} has c) p
-  structure-seen at s y has (inl (inr (f, c, inl (union, e, h, p)))) = seen e Here union y (BeginsAt.desc_here (numbered at) {s = s} {f = f} has c h) p
-  structure-seen at s y has (inl (inr (f, c, inr (union, e, h, p)))) = seen e Outer (numbered at) y (BeginsAt.desc_outer {union = union} {s = s} {f = f} has c h) p
+  -- by a path from `%h` or `%1`
+  abbrev pub SeenInside : Reading → Type 0
+  SeenInside y = Seen Here y ⊎ Seen Outer y
+
+  structure-seen : (at : ℕ) (s : Structure) (y : Reading) → slice_get program.structures at ≡ Some s → StructureEnds at s y → SeenInside y
+  structure-seen at s y has (inl (inl (e, c, p))) = inl (seen e Here (numbered at) y (BeginsAt.own_here {node = numbered at} {s = s} has c) p)
+  structure-seen at s y has (inl (inr (f, c, inl (union, e, h, p)))) = inl (seen e Here union y (BeginsAt.desc_here (numbered at) {s = s} {f = f} has c h) p)
+  structure-seen at s y has (inl (inr (f, c, inr (union, e, h, p)))) = inr (seen e Outer (numbered at) y (BeginsAt.desc_outer {union = union} {s = s} {f = f} has c h) p)
   structure-seen at s y has (inr (i, c, (t, there, (f, d, (e, h, p))))) =
-      seen e Outer (numbered at) y (BeginsAt.length_outer (numbered i) {s = t} {f = f} there d h (container at s i has c)) p
+      inr (seen e Outer (numbered at) y (BeginsAt.length_outer (numbered i) {s = t} {f = f} there d h (container at s i has c)) p)
 
-  all-seen : (y : Reading) → ProgramEnds y → Seen y
+  all-seen : (y : Reading) → ProgramEnds y → SeenInside y
   all-seen y (inl (i, s, has, h)) = structure-seen i s y has h
-  all-seen y (inr (r, c, (union, e, h, p))) = seen e Here union y (BeginsAt.root_here {r = r} c h) p
+  all-seen y (inr (r, c, (union, e, h, p))) = inl (seen e Here union y (BeginsAt.root_here {r = r} c h) p)
 
-  seen-all : (y : Reading) (e : Expr) (base : Base) (begin : TypeId) → BeginsAt program e base begin → EndOf (starting base begin.0) (paths_of e) y → ProgramEnds y
-  seen-all y e base begin (BeginsAt.own_here {node} {s} has c) p = inl (node.0, s, has, inl (inl (e, c, p)))
-  seen-all y e base begin (BeginsAt.length_outer node {outer} {s} {f} has c is (o, g, there, in_it, held)) p =
+  here-all : (y : Reading) (e : Expr) (begin : TypeId) → BeginsAt program e Here begin → EndOf (starting Here begin.0) (paths_of e) y → ProgramEnds y
+  here-all y e begin (BeginsAt.own_here {node} {s} has c) p = inl (node.0, s, has, inl (inl (e, c, p)))
+  here-all y e begin (BeginsAt.desc_here node {union} {s} {f} has c h) p = inl (node.0, s, has, inl (inr (f, c, inl (union, e, h, p))))
+  here-all y e begin (BeginsAt.root_here {r} {union} c h) p = inr (r, c, (union, e, h, p))
+
+  outer-all : (y : Reading) (e : Expr) (begin : TypeId) → BeginsAt program e Outer begin → EndOf (starting Outer begin.0) (paths_of e) y → ProgramEnds y
+  outer-all y e begin (BeginsAt.length_outer node {outer} {s} {f} has c is (o, g, there, in_it, held)) p =
       inl (outer.0, o, there, inr (node.0, (of-inners o.fields node.0).1 (g, in_it, (node, held, refl)), (s, has, (f, c, (e, is, p)))))
-  seen-all y e base begin (BeginsAt.desc_here node {union} {s} {f} has c h) p = inl (node.0, s, has, inl (inr (f, c, inl (union, e, h, p))))
-  seen-all y e base begin (BeginsAt.desc_outer {node} {union} {s} {f} has c h) p = inl (node.0, s, has, inl (inr (f, c, inr (union, e, h, p))))
-  seen-all y e base begin (BeginsAt.root_here {r} {union} c h) p = inr (r, c, (union, e, h, p))
+  outer-all y e begin (BeginsAt.desc_outer {node} {union} {s} {f} has c h) p = inl (node.0, s, has, inl (inr (f, c, inr (union, e, h, p))))
+
+  end-of : {base : Base} {y : Reading} → (s : Seen base y) → EndOf (starting base s.begin.0) (paths_of s.e) y
+  end-of {base} s = ((base, s.names), s.there, (refl, (s.end, s.from, s.along)))
 
   -- what is added is where such paths end
-  pub adds-seen : Adds (seek_all program index) Seen
-  adds-seen =
-      adds-same of-program (λ y. (all-seen y, λ s. seen-all y s.e s.base s.begin s.begins ((s.base, s.names), s.there, (refl, (s.end, s.from, s.along)))))
+  pub adds-seen : Adds (seek_all program index) SeenInside
+  adds-seen = adds-same of-program (λ y. (all-seen y, λ h. elim h [ inl s ↦ here-all y s.e s.begin s.begins (end-of s) | inr s ↦ outer-all y s.e s.begin s.begins (end-of s) ]))
+
+  -- ---- from `%0`
+
+  module _ (lists : List (List ℕ)) (are : AreOutersOf program lists) where
+    -- what is listed for a structure with a path from `%0`, and for one without
+    abbrev Listed : ℕ → Structure → Type 0
+    Listed node s = ListsOuters program node s (outers_at lists node)
+
+    listed : (node : ℕ) (s : Structure) → slice_get program.structures node ≡ Some s → Listed node s
+    listed node s has = let found = are.at node s has in subst (ListsOuters program node s) (sym (ap or_none found.1)) found.2
+
+    inside-seen : (node : ℕ) (s : Structure) (outer : ℕ) (y : Reading) → slice_get program.structures node ≡ Some s → MayBeOutermost program (numbered node) (numbered outer) → InsideEnds (starting Outermost outer) s y → Seen Outermost y
+    inside-seen node s outer y has around (inl (e, c, p)) = seen e Outermost (numbered outer) y (BeginsAt.own_outermost (numbered node) {s = s} has c around) p
+    inside-seen node s outer y has around (inr (f, c, (union, e, h, p))) = seen e Outermost (numbered outer) y (BeginsAt.desc_outermost (numbered node) {union = union} {s = s} {f = f} has c h around) p
+
+    outer-seen : (node : ℕ) (s : Structure) (y : Reading) → slice_get program.structures node ≡ Some s → Listed node s → (b : Bool) → structure_names s ≡ b → OuterEnds (outers_at lists node) s y → Seen Outermost y
+    outer-seen node s y has l true names (outer, c, h) = inside-seen node s outer y has (((l.some names).each outer).0 c) h
+    outer-seen node s y has l false names (outer, c, h) = absurd (nothing outer (subst (λ xs. Contains xs outer) (l.none names) c))
+
+    outermost-seen : (y : Reading) → OutermostEnds lists y → Seen Outermost y
+    outermost-seen y (inl (i, s, has, h)) = outer-seen i s y has (listed i s has) (structure_names s) refl h
+    outermost-seen y (inr (r, c, (union, e, h, p))) = seen e Outermost union y (BeginsAt.root_outermost {r = r} c h) p
+
+    -- a structure with such a path is listed
+    no-end : (e : Expr) (outer : ℕ) (y : Reading) → names_outermost e ≡ false → ¬ EndOf (starting Outermost outer) (paths_of e) y
+    no-end e outer y none (way, c, (is, h)) = quiet e none way c is
+
+    inside-all : (node : ℕ) (s : Structure) (outer : ℕ) (y : Reading) → Listed node s → MayBeOutermost program (numbered node) (numbered outer) → (b : Bool) → structure_names s ≡ b → InsideEnds (starting Outermost outer) s y → OuterEnds (outers_at lists node) s y
+    inside-all node s outer y l around true names h = (outer, ((l.some names).each outer).1 around, h)
+    inside-all node s outer y l around false names (inl (e, c, p)) = absurd (no-end e outer y (own-quiet s names e c) p)
+    inside-all node s outer y l around false names (inr (f, c, (union, e, h, p))) = absurd (no-end e outer y (given-quiet s names f union e c h) p)
+
+    outermost-all : (y : Reading) (e : Expr) (begin : TypeId) → BeginsAt program e Outermost begin → EndOf (starting Outermost begin.0) (paths_of e) y → OutermostEnds lists y
+    outermost-all y e begin (BeginsAt.own_outermost node {outer} {s} has c around) p =
+        inl (node.0, s, has, inside-all node.0 s outer.0 y (listed node.0 s has) around (structure_names s) refl (inl (e, c, p)))
+    outermost-all y e begin (BeginsAt.desc_outermost node {outer} {union} {s} {f} has c h around) p =
+        inl (node.0, s, has, inside-all node.0 s outer.0 y (listed node.0 s has) around (structure_names s) refl (inr (f, c, (union, e, h, p))))
+    outermost-all y e begin (BeginsAt.root_outermost {r} {union} c h) p = inr (r, c, (union, e, h, p))
+
+    pub adds-outermost : Adds (seek_outermost program index lists) (Seen Outermost)
+    adds-outermost = adds-same (of-outermost lists) (λ y. (outermost-seen y, λ s. outermost-all y s.e s.begin s.begins (end-of s)))

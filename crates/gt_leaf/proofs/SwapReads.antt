@@ -1,6 +1,7 @@
 -- Paths that end in numbers that expressions read find the same numbers in two values that differ in a leaf that none reads.
-use Rattle.std.proofs.Common.{◌≡◌, ℕ, zero, suc, Bool, true, false, cond, IsTrue, List, [], ◌∷◌, refl, ap, sym, subst, ◌∙◌, ◌⊎◌, Option, Some, None, inl, inr}
-use Rattle.std.specs.Prelude.{Contains, slice_get}
+use Rattle.std.proofs.Common.{◌≡◌, ℕ, zero, suc, Bool, true, false, cond, IsTrue, List, [], ◌∷◌, refl, ap, sym, subst, ◌∙◌, Option, Some, None, inr}
+use Rattle.std.specs.Prelude.{slice_get}
+use Rattle.gt_types.specs.declared.expressions.Base.{Base}
 use Rattle.gt_types.specs.declared.expressions.Expr.{Expr}
 use Rattle.gt_types.specs.declared.types.TypeId.{TypeId}
 use Rattle.gt_types.specs.declared.types.Ty.{Ty}
@@ -22,22 +23,16 @@ use Rattle.gt_tree.proofs.PathParts.{get-map}
 use Rattle.gt_tree.proofs.WriteReads.{named-place, step-taken, read-desc, node-type, first-types}
 use Rattle.gt_value.specs.declared.places.Holder.{Holder}
 use Rattle.gt_value.specs.declared.places.Holder.TheVariants as lies_in
-use Rattle.gt_leaf.specs.Unread.{Enclosing, Around, with_structure, route, route_of, ReadsFrom, ReadsByName, IsReadField, IsUnread, EndsAt}
-use Rattle.gt_leaf.proofs.Members.{later}
+use Rattle.gt_leaf.specs.Unread.{Enclosing, Around, with_structure, route, route_of, StandsAround, ReadsFrom, IsUnread, EndsAt}
+use Rattle.gt_leaf.proofs.Arounds.{stands-within}
 use Rattle.gt_leaf.proofs.RouteSteps.{names-stop, names-step, names-end, places-stop, places-step, places-end}
 use Rattle.gt_leaf.proofs.Swaps.{Swap, OneSwaps}
 
--- The number in which a path of names ends from a structure on is one that expressions read, by name where paths from `%0` count, or from
--- where the path began, along what this makes of the route from that structure on.
-abbrev pub EndRead : Program → Bool → TypeId → (List ℕ → List ℕ) → TypeId → List (List ℕ) → Type 0
-EndRead program named begin whole node names = (end : TypeId) (i : ℕ) (s : Structure) (f : Field) → HasStructure program end s → slice_get s.fields i ≡ Some f → is_number f.ty ≡ true → EndsAt program node names end i
-    → ((named ≡ true) × ReadsByName program end i) ⊎ ReadsFrom program begin (whole (route_of program (Some node) names)) end i
-
--- where a structure around a leaf reads a number along the route to it, or a path from `%0` leads there by its name, it is read
-read-inside : (program : Program) (around : Around) (named : Bool) (begin : TypeId) (along : List ℕ) (node : TypeId) (i : ℕ) → (named ≡ true → around.direct ≡ true) → Contains around.structures (begin, along)
-    → ((named ≡ true) × ReadsByName program node i) ⊎ ReadsFrom program begin along node i → IsReadField program around true node i
-read-inside program around named begin along node i direct c (inl name) = inl (inr (direct name.0), name.1)
-read-inside program around named begin along node i direct c (inr from) = inr ((begin, along), inr c, from)
+-- The number in which a path of names ends from a structure on is one that expressions read from where the path began, along what this makes
+-- of the route from that structure on.
+abbrev pub EndRead : Program → Base → TypeId → (List ℕ → List ℕ) → TypeId → List (List ℕ) → Type 0
+EndRead program base begin whole node names = (end : TypeId) (i : ℕ) (s : Structure) (f : Field) → HasStructure program end s → slice_get s.fields i ≡ Some f → is_number f.ty ≡ true → EndsAt program node names end i
+    → ReadsFrom program base begin (whole (route_of program (Some node) names)) end i
 
 -- ---- numbers
 
@@ -50,10 +45,9 @@ number-swap (Swap.in_row plain) read = refl
 
 -- ---- what a value begins with
 
--- more is around one part than around another
+-- what stands around one part stands around another
 pub record Grows (around inner : Around) : Type 0 where
-  pub each : (b : Enclosing) → Contains around.structures b → Contains inner.structures b
-  pub direct : around.direct ≡ true → inner.direct ≡ true
+  pub each : (base : Base) (b : Enclosing) → StandsAround around base b → StandsAround inner base b
 
 -- a part of a value and that of the other are one, or they differ so
 data Kept (program : Program) (c : TypeId) (around : Around) : Option Tree → Option Tree → Type 0 where
@@ -63,7 +57,7 @@ data Kept (program : Program) (c : TypeId) (around : Around) : Option Tree → O
 kept-outside : {program : Program} {c : TypeId} {around : Around} (node : TypeId) (path : List ℕ) {x y : Option Tree} → Kept program c (with_structure program around node path) x y → Kept program c around x y
 kept-outside node path Kept.kept_same = Kept.kept_same
 kept-outside {program} {around} node path (Kept.kept_swap inner grows swap) =
-    Kept.kept_swap inner (record { each = λ b d. grows.each b (later (node, route program (Some node) path) b around.structures d); direct = grows.direct }) swap
+    Kept.kept_swap inner (record { each = λ base b d. grows.each base b (stands-within around (node, route program (Some node) path) base b d) }) swap
 
 -- a path of names reads the same from a structure inside these in two values that differ so
 abbrev ReadsOn : Program → TypeId → Around → List (List ℕ) → Type 0
@@ -85,7 +79,7 @@ begin-leaf program c type (Row trees) e h = absurd (cc)
 
 module _ {program : Program} (c : TypeId) where
   kept-or : {around : Around} {h : Holder} {path : List ℕ} (type : Ty) (o n : Tree) (b : Bool) (x y : Option Tree) → is_node c type ≡ b → Swap program around h type path o n → Kept program c around x y → Kept program c around (cond b (Some o) x) (cond b (Some n) y)
-  kept-or {around} {h} {path} type o n true x y e swap k = Kept.kept_swap around (record { each = λ b d. d; direct = λ e. e }) (subst (λ t. Swap program around h t path o n) (node-type c type e).1 swap)
+  kept-or {around} {h} {path} type o n true x y e swap k = Kept.kept_swap around (record { each = λ base b d. d }) (subst (λ t. Swap program around h t path o n) (node-type c type e).1 swap)
   kept-or type o n false x y e swap k = k
 
   mutual
@@ -178,10 +172,10 @@ module _ {program : Program} (settled : Settled program) where
 
   -- ---- a path
 
-  pub reads-swapped : {node : TypeId} {steps : List (List ℕ)} {type : Ty} → Leads program by_name node steps type → IsTrue (is_number type) → (named : Bool) (begin : TypeId) (whole : List ℕ → List ℕ) → EndRead program named begin whole node steps
-      → (around : Around) (path : List ℕ) → (named ≡ true → around.direct ≡ true) → Contains (with_structure program around node path).structures (begin, whole (route program (Some node) path)) → (h : Holder) (desc : Option Expr) (o n : Tree)
+  pub reads-swapped : {node : TypeId} {steps : List (List ℕ)} {type : Ty} → Leads program by_name node steps type → IsTrue (is_number type) → (base : Base) (begin : TypeId) (whole : List ℕ → List ℕ) → EndRead program base begin whole node steps
+      → (around : Around) (path : List ℕ) → StandsAround (with_structure program around node path) base (begin, whole (route program (Some node) path)) → (h : Holder) (desc : Option Expr) (o n : Tree)
       → Swap program around h (ty.Node node desc) path o n → read_path program steps (ty.Node node None) o ≡ read_path program steps (ty.Node node None) n
-  reads-swapped (last_step {node} {x = name} {s} {f} has name_is may) number named begin whole read around path direct inside h desc o n r = go s.is_union refl
+  reads-swapped (last_step {node} {x = name} {s} {f} has name_is may) number base begin whole read around path inside h desc o n r = go s.is_union refl
     where
       go : (b : Bool) → s.is_union ≡ b → read_path program (name ∷ []) (ty.Node node None) o ≡ read_path program (name ∷ []) (ty.Node node None) n
       go true union = let c = may.common union in let none = ap is_number c.2 in absurd (cc)
@@ -194,31 +188,31 @@ module _ {program : Program} (settled : Settled program) where
           let one : route program (Some node) path ≡ route_of program (Some node) (name ∷ []) = ap (route program (Some node)) (at.path_is ∙ ap (λ k. k ∷ at.rest) e)
           ∙ places-end program node place at.rest s f has struct found.2 number
           ∙ sym (names-end program node name place s f has struct found.1 found.2 number) in
-          unread (read-inside program within named begin (whole (route_of program (Some node) (name ∷ []))) node place direct (subst (λ x. Contains within.structures (begin, whole x)) one inside) (read node place s f has found.2 number (EndsAt.at_last (s, has, found.1, found.2)))) in
+          unread (base, (begin, whole (route_of program (Some node) (name ∷ []))), inr (subst (λ x. StandsAround within base (begin, whole x)) one inside), read node place s f has found.2 number (EndsAt.at_last (s, has, found.1, found.2))) in
           ap (λ x. x then λ next. read_path program [] next.type next.value) (step-taken program node s f name place false o has struct found.1 found.2)
           ∙ field-then [] within (lies_in.Field node place) f.ty at.k place at.rest (λ p q e swap. number-swap swap (is_read e)) at.swap
           ∙ sym (ap (λ x. x then λ next. read_path program [] next.type next.value) (step-taken program node s f name place false n has struct found.1 found.2))
-  reads-swapped (next_step {node} {next} {x = name} {xs = names} {s} {f} {desc = inner} {type} has name_is may is rest) number named begin whole read around path direct inside h desc o n r =
-      go (λ w after deeper p d c. reads-swapped rest number named begin w after deeper p d c) s.is_union refl
+  reads-swapped (next_step {node} {next} {x = name} {xs = names} {s} {f} {desc = inner} {type} has name_is may is rest) number base begin whole read around path inside h desc o n r =
+      go (λ w after deeper p c. reads-swapped rest number base begin w after deeper p c) s.is_union refl
     where
       -- a route goes on behind a struct, and no further behind a union
-      after : (w : List ℕ → List ℕ) (b : Bool) → s.is_union ≡ b → whole (route_of program (Some node) (name ∷ names)) ≡ w (route_of program (Some next) names) → EndRead program named begin w next names
+      after : (w : List ℕ → List ℕ) (b : Bool) → s.is_union ≡ b → whole (route_of program (Some node) (name ∷ names)) ≡ w (route_of program (Some next) names) → EndRead program base begin w next names
       after w b e same = λ end i t g there get is_number_there ends.
           let found = named-place program settled node s f name has may.there name_is in
-          subst (λ along. ((named ≡ true) × ReadsByName program end i) ⊎ ReadsFrom program begin along end i) same (read end i t g there get is_number_there (EndsAt.at_next (s, has, found.1, found.2) is ends))
+          subst (λ along. ReadsFrom program base begin along end i) same (read end i t g there get is_number_there (EndsAt.at_next (s, has, found.1, found.2) is ends))
 
-      go : ((w : List ℕ → List ℕ) → EndRead program named begin w next names → (deeper : Around) (p : List ℕ) → (named ≡ true → deeper.direct ≡ true) → Contains (with_structure program deeper next p).structures (begin, w (route program (Some next) p)) → (k : Holder) (d : Option Expr) (x y : Tree)
+      go : ((w : List ℕ → List ℕ) → EndRead program base begin w next names → (deeper : Around) (p : List ℕ) → StandsAround (with_structure program deeper next p) base (begin, w (route program (Some next) p)) → (k : Holder) (d : Option Expr) (x y : Tree)
           → Swap program deeper k (ty.Node next d) p x y → read_path program names (ty.Node next None) x ≡ read_path program names (ty.Node next None) y) → (b : Bool) → s.is_union ≡ b → read_path program (name ∷ names) (ty.Node node None) o ≡ read_path program (name ∷ names) (ty.Node node None) n
       go walk true union =
           let c = may.common union in
           let common : IsCommon program s next = let named_so : ty.Node c.0 c.1 ≡ ty.Node next inner = sym c.2 ∙ is in let same : c.0 ≡ next = cc in subst (IsCommon program s) same c.3 in
           let found = named-place program settled node s f name has may.there name_is in
           let within = with_structure program around node path in
-          let stopped = subst (λ x. Contains within.structures (begin, whole x)) (places-stop program node path s has union) inside in
+          let stopped = subst (λ x. StandsAround within base (begin, whole x)) (places-stop program node path s has union) inside in
           let read_on = after (λ x. whole []) true union (ap whole (names-stop program node (name ∷ names) s has union)) in
           ap (λ x. x then λ next. read_path program names next.type next.value) (step-taken program node s f name found.0 true o has union found.1 found.2)
           ∙ subst (λ t. (member_of program s t o then λ next. read_path program names next.type next.value) ≡ (member_of program s t n then λ next. read_path program names next.type next.value)) (sym is)
-          (union-read node desc s next inner names o n has common (λ deeper p grows. walk (λ x. whole []) read_on deeper p (λ e. grows.direct (direct e)) (later (next, route program (Some next) p) (begin, whole []) deeper.structures (grows.each (begin, whole []) stopped))) r)
+          (union-read node desc s next inner names o n has common (λ deeper p grows. walk (λ x. whole []) read_on deeper p (stands-within deeper (next, route program (Some next) p) base (begin, whole []) (grows.each base (begin, whole []) stopped))) r)
           ∙ sym (ap (λ x. x then λ next. read_path program names next.type next.value) (step-taken program node s f name found.0 true n has union found.1 found.2))
       go walk false struct =
           let found = named-place program settled node s f name has may.there name_is in
@@ -227,7 +221,7 @@ module _ {program : Program} (settled : Settled program) where
           let at = field-swap node desc s f place has struct found.2 r in
           let read_on = after (λ x. whole (place ∷ x)) false struct
           (ap whole (names-step program node name names place s f has struct found.1 found.2 ∙ ap (λ t. place ∷ route_of program (itself t) names) is)) in
-          let goes_on = λ (e : at.k ≡ place). subst (λ x. Contains within.structures (begin, whole x)) (ap (route program (Some node)) (at.path_is ∙ ap (λ k. k ∷ at.rest) e)
+          let goes_on = λ (e : at.k ≡ place). subst (λ x. StandsAround within base (begin, whole x)) (ap (route program (Some node)) (at.path_is ∙ ap (λ k. k ∷ at.rest) e)
           ∙ places-step program node place at.rest s f has struct found.2
           ∙ ap (λ t. place ∷ route program (itself t) at.rest) is) inside in
           ap (λ x. x then λ next. read_path program names next.type next.value) (step-taken program node s f name place false o has struct found.1 found.2)
@@ -235,7 +229,7 @@ module _ {program : Program} (settled : Settled program) where
           (λ p q e k.
           ap (λ t. read_path program names t p) is
           ∙ read-desc program names next inner p
-          ∙ walk (λ x. whole (place ∷ x)) read_on within at.rest direct (later (next, route program (Some next) at.rest) (begin, whole (place ∷ route program (Some next) at.rest)) within.structures (goes_on e)) (lies_in.Field node place) inner p q
+          ∙ walk (λ x. whole (place ∷ x)) read_on within at.rest (stands-within within (next, route program (Some next) at.rest) base (begin, whole (place ∷ route program (Some next) at.rest)) (goes_on e)) (lies_in.Field node place) inner p q
           (subst (λ t. Swap program within (lies_in.Field node place) t at.rest p q) is k)
           ∙ sym (ap (λ t. read_path program names t q) is ∙ read-desc program names next inner q))
           at.swap

@@ -1,5 +1,5 @@
 -- Two values that differ in one leaf, which no expression reads.
-use Rattle.std.proofs.Common.{◌≡◌, ℕ, zero, suc, Bool, true, false, cond, IsTrue, List, [], ◌∷◌, refl, sym, subst, Some, None, Option, inl}
+use Rattle.std.proofs.Common.{◌≡◌, ℕ, zero, suc, Bool, true, false, cond, IsTrue, List, [], ◌∷◌, refl, sym, subst, Some, None, Option}
 use Rattle.std.specs.Prelude.{slice_get}
 use Rattle.gt_types.specs.declared.expressions.Expr.{Expr}
 use Rattle.gt_types.specs.declared.types.TypeId.{TypeId}
@@ -23,7 +23,7 @@ use Rattle.gt_value.specs.declared.places.Holder.{Holder}
 use Rattle.gt_value.specs.declared.places.Holder.TheVariants as lies_in
 use Rattle.gt_value.specs.Places.{Part, PartLies}
 use Rattle.gt_leaf.specs.Unread.{Around, with_structure, structures_from, IsUnread}
-use Rattle.gt_leaf.proofs.Arounds.{Covers, unread-inside, inside-covers}
+use Rattle.gt_leaf.proofs.Arounds.{Covers, covers-all, unread-inside, inside-covers}
 use Rattle.gt_leaf.proofs.PlainParts.{inactive}
 
 mutual
@@ -86,6 +86,6 @@ module _ {program : Program} {planes : List Plane} {around : Around} where
       subst (λ y. Swap program inner h (ty.Node node desc) (i ∷ path) (Alt (Some i) tree) y) (with-member i tree path leaf)
       (Swap.in_member has union get (swapped lies within leaf unread (inside-covers program inner node desc s f i path has get covers) a b plain))
   swapped (PartLies.common {i} {node} {path} has common lies) inner leaf unread covers a b plain =
-      Swap.in_common has common (swapped lies (with_structure program inner node (i ∷ path)) leaf unread (record { each = λ b c. inl (inactive lies refl); leads = λ e. inl (inactive lies refl) }) a b plain)
+      Swap.in_common has common (swapped lies (with_structure program inner node (i ∷ path)) leaf unread (covers-all _ _ _ (inactive lies refl)) a b plain)
   swapped (PartLies.array {n} {type} {elem} e there lies) inner leaf unread covers a b plain = Swap.in_row (array-type type elem n e)
   swapped (PartLies.tail {length} {type} {elem} e there lies) inner leaf unread covers a b plain = Swap.in_row (tail-type type elem length e)

@@ -1,10 +1,12 @@
 -- The places that are collected are the table of the program, and what the table says of a holder.
-use Rattle.std.proofs.Common.{◌≡◌, ℕ, Bool, true, false, not, ◌||◌, ◌&&◌, IsTrue, List, [], ◌∷◌, refl, ap, sym, subst, ◌∙◌, Option, Some, None, inl, inr, if◌then◌else◌}
-use Rattle.std.specs.Prelude.{◌↔◌, Contains, nat_eq, slice_get, position, is_some}
+use Rattle.std.proofs.Common.{◌≡◌, ℕ, Bool, true, false, not, ◌||◌, ◌&&◌, IsTrue, List, [], ◌∷◌, refl, ap, sym, subst, ◌∙◌, ◌⊎◌, Option, Some, None, inl, inr}
+use Rattle.std.specs.Prelude.{◌↔◌, Contains, nat_eq, slice_get}
 use Rattle.std.specs.List.{list_any}
 use Rattle.std.specs.Str.{bytes_eq}
 use Rattle.std.proofs.lemmas.Slice.Eq.{bytes_eq-Decides}
 use Rattle.std.proofs.lemmas.Bool.Decides.{Decides-eqb}
+use Rattle.gt_types.specs.declared.expressions.Base.{Base}
+use Rattle.gt_types.specs.declared.expressions.Base.TheVariants.{Here, Outer, Outermost}
 use Rattle.gt_types.specs.declared.types.TypeId.{TypeId}
 use Rattle.gt_types.specs.declared.types.Ty.{Ty}
 use Rattle.gt_types.specs.declared.types.Ty.TheVariants as ty
@@ -13,120 +15,59 @@ use Rattle.gt_types.specs.declared.program.Structure.{Structure}
 use Rattle.gt_types.specs.declared.program.Program.{Program}
 use Rattle.gt_types.specs.Shapes.{is_number}
 use Rattle.gt_tree.specs.Scopes.{◌then◌}
+use Rattle.gt_paths.specs.Numbers.{numbered}
 use Rattle.gt_value.specs.declared.places.Holder.{Holder}
 use Rattle.gt_value.specs.declared.places.Holder.TheVariants as lies_in
-use Rattle.gt_names.proofs.NameTests.{is_some_position}
 use Rattle.gt_leaf.specs.declared.fields.FieldPlace.{FieldPlace}
 use Rattle.gt_leaf.specs.declared.readings.Reading.{Reading}
-use Rattle.gt_leaf.specs.declared.ends.Ends.{Ends}
 use Rattle.gt_leaf.specs.declared.reads.Reads.{Reads}
-use Rattle.gt_leaf.specs.Collecting.{ends_of}
-use Rattle.gt_leaf.specs.Seeking.{Names, same_place, same_reading, with_field, with_fields, with_named, with_named_fields, with_all_named, names_of_all, seek_all}
-use Rattle.gt_leaf.specs.Tables.{field_place, reading, IsTableOf}
-use Rattle.gt_leaf.specs.Around.{from_there, any_around, leads_directly}
+use Rattle.gt_leaf.specs.Collecting.{roots_of_all}
+use Rattle.gt_leaf.specs.Seeking.{Names, same_place, same_reading, with_fields, names_of_all, seek_all, seek_outermost}
+use Rattle.gt_leaf.specs.Outers.{AreOutersOf}
+use Rattle.gt_leaf.specs.Tables.{field_place, reading, ReadsInside, IsSomewhereRead, IsTableOf}
+use Rattle.gt_leaf.specs.Around.{from_there, any_around, outermost_reads}
 use Rattle.gt_leaf.specs.HeldTypes.{is_some_number, is_number_at}
 use Rattle.gt_leaf.specs.Alike.{both-true, same-field, same-read}
-use Rattle.gt_leaf.specs.Unread.{Enclosing, Around, none_around, is_none, with_structure, with_itself, root_at, part_at, structures_from, structures_on, structures_in_statics, ReadsFrom, ReadsByName, MayStandAround, MayLeadThere, IsReadField, IsReadRoot, IsUnread}
-use Rattle.gt_leaf.proofs.Adding.{Adds, adds-none, adds-same, adds-each}
-use Rattle.gt_leaf.proofs.EndLemmas.{names-read, roots-read}
+use Rattle.gt_leaf.specs.Unread.{Enclosing, Around, none_around, outermost_in, route, with_structure, with_itself, root_at, part_at, structures_from, structures_on, structures_in_statics, ReadsFrom, StandsAround, IsReadField, IsReadRoot, IsUnread}
+use Rattle.gt_leaf.proofs.Adding.{Adds}
+use Rattle.gt_leaf.proofs.RootLemmas.{roots-read}
 use Rattle.gt_leaf.proofs.Members.{nothing, any-found, found-there, there-found}
 use Rattle.gt_leaf.proofs.PathWalks.{ends-there, ends-back, routes-same}
-use Rattle.gt_leaf.proofs.SeekLemmas.{adds-field, adds-fields, Seen, adds-seen}
+use Rattle.gt_leaf.proofs.SeekLemmas.{adds-fields, Seen, adds-seen, adds-outermost}
 
--- ---- numbers of the names that are read
-
-abbrev IsNamed : List (List ℕ) → Field → Type 0
-IsNamed names f = (is_number f.ty && is_some (position (λ other. bytes_eq other f.name) names)) ≡ true
-
-named-cases : (b : Bool) (x : FieldPlace) → Adds (λ k. if b then with_field x k else k) (λ y. (b ≡ true) × (x ≡ y))
-named-cases true x = adds-same (adds-field x) (λ y. (λ e. (refl, e), λ p. p.1))
-named-cases false x = adds-none (λ y p. let e = p.0 in cc)
-
-abbrev NamedField : List (List ℕ) → ℕ → ℕ → Field → FieldPlace → Type 0
-NamedField names node i f y = IsNamed names f × (field_place node i ≡ y)
-
-of-field : (names : List (List ℕ)) (node i : ℕ) (f : Field) → Adds (with_named names node i f) (NamedField names node i f)
-of-field names node i f = named-cases (is_number f.ty && is_some (position (λ other. bytes_eq other f.name) names)) (field_place node i)
-
-abbrev NamedFields : List (List ℕ) → ℕ → List Field → FieldPlace → Type 0
-NamedFields names node fields y = (i : ℕ) × (f : Field) × (slice_get fields i ≡ Some f) × NamedField names node i f y
-
-of-fields : (names : List (List ℕ)) (node : ℕ) (fields : List Field) → Adds (with_named_fields names node fields) (NamedFields names node fields)
-of-fields names node fields = adds-each (with_named names node) (NamedField names node) (of-field names node) fields
-
-of-structures : (names : List (List ℕ)) (structures : List Structure) → Adds (with_all_named names structures) (λ y. (node : ℕ) × (s : Structure) × (slice_get structures node ≡ Some s) × NamedFields names node s.fields y)
-of-structures names structures =
-    adds-each (λ node s. with_named_fields names node s.fields) (λ node s. NamedFields names node s.fields) (λ node s. of-fields names node s.fields) structures
-
--- ---- the table
-
-abbrev numbered : ℕ → TypeId
-numbered i = record { 0 = i }
+-- ---- numbers that are read from structures
 
 one-number : (a b : ℕ) → a ≡ b → numbered a ≡ numbered b
 one-number a b e = ap numbered e
 
-abbrev all_named : Program → List FieldPlace
-all_named program = with_all_named (ends_of program).names program.structures []
+abbrev index_of : Program → List Names
+index_of program = names_of_all program.structures
 
-abbrev all_readings : Program → List Reading
-all_readings program = seek_all program (names_of_all program.structures) []
+abbrev inside_readings : Program → List Reading
+inside_readings program = seek_all program (index_of program) []
 
-named-at : (program : Program) (y : FieldPlace) → Contains (all_named program) y ↔ ((node : ℕ) × (s : Structure) × (slice_get program.structures node ≡ Some s) × NamedFields (ends_of program).names node s.fields y)
-named-at program y =
-    let all = of-structures (ends_of program).names program.structures in
-    let each = all.each [] y in
-    (λ c. elim (each.0 c) [ inl none ↦ absurd (nothing y none) | inr h ↦ h ], λ h. each.1 (inr h))
+abbrev outermost_readings : Program → List (List ℕ) → List Reading
+outermost_readings program lists = seek_outermost program (index_of program) lists []
 
-sought-at : (program : Program) (y : Reading) → Contains (all_readings program) y ↔ Seen program (names_of_all program.structures) y
-sought-at program y =
-    let all = adds-seen program (names_of_all program.structures) in
-    let each = all.each [] y in
-    (λ c. elim (each.0 c) [ inl none ↦ absurd (nothing y none) | inr h ↦ h ], λ h. each.1 (inr h))
+-- what is added to nothing
+from-nothing : {Y : Type 0} {g : List Y → List Y} {P : Y → Type 0} → Adds g P → (y : Y) → Contains (g []) y ↔ P y
+from-nothing all y = let each = all.each [] y in (λ c. elim (each.0 c) [ inl none ↦ absurd (nothing y none) | inr h ↦ h ], λ h. each.1 (inr h))
 
--- ---- numbers that are read by name
-
-name-at : (program : Program) (node other : TypeId) (i j : ℕ) → field_place other.0 j ≡ field_place node.0 i → ReadsByName program other j → ReadsByName program node i
-name-at program node other i j e read =
-    let same : other ≡ node = ap (λ (y : FieldPlace). numbered y.structure) e in
-    let place : j ≡ i = ap (λ (y : FieldPlace). y.place) e in
-    subst (λ n. ReadsByName program n i) same (subst (λ k. ReadsByName program other k) place read)
-
-names-there : (program : Program) (node : TypeId) (i : ℕ) → Contains (all_named program) (field_place node.0 i) ↔ ReadsByName program node i
-names-there program node i = (there, back)
-  where
-    found : (n : ℕ) (s : Structure) → slice_get program.structures n ≡ Some s → NamedFields (ends_of program).names n s.fields (field_place node.0 i) → ReadsByName program node i
-    found n s has (j, f, get, (test, is)) =
-        let both = both-true _ _ test in
-        let read = (names-read program f.name).0 (found-there (λ other. bytes_eq other f.name) (ends_of program).names f.name (λ z h. (bytes_eq-Decides z f.name).0 h) (sym (is_some_position (λ other. bytes_eq other f.name) (ends_of program).names) ∙ both.1)) in
-        name-at program node (numbered n) i j is (record { s = s; f = f; has = has; get = get; number = both.0; read = read })
-
-    there : Contains (all_named program) (field_place node.0 i) → ReadsByName program node i
-    there c = let h = (named-at program (field_place node.0 i)).0 c in found h.0 h.1 h.2 h.3
-
-    back : ReadsByName program node i → Contains (all_named program) (field_place node.0 i)
-    back r =
-        let found = there-found (λ other. bytes_eq other r.f.name) (ends_of program).names r.f.name ((bytes_eq-Decides r.f.name r.f.name).1 refl) ((names-read program r.f.name).1 r.read) in
-        let test = ap (λ b. b && is_some (position (λ other. bytes_eq other r.f.name) (ends_of program).names)) r.number ∙ is_some_position (λ other. bytes_eq other r.f.name) (ends_of program).names ∙ found in
-        (named-at program (field_place node.0 i)).1 (node.0, r.s, r.has, (i, r.f, r.get, (test, refl)))
-
--- ---- numbers that are read from structures
-
-from-at : (program : Program) (begin outer node other : TypeId) (along : List ℕ) (i j : ℕ) → outer.0 ≡ begin.0 → field_place node.0 i ≡ field_place other.0 j → ReadsFrom program outer along other j → ReadsFrom program begin along node i
-from-at program begin outer node other along i j h e read =
+from-at : (program : Program) (base : Base) (begin outer node other : TypeId) (along : List ℕ) (i j : ℕ) → outer.0 ≡ begin.0 → field_place node.0 i ≡ field_place other.0 j → ReadsFrom program base outer along other j → ReadsFrom program base begin along node i
+from-at program base begin outer node other along i j h e read =
     let one : outer ≡ begin = one-number outer.0 begin.0 h in
     let same : other ≡ node = ap (λ (y : FieldPlace). numbered y.structure) (sym e) in
     let place : j ≡ i = ap (λ (y : FieldPlace). y.place) (sym e) in
-    subst (λ b. ReadsFrom program b along node i) one (subst (λ n. ReadsFrom program outer along n i) same (subst (λ k. ReadsFrom program outer along other k) place read))
+    subst (λ b. ReadsFrom program base b along node i) one (subst (λ n. ReadsFrom program base outer along n i) same (subst (λ k. ReadsFrom program base outer along other k) place read))
 
-readings-there : (program : Program) (begin node : TypeId) (along : List ℕ) (i : ℕ) → Contains (all_readings program) (reading begin.0 (field_place node.0 i) along) ↔ ReadsFrom program begin along node i
-readings-there program begin node along i = (there, back)
+-- where a path ends that was found, a number is read
+seen-reads : (program : Program) (base : Base) (begin node : TypeId) (along : List ℕ) (i : ℕ) → Seen program (index_of program) base (reading begin.0 (field_place node.0 i) along) ↔ ReadsFrom program base begin along node i
+seen-reads program base begin node along i = (there, back)
   where
-    there : Contains (all_readings program) (reading begin.0 (field_place node.0 i) along) → ReadsFrom program begin along node i
-    there c =
-        let seen = (sought-at program (reading begin.0 (field_place node.0 i) along)).0 c in
+    there : Seen program (index_of program) base (reading begin.0 (field_place node.0 i) along) → ReadsFrom program base begin along node i
+    there seen =
         let found = ends-there program seen.names seen.begin (field_place node.0 i) seen.end in
-        from-at program begin seen.begin node found.node along i found.i seen.from found.is
+        from-at program base begin seen.begin node found.node along i found.i seen.from found.is
         (record {
           s = found.s;
           f = found.f;
@@ -134,7 +75,6 @@ readings-there program begin node along i = (there, back)
           get = found.get;
           number = found.number;
           e = seen.e;
-          base = seen.base;
           names = seen.names;
           begins = seen.begins;
           there = seen.there;
@@ -142,59 +82,87 @@ readings-there program begin node along i = (there, back)
           takes = sym (routes-same program seen.begin seen.names) ∙ seen.along;
         })
 
-    back : ReadsFrom program begin along node i → Contains (all_readings program) (reading begin.0 (field_place node.0 i) along)
-    back r =
-        (sought-at program (reading begin.0 (field_place node.0 i) along)).1
-        (record { e = r.e; base = r.base; begin = begin; begins = r.begins; names = r.names; there = r.there; end = ends-back program r.ends r.s r.f r.has r.get r.number; from = refl; along = routes-same program begin r.names ∙ r.takes })
+    back : ReadsFrom program base begin along node i → Seen program (index_of program) base (reading begin.0 (field_place node.0 i) along)
+    back r = record { e = r.e; begin = begin; begins = r.begins; names = r.names; there = r.there; end = ends-back program r.ends r.s r.f r.has r.get r.number; from = refl; along = routes-same program begin r.names ∙ r.takes }
 
--- some path leads to the number from some structure
-abbrev IsEnded : Program → TypeId → ℕ → Type 0
-IsEnded program node i = (begin : TypeId) × (along : List ℕ) × ReadsFrom program begin along node i
+iff-both : {A B C : Type 0} → A ↔ B → B ↔ C → A ↔ C
+iff-both f g = (λ a. g.0 (f.0 a), λ c. f.1 (g.1 c))
 
-ended-there : (program : Program) (node : TypeId) (i : ℕ) → Contains (with_fields (all_readings program) []) (field_place node.0 i) ↔ IsEnded program node i
-ended-there program node i = (there, back)
+either-iff : {A B C D : Type 0} → A ↔ C → B ↔ D → (A ⊎ B) ↔ (C ⊎ D)
+either-iff f g = (λ h. elim h [ inl a ↦ inl (f.0 a) | inr b ↦ inr (g.0 b) ], λ h. elim h [ inl c ↦ inl (f.1 c) | inr d ↦ inr (g.1 d) ])
+
+inside-there : (program : Program) (begin node : TypeId) (along : List ℕ) (i : ℕ) → Contains (inside_readings program) (reading begin.0 (field_place node.0 i) along) ↔ ReadsInside program begin along node i
+inside-there program begin node along i =
+    iff-both (from-nothing (adds-seen program (index_of program)) (reading begin.0 (field_place node.0 i) along)) (either-iff (seen-reads program Here begin node along i) (seen-reads program Outer begin node along i))
+
+outermost-there : (program : Program) (lists : List (List ℕ)) → AreOutersOf program lists → (begin node : TypeId) (along : List ℕ) (i : ℕ)
+    → Contains (outermost_readings program lists) (reading begin.0 (field_place node.0 i) along) ↔ ReadsFrom program Outermost begin along node i
+outermost-there program lists are begin node along i =
+    iff-both (from-nothing (adds-outermost program (index_of program) lists are) (reading begin.0 (field_place node.0 i) along)) (seen-reads program Outermost begin node along i)
+
+abbrev all_fields : Program → List (List ℕ) → List FieldPlace
+all_fields program lists = with_fields (outermost_readings program lists) (with_fields (inside_readings program) [])
+
+-- the fields of readings are those that are read
+ended-there : (program : Program) (lists : List (List ℕ)) → AreOutersOf program lists → (node : TypeId) (i : ℕ) → Contains (all_fields program lists) (field_place node.0 i) ↔ IsSomewhereRead program node i
+ended-there program lists are node i = (there, back)
   where
-    there : Contains (with_fields (all_readings program) []) (field_place node.0 i) → IsEnded program node i
-    there c =
-        let all = adds-fields (all_readings program) in
-        elim ((all.each [] (field_place node.0 i)).0 c) [
-          | inl none ↦ absurd (nothing (field_place node.0 i) none)
-          | inr (r, d, is) ↦
-              let same : r ≡ reading r.from (field_place node.0 i) r.along = ap (λ f. reading r.from f r.along) is in
-              (numbered r.from, r.along, (readings-there program (numbered r.from) node r.along i).0 (subst (Contains (all_readings program)) same d))
-        ]
+    added : Contains (all_fields program lists) (field_place node.0 i) ↔ (Contains (with_fields (inside_readings program) []) (field_place node.0 i) ⊎ ((r : Reading) × Contains (outermost_readings program lists) r × (r.field ≡ (field_place node.0 i))))
+    added = (adds-fields (outermost_readings program lists)).each (with_fields (inside_readings program) []) (field_place node.0 i)
 
-    back : IsEnded program node i → Contains (with_fields (all_readings program) []) (field_place node.0 i)
-    back (begin, along, read) =
-        let all = adds-fields (all_readings program) in
-        (all.each [] (field_place node.0 i)).1 (inr (reading begin.0 (field_place node.0 i) along, (readings-there program begin node along i).1 read, refl))
+    first : Contains (with_fields (inside_readings program) []) (field_place node.0 i) ↔ ((r : Reading) × Contains (inside_readings program) r × (r.field ≡ (field_place node.0 i)))
+    first = from-nothing (adds-fields (inside_readings program)) (field_place node.0 i)
+
+    same : (r : Reading) → r.field ≡ (field_place node.0 i) → r ≡ reading r.from (field_place node.0 i) r.along
+    same r is = ap (λ f. reading r.from f r.along) is
+
+    from-inside : (r : Reading) → Contains (inside_readings program) r → r.field ≡ (field_place node.0 i) → IsSomewhereRead program node i
+    from-inside r c is = elim ((inside-there program (numbered r.from) node r.along i).0 (subst (Contains (inside_readings program)) (same r is) c)) [
+      | inl h ↦ (Here, numbered r.from, r.along, h)
+      | inr h ↦ (Outer, numbered r.from, r.along, h)
+    ]
+
+    there : Contains (all_fields program lists) (field_place node.0 i) → IsSomewhereRead program node i
+    there c = elim (added.0 c) [
+      | inl d ↦ let h = first.0 d in from-inside h.0 h.1 h.2
+      | inr (r, d, is) ↦ (Outermost, numbered r.from, r.along, (outermost-there program lists are (numbered r.from) node r.along i).0 (subst (Contains (outermost_readings program lists)) (same r is) d))
+    ]
+
+    back : IsSomewhereRead program node i → Contains (all_fields program lists) (field_place node.0 i)
+    back (Here, begin, along, read) = added.1 (inl (first.1 (reading begin.0 (field_place node.0 i) along, (inside-there program begin node along i).1 (inl read), refl)))
+    back (Outer, begin, along, read) = added.1 (inl (first.1 (reading begin.0 (field_place node.0 i) along, (inside-there program begin node along i).1 (inr read), refl)))
+    back (Outermost, begin, along, read) = added.1 (inr (reading begin.0 (field_place node.0 i) along, (outermost-there program lists are begin node along i).1 read, refl))
 
 -- ---- the table
 
-pub table-of : (program p : Program) (index : List Names) (ends : Ends) (structures : List Structure) (named ended no_named no_ended : List FieldPlace) (from no_from : List Reading) (table : Reads)
-    → table ≡ record { named = named; ended = ended; from = from; roots = ends.roots } → named ≡ with_all_named ends.names structures no_named → from ≡ seek_all p index no_from → ended ≡ with_fields from no_ended
-    → p ≡ program → index ≡ names_of_all program.structures → ends ≡ ends_of program → structures ≡ program.structures → no_named ≡ [] → no_from ≡ [] → no_ended ≡ [] → IsTableOf program table
-table-of program p index ends structures named ended no_named no_ended from no_from table is named_is from_is ended_is same_program same_index same_ends same_structures no_name none_from none_ended =
-    let names : table.named ≡ all_named program =
-    ap (λ (t : Reads). t.named) is
-    ∙ named_is
-    ∙ ap (λ (x : Ends). with_all_named x.names structures no_named) same_ends
-    ∙ ap (λ (xs : List Structure). with_all_named (ends_of program).names xs no_named) same_structures
-    ∙ ap (with_all_named (ends_of program).names program.structures) no_name in
-    let readings : from ≡ all_readings program =
-    from_is
-    ∙ ap (λ q. seek_all q index no_from) same_program
-    ∙ ap (λ i. seek_all program i no_from) same_index
-    ∙ ap (seek_all program (names_of_all program.structures)) none_from in
-    let ends_at : table.ended ≡ with_fields (all_readings program) [] =
-    ap (λ (t : Reads). t.ended) is ∙ ended_is ∙ ap (λ r. with_fields r no_ended) readings ∙ ap (with_fields (all_readings program)) none_ended in
-    let reads_from : table.from ≡ all_readings program = ap (λ (t : Reads). t.from) is ∙ readings in
-    let roots : table.roots ≡ (ends_of program).roots = ap (λ (t : Reads). t.roots) is ∙ ap (λ (x : Ends). x.roots) same_ends in
+pub table-of : (program p : Program) (index : List Names) (lists : List (List ℕ)) (ended no_ended : List FieldPlace) (inside no_inside outermost no_outermost : List Reading) (roots no_roots : List ℕ) (table : Reads)
+    → table ≡ record { ended = ended; inside = inside; outermost = outermost; roots = roots } → ended ≡ with_fields outermost (with_fields inside no_ended) → inside ≡ seek_all p index no_inside → outermost ≡ seek_outermost p index lists no_outermost
+    → roots ≡ roots_of_all program no_roots → p ≡ program → index ≡ index_of program → AreOutersOf program lists → no_ended ≡ [] → no_inside ≡ [] → no_outermost ≡ [] → no_roots ≡ [] → IsTableOf program table
+table-of program p index lists ended no_ended inside no_inside outermost no_outermost roots no_roots table is ended_is inside_is outermost_is roots_is same_program same_index are none_ended none_inside none_outermost none_roots =
+    let insides : inside ≡ inside_readings program =
+    inside_is
+    ∙ ap (λ q. seek_all q index no_inside) same_program
+    ∙ ap (λ x. seek_all program x no_inside) same_index
+    ∙ ap (seek_all program (index_of program)) none_inside in
+    let outers : outermost ≡ outermost_readings program lists =
+    outermost_is
+    ∙ ap (λ q. seek_outermost q index lists no_outermost) same_program
+    ∙ ap (λ x. seek_outermost program x lists no_outermost) same_index
+    ∙ ap (seek_outermost program (index_of program) lists) none_outermost in
+    let ends_at : table.ended ≡ all_fields program lists =
+    ap (λ (t : Reads). t.ended) is
+    ∙ ended_is
+    ∙ ap (λ r. with_fields r (with_fields inside no_ended)) outers
+    ∙ ap (λ r. with_fields (outermost_readings program lists) (with_fields r no_ended)) insides
+    ∙ ap (λ k. with_fields (outermost_readings program lists) (with_fields (inside_readings program) k)) none_ended in
+    let reads_inside : table.inside ≡ inside_readings program = ap (λ (t : Reads). t.inside) is ∙ insides in
+    let reads_outermost : table.outermost ≡ outermost_readings program lists = ap (λ (t : Reads). t.outermost) is ∙ outers in
+    let named : table.roots ≡ roots_of_all program [] = ap (λ (t : Reads). t.roots) is ∙ roots_is ∙ ap (roots_of_all program) none_roots in
     record {
-      named = λ node i. subst (λ places. Contains places (field_place node.0 i) ↔ ReadsByName program node i) (sym names) (names-there program node i);
-      ended = λ node i. subst (λ places. Contains places (field_place node.0 i) ↔ IsEnded program node i) (sym ends_at) (ended-there program node i);
-      from = λ begin node along i. subst (λ places. Contains places (reading begin.0 (field_place node.0 i) along) ↔ ReadsFrom program begin along node i) (sym reads_from) (readings-there program begin node along i);
-      roots = λ i. subst (λ places. Contains places i ↔ IsReadRoot program i) (sym roots) (roots-read program i);
+      ended = λ node i. subst (λ places. Contains places (field_place node.0 i) ↔ IsSomewhereRead program node i) (sym ends_at) (ended-there program lists are node i);
+      inside = λ begin node along i. subst (λ places. Contains places (reading begin.0 (field_place node.0 i) along) ↔ ReadsInside program begin along node i) (sym reads_inside) (inside-there program begin node along i);
+      outermost = λ begin node along i. subst (λ places. Contains places (reading begin.0 (field_place node.0 i) along) ↔ ReadsFrom program Outermost begin along node i) (sym reads_outermost) (outermost-there program lists are begin node along i);
+      roots = λ i. subst (λ places. Contains places i ↔ IsReadRoot program i) (sym named) (roots-read program i);
     }
 
 -- ---- what it says
@@ -234,72 +202,78 @@ root-unread program table around active place t = (there, back)
         true-or-not (list_any (nat_eq place) table.roots)
         (λ e. unread ((t.roots place).0 (found-there (nat_eq place) table.roots place (λ z h. sym ((Decides-eqb place z).0 h)) e)))
 
+-- a path from `%0` reads the field from the outermost structure
+abbrev pub outermost_there : Reads → FieldPlace → Option Enclosing → Bool
+outermost_there table field (Some outer) = list_any (same_reading (reading outer.0.0 field outer.1)) table.outermost
+outermost_there table field None = false
+
 -- what the table says of a field inside these structures
 abbrev pub read_there : Reads → Around → Bool → FieldPlace → Bool
-read_there table around active field =
-    (list_any (same_place field) table.named && (not active || around.direct)) || (list_any (same_place field) table.ended && (not active || list_any (from_there table field) around.structures))
+read_there table around active field = list_any (same_place field) table.ended && (not active || (outermost_there table field around.outermost || list_any (from_there table field) around.structures))
 
 module _ (program : Program) (table : Reads) (t : IsTableOf program table) (node : TypeId) (i : ℕ) where
   abbrev field : FieldPlace
   field = field_place node.0 i
 
-  -- some structure around it reads the field along the route to it
-  abbrev IsReadInside : Around → Bool → Type 0
-  IsReadInside around active = (outer : Enclosing) × MayStandAround around active outer × ReadsFrom program outer.0 outer.1 node i
-
   -- what is read from some structure is found
-  ended-found : (begin : TypeId) (along : List ℕ) → ReadsFrom program begin along node i → list_any (same_place field) table.ended ≡ true
-  ended-found begin along read = (in-places field table.ended).1 ((t.ended node i).1 (begin, along, read))
+  ended-found : (base : Base) (begin : TypeId) (along : List ℕ) → ReadsFrom program base begin along node i → list_any (same_place field) table.ended ≡ true
+  ended-found base begin along read = (in-places field table.ended).1 ((t.ended node i).1 (base, begin, along, read))
 
-  inside : (around : Around) (active : Bool) → ((list_any (same_place field) table.ended && (not active || list_any (from_there table field) around.structures)) ≡ true) ↔ IsReadInside around active
-  inside around true = (there, back)
-    where
-      there : (list_any (same_place field) table.ended && list_any (from_there table field) around.structures) ≡ true → IsReadInside around true
-      there e =
-          let found = any-found (from_there table field) around.structures (both-true (list_any (same_place field) table.ended) (list_any (from_there table field) around.structures) e).1 in
-          (found.0, inr found.1, (t.from found.0.0 node found.0.1 i).0 ((in-readings (reading found.0.0.0 field found.0.1) table.from).0 found.2))
+  -- some structure of several reads the field along the route to it
+  inside-found : (structures : List Enclosing) → list_any (from_there table field) structures ≡ true → (outer : Enclosing) × Contains structures outer × ReadsInside program outer.0 outer.1 node i
+  inside-found structures e =
+      let found = any-found (from_there table field) structures e in
+      (found.0, found.1, (t.inside found.0.0 node found.0.1 i).0 ((in-readings (reading found.0.0.0 field found.0.1) table.inside).0 found.2))
 
-      back : IsReadInside around true → (list_any (same_place field) table.ended && list_any (from_there table field) around.structures) ≡ true
-      back (outer, stands, read) = elim stands [
-        | inl e ↦ absurd (cc)
-        | inr c ↦
-            ap (λ b. b && list_any (from_there table field) around.structures) (ended-found outer.0 outer.1 read)
-            ∙ there-found (from_there table field) around.structures outer ((in-readings (reading outer.0.0 field outer.1) table.from).1 ((t.from outer.0 node outer.1 i).1 read)) c
-      ]
-  inside around false = (there, λ (outer, stands, read). ap (λ b. b && true) (ended-found outer.0 outer.1 read))
-    where
-      there : (list_any (same_place field) table.ended && true) ≡ true → IsReadInside around false
-      there e = let found = (t.ended node i).0 ((in-places field table.ended).0 (both-true (list_any (same_place field) table.ended) true e).0) in ((found.0, found.1), inl refl, found.2)
+  found-inside : (structures : List Enclosing) (outer : Enclosing) → Contains structures outer → ReadsInside program outer.0 outer.1 node i → list_any (from_there table field) structures ≡ true
+  found-inside structures outer c read = there-found (from_there table field) structures outer ((in-readings (reading outer.0.0 field outer.1) table.inside).1 ((t.inside outer.0 node outer.1 i).1 read)) c
 
-  -- a path from `%0` may lead there
-  abbrev IsReadByName : Around → Bool → Type 0
-  IsReadByName around active = MayLeadThere around active × ReadsByName program node i
+  -- so from the outermost one
+  outermost-found : (top : Option Enclosing) → outermost_there table field top ≡ true → (outer : Enclosing) × (top ≡ Some outer) × ReadsFrom program Outermost outer.0 outer.1 node i
+  outermost-found (Some outer) e = (outer, refl, (t.outermost outer.0 node outer.1 i).0 ((in-readings (reading outer.0.0 field outer.1) table.outermost).0 e))
+  outermost-found None e = absurd (cc)
 
-  by-name : (around : Around) (active : Bool) → ((list_any (same_place field) table.named && (not active || around.direct)) ≡ true) ↔ IsReadByName around active
-  by-name around active = (there active, back active)
-    where
-      named : list_any (same_place field) table.named ≡ true → ReadsByName program node i
-      named e = (t.named node i).0 ((in-places field table.named).0 e)
+  found-outermost : (top : Option Enclosing) (outer : Enclosing) → top ≡ Some outer → ReadsFrom program Outermost outer.0 outer.1 node i → outermost_there table field top ≡ true
+  found-outermost top outer is read = ap (outermost_there table field) is ∙ (in-readings (reading outer.0.0 field outer.1) table.outermost).1 ((t.outermost outer.0 node outer.1 i).1 read)
 
-      found : ReadsByName program node i → list_any (same_place field) table.named ≡ true
-      found read = (in-places field table.named).1 ((t.named node i).1 read)
+  either-true : (a b : Bool) → (a || b) ≡ true → (a ≡ true) ⊎ (b ≡ true)
+  either-true true b e = inl refl
+  either-true false b e = inr e
 
-      there : (active : Bool) → (list_any (same_place field) table.named && (not active || around.direct)) ≡ true → IsReadByName around active
-      there true e = let both = both-true (list_any (same_place field) table.named) around.direct e in (inr both.1, named both.0)
-      there false e = (inl refl, named (both-true (list_any (same_place field) table.named) true e).0)
+  or-first : (a b : Bool) → a ≡ true → (a || b) ≡ true
+  or-first true b e = refl
+  or-first false b e = absurd (cc)
 
-      back : (active : Bool) → IsReadByName around active → (list_any (same_place field) table.named && (not active || around.direct)) ≡ true
-      back true (leads, read) = ap (λ b. b && around.direct) (found read) ∙ elim leads [ inl e ↦ absurd (cc) | inr direct ↦ direct ]
-      back false (leads, read) = ap (λ b. b && true) (found read)
+  or-second : (a b : Bool) → b ≡ true → (a || b) ≡ true
+  or-second true b e = refl
+  or-second false b e = e
 
-  either : (around : Around) (active b c : Bool) → (b ≡ true) ↔ IsReadByName around active → (c ≡ true) ↔ IsReadInside around active → ((b || c) ≡ true) ↔ IsReadField program around active node i
-  either around active true c p q = (λ e. inl (p.0 refl), λ read. refl)
-  either around active false c p q = (λ e. inr (q.0 e), λ read. elim read [ inl n ↦ let none = p.1 n in absurd (cc) | inr r ↦ q.1 r ])
+  abbrev around_reads : Around → Bool
+  around_reads around = outermost_there table field around.outermost || list_any (from_there table field) around.structures
+
+  reads-around : (around : Around) → around_reads around ≡ true → IsReadField program around true node i
+  reads-around around e = elim (either-true (outermost_there table field around.outermost) (list_any (from_there table field) around.structures) e) [
+    | inl top ↦ let found = outermost-found around.outermost top in (Outermost, found.0, inr found.1, found.2)
+    | inr some ↦ let found = inside-found around.structures some in elim found.2 [ inl read ↦ (Here, found.0, inr found.1, read) | inr read ↦ (Outer, found.0, inr found.1, read) ]
+  ]
+
+  around-reads : (around : Around) (base : Base) (outer : Enclosing) → StandsAround around base outer → ReadsFrom program base outer.0 outer.1 node i → around_reads around ≡ true
+  around-reads around Here outer c read = or-second (outermost_there table field around.outermost) (list_any (from_there table field) around.structures) (found-inside around.structures outer c (inl read))
+  around-reads around Outer outer c read = or-second (outermost_there table field around.outermost) (list_any (from_there table field) around.structures) (found-inside around.structures outer c (inr read))
+  around-reads around Outermost outer is read = or-first (outermost_there table field around.outermost) (list_any (from_there table field) around.structures) (found-outermost around.outermost outer is read)
 
   read-iff : (around : Around) (active : Bool) → (read_there table around active field ≡ true) ↔ IsReadField program around active node i
-  read-iff around active =
-      either around active (list_any (same_place field) table.named && (not active || around.direct)) (list_any (same_place field) table.ended && (not active || list_any (from_there table field) around.structures))
-      (by-name around active) (inside around active)
+  read-iff around true = (λ e. reads-around around (both-true (list_any (same_place field) table.ended) (around_reads around) e).1, back)
+    where
+      back : IsReadField program around true node i → (list_any (same_place field) table.ended && around_reads around) ≡ true
+      back (base, outer, stands, read) = elim stands [
+        | inl e ↦ absurd (cc)
+        | inr c ↦ ap (λ b. b && around_reads around) (ended-found base outer.0 outer.1 read) ∙ around-reads around base outer c read
+      ]
+  read-iff around false = (there, λ (base, outer, stands, read). ap (λ b. b && true) (ended-found base outer.0 outer.1 read))
+    where
+      there : (list_any (same_place field) table.ended && true) ≡ true → IsReadField program around false node i
+      there e = let found = (t.ended node i).0 ((in-places field table.ended).0 (both-true (list_any (same_place field) table.ended) true e).0) in (found.0, (found.1, found.2), inl refl, found.3)
 
   pub field-unread : (around : Around) (active : Bool) → IsTrue (not (read_there table around active field)) ↔ IsUnread program around active (lies_in.Field node i)
   field-unread around active =
@@ -322,10 +296,7 @@ number-there program node i s f has get number =
     ap is_some_number (ap (λ o. o then λ (x : Structure). slice_get x.fields i then λ (y : Field). Some y.ty) has ∙ ap (λ o. o then λ (y : Field). Some y.ty) get) ∙ number
 
 plain-unread : (program : Program) (around : Around) (active : Bool) (node : TypeId) (i : ℕ) → is_number_at program node i ≡ false → IsUnread program around active (lies_in.Field node i)
-plain-unread program around active node i e = λ read. elim read [
-  | inl (leads, r) ↦ let number = number-there program node i r.s r.f r.has r.get r.number in absurd (cc)
-  | inr (outer, stands, r) ↦ let number = number-there program node i r.s r.f r.has r.get r.number in absurd (cc)
-]
+plain-unread program around active node i e = λ (base, outer, stands, r). let number = number-there program node i r.s r.f r.has r.get r.number in absurd (cc)
 
 pub plain-answer : (program : Program) (around : Around) (active : Bool) (node : TypeId) (place : ℕ) (holder : Holder) → is_number_at program node place ≡ false → holder ≡ lies_in.Field node place → IsTrue true ↔ IsUnread program around active holder
 plain-answer program around active node place holder e is =
@@ -339,38 +310,33 @@ any-there test program around (Some type) [] = refl
 any-there test program around (Some (ty.Node node desc)) (i ∷ path) = any-there test program (with_structure program around node (i ∷ path)) (part_at program (ty.Node node desc) i) path
 any-there test program around (Some type) (i ∷ path) = any-there test program (with_itself program around type (i ∷ path)) (part_at program type i) path
 
--- nothing lies between where no structure is around the value, and behind an array where one is
-and-true : (b : Bool) → b ≡ b && true
-and-true true = refl
-and-true false = refl
+-- the outermost structure stays so further inside
+outermost-stays : (program : Program) (around : Around) (outer : Enclosing) (type : Option Ty) (path : List ℕ) → around.outermost ≡ Some outer → (structures_from program around type path).outermost ≡ Some outer
+outermost-stays program around outer None path e = e
+outermost-stays program around outer (Some type) [] e = e
+outermost-stays program around outer (Some (ty.Node node desc)) (i ∷ path) e =
+    outermost-stays program (with_structure program around node (i ∷ path)) outer (part_at program (ty.Node node desc) i) path (ap (λ o. Some (outermost_in o (node, route program (Some node) (i ∷ path)))) e)
+outermost-stays program around outer (Some type) (i ∷ path) e = outermost-stays program (with_itself program around type (i ∷ path)) outer (part_at program type i) path e
 
-in-array : (direct : Bool) (around : List Enclosing) (leads : Bool) → ((direct && is_none around) && leads) ≡ direct && (if not (is_none around) && true then false else leads)
-in-array true [] leads = refl
-in-array true (outer ∷ around) leads = refl
-in-array false around leads = refl
-
-node-leads : (inside leads : Bool) → leads ≡ (if inside && false then false else leads)
-node-leads true leads = refl
-node-leads false leads = refl
-
-direct-there : (program : Program) (around : Around) (type : Option Ty) (path : List ℕ) → (structures_from program around type path).direct ≡ around.direct && leads_directly program (not (is_none around.structures)) type path
-direct-there program around None path = and-true around.direct
-direct-there program around (Some type) [] = and-true around.direct
-direct-there program around (Some (ty.Node node desc)) (i ∷ path) =
-    direct-there program (with_structure program around node (i ∷ path)) (part_at program (ty.Node node desc) i) path
-    ∙ ap (λ b. around.direct && b) (node-leads (not (is_none around.structures)) (leads_directly program true (part_at program (ty.Node node desc) i) path))
-direct-there program around (Some type) (i ∷ path) =
-    direct-there program (with_itself program around type (i ∷ path)) (part_at program type i) path ∙ in-array around.direct around.structures (leads_directly program false (part_at program type i) path)
+-- what the code finds from the outermost structure around a leaf is what that one says
+top-there : (table : Reads) (place : FieldPlace) (program : Program) (type : Option Ty) (path : List ℕ) → outermost_reads table place program type path ≡ outermost_there table place (structures_from program (none_around None) type path).outermost
+top-there table place program None path = refl
+top-there table place program (Some (ty.Node node desc)) [] = refl
+top-there table place program (Some type) [] = refl
+top-there table place program (Some (ty.Node node desc)) (i ∷ path) =
+    let outer : Enclosing = (node, route program (Some node) (i ∷ path)) in
+    sym (ap (outermost_there table place) (outermost-stays program (with_structure program (none_around None) node (i ∷ path)) outer (part_at program (ty.Node node desc) i) path refl))
+top-there table place program (Some type) (i ∷ path) = top-there table place program (part_at program type i) path
 
 pub field-answer : (program : Program) (table : Reads) (type : Option Ty) (path : List ℕ) (active : Bool) (node : TypeId) (place : ℕ) (told : Bool) (holder : Holder)
-    → told ≡ (list_any (same_place (field_place node.0 place)) table.named && (not active || leads_directly program false type path)) || (list_any (same_place (field_place node.0 place)) table.ended && (not active || any_around (from_there table (field_place node.0 place)) program false type path))
+    → told ≡ list_any (same_place (field_place node.0 place)) table.ended && (not active || (outermost_reads table (field_place node.0 place) program type path || any_around (from_there table (field_place node.0 place)) program false type path))
     → holder ≡ lies_in.Field node place → IsTableOf program table → IsTrue (not told) ↔ IsUnread program (structures_on program type path) active holder
 field-answer program table type path active node place told holder e is t =
     let field = field_place node.0 place in
     let around = structures_on program type path in
     let says : told ≡ read_there table around active field = e
-    ∙ ap (λ b. (list_any (same_place field) table.named && (not active || b)) || (list_any (same_place field) table.ended && (not active || any_around (from_there table field) program false type path))) (sym (direct-there program (none_around true) type path))
-    ∙ ap (λ b. (list_any (same_place field) table.named && (not active || around.direct)) || (list_any (same_place field) table.ended && (not active || b))) (any-there (from_there table field) program (none_around true) type path) in
+    ∙ ap (λ b. list_any (same_place field) table.ended && (not active || (b || any_around (from_there table field) program false type path))) (top-there table field program type path)
+    ∙ ap (λ b. list_any (same_place field) table.ended && (not active || (outermost_there table field around.outermost || b))) (any-there (from_there table field) program (none_around None) type path) in
     answer program around active told (read_there table around active field) (lies_in.Field node place) holder says is (field-unread program table t node place around active)
 
 -- so in the static record, from a root on

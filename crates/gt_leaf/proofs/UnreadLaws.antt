@@ -1,5 +1,5 @@
 -- Where a leaf is replaced that no expression reads, the value with it fits.
-use Rattle.std.proofs.Common.{◌≡◌, ℕ, zero, suc, true, List, refl, ap, sym, subst, ◌∙◌, Some}
+use Rattle.std.proofs.Common.{◌≡◌, ℕ, zero, suc, true, List, refl, ap, sym, subst, ◌∙◌, Some, None}
 use Rattle.std.specs.Prelude.{All, Contains}
 use Rattle.std.proofs.lemmas.List.Elements.{All-map, All-weaker, All-contains_itself}
 use Rattle.gt_types.specs.declared.types.Ty.{Ty}
@@ -26,7 +26,7 @@ use Rattle.gt_leaf.proofs.Refits.{Replaces, swap-of, put-fits, changes}
 pub unread-elements : (program : Program) (planes : List Plane) → Settled program → UnreadElementsFit program planes
 unread-elements program planes settled blocks statics kind capacity value leaf path p hold fits lies unread may leaf_fits =
     let along : Along program statics (outside statics) (element_type program kind) = Along.at_block kind hold in
-    changes settled lies fits (outside statics) along (outside-same statics statics (λ i read. refl)) true (λ none. refl) leaf (record { unread = unread; may = may; fits = leaf_fits })
+    changes settled lies fits (outside statics) along (outside-same statics statics (λ i read. refl)) None (λ none. refl) leaf (record { unread = unread; may = may; fits = leaf_fits })
     (covers-same (structures_on program (Some (element_type program kind)) path) (structures_on program (Some (element_type program kind)) path) p.active refl)
 
 -- ---- the static record
@@ -50,9 +50,9 @@ unread-statics program planes spots settled blocks old new leaf path p fits l un
     let covers = static-covers program p.active l in
     let r : Replaces program blocks 0 (structures_in_statics program path) p leaf = record { unread = unread; may = may; fits = leaf_fits } in
     let get = get-map (λ (x : Root). x.ty) program.roots l.i l.r l.root in
-    let one = put-swaps program (none_around true) lies_in.Root (root_types program) old l.i l.r.ty l.tree l.rest leaf get l.there (swap-of l.lies true leaf r covers) in
+    let one = put-swaps program (none_around None) lies_in.Root (root_types program) old l.i l.r.ty l.tree l.rest leaf get l.there (swap-of l.lies None leaf r covers) in
     let same = outside-same old w (λ i read. root-swap one i (λ unread. unread read)) in
     let along : Along program old (outside old) l.r.ty = Along.at_root l.r (Contains-get program.roots l.i l.r l.root) in
     subst (StaticsFit program blocks) is
     (put-fits settled fits (outside w) l.i l.r.ty l.tree l.rest leaf get l.there
-    (λ inner. changes settled l.lies inner (outside w) along same true (λ none. refl) leaf r covers) (roots-along program old) same)
+    (λ inner. changes settled l.lies inner (outside w) along same None (λ none. refl) leaf r covers) (roots-along program old) same)

@@ -22,7 +22,8 @@ use Rattle.gt_store.proofs.LeafStored.{leaf-stored, static-leaf-stored}
 use Rattle.gt_fit.proofs.Selves.{in-place, all-in-place}
 use Rattle.gt_leaf.specs.HeldTypes.{IsOfPart, held_type}
 use Rattle.gt_leaf.specs.Unread.{Around, structures_on, structures_in_statics, IsUnread, MayReplace}
-use Rattle.gt_leaf.specs.Writing.{StandsBeside, StaticsStandBeside, MayWrite, MayPut, MayPutStatic, IsWrittenInPlace, IsStaticWrittenInPlace}
+use Rattle.gt_leaf.specs.Verdicts.{IsFit}
+use Rattle.gt_leaf.specs.Writing.{StandsBeside, StaticsStandBeside, MayLie, MayPut, MayPutStatic, IsWrittenInPlace, IsStaticWrittenInPlace}
 use Rattle.gt_leaf.proofs.LeafTrees.{LeafTree, leaf-tree, content-leaf, content-word, may-be}
 use Rattle.gt_leaf.proofs.LeafTypes.{type-there, root-type-there}
 use Rattle.gt_leaf.proofs.UnreadLaws.{unread-elements, unread-statics}
@@ -60,9 +61,12 @@ static-place-part program layouts range values path place known same at =
 -- ---- the leaf that is written
 
 module _ {program : Program} {blocks : Blocks} {around : Around} {range : Range} {address : ℕ} (p : Part) (place : Place) (leaf : LeafContent) (capacity : ℕ)
-    (at : IsPlaceOfPart program range address p place) (may : MayWrite program blocks around p leaf) where
+    (at : IsPlaceOfPart program range address p place) (fit : IsFit program blocks around p leaf) where
+  pub may-lie : MayLie program blocks p leaf
+  may-lie = record { active = fit.alone.active; fits = fit.fits }
+
   pub tree-of : LeafTree program blocks capacity p.scope p.type leaf
-  tree-of = leaf-tree p.type leaf may.fits
+  tree-of = leaf-tree p.type leaf fit.fits
 
   pub old-word : IsTrue (is_word p.tree)
   old-word = content-word (content_at range place) p.tree at.holds
@@ -71,37 +75,37 @@ module _ {program : Program} {blocks : Blocks} {around : Around} {range : Range}
   old-leaf = content-leaf (content_at range place) p.tree at.holds
 
   bare : (p.active ≡ true) ⊎ (without_pointers tree-of.tree ≡ tree-of.tree)
-  bare = elim may.active [ inl active ↦ inl active | inr number ↦ inr (tree-of.bare number) ]
+  bare = elim fit.alone.active [ inl active ↦ inl active | inr number ↦ inr (tree-of.bare number) ]
 
   pub replaces : MayReplace p tree-of.tree
   replaces = (old-leaf, tree-of.is_leaf, bare)
 
   pub new-leaf : AreAddresses blocks itself → IsNewLeaf p place leaf tree-of.tree
-  new-leaf addresses = record { may = may-be p.type place.kind leaf blocks (eval_in program p.scope) addresses at.kind_is may.fits; means = tree-of.means; active = bare }
+  new-leaf addresses = record { may = may-be p.type place.kind leaf blocks (eval_in program p.scope) addresses at.kind_is fit.fits; means = tree-of.means; active = bare }
 
 module _ (program : Program) (layouts : Layouts) (settled : Settled program) (laid : IsLaidOut program layouts) where
   -- ---- elements
 
   pub written-in-place : (blocks : Blocks) (statics : Trees) (capacity : ℕ) (type : Ty) (address : ℕ) (value : Tree) (path : List ℕ) (leaf : LeafContent) (old new : Range) (place : Place) → IsRoomFor program layouts capacity type old address
       → StandsBeside program layouts blocks statics capacity type old address value
-      → (at : IsPlaceOf program layouts.structures (outside statics) lies_in.Element type old address value path place) → MayWrite program blocks (structures_on program (Some type) path) at.p leaf → IsLeafWritten place leaf old new
+      → (at : IsPlaceOf program layouts.structures (outside statics) lies_in.Element type old address value path place) → IsFit program blocks (structures_on program (Some type) path) at.p leaf → IsLeafWritten place leaf old new
       → IsWrittenInPlace program layouts blocks statics capacity type address value path leaf old new
-  written-in-place blocks statics capacity type address value path leaf old new place room s at may written =
-      let tree = tree-of at.p place leaf capacity at.is may in
-      let fresh = new-leaf at.p place leaf capacity at.is may s.addresses in
+  written-in-place blocks statics capacity type address value path leaf old new place room s at fit written =
+      let tree = tree-of at.p place leaf capacity at.is fit in
+      let fresh = new-leaf at.p place leaf capacity at.is fit s.addresses in
       let fits = unread-elements program layouts.structures settled blocks statics s.kind capacity value tree.tree path at.p s.held s.is.fits (subst (λ t. PartLies program layouts.structures (outside statics) lies_in.Element true 0 t value path at.p) s.of_kind at.lies)
-      (subst (λ t. IsUnread program (structures_on program (Some t) path) at.p.active at.p.holder) s.of_kind may.unread) (replaces at.p place leaf capacity at.is may) tree.fits in
+      (subst (λ t. IsUnread program (structures_on program (Some t) path) at.p.active at.p.holder) s.of_kind fit.alone.unread) (replaces at.p place leaf capacity at.is fit) tree.fits in
       let stored = leaf-stored program layouts settled laid blocks statics s.kind capacity s.size address old new value tree.tree path at.p place leaf s.held
       (subst (λ t. Takes program layouts capacity t s.size) s.of_kind s.takes) (room s.size s.takes) s.is
       (subst (λ t. PartLies program layouts.structures (outside statics) lies_in.Element true 0 t value path at.p) s.of_kind at.lies) at.is fresh fits written in
       record {
         place = place;
         at = at;
-        may = may;
+        may = may-lie at.p place leaf capacity at.is fit;
         tree = tree.tree;
         means = tree.means;
         assigns = subst (λ t. Assigns program blocks statics capacity t value path tree.tree (with_part value path tree.tree)) (sym s.of_kind)
-            (in-place program blocks statics capacity (element_type program s.kind) value path tree.tree (at.p.tree, at.there, old-word at.p place leaf capacity at.is may) (content-word leaf tree.tree tree.means) fits);
+            (in-place program blocks statics capacity (element_type program s.kind) value path tree.tree (at.p.tree, at.there, old-word at.p place leaf capacity at.is fit) (content-word leaf tree.tree tree.means) fits);
         stands = record { kind = s.kind; held = s.held; of_kind = s.of_kind; size = s.size; takes = s.takes; addresses = s.addresses; is = stored.0 };
         written = written;
         same = stored.1;
@@ -110,46 +114,46 @@ module _ (program : Program) (layouts : Layouts) (settled : Settled program) (la
   -- so it may be put there
   pub may-put : (blocks : Blocks) (statics : Trees) (capacity : ℕ) (type : Ty) (address : ℕ) (value : Tree) (path : List ℕ) (leaf : LeafContent) (range : Range) (place : Place) → IsRoomFor program layouts capacity type range address
       → StandsBeside program layouts blocks statics capacity type range address value
-      → (at : IsPlaceOf program layouts.structures (outside statics) lies_in.Element type range address value path place) → MayWrite program blocks (structures_on program (Some type) path) at.p leaf
+      → (at : IsPlaceOf program layouts.structures (outside statics) lies_in.Element type range address value path place) → IsFit program blocks (structures_on program (Some type) path) at.p leaf
       → MayPut program layouts blocks statics capacity type address value path leaf range place
-  may-put blocks statics capacity type address value path leaf range place room s at may = record {
+  may-put blocks statics capacity type address value path leaf range place room s at fit = record {
     at = at;
-    may = may;
-    holds = may-be at.p.type place.kind leaf blocks (eval_in program at.p.scope) s.addresses at.is.kind_is may.fits;
-    writes = λ new written. written-in-place blocks statics capacity type address value path leaf range new place room s at may written;
+    may = may-lie at.p place leaf capacity at.is fit;
+    holds = may-be at.p.type place.kind leaf blocks (eval_in program at.p.scope) s.addresses at.is.kind_is fit.fits;
+    writes = λ new written. written-in-place blocks statics capacity type address value path leaf range new place room s at fit written;
   }
 
   -- ---- the static record
 
   pub static-written-in-place : (blocks : Blocks) (values : Trees) (path : List ℕ) (leaf : LeafContent) (old new : Range) (place : Place) → IsInside old old.start layouts.statics.size
-      → StaticsStandBeside program layouts blocks old values → (at : IsStaticPlaceOf program layouts old values path place) → MayWrite program blocks (structures_in_statics program path) at.p leaf → IsLeafWritten place leaf old new
+      → StaticsStandBeside program layouts blocks old values → (at : IsStaticPlaceOf program layouts old values path place) → IsFit program blocks (structures_in_statics program path) at.p leaf → IsLeafWritten place leaf old new
       → IsStaticWrittenInPlace program layouts blocks values path leaf old new
-  static-written-in-place blocks values path leaf old new place inside s at may written =
-      let tree = tree-of at.p place leaf 0 at.is may in
-      let fresh = new-leaf at.p place leaf 0 at.is may s.addresses in
+  static-written-in-place blocks values path leaf old new place inside s at fit written =
+      let tree = tree-of at.p place leaf 0 at.is fit in
+      let fresh = new-leaf at.p place leaf 0 at.is fit s.addresses in
       let others = with_part_of values at.lies.i at.lies.rest tree.tree in
       let replaced : with_part (Rec values) path tree.tree ≡ Rec others = ap (λ w. with_part (Rec values) w tree.tree) at.lies.path_is in
-      let fits = unread-statics program layouts.structures layouts.statics.fields settled blocks values others tree.tree path at.p s.are.fit at.lies may.unread (replaces at.p place leaf 0 at.is may) tree.fits replaced in
+      let fits = unread-statics program layouts.structures layouts.statics.fields settled blocks values others tree.tree path at.p s.are.fit at.lies fit.alone.unread (replaces at.p place leaf 0 at.is fit) tree.fits replaced in
       let stored = static-leaf-stored program layouts settled laid blocks old new values others tree.tree path at.p place leaf inside s.are at.lies at.is fresh replaced fits written in
       record {
         place = place;
         at = at;
-        may = may;
+        may = may-lie at.p place leaf 0 at.is fit;
         tree = tree.tree;
         means = tree.means;
         others = others;
         replaced = replaced;
-        assigns = all-in-place program blocks values others path tree.tree (at.p.tree, at.there, old-word at.p place leaf 0 at.is may) (content-word leaf tree.tree tree.means) replaced fits;
+        assigns = all-in-place program blocks values others path tree.tree (at.p.tree, at.there, old-word at.p place leaf 0 at.is fit) (content-word leaf tree.tree tree.means) replaced fits;
         stand = record { addresses = s.addresses; are = subst (λ a. AreStaticsOf program layouts blocks itself (bytes_at new a layouts.statics.size) others) (sym written.addresses.start) stored.0 };
         written = written;
         same = stored.1;
       }
 
   pub may-put-static : (blocks : Blocks) (values : Trees) (path : List ℕ) (leaf : LeafContent) (range : Range) (place : Place) → IsInside range range.start layouts.statics.size → StaticsStandBeside program layouts blocks range values
-      → (at : IsStaticPlaceOf program layouts range values path place) → MayWrite program blocks (structures_in_statics program path) at.p leaf → MayPutStatic program layouts blocks values path leaf range place
-  may-put-static blocks values path leaf range place inside s at may = record {
+      → (at : IsStaticPlaceOf program layouts range values path place) → IsFit program blocks (structures_in_statics program path) at.p leaf → MayPutStatic program layouts blocks values path leaf range place
+  may-put-static blocks values path leaf range place inside s at fit = record {
     at = at;
-    may = may;
-    holds = may-be at.p.type place.kind leaf blocks (eval_in program at.p.scope) s.addresses at.is.kind_is may.fits;
-    writes = λ new written. static-written-in-place blocks values path leaf range new place inside s at may written;
+    may = may-lie at.p place leaf 0 at.is fit;
+    holds = may-be at.p.type place.kind leaf blocks (eval_in program at.p.scope) s.addresses at.is.kind_is fit.fits;
+    writes = λ new written. static-written-in-place blocks values path leaf range new place inside s at fit written;
   }

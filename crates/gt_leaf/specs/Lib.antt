@@ -7,3 +7,4 @@ pub mod HeldTypes
 pub mod Writing
 pub mod Verdicts
 pub mod Around
+pub mod Outers

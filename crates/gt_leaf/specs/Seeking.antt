@@ -1,5 +1,5 @@
--- Where the paths from `%h` and `%1` end, in the order of the code. It is no promise of this crate.
-use Rattle.std.specs.Prelude.{ℕ, suc, Bool, true, false, ◌&&◌, ◌==◌, List, [], ◌∷◌, ◌++◌, Option, Some, None, if◌then◌else◌, fold, map, slice_get, position, is_some}
+-- Where paths end, in the order of the code. It is no promise of this crate.
+use Rattle.std.specs.Prelude.{ℕ, suc, Bool, true, false, ◌&&◌, ◌||◌, ◌==◌, List, [], ◌∷◌, ◌++◌, Option, Some, None, if◌then◌else◌, fold, map, slice_get}
 use Rattle.std.specs.List.{list_any}
 use Rattle.std.specs.Str.{bytes_eq}
 use Rattle.gt_types.specs.declared.expressions.Base.{Base}
@@ -18,6 +18,7 @@ use Rattle.gt_types.specs.Shapes.{innermost, count_of, is_number}
 use Rattle.gt_types.specs.Contains.{held_by, itself}
 use Rattle.gt_tree.specs.Scopes.{◌then◌}
 use Rattle.gt_names.specs.declared.tables.Entry.{Entry}
+use Rattle.gt_paths.specs.Containers.{or_none}
 use Rattle.gt_names.specs.Entries.{value_in, with_value}
 use Rattle.gt_leaf.specs.declared.fields.FieldPlace.{FieldPlace}
 use Rattle.gt_leaf.specs.declared.readings.Reading.{Reading}
@@ -71,20 +72,6 @@ with_end begin along None readings = readings
 -- with the places of the fields of readings
 abbrev pub with_fields : List Reading → List FieldPlace → List FieldPlace
 with_fields readings places = fold (λ k r. with_field r.field k) places readings
-
--- ---- numbers of the names that are read
-
--- with a field, where it is a number of one of these names
-abbrev pub with_named : List (List ℕ) → ℕ → ℕ → Field → List FieldPlace → List FieldPlace
-with_named names node i f old = if is_number f.ty && is_some (position (λ other. bytes_eq other f.name) names) then with_field (field_place node i) old else old
-
--- with those of a structure
-abbrev pub with_named_fields : List (List ℕ) → ℕ → List Field → List FieldPlace → List FieldPlace
-with_named_fields names node fields old = with_each (with_named names node) 0 fields old
-
--- with those of structures
-abbrev pub with_all_named : List (List ℕ) → List Structure → List FieldPlace → List FieldPlace
-with_all_named names structures old = with_each (λ node s. with_named_fields names node s.fields) 0 structures old
 
 -- ---- the end of a path
 
@@ -168,17 +155,19 @@ seek_counts_of program index at None old = old
 
 -- ---- the `desc` of a field or root
 
-abbrev pub seek_union : Program → List Names → Ty → List Reading → List Reading
-seek_union program index (ty.Node union desc) old = seek_option program index (starting Here union.0) desc old
-seek_union program index type old = old
+-- with the ends of the paths of the `desc` of a union from one base, which begin at the union
+abbrev pub seek_union : Program → List Names → Base → Ty → List Reading → List Reading
+seek_union program index base (ty.Node union desc) old = seek_option program index (starting base union.0) desc old
+seek_union program index base type old = old
 
-abbrev pub seek_outside : Program → List Names → ℕ → Ty → List Reading → List Reading
-seek_outside program index node (ty.Node union desc) old = seek_option program index (starting Outer node) desc old
-seek_outside program index node type old = old
+-- with those that begin at a structure around it
+abbrev pub seek_given : Program → List Names → Start → Ty → List Reading → List Reading
+seek_given program index at (ty.Node union desc) old = seek_option program index at desc old
+seek_given program index at type old = old
 
 -- with the ends of the paths of the `desc` of a field of a structure, where it holds a union
 abbrev pub seek_desc : Program → List Names → ℕ → Ty → List Reading → List Reading
-seek_desc program index node type old = seek_outside program index node (innermost type) (seek_union program index (innermost type) old)
+seek_desc program index node type old = seek_given program index (starting Outer node) (innermost type) (seek_union program index Here (innermost type) old)
 
 abbrev pub seek_descs : Program → List Names → ℕ → List Field → List Reading → List Reading
 seek_descs program index node fields old = fold (λ k f. seek_desc program index node f.ty k) old fields
@@ -207,9 +196,67 @@ seek_structure program index node s old =
 abbrev pub seek_structures : Program → List Names → List Reading → List Reading
 seek_structures program index old = with_each (seek_structure program index) 0 program.structures old
 
-abbrev pub seek_roots : Program → List Names → List Reading → List Reading
-seek_roots program index old = fold (λ k (r : RootOf). seek_union program index (innermost r.ty) k) old program.roots
+abbrev pub seek_roots : Program → List Names → Base → List Reading → List Reading
+seek_roots program index base old = fold (λ k (r : RootOf). seek_union program index base (innermost r.ty) k) old program.roots
 
 -- with the numbers in which the paths of all expressions from `%h` and `%1` end, and where those begin
 abbrev pub seek_all : Program → List Names → List Reading → List Reading
-seek_all program index old = seek_roots program index (seek_structures program index old)
+seek_all program index old = seek_roots program index Here (seek_structures program index old)
+
+-- ---- paths from `%0`
+
+-- whether a part of an expression has a path from `%0`, by its operands
+abbrev pub names_step : Expr-F Bool → Bool
+names_step (Int n) = false
+names_step (Path base steps) = same_base base Outermost
+names_step (Root i) = false
+names_step (One op a) = a
+names_step (Two op a b) = a || b
+names_step (Cond test a b) = test || (a || b)
+
+-- whether an expression has one
+abbrev pub names_outermost : Expr → Bool
+names_outermost = fold-Expr Bool names_step
+
+abbrev pub option_names : Option Expr → Bool
+option_names (Some e) = names_outermost e
+option_names None = false
+
+-- whether the `desc` that a type gives to a union has one
+abbrev pub given_names : Ty → Bool
+given_names (ty.Node union desc) = option_names desc
+given_names type = false
+
+-- whether the expressions of a field have one
+abbrev pub field_names : Field → Bool
+field_names f = option_names (count_of f.ty) || given_names (innermost f.ty)
+
+abbrev pub fields_name : List Field → Bool
+fields_name fields = fold (λ any f. any || field_names f) false fields
+
+-- whether the expressions in a structure have one
+abbrev pub structure_names : Structure → Bool
+structure_names s = option_names s.desc || fields_name s.fields
+
+-- with the ends of the paths of the `desc` of fields from one base, which begin at this structure
+abbrev pub seek_givens : Program → List Names → Start → List Field → List Reading → List Reading
+seek_givens program index at fields old = fold (λ k f. seek_given program index at (innermost f.ty) k) old fields
+
+-- with those of all expressions in a structure
+abbrev pub seek_inside : Program → List Names → Start → Structure → List Reading → List Reading
+seek_inside program index at s old = seek_givens program index at s.fields (seek_own program index at s old)
+
+-- with those that begin at one of these structures
+abbrev pub seek_outers : Program → List Names → List ℕ → Structure → List Reading → List Reading
+seek_outers program index outers s old = fold (λ k outer. seek_inside program index (starting Outermost outer) s k) old outers
+
+-- the structures that may be outermost around one, from the lists of all
+abbrev pub outers_at : List (List ℕ) → ℕ → List ℕ
+outers_at lists node = or_none (slice_get lists node)
+
+abbrev pub seek_outer_structures : Program → List Names → List (List ℕ) → List Reading → List Reading
+seek_outer_structures program index lists old = with_each (λ node s. seek_outers program index (outers_at lists node) s) 0 program.structures old
+
+-- with the numbers in which the paths of all expressions from `%0` end, and where those begin
+abbrev pub seek_outermost : Program → List Names → List (List ℕ) → List Reading → List Reading
+seek_outermost program index lists old = seek_roots program index Outermost (seek_outer_structures program index lists old)

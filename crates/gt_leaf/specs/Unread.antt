@@ -1,5 +1,5 @@
 -- Which leaves no expression reads, and what follows for writing them.
-use Rattle.std.specs.Prelude.{◌≡◌, ◌⊎◌, ℕ, Bool, ◌&&◌, ◌∷◌, List, [], ◌++◌, Option, Some, None, true, false, IsTrue, Contains, option_to_list, slice_get, Any, if◌then◌else◌}
+use Rattle.std.specs.Prelude.{◌≡◌, ◌⊎◌, ℕ, Bool, ◌∷◌, List, [], Option, Some, None, true, false, IsTrue, Contains, option_to_list, slice_get, if◌then◌else◌}
 use Rattle.std.specs.List.{position_from}
 use Rattle.std.specs.Str.{bytes_eq}
 use Rattle.gt_types.specs.declared.expressions.Base.{Base}
@@ -18,8 +18,8 @@ use Rattle.gt_types.specs.declared.program.Field.{Field}
 use Rattle.gt_types.specs.declared.program.Root.{Root as RootOf}
 use Rattle.gt_types.specs.declared.program.Program.{Program}
 use Rattle.gt_types.specs.Shapes.{innermost, is_number, count_of}
-use Rattle.gt_types.specs.Contains.{HasStructure, ContainsStructure, itself}
-use Rattle.gt_types.specs.Paths.{Way, paths_of, roots_of, own_expressions}
+use Rattle.gt_types.specs.Contains.{HasStructure, ContainsStructure, ContainsAtDepth, itself}
+use Rattle.gt_types.specs.Paths.{paths_of, roots_of, own_expressions}
 use Rattle.gt_layout.specs.declared.planes.Plane.{Plane}
 use Rattle.gt_layout.specs.declared.planes.Spot.{Spot}
 use Rattle.gt_tree.specs.Trees.{Tree, Rec, Trees, is_leaf, with_part, without_pointers}
@@ -55,9 +55,14 @@ pub data IsExpressionOf (program : Program) (e : Expr) : Type 0 where
   of_desc : (s : Structure) → Contains program.structures s → s.desc ≡ Some e → IsExpressionOf program e
   of_root : (r : RootOf) → Contains program.roots r → Contains (expressions_of r.ty) e → IsExpressionOf program e
 
+-- a structure may be the outermost one around another: it is this one itself, or contains it at some depth
+abbrev pub MayBeOutermost : Program → TypeId → TypeId → Type 0
+MayBeOutermost program node outer = (outer ≡ node) ⊎ ContainsAtDepth program outer node
+
 -- The structures at which the paths of an expression begin. For the length of a field, `%h` is the field's structure, and `%1` each that
 -- contains it. For the `desc` of a union itself, `%h` is the union. For the `desc` of a field that holds a union, `%h` is the union, and
--- `%1` the field's structure. For the `desc` of a root, `%h` is the union.
+-- `%1` the field's structure. For the `desc` of a root, `%h` is the union. `%0` is each structure that may be the outermost one: around the
+-- structure of the field, around the union whose `desc` it is, and for the `desc` of a root the union.
 pub data BeginsAt (program : Program) (e : Expr) : Base → TypeId → Type 0 where
   own_here : {node : TypeId} {s : Structure} → HasStructure program node s → Contains (own_expressions s) e → BeginsAt program e Here node
   length_outer : (node : TypeId) {outer : TypeId} {s : Structure} {f : Field} → HasStructure program node s → Contains s.fields f → count_of f.ty ≡ Some e
@@ -67,6 +72,11 @@ pub data BeginsAt (program : Program) (e : Expr) : Base → TypeId → Type 0 wh
   desc_outer : {node union : TypeId} {s : Structure} {f : Field} → HasStructure program node s → Contains s.fields f → innermost f.ty ≡ ty.Node union (Some e)
       → BeginsAt program e Outer node
   root_here : {r : RootOf} {union : TypeId} → Contains program.roots r → innermost r.ty ≡ ty.Node union (Some e) → BeginsAt program e Here union
+  own_outermost : (node : TypeId) {outer : TypeId} {s : Structure} → HasStructure program node s → Contains (own_expressions s) e → MayBeOutermost program node outer
+      → BeginsAt program e Outermost outer
+  desc_outermost : (node : TypeId) {outer union : TypeId} {s : Structure} {f : Field} → HasStructure program node s → Contains s.fields f → innermost f.ty ≡ ty.Node union (Some e)
+      → MayBeOutermost program node outer → BeginsAt program e Outermost outer
+  root_outermost : {r : RootOf} {union : TypeId} → Contains program.roots r → innermost r.ty ≡ ty.Node union (Some e) → BeginsAt program e Outermost union
 
 -- a name picks the first field of this name in a structure: its place, and the field
 abbrev pub Picks : Program → TypeId → List ℕ → ℕ → Field → Type 0
@@ -116,38 +126,19 @@ abbrev pub route : Program → Option TypeId → List ℕ → List ℕ
 route program (Some node) (i ∷ path) = if is_union program node then [] else i ∷ route program (inner_at program node i) path
 route program begin path = []
 
--- some path from `%h` or `%1` that begins at a structure takes this route, and ends in the number at a place of a structure
-pub record ReadsFrom (program : Program) (begin : TypeId) (along : List ℕ) (node : TypeId) (i : ℕ) : Type 0 where
+-- some path from this base that begins at a structure takes this route, and ends in the number at a place of a structure
+pub record ReadsFrom (program : Program) (base : Base) (begin : TypeId) (along : List ℕ) (node : TypeId) (i : ℕ) : Type 0 where
   pub s : Structure
   pub f : Field
   pub has : HasStructure program node s
   pub get : slice_get s.fields i ≡ Some f
   pub number : is_number f.ty ≡ true
   pub e : Expr
-  pub base : Base
   pub names : List (List ℕ)
   pub begins : BeginsAt program e base begin
   pub there : Contains (paths_of e) (base, names)
   pub ends : EndsAt program begin names node i
   pub takes : route_of program (Some begin) names ≡ along
-
--- a path from `%0` ends in a name
-abbrev pub EndsIn : List ℕ → Way → Type 0
-EndsIn name way = (way.0 ≡ Outermost) × (names : List (List ℕ)) × (way.1 ≡ names ++ name ∷ [])
-
--- some path from `%0` of an expression of the program ends in this name of a field
-abbrev pub IsReadName : Program → List ℕ → Type 0
-IsReadName program name = (e : Expr) × IsExpressionOf program e × Any (EndsIn name) (paths_of e)
-
--- The name of the number at a place of a structure is one in which some path from `%0` ends. Such a path begins at whatever structure is
--- outermost, so its last name counts in each structure to which a path can lead from there.
-pub record ReadsByName (program : Program) (node : TypeId) (i : ℕ) : Type 0 where
-  pub s : Structure
-  pub f : Field
-  pub has : HasStructure program node s
-  pub get : slice_get s.fields i ≡ Some f
-  pub number : is_number f.ty ≡ true
-  pub read : IsReadName program f.name
 
 -- ---- the structures around a leaf
 
@@ -169,30 +160,34 @@ part_at program type i = elem_of (out-Ty type)
 abbrev pub Enclosing : Type 0
 Enclosing = TypeId × List ℕ
 
--- The structures around a leaf, from the innermost array on the way inwards, from the inside out; and whether no array lies between the
--- outermost structure and the leaf.
+-- The structures around a leaf: from the innermost array on the way inwards, from the inside out; and the outermost of all, where there is
+-- one.
 pub record Around : Type 0 where
   pub structures : List Enclosing
-  pub direct : Bool
+  pub outermost : Option Enclosing
 
--- no structure: in an array of the outermost one, or around the whole value
-abbrev pub none_around : Bool → Around
-none_around direct = record { structures = []; direct = direct }
+-- none from here inwards, where this is the outermost one
+abbrev pub none_around : Option Enclosing → Around
+none_around outermost = record { structures = []; outermost = outermost }
 
--- there are none
-abbrev pub is_none : List Enclosing → Bool
-is_none [] = true
-is_none (outer ∷ around) = false
+-- the outermost structure: the one that is known, else this first one
+abbrev pub outermost_in : Option Enclosing → Enclosing → Enclosing
+outermost_in (Some known) first = known
+outermost_in None first = first
+
+-- with this structure
+abbrev pub with_enclosing : Around → Enclosing → Around
+with_enclosing around outer = record { structures = outer ∷ around.structures; outermost = Some (outermost_in around.outermost outer) }
 
 -- with a structure from which this path leads on
 abbrev pub with_structure : Program → Around → TypeId → List ℕ → Around
-with_structure program around node path = record { structures = (node, route program (Some node) path) ∷ around.structures; direct = around.direct }
+with_structure program around node path = with_enclosing around (node, route program (Some node) path)
 
 -- Those around a part of a value of this type, where these are around the value, and this path leads on: with the structure itself,
--- where it is one. An array has none around its elements, since no path of an expression leads into an array.
+-- where it is one. An array has none around its elements but the outermost one, since no path of an expression leads into an array.
 abbrev pub with_itself : Program → Around → Ty → List ℕ → Around
 with_itself program around (ty.Node node desc) path = with_structure program around node path
-with_itself program around type path = none_around (around.direct && is_none around.structures)
+with_itself program around type path = none_around around.outermost
 
 -- the structures around the part at a path, where these are around the value and each union on the way has an active member
 abbrev pub structures_from : Program → Around → Option Ty → List ℕ → Around
@@ -201,28 +196,27 @@ structures_from program around type path = around
 
 -- so where none is around the value
 abbrev pub structures_on : Program → Option Ty → List ℕ → Around
-structures_on program type path = structures_from program (none_around true) type path
+structures_on program type path = structures_from program (none_around None) type path
 
 -- so in the static record, of which the first place of a path is that of a root
 abbrev pub structures_in_statics : Program → List ℕ → Around
-structures_in_statics program [] = none_around true
+structures_in_statics program [] = none_around None
 structures_in_statics program (i ∷ path) = structures_on program (root_at program i) path
 
--- A structure may stand around a leaf, with this route to it: it is one of those around it, or some union around it has no active
--- member, which hides what is inside it.
-abbrev pub MayStandAround : Around → Bool → Enclosing → Type 0
-MayStandAround around active outer = (active ≡ false) ⊎ Contains around.structures outer
+-- a structure stands around a leaf, with this route to it: for paths from `%0` the outermost one does, for others each
+abbrev pub StandsAround : Around → Base → Enclosing → Type 0
+StandsAround around Outermost outer = around.outermost ≡ Some outer
+StandsAround around base outer = Contains around.structures outer
 
--- A path may lead from the outermost structure to a leaf: no array lies between them, or some union around it has no active member.
-abbrev pub MayLeadThere : Around → Bool → Type 0
-MayLeadThere around active = (active ≡ false) ⊎ (around.direct ≡ true)
+-- a structure may stand around a leaf so: it does, or some union around the leaf has no active member, which hides what is inside it
+abbrev pub MayStandAround : Around → Bool → Base → Enclosing → Type 0
+MayStandAround around active base outer = (active ≡ false) ⊎ StandsAround around base outer
 
 -- ---- what is read
 
--- Expressions read the number at a place of a structure, inside these: by its name from `%0`, where a path may lead to it from there, or
--- from a structure around it, along the route from that one to it.
+-- expressions read the number at a place of a structure, inside these: from a structure around it, along the route from that one to it
 abbrev pub IsReadField : Program → Around → Bool → TypeId → ℕ → Type 0
-IsReadField program around active node i = (MayLeadThere around active × ReadsByName program node i) ⊎ ((outer : Enclosing) × MayStandAround around active outer × ReadsFrom program outer.0 outer.1 node i)
+IsReadField program around active node i = (base : Base) × (outer : Enclosing) × MayStandAround around active base outer × ReadsFrom program base outer.0 outer.1 node i
 
 -- some expression of the program names this root
 abbrev pub IsReadRoot : Program → ℕ → Type 0

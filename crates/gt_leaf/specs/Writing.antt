@@ -63,11 +63,9 @@ abbrev pub has_word : Ty → LeafContent → Bool
 has_word (ty.Opaque size align) (content.Num n) = has_room true 64 n
 has_word type leaf = true
 
--- a leaf inside these structures may be written in place: each union around it has an active member or it is a number, no expression
--- reads it, and the new one fits
-pub record MayWrite (program : Program) (blocks : Blocks) (around : Around) (p : Part) (leaf : LeafContent) : Type 0 where
+-- a leaf may lie at a part: each union around it has an active member or it is a number, and it fits the type there
+pub record MayLie (program : Program) (blocks : Blocks) (p : Part) (leaf : LeafContent) : Type 0 where
   pub active : (p.active ≡ true) ⊎ (is_number_leaf leaf ≡ true)
-  pub unread : IsUnread program around p.active p.holder
   pub fits : LeafFits blocks (eval_in program p.scope) p.type leaf
 
 -- A leaf inside these structures can be looked at alone: each union around it has an active member or it is a number, no expression
@@ -89,7 +87,7 @@ pub data IsLeft (program : Program) (around : Around) (Lies : Part → Type 0) (
 pub record IsWrittenInPlace (program : Program) (layouts : Layouts) (blocks : Blocks) (statics : Trees) (capacity : ℕ) (type : Ty) (address : ℕ) (value : Tree) (path : List ℕ) (leaf : LeafContent) (old new : Range) : Type 0 where
   pub place : Place
   pub at : IsPlaceOf program layouts.structures (outside statics) lies_in.Element type old address value path place
-  pub may : MayWrite program blocks (structures_on program (Some type) path) at.p leaf
+  pub may : MayLie program blocks at.p leaf
   pub tree : Tree
   pub means : IsContentOf leaf tree
   pub assigns : Assigns program blocks statics capacity type value path tree (with_part value path tree)
@@ -101,7 +99,7 @@ pub record IsWrittenInPlace (program : Program) (layouts : Layouts) (blocks : Bl
 pub record IsStaticWrittenInPlace (program : Program) (layouts : Layouts) (blocks : Blocks) (values : Trees) (path : List ℕ) (leaf : LeafContent) (old new : Range) : Type 0 where
   pub place : Place
   pub at : IsStaticPlaceOf program layouts old values path place
-  pub may : MayWrite program blocks (structures_in_statics program path) at.p leaf
+  pub may : MayLie program blocks at.p leaf
   pub tree : Tree
   pub means : IsContentOf leaf tree
   pub others : Trees
@@ -116,14 +114,14 @@ pub record IsStaticWrittenInPlace (program : Program) (layouts : Layouts) (block
 -- The leaf at a path of an element lies at this place, where this may be written; and whoever writes it there writes it in place.
 pub record MayPut (program : Program) (layouts : Layouts) (blocks : Blocks) (statics : Trees) (capacity : ℕ) (type : Ty) (address : ℕ) (value : Tree) (path : List ℕ) (leaf : LeafContent) (range : Range) (place : Place) : Type 0 where
   pub at : IsPlaceOf program layouts.structures (outside statics) lies_in.Element type range address value path place
-  pub may : MayWrite program blocks (structures_on program (Some type) path) at.p leaf
+  pub may : MayLie program blocks at.p leaf
   pub holds : MayBe place.kind leaf
   pub writes : (new : Range) → IsLeafWritten place leaf range new → IsWrittenInPlace program layouts blocks statics capacity type address value path leaf range new
 
 -- so in the static record
 pub record MayPutStatic (program : Program) (layouts : Layouts) (blocks : Blocks) (values : Trees) (path : List ℕ) (leaf : LeafContent) (range : Range) (place : Place) : Type 0 where
   pub at : IsStaticPlaceOf program layouts range values path place
-  pub may : MayWrite program blocks (structures_in_statics program path) at.p leaf
+  pub may : MayLie program blocks at.p leaf
   pub holds : MayBe place.kind leaf
   pub writes : (new : Range) → IsLeafWritten place leaf range new → IsStaticWrittenInPlace program layouts blocks values path leaf range new
 

@@ -1,9 +1,12 @@
 // The fields of structures by their names.
-ghost use Rattle.gt_leaf.specs.Seeking.{names_of, names_of_all, pick, field_at, pick_number, pick_structure, end_of, inner_of, route_by};
+ghost use Rattle.gt_leaf.specs.Outers.{AreOutersOf};
+ghost use Rattle.gt_leaf.specs.Seeking.{names_of, names_of_all, outers_at, pick, field_at, pick_number, pick_structure, end_of, inner_of, route_by};
 ghost use Rattle.gt_leaf.specs.Unread.{is_union_in};
 ghost use Rattle.std.specs.Prelude.{◌≡◌, ◌++◌, IfOk, OnOk, option_copied, slice_get};
 
 use crate::fields::FieldPlace;
+use crate::outers::outers;
+use crate::places::PlaceSet;
 use crate::routes::Route;
 use crate::types::is_number;
 use gt_names::Table;
@@ -31,26 +34,41 @@ fn names_of_all(alloc: Global, structures: &[Structure]) -> Result<List<Table<us
     Ok(made)
 }
 
-/// A program, and the names of the fields of each of its structures.
+/// A program, and for each of its structures the names of its fields, and the structures that may be outermost around it.
 #[derive(Drop)]
 pub struct Index<'a> {
     alloc: Global,
     pub program: &'a Program,
     pub names: List<Table<usize>>,
+    pub outers: List<PlaceSet>,
 }
 
 impl<'a> Index<'a> {
-    /// That of a program. Its time is linear in the number of fields. Its only error is out of memory.
+    /// That of a program. Its time is linear in the number of fields, and in how many structures may be outermost around others. Its
+    /// only error is out of memory.
     pub fn of(alloc: Global, program: &'a Program) -> Result<Index<'a>, AllocError>
         ensures program { IfOk result (λ made. made.program.now ≡ program.now) }
         ensures names { IfOk result (λ made. made.names ≡ names_of_all program.now.structures) }
+        ensures outers { IfOk result (λ made. AreOutersOf program.now made.outers) }
     {
         let names = names_of_all(alloc, program.structures.as_slice())?;
+        let outers = outers(alloc, program)?;
         Ok(Index {
             alloc,
             program,
             names,
+            outers,
         })
+    }
+
+    /// The structures that may be outermost around the one at a place.
+    pub fn outers_at(&self, structure: usize) -> &[u32]
+        ensures outers { result.now ≡ outers_at self.now.outers structure }
+    {
+        match self.outers.get(structure) {
+            Some(outers) => outers.as_slice(),
+            None => &[],
+        }
     }
 
     // The place of the field that a name picks in a structure.

@@ -3,13 +3,15 @@
 //! `judge_leaf` and `judge_static_leaf` say so without the write.
 #![tactic(auto)]
 
-mod ends;
 mod fields;
 mod index;
 pub mod laws;
+mod naming;
+mod outers;
 mod places;
 mod readings;
 mod reads;
+mod roots;
 mod routes;
 mod seeking;
 mod types;

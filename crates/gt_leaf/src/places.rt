@@ -31,6 +31,13 @@ impl PlaceSet {
         }
     }
 
+    /// The places of a set.
+    pub fn of(places: IndexSet<u32>) -> PlaceSet
+        ensures places { result ≡ places.keys }
+    {
+        PlaceSet { places }
+    }
+
     /// Whether a place is one of them. It takes no memory.
     pub fn has(&self, place: u32) -> bool
         ensures there { result ≡ list_any (nat_eq place) self.now }

@@ -1,7 +1,7 @@
-// The numbers in which the paths of expressions from `%h` and `%1` end, and the structures at which those begin.
-ghost use Rattle.gt_leaf.specs.Seeking.{starting, with_end, same_base, seek_expr, seek_option, seek_counts, seek_own, seek_counts_of, seek_union, seek_outside, seek_desc, seek_descs, with_inner, with_inners, seek_inners, seek_structure, seek_structures, seek_roots, seek_all, end_of, route_by};
+// The numbers in which the paths of expressions end, and the structures at which those begin.
+ghost use Rattle.gt_leaf.specs.Seeking.{starting, with_end, same_base, seek_expr, seek_option, seek_counts, seek_own, seek_counts_of, seek_union, seek_given, seek_desc, seek_descs, with_inner, with_inners, seek_inners, seek_structure, seek_structures, seek_roots, seek_all, seek_givens, seek_inside, seek_outers, seek_outer_structures, seek_outermost, end_of, route_by};
 ghost use Rattle.std.specs.Prelude.{◌≡◌, [], IfOk, OnOk, slice_get};
-ghost use Rattle.gt_types.specs.declared.expressions.Base.TheVariants.{Here, Outer};
+ghost use Rattle.gt_types.specs.declared.expressions.Base.TheVariants.{Here, Outer, Outermost};
 ghost use Rattle.gt_types.specs.Contains.{held_by};
 ghost use Rattle.gt_types.specs.Shapes.{count_of, innermost};
 
@@ -67,7 +67,73 @@ impl ReadingSet {
         ensures added { OnOk result (self.new ≡ seek_all index.now.program.now index.now.names self.old) }
     {
         self.seek_structures(alloc, index)?;
-        self.seek_roots(index)
+        self.seek_roots(index, Base::Here)
+    }
+
+    /// Adds the numbers in which the paths of all expressions from `%0` end, and the outermost structures at which those begin. Each
+    /// expression is looked at once for its structure and once for each around it. Its only error is out of memory.
+    pub fn seek_outermost(&mut self, index: &Index<'_>) -> Result<(), AllocError>
+        ensures added { OnOk result (self.new ≡ seek_outermost index.now.program.now index.now.names index.now.outers self.old) }
+    {
+        self.seek_outer_structures(index)?;
+        self.seek_roots(index, Base::Outermost)
+    }
+
+    fn seek_outer_structures(&mut self, index: &Index<'_>) -> Result<(), AllocError>
+        ensures added { OnOk result (self.new ≡ seek_outer_structures index.now.program.now index.now.names index.now.outers self.old) }
+    {
+        for (node, s) in index.program.structures.as_slice().iter().enumerate() {
+            self.seek_outers(index, index.outers_at(node), s)?;
+        }
+        Ok(())
+    }
+
+    // All expressions in a structure, from each of these.
+    fn seek_outers(
+        &mut self,
+        index: &Index<'_>,
+        outers: &[u32],
+        s: &Structure,
+    ) -> Result<(), AllocError>
+        ensures added { OnOk result (self.new ≡ seek_outers index.now.program.now index.now.names outers.now s.now self.old) }
+    {
+        for outer in outers {
+            self.seek_inside(
+                index,
+                Start {
+                    base: Base::Outermost,
+                    structure: *outer as usize,
+                },
+                s,
+            )?;
+        }
+        Ok(())
+    }
+
+    fn seek_inside(
+        &mut self,
+        index: &Index<'_>,
+        start: Start,
+        s: &Structure,
+    ) -> Result<(), AllocError>
+        ensures added { OnOk result (self.new ≡ seek_inside index.now.program.now index.now.names start s.now self.old) }
+    {
+        self.seek_own(index, start, s)?;
+        self.seek_givens(index, start, s.fields.as_slice())
+    }
+
+    fn seek_givens(
+        &mut self,
+        index: &Index<'_>,
+        start: Start,
+        fields: &[Field],
+    ) -> Result<(), AllocError>
+        ensures added { OnOk result (self.new ≡ seek_givens index.now.program.now index.now.names start fields.now self.old) }
+    {
+        for f in fields {
+            self.seek_given(index, start, &f.ty)?;
+        }
+        Ok(())
     }
 
     fn seek_structures(&mut self, alloc: Global, index: &Index<'_>) -> Result<(), AllocError>
@@ -201,54 +267,58 @@ impl ReadingSet {
     fn seek_desc(&mut self, index: &Index<'_>, node: usize, ty: &Ty) -> Result<(), AllocError>
         ensures added { OnOk result (self.new ≡ seek_desc index.now.program.now index.now.names node ty.now self.old) }
     {
-        self.seek_union(index, ty)?;
-        self.seek_outside(index, node, ty)
+        self.seek_union(index, Base::Here, ty)?;
+        self.seek_given(
+            index,
+            Start {
+                base: Base::Outer,
+                structure: node,
+            },
+            ty,
+        )
     }
 
     // From the union.
-    fn seek_union(&mut self, index: &Index<'_>, ty: &Ty) -> Result<(), AllocError>
-        ensures added { OnOk result (self.new ≡ seek_union index.now.program.now index.now.names (innermost ty.now) self.old) }
+    fn seek_union(&mut self, index: &Index<'_>, base: Base, ty: &Ty) -> Result<(), AllocError>
+        ensures added { OnOk result (self.new ≡ seek_union index.now.program.now index.now.names base (innermost ty.now) self.old) }
     {
         match innermost(ty) {
-            Ty::Node { id, desc } => self.seek_inside(index, *id, desc),
+            Ty::Node { id, desc } => self.seek_from_union(index, base, *id, desc),
             _ => Ok(()),
         }
     }
 
-    fn seek_inside(
+    fn seek_from_union(
         &mut self,
         index: &Index<'_>,
+        base: Base,
         union: TypeId,
         desc: &Option<Expr>,
     ) -> Result<(), AllocError>
-        ensures added { OnOk result (self.new ≡ seek_option index.now.program.now index.now.names (starting Here union.0) desc.now self.old) }
+        ensures added { OnOk result (self.new ≡ seek_option index.now.program.now index.now.names (starting base union.0) desc.now self.old) }
     {
         let start = Start {
-            base: Base::Here,
+            base,
             structure: union.0 as usize,
         };
         self.seek_option(index, start, desc)
     }
 
-    // From the structure of the field.
-    fn seek_outside(&mut self, index: &Index<'_>, node: usize, ty: &Ty) -> Result<(), AllocError>
-        ensures added { OnOk result (self.new ≡ seek_outside index.now.program.now index.now.names node (innermost ty.now) self.old) }
+    // From a structure around it.
+    fn seek_given(&mut self, index: &Index<'_>, start: Start, ty: &Ty) -> Result<(), AllocError>
+        ensures added { OnOk result (self.new ≡ seek_given index.now.program.now index.now.names start (innermost ty.now) self.old) }
     {
-        let start = Start {
-            base: Base::Outer,
-            structure: node,
-        };
         match innermost(ty) {
             Ty::Node { desc, .. } => self.seek_option(index, start, desc),
             _ => Ok(()),
         }
     }
 
-    fn seek_roots(&mut self, index: &Index<'_>) -> Result<(), AllocError>
-        ensures added { OnOk result (self.new ≡ seek_roots index.now.program.now index.now.names self.old) }
+    fn seek_roots(&mut self, index: &Index<'_>, base: Base) -> Result<(), AllocError>
+        ensures added { OnOk result (self.new ≡ seek_roots index.now.program.now index.now.names base self.old) }
     {
         for r in index.program.roots.as_slice() {
-            self.seek_union(index, &r.ty)?;
+            self.seek_union(index, base, &r.ty)?;
         }
         Ok(())
     }

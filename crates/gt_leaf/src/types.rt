@@ -1,6 +1,6 @@
 // The type of a leaf, by what it lies in, and of parts on the way to it.
 ghost use Rattle.std.specs.Prelude.{◌≡◌, option_copied};
-ghost use Rattle.gt_types.specs.Shapes.{innermost, is_number, is_structure};
+ghost use Rattle.gt_types.specs.Shapes.{innermost, is_number};
 ghost use Rattle.gt_leaf.specs.HeldTypes.{field_type, root_type, held_type, is_number_at};
 ghost use Rattle.gt_leaf.specs.Unread.{field_at, inner_at, root_at, part_at};
 
@@ -22,13 +22,6 @@ pub fn is_number(ty: &Ty) -> bool
     ensures { result ≡ is_number ty.now }
 {
     matches!(ty, Ty::Num(_) | Ty::Bits { .. })
-}
-
-/// Whether values of a type are those of a structure.
-pub fn is_structure(ty: &Ty) -> bool
-    ensures { result ≡ is_structure ty.now }
-{
-    matches!(ty, Ty::Node { .. })
 }
 
 // The type of the field at a place of a structure.

@@ -14,8 +14,8 @@ ghost use Rattle.gt_value.specs.Places.{Part};
 ghost use Rattle.gt_leaf.specs.Tables.{IsTableOf};
 ghost use Rattle.gt_leaf.specs.Unread.{Around, IsUnread};
 ghost use Rattle.gt_leaf.specs.HeldTypes.{IsOfPart};
-ghost use Rattle.gt_leaf.specs.Verdicts.{IsMisfit};
-ghost use Rattle.gt_leaf.specs.Writing.{StandsBeside, StaticsStandBeside, is_number_leaf, takes_number, has_word, LeafFits, MayWrite, IsAlone, MayPutElement, WritesElement, LeavesElement, MisfitsElement, MayPutStatics, WritesStatics, LeavesStatics, MisfitsStatics};
+ghost use Rattle.gt_leaf.specs.Verdicts.{IsFit, IsMisfit};
+ghost use Rattle.gt_leaf.specs.Writing.{StandsBeside, StaticsStandBeside, is_number_leaf, takes_number, has_word, LeafFits, IsAlone, MayPutElement, WritesElement, LeavesElement, MisfitsElement, MayPutStatics, WritesStatics, LeavesStatics, MisfitsStatics};
 ghost use Rattle.gt_leaf.specs.declared.writing.LeafWrite.TheVariants.{Written, NotInPlace, Misfit};
 ghost use Rattle.gt_leaf.specs.declared.writing.LeafVerdict.TheVariants as LeafVerdict;
 ghost use Rattle.gt_leaf.specs.declared.writing.LeafVerdict.TheVariants.{InPlace};
@@ -130,8 +130,8 @@ fn judge_at<N: BlockNames>(
     leaf: LeafContent,
 ) -> LeafVerdict
     ensures there { (other : Place) → result ≡ InPlace other → other ≡ place }
-    ensures may { (other : Place) → result ≡ InPlace other → (program : Program) (around : Around) (p : Part) → IsTrue unread ↔ IsUnread program around p.active p.holder → IsOfPart program p place (option_copied ty.entry)
-        → MayWrite program (N.blocks names.now) around p leaf }
+    ensures fit { (other : Place) → result ≡ InPlace other → (program : Program) (around : Around) (p : Part) → IsTrue unread ↔ IsUnread program around p.active p.holder → IsOfPart program p place (option_copied ty.entry)
+        → IsFit program (N.blocks names.now) around p leaf }
     ensures not_alone { result ≡ LeafVerdict.NotInPlace → (program : Program) (around : Around) (p : Part) → IsTrue unread ↔ IsUnread program around p.active p.holder → IsOfPart program p place (option_copied ty.entry) → ¬ IsAlone program around p leaf }
     ensures misfit { result ≡ LeafVerdict.Misfit → (program : Program) (around : Around) (p : Part) → IsTrue unread ↔ IsUnread program around p.active p.holder → IsOfPart program p place (option_copied ty.entry) → IsMisfit program (N.blocks names.now) around p leaf }
 {

@@ -1,4 +1,4 @@
-//! What the expressions of options may read in a program, and where a structure may stand alone. The layer above makes a
+//! What the expressions of options may read in a program, where a structure may stand alone, and which structures contain one. The layer above makes a
 //! [`PathIndex`] once, and [`PathChecks`] for each structure, of which it asks for each option.
 #![tactic(auto)]
 
@@ -20,6 +20,8 @@ mod steps;
 mod structures;
 
 pub use checks::PathChecks;
+pub use climbing::climb;
+pub use containers::Containers;
 pub use indexes::PathIndex;
 pub use roots::{is_root_count, is_root_desc};
 pub use standing::{is_bare_union, is_inner, may_stand, may_stand_beside, names_sortable};

@@ -14,7 +14,7 @@ use Rattle.gt_types.specs.declared.program.Field.{Field}
 use Rattle.gt_types.specs.declared.program.Structure.{Structure}
 use Rattle.gt_types.specs.Contains.{itself, held_by}
 use Rattle.gt_types.specs.Tails.{tail_of}
-use Rattle.sample_program.specs.Sample.{structures, item, base, wide, form, pay, cell, vec, hold, duo, two, vecb, any, rest, big, bigv, kindv, ever, label, twin, node, path, own_kind, own_len, own_n, outer_n, outermost_a}
+use Rattle.sample_program.specs.Sample.{structures, item, base, wide, form, pay, cell, vec, hold, duo, two, vecb, any, rest, big, bigv, kindv, ever, label, twin, lone, node, path, own_kind, own_len, own_n, outer_n, outermost_a}
 use Rattle.gt_types.specs.declared.expressions.Base.TheVariants.{Here, Outer}
 use Rattle.sample_program.proofs.Lists.{AllFrom}
 use Rattle.sample_program.proofs.Types.{IsFlat, flat-num, flat-bits, flat-opaque, flat-str, flat-ptr, flat-node, inner-arr, inner-tail, no_tail-arr, tail-tail}
@@ -237,5 +237,11 @@ told-twin = record {
   tail = ap is_some (no_tail-arr 2 (ty.Node (node 17) None));
 }
 
+told-lone : IsTold 19 lone
+told-lone = record {
+  held = All-from_recursion HoldsAsTold lone.fields (held-flat (ty.Node (node 2) None) (flat-node (node 2) None), tt);
+  tail = ap is_some (flat-node (node 2) None).no_tail;
+}
+
 pub all_told : AllFrom IsTold 0 structures
-all_told = (told-item, (told-base, (told-wide, (told-form, (told-pay, (told-cell, (told-vec, (told-hold, (told-duo, (told-two, (told-vecb, (told-any, (told-rest, (told-big, (told-bigv, (told-kindv, (told-ever, (told-label, (told-twin, tt)))))))))))))))))))
+all_told = (told-item, (told-base, (told-wide, (told-form, (told-pay, (told-cell, (told-vec, (told-hold, (told-duo, (told-two, (told-vecb, (told-any, (told-rest, (told-big, (told-bigv, (told-kindv, (told-ever, (told-label, (told-twin, (told-lone, tt))))))))))))))))))))

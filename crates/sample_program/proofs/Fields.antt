@@ -21,12 +21,12 @@ use Rattle.gt_types.specs.Shapes.{innermost, is_number, is_field_type, field_typ
 use Rattle.gt_types.specs.Unions.{IsCommon}
 use Rattle.gt_types.specs.Settled.{NamesStanding, NamesSortable, NamesDescribed, NamesFit, IsField}
 use Rattle.gt_types.specs.Paths.{PathFits, DescPathFits, MayStep, last_step, next_step, LeadsToNumber, AreSteps, IsOption, IsFieldDesc}
-use Rattle.sample_program.specs.Sample.{sample, structures, base, node, path, held, member, field}
+use Rattle.sample_program.specs.Sample.{sample, structures, base, wide, lone, node, path, held, member, field}
 use Rattle.sample_program.proofs.Lists.{fact_of, both}
 use Rattle.sample_program.proofs.Types.{element-num, element-ptr, element-node, dim-num, dim-ptr, dim-node}
 use Rattle.sample_program.proofs.Facts.{HoldsAsTold, IsTold, all_told}
 use Rattle.sample_program.proofs.TailTypes.{keeps, keeps_tails}
-use Rattle.sample_program.proofs.Structures.{path-operators, path-roots, one-path}
+use Rattle.sample_program.proofs.Structures.{path-operators, path-roots, one-path, lone_common}
 
 -- ---- what a type names
 
@@ -110,7 +110,13 @@ to_kind_of i s has struct c = (
   refl,
 )
 
--- an option that is a path of one name or two
+-- from lone to the kind of its wide
+pub to_lone_kind : LeadsToNumber sample (node 19) (codes "w" ∷ codes "b" ∷ codes "kind" ∷ [])
+to_lone_kind =
+    let rest = to_kind_of 2 wide refl refl (0, omega arith, refl) in
+    (rest.0, next_step {s = lone} {f = member (codes "w") (held 2) 1} {desc = None} refl refl (record { there = (0, omega arith, refl); common = λ u. (node 2, None, refl, lone_common) }) refl rest.1, rest.2)
+
+-- an option that is a path of a few names
 pub an_option : (i : ℕ) (b : Base) (steps : List (List ℕ)) → AreSteps steps → PathFits sample (node i) b steps → IsOption sample (node i) (path b steps)
 an_option i b steps are fits =
     record {
@@ -134,3 +140,6 @@ one_name name is = (λ e. absurd (cc), All-from_recursion IsName (name ∷ []) (
 
 pub two_names : (a b : List ℕ) → is_name a ≡ true → is_name b ≡ true → AreSteps (a ∷ b ∷ [])
 two_names a b is also = (λ e. absurd (cc), All-from_recursion IsName (a ∷ b ∷ []) (is, (also, tt)))
+
+pub three_names : (a b c : List ℕ) → is_name a ≡ true → is_name b ≡ true → is_name c ≡ true → AreSteps (a ∷ b ∷ c ∷ [])
+three_names a b c is also third = (λ e. absurd (cc), All-from_recursion IsName (a ∷ b ∷ c ∷ []) (is, (also, (third, tt))))

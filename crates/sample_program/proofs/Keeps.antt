@@ -1,8 +1,10 @@
 -- Each structure of the sample keeps the rules, field by field.
-use Rattle.std.proofs.Common.{◌≡◌, true, false, not, [], ◌∷◌, ap, sym, subst, ◌∙◌, arith, refl, inl, inr}
+use Rattle.std.proofs.Common.{◌≡◌, ℕ, ◌<◌, ◌≤◌, true, false, not, [], ◌∷◌, ap, sym, subst, ◌∙◌, arith, refl, inl, inr}
 use Rattle.std.specs.Prelude.{◌≢◌, Some, None, All, AllPairs, codes}
 use Rattle.std.specs.Str.{bytes_eq}
+use Rattle.std.proofs.lemmas.Bool.{cases_lt}
 use Rattle.std.proofs.lemmas.List.Elements.{All-from_recursion}
+use Rattle.std.proofs.lemmas.List.Kept.{AllPairs-cons}
 use Rattle.std.proofs.lemmas.Slice.Eq.{bytes_eq-Decides}
 use Rattle.gt_types.specs.declared.expressions.Base.TheVariants.{Here, Outer, Outermost}
 use Rattle.gt_types.specs.declared.types.Width.TheVariants.{W1, W2, W4, W8}
@@ -12,17 +14,18 @@ use Rattle.gt_types.specs.declared.types.PtrKind.TheVariants as kind
 use Rattle.gt_types.specs.declared.types.Ty.TheVariants as ty
 use Rattle.gt_types.specs.declared.program.Active.TheVariants.{Always, Other, Never}
 use Rattle.gt_types.specs.declared.program.Field.{Field}
+use Rattle.gt_types.specs.Contains.{Nests, once, deeper}
 use Rattle.gt_types.specs.Shapes.{field_type_at}
 use Rattle.gt_types.specs.Unions.{is_it, by_first, IsCommon, IsMember, AreApart}
 use Rattle.gt_types.specs.Settled.{IsField, IsStructure}
 use Rattle.gt_types.specs.Paths.{LeadsToNumber, LeadsToOwnPointer, IsFieldDesc, IsOutermost}
-use Rattle.sample_program.specs.Sample.{sample, structures, item, base, wide, form, pay, cell, vec, hold, duo, two, vecb, any, rest, big, bigv, kindv, ever, label, twin, int, node, path, own_kind, own_len, own_n, outer_n, outermost_a, held, member, field}
+use Rattle.sample_program.specs.Sample.{sample, structures, item, base, wide, form, pay, cell, vec, hold, duo, two, vecb, any, rest, big, bigv, kindv, ever, label, twin, lone, int, node, path, own_kind, own_len, own_n, outer_n, outermost_a, held, member, field}
 use Rattle.sample_program.proofs.Lists.{AllFrom, differ, pair, three}
 use Rattle.sample_program.proofs.Types.{flat-num, flat-bits, flat-opaque, flat-str, flat-ptr, flat-node, inner-arr, inner-tail}
 use Rattle.sample_program.proofs.Orders.{lower_by, in_program}
 use Rattle.gt_types.specs.declared.types.TypeId.{TypeId}
-use Rattle.sample_program.proofs.Structures.{item_stands, common_base}
-use Rattle.sample_program.proofs.Fields.{names, grid-type, labels-type, pointers-type, shorts-type, a_field, to_int, to_kind, to_kind_of, an_option, a_desc, one_name, two_names}
+use Rattle.sample_program.proofs.Structures.{item_stands, common_base, lone_contains}
+use Rattle.sample_program.proofs.Fields.{names, grid-type, labels-type, pointers-type, shorts-type, a_field, to_int, to_kind, to_kind_of, to_lone_kind, an_option, a_desc, one_name, two_names, three_names}
 
 names_differ : (f g : Field) → not (bytes_eq f.name g.name) ≡ true → f.name ≢ g.name
 names_differ f g differ same =
@@ -525,6 +528,20 @@ ever-keeps = record {
   kinds = λ i j d lt within. absurd (omega (arith, within));
 }
 
+-- a lone holds no label
+no_label_in_lone : (n : ℕ) → ¬ Nests sample n (node 19) (node 17)
+no_label_in_lone n (once c) = let e = ap (λ (t : TypeId). t.0) (lone_contains (node 17) c) in absurd (omega (arith, e))
+no_label_in_lone n (deeper {n = m} {next = next} c rest) =
+    let e = ap (λ (t : TypeId). t.0) (lone_contains next c) in
+    let l = lower_by m next (node 17) rest in
+    absurd (omega (arith, e, l.0, l.1))
+
+label_in : (outer n : ℕ) → Nests sample n (node outer) (node 17) → outer < 20 → 18 ≤ outer → 18 ≡ outer
+label_in outer n nests less least = elim (cases_lt outer 19) [
+  | inl before ↦ omega (arith, before, least)
+  | inr after ↦ let last : outer ≡ 19 = omega (arith, less, after) in absurd (no_label_in_lone n (subst (λ i. Nests sample n (node i) (node 17)) last nests))
+]
+
 -- the outermost structure is the label itself, or a twin, which alone holds labels
 label_outermost : (outer : TypeId) → IsOutermost sample (node 17) outer → LeadsToNumber sample outer (codes "a" ∷ [])
 label_outermost outer (alone, inl same) =
@@ -532,7 +549,7 @@ label_outermost outer (alone, inl same) =
 label_outermost outer (alone, inr (n, nests)) =
     let l = lower_by n outer (node 17) nests in
     let w = in_program n outer (node 17) nests in
-    let last : 18 ≡ outer.0 = omega (arith, l.0, l.1, w) in
+    let last = label_in outer.0 n nests w (omega (arith, l.0, l.1)) in
     subst (λ i. LeadsToNumber sample (node i) (codes "a" ∷ [])) last (to_int 18 twin (codes "a") 3 (ty.Num (scalar.Int W2 true)) refl refl refl (3, omega arith, refl) refl)
 
 label-fields : All (IsField sample (node 17) label) label.fields
@@ -578,6 +595,30 @@ twin-keeps = record {
   kinds = λ i j d lt within. absurd (omega (arith, within));
 }
 
+lone-fields : All (IsField sample (node 19) lone) lone.fields
+lone-fields =
+    All-from_recursion (IsField sample (node 19) lone) lone.fields
+    (a_field 19 lone (member (codes "w") (ty.Node (node 2) None) 1) refl (0, omega arith, refl) refl (ap field_type_at (ty.outs-Node (node 2) None)) (names (λ union u e. IsFieldDesc sample (node 19) union e) (ty.Node (node 2) None) (ty.Node (node 2) None) (flat-node (node 2) None).inner tt tt (wide, refl, refl)) tt, tt)
+
+lone-keeps : IsStructure sample (node 19) lone
+lone-keeps = record {
+  name = refl;
+  some_fields = omega arith;
+  few_fields = omega arith;
+  distinct = differ (λ f g. bytes_eq f.name g.name) (λ f g. f.name ≢ g.name) names_differ lone.fields refl;
+  fields = lone-fields;
+  sort = record {
+    desc = an_option 19 Here (codes "w" ∷ codes "b" ∷ codes "kind" ∷ []) (three_names (codes "w") (codes "b") (codes "kind") refl refl refl) to_lone_kind;
+    members = record {
+      each = All-from_recursion IsMember lone.fields ((λ e. absurd (cc), λ e. absurd (cc)), tt);
+      apart = AllPairs-cons (λ f g. AreApart f.active g.active) _ [] (All-from_recursion _ [] tt) (λ i j d lt within. absurd (omega (arith, within)));
+    };
+    tails = refl;
+  };
+  chains = All-from_recursion (λ c. LeadsToOwnPointer sample (node 19) c.path) [] tt;
+  kinds = λ i j d lt within. absurd (omega (arith, within));
+}
+
 pub all_keep : AllFrom (λ i s. IsStructure sample (node i) s) 0 structures
 all_keep = (
   item-keeps,
@@ -601,7 +642,7 @@ all_keep = (
                     two-keeps,
                     (
                       vecb-keeps,
-                      (any-keeps, (rest-keeps, (big-keeps, (bigv-keeps, (kindv-keeps, (ever-keeps, (label-keeps, (twin-keeps, tt)))))))),
+                      (any-keeps, (rest-keeps, (big-keeps, (bigv-keeps, (kindv-keeps, (ever-keeps, (label-keeps, (twin-keeps, (lone-keeps, tt))))))))),
                     ),
                   ),
                 ),

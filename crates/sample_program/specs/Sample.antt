@@ -169,8 +169,16 @@ twin =
     (field (codes "b") (held 1) ∷ field (codes "c") (held 1) ∷ field (codes "t") (ty.Str (Some own_kind)) ∷ field (codes "a") (ty.Num (scalar.Int W2 true))
     ∷ field (codes "each") (ty.Arr 2 (held 17)) ∷ [])
 
+-- the number by which the member of a union is chosen that begins with `wide`
+abbrev pub wide_kind : Expr
+wide_kind = path Here (codes "w" ∷ codes "b" ∷ codes "kind" ∷ [])
+
+-- union lone { struct wide w; (tag 1) }, chosen by %h.w.b.kind
+abbrev pub lone : Structure
+lone = union (codes "lone") (Some wide_kind) (member (codes "w") (held 2) 1 ∷ [])
+
 abbrev pub structures : List Structure
-structures = item ∷ base ∷ wide ∷ form ∷ pay ∷ cell ∷ vec ∷ hold ∷ duo ∷ two ∷ vecb ∷ any ∷ rest ∷ big ∷ bigv ∷ kindv ∷ ever ∷ label ∷ twin ∷ []
+structures = item ∷ base ∷ wide ∷ form ∷ pay ∷ cell ∷ vec ∷ hold ∷ duo ∷ two ∷ vecb ∷ any ∷ rest ∷ big ∷ bigv ∷ kindv ∷ ever ∷ label ∷ twin ∷ lone ∷ []
 
 abbrev pub root : List ℕ → Ty → Root
 root name type = record { name = name; ty = type; deletable = false }

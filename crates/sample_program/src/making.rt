@@ -122,6 +122,20 @@ fn own_kind(alloc: Global) -> Result<Expr, AllocError>
     })
 }
 
+// The kind in a `wide` with which a union begins.
+fn wide_kind(alloc: Global) -> Result<Expr, AllocError>
+    ensures { IfOk result (λ e. e ≡ sample.wide_kind) }
+{
+    let w = word(alloc, "w")?;
+    let b = word(alloc, "b")?;
+    let kind = word(alloc, "kind")?;
+    let steps = vec![in alloc; w, b, kind]?;
+    Ok(Expr::Path {
+        base: Base::Here,
+        steps: List::of(steps),
+    })
+}
+
 // A plain pointer to an item.
 fn pointer() -> Ty
     ensures { result ≡ sample.pointer_to 0 }
@@ -643,6 +657,14 @@ fn twin(alloc: Global) -> Result<Structure, AllocError>
     structure(alloc, "twin", false, None, fields)
 }
 
+fn lone(alloc: Global) -> Result<Structure, AllocError>
+    ensures { IfOk result (λ s. s ≡ sample.lone) }
+{
+    let mut fields = Vec::new(alloc);
+    add(alloc, &mut fields, "w", held(2, None), Active::Tag(1))?;
+    structure(alloc, "lone", true, Some(wide_kind(alloc)?), fields)
+}
+
 fn root(alloc: Global, name: &str, ty: Ty) -> Result<Root, AllocError>
     requires ascii { IsTrue (list_all (λ b. nat_lt b 128) name.now) }
     ensures { IfOk result (λ r. r ≡ sample.root name.now ty) }
@@ -701,6 +723,7 @@ fn structures(alloc: Global) -> Result<Vec<Structure>, AllocError>
     all.push(ever(alloc)?)?;
     all.push(label(alloc)?)?;
     all.push(twin(alloc)?)?;
+    all.push(lone(alloc)?)?;
     Ok(all)
 }
 

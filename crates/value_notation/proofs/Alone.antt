@@ -8,7 +8,7 @@ use Rattle.gt_types.specs.declared.types.TypeId.{TypeId}
 use Rattle.gt_types.specs.declared.program.Structure.{Structure}
 use Rattle.gt_types.specs.Contains.{HasStructure}
 use Rattle.gt_types.specs.Paths.{Way, own_expressions, NamesOuter, IsInner, MayStand}
-use Rattle.sample_program.specs.Sample.{sample, item, base, wide, form, cell, vec, hold, two, vecb, any, big, bigv, kindv, ever, label, twin, node, own_len, own_n, outermost_a}
+use Rattle.sample_program.specs.Sample.{sample, item, base, wide, form, cell, vec, hold, two, vecb, any, big, bigv, kindv, ever, label, twin, lone, node, own_len, own_n, outermost_a}
 use Rattle.sample_program.proofs.Structures.{path-paths}
 
 from-outermost : (steps : List (List ℕ)) → ¬ NamesOuter (expr.Path Outermost steps)
@@ -82,3 +82,6 @@ label_stands = (label, refl, not_inner (node 17) label refl (All-from_recursion 
 
 pub twin_stands : MayStand sample (node 18)
 twin_stands = (twin, refl, not_inner (node 18) twin refl (one (codes "b" ∷ codes "kind" ∷ [])), λ u. absurd (cc))
+
+pub lone_stands : MayStand sample (node 19)
+lone_stands = (lone, refl, not_inner (node 19) lone refl (one (codes "w" ∷ codes "b" ∷ codes "kind" ∷ [])), λ u. refl)

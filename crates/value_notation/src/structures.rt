@@ -28,6 +28,7 @@ pub enum Kind {
     Ever,
     Label,
     Twin,
+    Lone,
 }
 
 impl Kind {
@@ -50,6 +51,7 @@ impl Kind {
             "ever" => Some(Kind::Ever),
             "label" => Some(Kind::Label),
             "twin" => Some(Kind::Twin),
+            "lone" => Some(Kind::Lone),
             _ => None,
         }
     }
@@ -75,6 +77,7 @@ impl Kind {
             Kind::Ever => TypeId(16),
             Kind::Label => TypeId(17),
             Kind::Twin => TypeId(18),
+            Kind::Lone => TypeId(19),
         }
     }
 }

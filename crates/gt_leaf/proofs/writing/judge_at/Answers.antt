@@ -12,12 +12,11 @@ returns-then-not-fits_at-clause-misfit g c = λ e program around p said part.
           cc;
     }
 
-pub returns-clause-may : goal.returns-clause-may
-returns-clause-may g c = λ other e program around p said part.
+pub returns-clause-fit : goal.returns-clause-fit
+returns-clause-fit g c = λ other e program around p said part.
     let alone_is : IsTrue c.is_alone.result = let h = c.if-not-is_alone.false in cc in
     let fits_is : IsTrue c.fits_at.result = let h = c.if-not-fits_at.false in cc in
-    let alone = (c.is_alone.ensures program around p said part).0 alone_is in
-    record { active = alone.active; unread = alone.unread; fits = (c.fits_at.ensures program p part).0 fits_is }
+    record { alone = (c.is_alone.ensures program around p said part).0 alone_is; fits = (c.fits_at.ensures program p part).0 fits_is }
 
 pub returns-then-not-is_alone-clause-not_alone : goal.returns-then-not-is_alone-clause-not_alone
 returns-then-not-is_alone-clause-not_alone g c = λ e program around p said part alone.

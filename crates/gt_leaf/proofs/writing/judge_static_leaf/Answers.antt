@@ -12,9 +12,9 @@ pub returns-in-Some-clause-in_place : goal.returns-in-Some-clause-in_place
 returns-in-Some-clause-in_place g c = λ place e values s.
     let at = c.in-Some.ensures.leaf values (statics-stand s) in
     let part = static-place-part c.args.program.now c.args.layouts.now c.args.space.now values c.args.path.now c.in-Some.place _ c.held_type.ensures at in
-    let may = c.judge_at.ensures.may place e c.args.program.now (structures_in_statics c.args.program.now c.args.path.now) at.p (part-unread (structures_in_statics c.args.program.now c.args.path.now) c.is_unread_static.result at.is (c.is_unread_static.ensures.unread c.requires.table)) part in
+    let fit = c.judge_at.ensures.fit place e c.args.program.now (structures_in_statics c.args.program.now c.args.path.now) at.p (part-unread (structures_in_statics c.args.program.now c.args.path.now) c.is_unread_static.result at.is (c.is_unread_static.ensures.unread c.requires.table)) part in
     subst (MayPutStatic c.args.program.now c.args.layouts.now (g.N.BlockNames.blocks c.args.names.now) values c.args.path.now c.args.leaf c.args.space.now) (sym (c.judge_at.ensures.there place e))
-    (may-put-static c.args.program.now c.args.layouts.now c.requires.settled c.requires.laid (g.N.BlockNames.blocks c.args.names.now) values c.args.path.now c.args.leaf c.args.space.now c.in-Some.place c.requires.inside s at may)
+    (may-put-static c.args.program.now c.args.layouts.now c.requires.settled c.requires.laid (g.N.BlockNames.blocks c.args.names.now) values c.args.path.now c.args.leaf c.args.space.now c.in-Some.place c.requires.inside s at fit)
 
 pub returns-in-Some-clause-not_in_place : goal.returns-in-Some-clause-not_in_place
 returns-in-Some-clause-not_in_place g c = λ e values s.

@@ -1,4 +1,4 @@
-use Rattle.value_notation.proofs.Alone.{item_stands, base_stands, wide_stands, form_stands, cell_stands, vec_stands, hold_stands, two_stands, vecb_stands, any_stands, big_stands, bigv_stands, kindv_stands, ever_stands, label_stands, twin_stands}
+use Rattle.value_notation.proofs.Alone.{item_stands, base_stands, wide_stands, form_stands, cell_stands, vec_stands, hold_stands, two_stands, vecb_stands, any_stands, big_stands, bigv_stands, kindv_stands, ever_stands, label_stands, twin_stands, lone_stands}
 use Rattle.value_notation.proofs.structures.Kind.id.Goals as goal
 
 pub returns-in-Item : goal.returns-in-Item
@@ -48,3 +48,6 @@ returns-in-Label c = label_stands
 
 pub returns-in-Twin : goal.returns-in-Twin
 returns-in-Twin c = twin_stands
+
+pub returns-in-Lone : goal.returns-in-Lone
+returns-in-Lone c = lone_stands
