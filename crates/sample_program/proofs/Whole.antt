@@ -19,7 +19,7 @@ use Rattle.gt_types.specs.Shapes.{root_type_at}
 use Rattle.gt_types.specs.Contains.{HasStructure, held_by, itself}
 use Rattle.gt_types.specs.Tails.{IsTailType}
 use Rattle.gt_types.specs.Paths.{paths_step, roots_step, IsInner, NamesOuter, own_expressions, IsScalarRoot, IsRootCount}
-use Rattle.gt_types.specs.Settled.{IsDescOfRoot, IsStructure, IsRoot, IsCache, IsTypeWord, global_names, Settled}
+use Rattle.gt_types.specs.Settled.{IsDescOfRoot, IsStructure, IsRoot, IsCache, IsTypedef, global_names, Settled}
 use Rattle.sample_program.specs.Sample.{sample, structures, roots, root, cell, int, node, held}
 use Rattle.sample_program.proofs.Lists.{differ, fact_of, none_in}
 use Rattle.sample_program.proofs.Types.{flat-num, flat-ptr, flat-node}
@@ -106,5 +106,5 @@ settled = record {
   structures = λ n s has. fact_of (λ i t. IsStructure sample (node i) t) structures all_keep n.0 s has;
   roots = All-from_recursion (IsRoot sample) roots (root_n, (root_all, (root_one, tt)));
   caches = All-from_recursion (IsCache sample) [] tt;
-  words = All-from_recursion (IsTypeWord sample) [] tt;
+  words = All-from_recursion (IsTypedef sample) [] tt;
 }
