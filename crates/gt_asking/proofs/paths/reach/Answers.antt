@@ -1,18 +1,16 @@
-use Rattle.std.proofs.Common.{◌≡◌, ap, subst, ◌∙◌}
+use Rattle.std.proofs.Common.{◌≡◌, ap, refl, ◌∙◌}
 use Rattle.std.specs.Prelude.{Err}
-use Rattle.gt_next.specs.Paths.{RefusesPath, RefusesWalk}
-use Rattle.gt_routes.specs.Reaching.{start_of}
+use Rattle.gt_next.specs.Paths.{RefusesPath}
 use Rattle.gt_routes.specs.declared.steps.WalkFail.TheVariants.{Refused}
 use Rattle.gt_asking.proofs.Starts.{leads-all}
 use Rattle.gt_asking.proofs.paths.reach.Goals as goal
 
 pub returns-in-Ok-clause-leads : goal.returns-in-Ok-clause-leads
-returns-in-Ok-clause-leads c = leads-all c.args.s.now c.args.path.now c.in-Ok.start c.as_slice.result.now c.as_slice.ensures.items c.walk.result c.in-Ok.ensures.begins c.walk.ensures.leads
+returns-in-Ok-clause-leads c = leads-all c.args.s.now c.args.path.now c.in-Ok.start c.args.path.now.steps refl c.walk.result c.in-Ok.ensures.begins c.walk.ensures.leads
 
 pub returns-in-Ok-clause-refused : goal.returns-in-Ok-clause-refused
 returns-in-Ok-clause-refused c why e told state st =
-    let walk = c.walk.ensures.refused why e state.heap st.holds.heap in
-    RefusesPath.at_step (c.in-Ok.ensures.begins told state st) (subst (λ hops. RefusesWalk c.args.s.now.schema.program state.heap.graph (start_of c.in-Ok.start) hops why) c.as_slice.ensures.items walk)
+    RefusesPath.at_step (c.in-Ok.ensures.begins told state st) (c.walk.ensures.refused why e state.heap st.holds.heap)
 
 pub returns-in-Err-clause-refused : goal.returns-in-Err-clause-refused
 returns-in-Err-clause-refused c why e told state st =
