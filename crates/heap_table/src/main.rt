@@ -14,7 +14,6 @@ mod header;
 mod pairs;
 mod reading;
 mod table;
-mod values;
 
 use crate::grounds::Ground;
 use crate::table::difference;

@@ -1,17 +1,9 @@
 // Graphs by their words: the values of the roots, and after a semicolon each an object or the pairs of a cache.
 use crate::graphs::{Graph, Object, Pair};
-use crate::values::read_values;
-use gt_types::{Program, TypeId};
+use gt_types::Program;
 use gt_value::{BlockKind, Value};
 use std::alloc::Global;
-use value_notation::Refusal;
-
-// The structure of a name.
-fn structure_named(program: &Program, name: &str) -> Option<TypeId> {
-    let structures = program.structures.as_slice();
-    let place = structures.iter().position(|s| s.name.as_str() == name)?;
-    Some(TypeId(u32::try_from(place).ok()?))
-}
+use value_notation::{Refusal, read_value, read_values, structure_named};
 
 // What a block of this name holds.
 fn kind_named(program: &Program, name: &str) -> Option<BlockKind> {
@@ -46,15 +38,6 @@ fn first_word(text: &str) -> Result<(&str, &str), Refusal> {
     match text.split_once(' ') {
         Some(both) => Ok(both),
         None => Err(Refusal::Malformed),
-    }
-}
-
-// One value.
-fn read_value(alloc: Global, text: &str) -> Result<Value, Refusal> {
-    let mut values = read_values(alloc, text)?;
-    match values.pop() {
-        Some(value) if values.is_empty() => Ok(value),
-        _ => Err(Refusal::Malformed),
     }
 }
 

@@ -78,7 +78,7 @@ impl Leaf {
             };
         }
         if let Some(digits) = word.strip_prefix("raw:") {
-            return Ok(Leaf::Raw(bytes_of(alloc, digits.as_bytes())?));
+            return Ok(Leaf::Raw(read_bytes(alloc, digits.as_bytes())?));
         }
         match word.parse::<i128>() {
             Ok(n) => Ok(Leaf::Number(n)),
@@ -107,8 +107,8 @@ impl Leaf {
     }
 }
 
-// The bytes of which these are the hexadecimal digits.
-fn bytes_of(alloc: Global, digits: &[u8]) -> Result<Vec<u8>, Refusal> {
+/// The bytes of which these are the hexadecimal digits.
+pub fn read_bytes(alloc: Global, digits: &[u8]) -> Result<Vec<u8>, Refusal> {
     let mut bytes = Vec::new(alloc);
     let mut left = digits;
     while let [high, low, rest @ ..] = left {

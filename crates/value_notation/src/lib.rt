@@ -10,16 +10,18 @@ mod samples;
 mod statics;
 mod structures;
 mod trials;
+mod values;
 
 pub use answers::{
     MALFORMED, Tally, hexadecimal, is_row, stopped, text_difference, told, word_difference,
 };
 pub use blocks::TableBlocks;
-pub use leaves::{Leaf, Refusal, Write, read_path};
+pub use leaves::{Leaf, Refusal, Write, read_bytes, read_path};
 pub use rows::Row;
 pub use samples::Sample;
 pub use statics::zero_space;
-pub use structures::{Kind, element, pointer};
+pub use structures::{Kind, element, pointer, structure_named};
 pub use trials::{
     BEFORE, FILLED, Room, Stop, fresh_space, last_value, room_in, size_of, write_one,
 };
+pub use values::{read_value, read_values};

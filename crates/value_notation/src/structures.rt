@@ -6,8 +6,15 @@ ghost use Rattle.sample_program.specs.Sample.{sample, pointer_to};
 ghost use Rattle.value_notation.specs.Trials.{IsReady};
 
 use crate::samples::Sample;
-use gt_types::{Copied, PtrKind, Target, Ty, TypeId};
+use gt_types::{Copied, Program, PtrKind, Target, Ty, TypeId};
 use std::alloc::AllocError;
+
+/// The structure of this name in a program.
+pub fn structure_named(program: &Program, name: &str) -> Option<TypeId> {
+    let structures = program.structures.as_slice();
+    let place = structures.iter().position(|s| s.name.as_str() == name)?;
+    Some(TypeId(u32::try_from(place).ok()?))
+}
 
 /// A structure of the sample that may stand alone.
 #[derive(Clone, Copy, Debug, PartialEq, Eq)]

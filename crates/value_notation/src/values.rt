@@ -1,9 +1,9 @@
 // Values by their words: an integer, null, @ and a name, or raw: and bytes; { } around the fields of a struct, [ ] around elements,
 // and <PLACE > around the active member of a union, or <- > around its common structure.
+use crate::leaves::{Leaf, Refusal};
 use gt_value::Value;
 use sqlite_items::Boxed;
 use std::alloc::{AllocError, Global};
-use value_notation::{Leaf, Refusal};
 
 // What values stand in.
 #[derive(Clone, Copy, PartialEq, Eq)]
@@ -111,6 +111,15 @@ pub fn read_values(alloc: Global, text: &str) -> Result<Vec<Value>, Refusal> {
     }
     match opened.pop() {
         Some(open) if opened.is_empty() => Ok(open.parts),
+        _ => Err(Refusal::Malformed),
+    }
+}
+
+/// The value that words say.
+pub fn read_value(alloc: Global, text: &str) -> Result<Value, Refusal> {
+    let mut values = read_values(alloc, text)?;
+    match values.pop() {
+        Some(value) if values.is_empty() => Ok(value),
         _ => Err(Refusal::Malformed),
     }
 }
