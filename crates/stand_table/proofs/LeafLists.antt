@@ -1,5 +1,5 @@
 -- The leaves of values one after another.
-use Rattle.std.proofs.Common.{◌≡◌, ℕ, ◌+◌, ◌*◌, ◌<◌, ◌≤◌, List, [], ◌∷◌, ◌++◌, length, drop, get_or, map, refl, ap, sym, subst, ◌∙◌, arith}
+use Rattle.std.proofs.Common.{◌≡◌, ℕ, ◌+◌, ◌*◌, ◌<◌, ◌≤◌, List, [], ◌∷◌, ◌++◌, length, drop, get_or, map, ap, sym, subst, ◌∙◌}
 use Rattle.std.specs.Prelude.{pos}
 use Rattle.std.specs.List.{filter}
 use Rattle.std.proofs.lemmas.List.{map-append, append_assoc, append-nil}
@@ -8,7 +8,6 @@ use Rattle.gt_types.specs.declared.program.Field.{Field}
 use Rattle.gt_layout.specs.declared.planes.Spot.{Spot}
 use Rattle.gt_layout.specs.Places.{begin_at}
 use Rattle.gt_layout.specs.Storages.{extent_of}
-use Rattle.gt_tree.specs.Trees.{Trees, End, And}
 use Rattle.gt_tree.specs.Fits.{types_of}
 use Rattle.gt_tree.specs.Leaves as tree
 use Rattle.gt_tree.specs.Leaves.{HasLeaves, FieldsHaveLeaves, EachHasLeaves, Number, leaf, byte_leaves, is_number}

@@ -1,5 +1,5 @@
 -- The rules of leaves, where the type of a value is known by an equation.
-use Rattle.std.proofs.Common.{◌≡◌, ℕ, ◌*◌, true, false, IsTrue, List, [], ◌∷◌, map, Option, Some, None, refl, ap, sym, subst, ◌∙◌}
+use Rattle.std.proofs.Common.{◌≡◌, ℕ, ◌*◌, true, false, IsTrue, List, [], ◌∷◌, map, Option, Some, None, ap, sym, subst, ◌∙◌}
 use Rattle.std.specs.Prelude.{ℤ, slice_get}
 use Rattle.gt_types.specs.declared.expressions.Expr.{Expr}
 use Rattle.gt_types.specs.declared.types.TypeId.{TypeId}

@@ -1,5 +1,5 @@
 -- What is decided for one list of leaves is decided for the value.
-use Rattle.std.proofs.Common.{◌≡◌, ℕ, Bool, List, subst}
+use Rattle.std.proofs.Common.{ℕ, Bool, List, subst}
 use Rattle.std.specs.Bool.{Decides}
 use Rattle.gt_types.specs.declared.types.Ty.{Ty}
 use Rattle.gt_types.specs.Settled.{Settled}

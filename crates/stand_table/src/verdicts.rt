@@ -21,12 +21,7 @@ fn are_narrow(leaves: &[Leaf]) -> bool
 }
 
 /// Whether bytes stand for a value of a type that begins at the first of them.
-pub fn are_bytes_for(
-    on: &Sample,
-    ty: &Ty,
-    value: &Value,
-    bytes: &[u8],
-) -> Result<bool, LeafStop>
+pub fn are_bytes_for(on: &Sample, ty: &Ty, value: &Value, bytes: &[u8]) -> Result<bool, LeafStop>
     requires ready { IsReady on.now.program on.now.layouts }
     ensures { IfOk result (λ stand. Decides stand (AreBytesFor on.now ty.now (tree_of value.now) bytes.now)) }
 {

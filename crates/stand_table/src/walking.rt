@@ -111,12 +111,7 @@ fn is_pointer(ty: &Ty) -> bool
 }
 
 // The leaf of a pointer or a string.
-fn pointer_leaf(
-    on: &Sample,
-    at: u64,
-    ty: &Ty,
-    address: Option<u64>,
-) -> Result<Vec<Leaf>, LeafStop>
+fn pointer_leaf(on: &Sample, at: u64, ty: &Ty, address: Option<u64>) -> Result<Vec<Leaf>, LeafStop>
     ensures { IfOk result (λ leaves. AreLeaves on.now at ty.now (pointer_tree address) leaves.items) }
 {
     if !is_pointer(ty) {
@@ -285,12 +280,7 @@ fn nothing_leaves(there: &Value, on: &Sample) -> Result<Vec<Leaf>, LeafStop>
 
 // The leaves of the common structure of a union, without its pointers.
 #[cycle(leaves)]
-fn common_leaves(
-    there: &Value,
-    on: &Sample,
-    at: u64,
-    common: TypeId,
-) -> Result<Vec<Leaf>, LeafStop>
+fn common_leaves(there: &Value, on: &Sample, at: u64, common: TypeId) -> Result<Vec<Leaf>, LeafStop>
     requires ready { IsReady on.now.program on.now.layouts }
     ensures { IfOk result (λ leaves. AreOfCommon on.now at common (tree_of there.now) leaves.items) }
 {

@@ -1,4 +1,4 @@
-use Rattle.std.proofs.Common.{arith, ◌≡◌, sym, ◌∙◌}
+use Rattle.std.proofs.Common.{arith}
 use Rattle.stand_table.proofs.LeafBits.{agree-more}
 use Rattle.stand_table.proofs.standing.byte_stands.Goals as goal
 

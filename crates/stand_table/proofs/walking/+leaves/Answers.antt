@@ -19,9 +19,9 @@ field_leaves-loop-i-preserved t c =
     let joined : c.append.new.self.items ≡ c.loop-i.leaves.items ++ c.in_ok-more.more.items = search rules in
     subst (FieldsSoFar c.args.on.now c.args.at c.args.fields.now c.args.spots.now c.args.parts.now (c.loop-i.i + 1)) (sym joined)
     (fields-more c.args.on.now c.args.at c.args.fields.now c.args.spots.now c.args.parts.now c.loop-i.i c.loop-i.leaves.items c.in_ok-more.more.items c.index-fields-i.result (record { offset = 0; bit = 0 }) c.index-parts-i.result
-        (search rules) (search rules) c.loop-i-test.true c.index-parts-i.is
-        (subst (λ bit. AreLeaves c.args.on.now bit (get_or c.args.fields.now c.loop-i.i c.index-fields-i.result).ty (tree_of c.index-parts-i.result) c.in_ok-more.more.items) c.in_ok-begin.ensures c.in_ok-more.ensures)
-        c.loop-i.invariant)
+    (search rules) (search rules) c.loop-i-test.true c.index-parts-i.is
+    (subst (λ bit. AreLeaves c.args.on.now bit (get_or c.args.fields.now c.loop-i.i c.index-fields-i.result).ty (tree_of c.index-parts-i.result) c.in_ok-more.more.items) c.in_ok-begin.ensures c.in_ok-more.ensures)
+    c.loop-i.invariant)
 
 pub field_leaves-returns : goal.field_leaves-returns
 field_leaves-returns t c =
@@ -65,7 +65,7 @@ element_leaves-loop-part-preserved t c =
     let joined : c.append.new.self.items ≡ c.loop-part.leaves.items ++ c.in_ok-more.more.items = search rules in
     subst (ElementsSoFar c.args.on.now c.args.at c.args.elem.now c.args.parts.now (c.loop-part.part-index + 1) c.in_ok-begin.begin) (sym joined)
     (elements-more c.args.on.now c.args.at c.args.elem.now c.args.parts.now c.loop-part.part-index c.loop-part.begin c.in_ok-begin.begin c.loop-part.leaves.items c.in_ok-more.more.items c.part-item.result
-        c.loop-part-test.true c.part-item.is (search rules) (search rules) c.loop-part.invariant)
+    c.loop-part-test.true c.part-item.is (search rules) (search rules) c.loop-part.invariant)
 
 pub element_leaves-returns : goal.element_leaves-returns
 element_leaves-returns t c =

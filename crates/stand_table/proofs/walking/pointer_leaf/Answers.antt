@@ -1,6 +1,5 @@
 use Rattle.std.proofs.Common.{refl, rules}
 use Rattle.std.proofs.lemmas.Result.{IfOk-weaker}
-use Rattle.gt_types.specs.Shapes.{is_pointer}
 use Rattle.stand_table.proofs.LeafRules.{pointer-rule}
 use Rattle.stand_table.proofs.walking.pointer_leaf.Goals as goal
 
