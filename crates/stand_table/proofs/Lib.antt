@@ -1,0 +1,4 @@
+pub mod LeafBits
+pub mod LeafLists
+pub mod LeafRules
+pub mod OneList
