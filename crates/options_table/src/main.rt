@@ -3,11 +3,19 @@
 #![tactic(auto)]
 
 use gt_headers::{are_within_limits, declare};
-use gt_types::{Bytes, Fault, Stop};
+use gt_same::Same;
+use gt_types::{Bytes, Fault, Program, Stop};
 use header_rows::rows_of;
 use program_notation::{Refusal, program};
 use std::alloc::{AllocError, Global};
 use std::io;
+
+// What headers come to: the program that they declare, or a text that says why there is none.
+#[derive(Debug, Drop)]
+enum Answer {
+    Declared(Program),
+    Stopped(String),
+}
 
 fn main(rt: HostRuntime) -> io::Result<()> {
     let alloc = rt.alloc();
@@ -16,46 +24,55 @@ fn main(rt: HostRuntime) -> io::Result<()> {
     let mut differ = 0u64;
     for row in rows_of(alloc, table.as_str())? {
         count = count.saturating_add(1);
-        let found = found(alloc, &row.texts)?;
-        let wanted = wanted(alloc, row.answer.as_str())?;
-        if found.as_str() != wanted.as_str() {
+        let found = answer_of(alloc, &row.texts)?;
+        let wanted = wanted_answer(alloc, row.answer.as_str())?;
+        if !is_same_answer(&found, &wanted) {
             differ = differ.saturating_add(1);
-            println!(rt; "row {count}: {:?} gives {found}", row.header)?;
+            println!(rt; "row {count}: {:?} gives {found:?}", row.header)?;
         }
     }
     println!(rt; "{count} rows, {differ} differ")
 }
 
+fn is_same_answer(found: &Answer, wanted: &Answer) -> bool {
+    match (found, wanted) {
+        (Answer::Declared(found), Answer::Declared(wanted)) => found.is_same(wanted),
+        (Answer::Stopped(found), Answer::Stopped(wanted)) => found.as_str() == wanted.as_str(),
+        _ => false,
+    }
+}
+
 // What a row wants: its fault, or the program of its lines.
-fn wanted(alloc: Global, answer: &str) -> Result<String, AllocError> {
+fn wanted_answer(alloc: Global, answer: &str) -> Result<Answer, AllocError> {
     if answer.starts_with(|c: char| c.is_ascii_digit()) {
-        return String::from_str(alloc, answer);
+        return Ok(Answer::Stopped(String::from_str(alloc, answer)?));
     }
     let mut lines = Vec::new(alloc);
     for line in answer.split(" | ") {
         lines.push(String::from_str(alloc, line)?)?;
     }
     match program(alloc, &lines) {
-        Ok(program) => format!(in alloc; "{program:?}"),
+        Ok(program) => Ok(Answer::Declared(program)),
         Err(Refusal::Memory) => Err(AllocError),
-        Err(_) => String::from_str(alloc, "a row that is no program"),
+        Err(_) => Ok(Answer::Stopped(String::from_str(alloc, "a row that is no program")?)),
     }
 }
 
 // The program that headers declare, or their first fault with its file and the byte at which it stands.
-fn found(alloc: Global, texts: &[String]) -> Result<String, AllocError> {
+fn answer_of(alloc: Global, texts: &[String]) -> Result<Answer, AllocError> {
     let mut headers = Vec::new(alloc);
     for text in texts {
         headers.push(Bytes::of(alloc, text.as_str().as_bytes())?)?;
     }
     if !are_within_limits(&headers) {
-        return String::from_str(alloc, "more than headers may be");
+        let text = String::from_str(alloc, "more than headers may be")?;
+        return Ok(Answer::Stopped(text));
     }
     match declare(alloc, &headers) {
-        Ok(declared) => format!(in alloc; "{:?}", declared.program),
+        Ok(declared) => Ok(Answer::Declared(declared.program)),
         Err(Stop::Memory) => Err(AllocError),
-        Err(Stop::At(Fault { number, file, at })) => {
-            format!(in alloc; "{number} at {file}:{at}")
-        }
+        Err(Stop::At(Fault { number, file, at })) => Ok(Answer::Stopped(format!(in alloc;
+            "{number} at {file}:{at}"
+        )?)),
     }
 }
