@@ -11,12 +11,13 @@ ghost use Rattle.std.specs.Cmp.{partial_equiv_from_equiv};
 use crate::Copied;
 use std::alloc::{AllocError, Global};
 use std::cmp::Ordering;
+use std::fmt;
 use std::marker::Model;
 use std::rc::RcStr;
 
 /// A text that contracts see as the list of its characters. It is a part of a text that is shared, with its copies and with other
 /// words, so a copy takes no memory.
-#[derive(Debug, Drop)]
+#[derive(Drop)]
 pub struct Word {
     text: RcStr,
     start: u32,
@@ -70,6 +71,9 @@ impl Word {
     /// The shared text in which the word stands, and the bytes of it from which and up to which it does. It takes no memory.
     pub fn into_part(self) -> (RcStr, u32, u32)
         ensures part { chars (slice_range (rc_str_bytes result.0) result.1 result.2) ≡ self }
+        ensures order { result.1 ≤ result.2 }
+        ensures start { IsCharBoundary (rc_str_bytes result.0) result.1 }
+        ensures end { IsCharBoundary (rc_str_bytes result.0) result.2 }
     {
         (self.text, self.start, self.end)
     }
@@ -151,6 +155,12 @@ impl Copied for Word {
             start: self.start,
             end: self.end,
         })
+    }
+}
+
+impl fmt::Debug for Word {
+    fn fmt<W: fmt::Write>(&self, f: &mut fmt::Formatter<W>) -> fmt::Result {
+        fmt::Debug::fmt(self.as_str(), f)
     }
 }
 
