@@ -5,6 +5,7 @@ mod Quoting
 mod Cuts
 mod Walks
 mod Decoding
+mod AsciiNames
 mod Comments
 mod Outcomes
 mod WordsSpelled

@@ -73,7 +73,7 @@ fn save(source: &Source, words: &[Piece<'_>]) -> Result<Option<Command>, AllocEr
     let (Piece::Quoted(file), Piece::Plain(page)) = (file, page) else {
         return Ok(None);
     };
-    let Some(file) = file_name(source, file.as_slice())? else {
+    let Some(file) = file_name(source, file)? else {
         return Ok(None);
     };
     let Some(page) = integer(page.bytes()) else {
@@ -92,7 +92,7 @@ fn load(source: &Source, words: &[Piece<'_>]) -> Result<Option<Command>, AllocEr
     let Piece::Quoted(file) = file else {
         return Ok(None);
     };
-    let Some(file) = file_name(source, file.as_slice())? else {
+    let Some(file) = file_name(source, file)? else {
         return Ok(None);
     };
     Ok(Some(Command::Load { file }))

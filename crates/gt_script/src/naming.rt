@@ -1,12 +1,14 @@
 // Names, as headers have them.
-ghost use Rattle.std.specs.Prelude.{◌≡◌, ◌<◌, ◌==◌, [], ◌∷◌, length, IfOk, MatchOption};
+ghost use Rattle.std.specs.Prelude.{◌≡◌, ◌<◌, ◌==◌, ◌||◌, true, [], ◌∷◌, length, IfOk, MatchOption};
+ghost use Rattle.std.specs.Char.{is_ascii_alphabetic, is_ascii_alphanumeric};
 ghost use Rattle.std.specs.List.{list_all, list_any};
-ghost use Rattle.std.specs.Str.{chars, IsUtf8};
+ghost use Rattle.std.specs.Str.{chars, IsAscii, IsUtf8};
 ghost use Rattle.gt_text.specs.Identifier.{continues_identifier_of};
 ghost use Rattle.gt_script.specs.Values.{is_identifier_of, variable_at, named_type, type_at, file_at};
 
 use crate::TypeName;
-use crate::slices::Slice;
+use crate::front::front;
+use crate::slices::{Quoted, Slice};
 use crate::source::Source;
 use gt_text::{continues_identifier, starts_identifier};
 use gt_types::Word;
@@ -35,6 +37,39 @@ fn all_continue(text: &str) -> bool
     ensures { result ≡ list_all continues_identifier_of (chars text.now) }
 {
     text.chars().all(|c| continues_identifier(c))
+}
+
+// Whether bytes are a name of ASCII characters alone. It is quick, and most names are.
+#[inline(always)]
+pub fn is_ascii_name(bytes: &[u8]) -> bool
+    ensures ascii { result ≡ true → IsAscii bytes.now }
+    ensures name { result ≡ true → is_identifier_of bytes.now ≡ true }
+{
+    match front(bytes) {
+        None => false,
+        Some((first, others)) => starts_ascii_name(first) && all_continue_ascii_name(others),
+    }
+}
+
+#[inline(always)]
+fn all_continue_ascii_name(bytes: &[u8]) -> bool
+    ensures { result ≡ list_all (λ c. (c == 95) || is_ascii_alphanumeric c) bytes.now }
+{
+    bytes.iter().all(|byte| continues_ascii_name(*byte))
+}
+
+#[inline(always)]
+fn starts_ascii_name(byte: u8) -> bool
+    ensures { result ≡ ((byte == 95) || is_ascii_alphabetic byte) }
+{
+    byte == b'_' || byte.is_ascii_alphabetic()
+}
+
+#[inline(always)]
+fn continues_ascii_name(byte: u8) -> bool
+    ensures { result ≡ ((byte == 95) || is_ascii_alphanumeric byte) }
+{
+    byte == b'_' || byte.is_ascii_alphanumeric()
 }
 
 // The name of the variable that a word is.
@@ -68,9 +103,16 @@ fn named_type(source: &Source, star: bool, name: &Slice<'_>) -> Result<Option<Ty
     Ok(Some(TypeName { name, star }))
 }
 
-// The name of a file that a quoted text is. It may have escapes, so it is copied.
+// The name of a file that a quoted word is. Where it has escapes, it is copied.
+pub fn file_name(source: &Source, quoted: &Quoted) -> Result<Option<Word>, AllocError>
+    ensures { IfOk result (λ found. found ≡ file_at quoted.now) }
+{
+    file_at(source, quoted.place(), quoted.bytes().as_slice())
+}
+
+// The same of its bytes and the place at which they are expected.
 #[tactic(auto, unfolding(crate::specs::Values::file_at))]
-pub fn file_name(source: &Source, text: &[u8]) -> Result<Option<Word>, AllocError>
+fn file_at(source: &Source, place: usize, text: &[u8]) -> Result<Option<Word>, AllocError>
     ensures { IfOk result (λ found. found ≡ file_at text.now) }
 {
     if text.is_empty() || has_zero(text) {
@@ -79,7 +121,7 @@ pub fn file_name(source: &Source, text: &[u8]) -> Result<Option<Word>, AllocErro
     let Ok(text) = str::from_utf8(text) else {
         return Ok(None);
     };
-    Ok(Some(Word::of(source.alloc(), text)?))
+    Ok(Some(source.word(place, text)?))
 }
 
 fn has_zero(text: &[u8]) -> bool

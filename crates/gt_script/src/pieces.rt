@@ -6,8 +6,7 @@ ghost use Rattle.gt_script.specs.Scanning.{few_of};
 
 use crate::front::front;
 use crate::quotes::read_quoted;
-use crate::slices::Slice;
-use gt_types::Bytes;
+use crate::slices::{Quoted, Slice};
 use std::alloc::{AllocError, Global};
 
 // How many words the longest form of a command has.
@@ -17,7 +16,7 @@ const MOST_WORDS: usize = 4;
 #[derive(Drop)]
 pub enum Piece<'a> {
     Plain(Slice<'a>),
-    Quoted(Bytes),
+    Quoted(Quoted),
 }
 
 #[tactic(auto, unfolding(crate::specs::Cutting::is_blank))]
@@ -78,7 +77,9 @@ fn word_at<'a>(alloc: Global, text: &Slice<'a>) -> Result<Option<(Piece<'a>, &'a
 {
     match front(text.bytes()) {
         None => Ok(None),
-        Some((b'"', inside)) => quoted_word(alloc, inside),
+        Some((b'"', inside)) => {
+            quoted_word(alloc, &Slice::of(inside, text.place().wrapping_add(1)))
+        }
         Some((_, others)) => {
             let (word, after) = text.split_at(1 + plain_len(others));
             Ok(Some((Piece::Plain(word), after.bytes())))
@@ -99,17 +100,18 @@ fn plain_len(text: &[u8]) -> usize
 #[tactic(auto, unfolding(crate::specs::Cutting::quoted_word_at))]
 fn quoted_word<'a>(
     alloc: Global,
-    text: &'a [u8],
+    text: &Slice<'a>,
 ) -> Result<Option<(Piece<'a>, &'a [u8])>, AllocError>
     ensures { IfOk result (λ found. option_map (λ r. (r.0, r.1.now)) found ≡ quoted_word_at text.now) }
 {
-    let Some((bytes, after)) = read_quoted(alloc, text)? else {
+    let Some((bytes, after)) = read_quoted(alloc, text.bytes())? else {
         return Ok(None);
     };
     if !ends_word(after) {
         return Ok(None);
     }
-    Ok(Some((Piece::Quoted(bytes), after)))
+    let quoted = Quoted::of(bytes, text.place());
+    Ok(Some((Piece::Quoted(quoted), after)))
 }
 
 #[inline(always)]

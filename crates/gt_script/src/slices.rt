@@ -1,7 +1,8 @@
-// A word of a line, where it stands in the text.
+// The words of a line, with where they stand in the script.
 ghost use Rattle.std.specs.Prelude.{◌≡◌, ◌≤◌, [], ◌∷◌, length, take, drop};
 ghost use Rattle.gt_script.specs.Texts.{following, before};
 
+use gt_types::Bytes;
 use std::marker::Model;
 
 /// Bytes of a script that contracts see as the list of their values, and the place in the script at which they are expected to begin.
@@ -77,5 +78,39 @@ impl<'a> Slice<'a> {
             [rest @ .., last] if *last == byte => Some(Slice::of(rest, self.place)),
             _ => None,
         }
+    }
+}
+
+/// The bytes that a quoted word means, which contracts see, and the place in the script at which the text between its quotes is expected
+/// to begin. Nothing is promised of the place.
+#[derive(Drop)]
+pub struct Quoted {
+    bytes: Bytes,
+    place: usize,
+}
+
+impl Model for Quoted {
+    ghost use Rattle.std.specs.Prelude.{ℕ, List};
+
+    ghost Value = { List ℕ };
+
+    ghost view = { λ q. q.bytes };
+}
+
+impl Quoted {
+    pub fn of(bytes: Bytes, place: usize) -> Quoted
+        ensures { result ≡ bytes }
+    {
+        Quoted { bytes, place }
+    }
+
+    pub fn bytes(&self) -> &Bytes
+        ensures { result.now ≡ self.now }
+    {
+        &self.bytes
+    }
+
+    pub fn place(&self) -> usize {
+        self.place
     }
 }

@@ -3,7 +3,7 @@ ghost use Rattle.std.specs.Prelude.{◌≡◌, Some, None, IfOk, MatchOption};
 ghost use Rattle.std.specs.Str.{chars};
 ghost use Rattle.gt_script.specs.Values.{name_at};
 
-use crate::naming::is_identifier;
+use crate::naming::{is_ascii_name, is_identifier};
 use crate::slices::Slice;
 use gt_types::Word;
 use std::alloc::{AllocError, Global};
@@ -53,6 +53,17 @@ impl Source {
 // The name that bytes are.
 #[inline(always)]
 pub fn name_in(bytes: &[u8]) -> Option<&str>
+    ensures name { MatchOption result (name_at bytes.now ≡ None) (λ text. name_at bytes.now ≡ Some (chars text.now)) }
+{
+    if is_ascii_name(bytes) {
+        // ASCII is UTF-8.
+        return Some(unsafe { str::from_utf8_unchecked(bytes) });
+    }
+    any_name(bytes)
+}
+
+// The same of any characters.
+fn any_name(bytes: &[u8]) -> Option<&str>
     ensures name { MatchOption result (name_at bytes.now ≡ None) (λ text. name_at bytes.now ≡ Some (chars text.now)) }
 {
     let Ok(text) = str::from_utf8(bytes) else {

@@ -258,10 +258,8 @@ fn steps_text(bytes: &[u8]) -> Option<&str>
     if !are_steps(bytes) {
         return None;
     }
-    let Ok(text) = str::from_utf8(bytes) else {
-        unreachable!()
-    };
-    Some(text)
+    // Steps are UTF-8.
+    Some(unsafe { str::from_utf8_unchecked(bytes) })
 }
 
 // The name of the field to which a step leads.

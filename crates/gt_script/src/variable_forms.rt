@@ -136,7 +136,7 @@ fn text(source: &Source, words: &[Piece<'_>]) -> Result<Option<Command>, AllocEr
     let Some(var) = variable(source, var)? else {
         return Ok(None);
     };
-    let text = text.copy(source.alloc())?;
+    let text = text.bytes().copy(source.alloc())?;
     Ok(Some(Command::Text { var, text }))
 }
 

@@ -1,14 +1,15 @@
-use Rattle.std.proofs.Common.{refl, sym}
+use Rattle.std.proofs.Common.{Some, sym, ap, ◌∙◌}
 use Rattle.std.specs.Str.{chars}
-use Rattle.gt_script.proofs.Decoding.{name_unreadable, name_some, name_other, utf8_false}
+use Rattle.std.proofs.lemmas.Str.{IsUtf8-from_ascii}
+use Rattle.gt_script.proofs.AsciiNames.{name_from_ascii}
 use Rattle.gt_script.proofs.source.name_in.Goals as goal
 
-pub returns-in_default : goal.returns-in_default
-returns-in_default c = record { name = sym (name_unreadable c.args.bytes.now (utf8_false c.args.bytes.now c.in_default.ensures.cases.0)) }
+pub from_utf8_unchecked-requires : goal.from_utf8_unchecked-requires
+from_utf8_unchecked-requires c = IsUtf8-from_ascii c.args.bytes.now (c.is_ascii_name.ensures.ascii c.if-is_ascii_name.true)
 
-pub returns-then-is_identifier : goal.returns-then-is_identifier
-returns-then-is_identifier c =
-    record { name = sym (name_some c.args.bytes.now c.in-Ok.text.now (chars c.in-Ok.text.now) c.in-Ok.ensures.cases.0 c.in-Ok.ensures.cases.1 c.if-is_identifier.ensures refl) }
-
-pub returns-else-is_identifier : goal.returns-else-is_identifier
-returns-else-is_identifier c = record { name = sym (name_other c.args.bytes.now c.in-Ok.text.now c.in-Ok.ensures.cases.0 c.if-is_identifier.ensures) }
+pub returns-then-is_ascii_name : goal.returns-then-is_ascii_name
+returns-then-is_ascii_name c = record {
+  name =
+      name_from_ascii c.args.bytes.now (c.is_ascii_name.ensures.ascii c.if-is_ascii_name.true) (c.is_ascii_name.ensures.name c.if-is_ascii_name.true)
+      ∙ ap (λ text. Some (chars text)) (sym c.from_utf8_unchecked.ensures);
+}
