@@ -218,6 +218,10 @@ named 'set $N.N $N\n' 1000000 210357 >"$work/input"
 memory 'set lines over all of them'
 named 'load "N"\n' 1000000 210357 >"$work/input"
 memory 'load lines over all of them'
+named 'load "\\\\N"\n' 1000000 210357 >"$work/input"
+memory 'load lines with an escape'
+named 'string $a "N"\n' 1000000 210357 >"$work/input"
+memory 'string lines over all of them'
 { printf '@print $a'; named .N 3355440 3355440 4; echo; } >"$work/input"
 memory 'one path over names of four letters'
 { printf '@print $a'; named .N 3355440 300000 4; echo; } >"$work/input"

@@ -103,7 +103,7 @@ fn named_type(source: &Source, star: bool, name: &Slice<'_>) -> Result<Option<Ty
     Ok(Some(TypeName { name, star }))
 }
 
-// The name of a file that a quoted word is. Where it has escapes, it is copied.
+// The name of a file that a quoted word is.
 pub fn file_name(source: &Source, quoted: &Quoted) -> Result<Option<Word>, AllocError>
     ensures { IfOk result (λ found. found ≡ file_at quoted.now) }
 {

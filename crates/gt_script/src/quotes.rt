@@ -9,7 +9,7 @@ use std::alloc::{AllocError, Global};
 
 // What a character after a backslash means, if anything.
 #[tactic(auto, unfolding(crate::specs::Cutting::escape_of))]
-fn escape(letter: u8) -> Option<u8>
+pub fn escape(letter: u8) -> Option<u8>
     ensures { result ≡ escape_of letter }
 {
     match letter {

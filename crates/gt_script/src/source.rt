@@ -4,12 +4,15 @@ ghost use Rattle.std.specs.Str.{chars};
 ghost use Rattle.gt_script.specs.Values.{name_at};
 
 use crate::naming::{is_ascii_name, is_identifier};
+use crate::quotes::escape;
 use crate::slices::Slice;
 use gt_types::Word;
+use memchr::memchr;
 use std::alloc::{AllocError, Global};
 use std::rc::RcStr;
 
-/// The text of a script as far as it is UTF-8. Its words share it, so that they take no memory of their own.
+/// The text of a script as far as it is UTF-8, in which each quoted word stands as it is meant, from its place on, and blanks where it has
+/// escapes after it. The words of the script share it, so that they take no memory of their own.
 #[derive(Drop)]
 pub struct Source {
     alloc: Global,
@@ -17,12 +20,13 @@ pub struct Source {
 }
 
 impl Source {
-    // A copy of a text.
     pub fn of(alloc: Global, text: &str) -> Result<Source, AllocError> {
-        Ok(Source {
-            alloc,
-            text: RcStr::from_str(alloc, text)?,
-        })
+        let text = if memchr(b'\\', text.as_bytes()).is_some() {
+            meant_text(alloc, text)?
+        } else {
+            RcStr::from_str(alloc, text)?
+        };
+        Ok(Source { alloc, text })
     }
 
     #[inline(always)]
@@ -48,6 +52,56 @@ impl Source {
         };
         Ok(Some(self.word(slice.place(), name)?))
     }
+}
+
+// Where a byte of a script stands.
+#[derive(Clone, Copy)]
+enum Side {
+    Outside,
+    Quoted,
+    Escaped,
+}
+
+// A text in which each quoted word stands as it is meant, with so many blanks after it as it has escapes.
+fn meant_text(alloc: Global, text: &str) -> Result<RcStr, AllocError> {
+    let mut meant = Vec::new(alloc);
+    let mut side = Side::Outside;
+    let mut escapes: usize = 0;
+    for byte in text.as_bytes() {
+        side = match (side, *byte) {
+            (Side::Quoted, b'\\') => {
+                escapes = escapes.saturating_add(1);
+                Side::Escaped
+            }
+            (Side::Quoted, b'"' | b'\n') => {
+                push_blanks(&mut meant, escapes)?;
+                escapes = 0;
+                meant.push(*byte)?;
+                Side::Outside
+            }
+            (Side::Outside, b'"') => {
+                meant.push(b'"')?;
+                Side::Quoted
+            }
+            (Side::Escaped, letter) => {
+                meant.push(escape(letter).unwrap_or(letter))?;
+                Side::Quoted
+            }
+            (side, byte) => {
+                meant.push(byte)?;
+                side
+            }
+        };
+    }
+    RcStr::from_str(alloc, str::from_utf8(meant.as_slice()).unwrap_or(text))
+}
+
+// Adds so many blanks.
+fn push_blanks(text: &mut Vec<u8>, count: usize) -> Result<(), AllocError> {
+    for _ in 0..count {
+        text.push(b' ')?;
+    }
+    Ok(())
 }
 
 // The name that bytes are.
