@@ -1,10 +1,10 @@
 -- The arrays with a length inside a structure, from those inside its members.
-use Rattle.std.proofs.Common.{◌≡◌, ◌≢◌, ℕ, zero, suc, ◌+◌, ◌≤◌, ◌<◌, max, true, false, Option, Some, None, option_map, IfOk, Result, append-nil, List, [], ◌∷◌, ◌++◌, length, take, get_or, set, map, sym, ap, subst, ◌∙◌, refl, ◌⊎◌, inl, inr, arith, length-set}
+use Rattle.std.proofs.Common.{◌≡◌, ◌≢◌, ℕ, zero, suc, ◌+◌, ◌≤◌, ◌<◌, max, Bool, true, false, Option, Some, None, option_map, IfOk, Result, append-nil, List, [], ◌∷◌, ◌++◌, length, take, get_or, set, map, sym, ap, subst, ◌∙◌, refl, ◌⊎◌, inl, inr, arith, length-set, replicate}
 use Rattle.std.specs.List.{All, Contains, filter_map, insert}
 use Rattle.std.specs.Prelude.{slice_get, option_to_list}
 use Rattle.std.proofs.lemmas.Bool.{cases_eq, cases_lt}
 use Rattle.std.proofs.lemmas.Result.{IfOk-weaker}
-use Rattle.std.proofs.lemmas.List.{take_all, take_more}
+use Rattle.std.proofs.lemmas.List.{length-replicate, take_all, take_more}
 use Rattle.std.proofs.lemmas.Option.{get_or_from_slice_get, slice_get-get_or, slice_get_read, slice_get_within, same_Some}
 use Rattle.std.proofs.lemmas.List.Elements.{All-nil, All-cons, All-weaker, Contains-append_left, Contains-push, Contains-push_cases, filter_map-append}
 use Rattle.gt_types.specs.declared.expressions.Expr.{Expr}
@@ -31,6 +31,34 @@ use Rattle.gt_layout.proofs.TailLists.{Rise, rise-nil, rise-cons, more-all, more
 pub tails-only : (program : Program) (planes : List Plane) (node : TypeId) (xs ys : List TailSpot) → AreTails program planes node xs → AreTails program planes node ys → xs ≡ ys
 tails-only program planes node xs ys a b =
     same-tails xs ys a.rising b.rising (All-weaker (HasTail program planes node) (Reaches ys) b.last xs a.there) (All-weaker (HasTail program planes node) (Reaches xs) a.last ys b.there)
+
+-- ---- members whose arrays are taken
+
+-- a structure is that of a member
+abbrev pub IsMember : List Field → ℕ → Type 0
+IsMember fields place = (f : Field) × (desc : Option Expr) × Contains fields f × (f.ty ≡ ty.Node (type_id place) desc)
+
+-- what is marked is so
+abbrev pub AreMembers : List Field → List Bool → Type 0
+AreMembers fields taken = (place : ℕ) → slice_get taken place ≡ Some true → IsMember fields place
+
+no-mark : (n place : ℕ) → slice_get (replicate n false) place ≡ Some true → ⊥
+no-mark zero place at = absurd (cc)
+no-mark (suc n) zero at = absurd (cc)
+no-mark (suc n) (suc place) at = no-mark n place at
+
+pub members-none : (n : ℕ) → AreMembers [] (replicate n false)
+members-none n place at = absurd (no-mark n place at)
+
+members-still : (fields : List Field) (f : Field) (taken : List Bool) → AreMembers fields taken → AreMembers (fields ++ f ∷ []) taken
+members-still fields f taken are place at = let old = are place at in (old.0, old.1, Contains-append_left fields (f ∷ []) old.0 old.2, old.3)
+
+members-more : (fields : List Field) (f : Field) (taken : List Bool) (inner : TypeId) (desc : Option Expr) → f.ty ≡ ty.Node inner desc → AreMembers fields taken → AreMembers (fields ++ f ∷ []) (set taken inner.0 true)
+members-more fields f taken inner desc type are place at = go (cases_eq place inner.0)
+  where
+    go : (place ≡ inner.0) ⊎ (place ≢ inner.0) → IsMember (fields ++ f ∷ []) place
+    go (inl same) = (f, desc, Contains-push fields f, type ∙ ap (λ n. ty.Node (type_id n) desc) (sym same))
+    go (inr apart) = members-still fields f taken are place (sym (get-set_other taken inner.0 place true apart) ∙ at)
 
 module _ (program : Program) (planes : List Plane) where
   -- ---- a struct
@@ -119,6 +147,20 @@ module _ (program : Program) (planes : List Plane) where
           let equal : other ≡ inner = cc in
           more-new its tails tail (new.last tail (subst (λ n. HasTail program planes n tail) equal is))
 
+  pub gathered-again : (fields : List Field) (f : Field) (tails : List TailSpot) (inner : TypeId) (desc : Option Expr) → Gathered fields tails → f.ty ≡ ty.Node inner desc → IsMember fields inner.0 → Gathered (fields ++ f ∷ []) tails
+  gathered-again fields f tails inner desc before type (g, own, c, e) = record {
+    there = All-weaker (IsInMember fields) (IsInMember (fields ++ f ∷ [])) (still fields f) tails before.there;
+    last = λ tail is. go tail is (Contains-push_cases fields f is.0 is.3);
+    rising = before.rising;
+  }
+    where
+      go : (tail : TailSpot) → (is : IsInMember (fields ++ f ∷ []) tail) → Contains fields is.0 ⊎ (f ≡ is.0) → Reaches tails tail
+      go tail (h, other, d, k, a, is) (inl old) = before.last tail (h, other, d, old, a, is)
+      go tail (h, other, d, k, a, is) (inr same) =
+          let both : ty.Node inner desc ≡ ty.Node other d = sym type ∙ ap (λ x. x.ty) same ∙ a in
+          let equal : other ≡ inner = cc in
+          before.last tail (g, inner, own, c, e, subst (λ n. HasTail program planes n tail) equal is)
+
   pub of-union : (node : TypeId) (s : Structure) (tail : TailSpot) → HasStructure program node s → s.is_union ≡ true → HasTail program planes node tail → IsInMember s.fields tail
   of-union node s tail has union (at_end {s = r} h g u t) =
       let same : r ≡ s = cc in
@@ -137,10 +179,13 @@ module _ (program : Program) (planes : List Plane) where
 
 -- ---- the steps of the code
 
+one_further : (items : List Field) (i : ℕ) (f : Field) → i < length items → f ≡ get_or items i f → take (i + 1) items ≡ take i items ++ f ∷ []
+one_further items i f within at = take_more items i f within ∙ ap (λ (g : Field). take i items ++ g ∷ []) (sym at)
+
 pub tails-flat : (program : Program) (planes : List Plane) (items : List Field) (i : ℕ) (f : Field) (tails : List TailSpot) → i < length items → f ≡ get_or items i f → Gathered program planes (take i items) tails
     → ((inner : TypeId) (desc : Option Expr) → f.ty ≡ ty.Node inner desc → ⊥) → Gathered program planes (take (i + 1) items) tails
 tails-flat program planes items i f tails within at before flat =
-    subst (λ (fs : List Field). Gathered program planes fs tails) (sym (take_more items i f within ∙ ap (λ (g : Field). take i items ++ g ∷ []) (sym at)))
+    subst (λ (fs : List Field). Gathered program planes fs tails) (sym (one_further items i f within at))
     (gathered-flat program planes (take i items) f tails before flat)
 
 pub tails-more : (program : Program) (planes : List Plane) (known : List (Option Growth)) (items : List Field) (i : ℕ) (f : Field) (tails more now : List TailSpot) (inner : TypeId) (desc : Option Expr) → i < length items
@@ -148,8 +193,13 @@ pub tails-more : (program : Program) (planes : List Plane) (known : List (Option
     → ((growth : Growth) → slice_get known inner.0 ≡ Some (Some growth) → more ≡ growth.tails) → now ≡ with_tails more tails → Gathered program planes (take (i + 1) items) now
 tails-more program planes known items i f tails more now inner desc within at before type right found is sum =
     let its : AreTails program planes inner more = subst (AreTails program planes inner) (sym (is found.0 found.1)) (right inner.0 found.0 found.1) in
-    subst (λ (fs : List Field). Gathered program planes fs now) (sym (take_more items i f within ∙ ap (λ (g : Field). take i items ++ g ∷ []) (sym at)))
+    subst (λ (fs : List Field). Gathered program planes fs now) (sym (one_further items i f within at))
     (subst (Gathered program planes (take i items ++ f ∷ [])) (sym sum) (gathered-node program planes (take i items) f tails more inner desc before type its))
+
+pub tails-again : (program : Program) (planes : List Plane) (items : List Field) (i : ℕ) (f : Field) (tails : List TailSpot) (inner : TypeId) (desc : Option Expr) → i < length items → f ≡ get_or items i f
+    → Gathered program planes (take i items) tails → f.ty ≡ ty.Node inner desc → IsMember (take i items) inner.0 → Gathered program planes (take (i + 1) items) tails
+tails-again program planes items i f tails inner desc within at before type member =
+    subst (λ (fs : List Field). Gathered program planes fs tails) (sym (one_further items i f within at)) (gathered-again program planes (take i items) f tails inner desc before type member)
 
 pub tails-whole : (program : Program) (planes : List Plane) (place : ℕ) (s : Structure) (items : List Field) (i : ℕ) (tails : List TailSpot) → slice_get program.structures place ≡ Some s → s.is_union ≡ true
     → items ≡ s.fields → length items ≤ i → Gathered program planes (take i items) tails → AreTails program planes (type_id place) tails
@@ -314,31 +364,66 @@ inserted-read tail a slice tails place is same within at_a other =
     let a_x : a ≡ x = same_Some a x (sym (slice_get_read tails (length tails) place a refl within at_a) ∙ at) in
     λ e. other (ap (λ (y : TailSpot). y.elem_size) a_x ∙ e))
 
--- what was found after so many members of a union
-pub record FoundSoFar (program : Program) (planes : List Plane) (before known : List (Option Growth)) (fields : List Field) (tails : List TailSpot) : Type 0 where
+still-members : (items : List Field) (i : ℕ) (f : Field) (taken marked : List Bool) → i < length items → f ≡ get_or items i f → AreMembers (take i items) taken → marked ≡ taken → AreMembers (take (i + 1) items) marked
+still-members items i f taken marked within at are mark =
+    subst (AreMembers (take (i + 1) items)) (sym mark) (subst (λ fs. AreMembers fs taken) (sym (one_further items i f within at)) (members-still (take i items) f taken are))
+
+-- the structure of a member is marked
+pub is-marked : (taken : List Bool) (n place : ℕ) (mark : Bool) → length taken ≡ n → place < n → mark ≡ get_or taken place mark → mark ≡ true → slice_get taken place ≡ Some true
+is-marked taken n place mark all within at is = slice_get_read taken n place mark (sym all) within at ∙ ap Some is
+
+-- what was found after so many members of a union, of which the structures are marked
+pub record FoundSoFar (program : Program) (planes : List Plane) (before known : List (Option Growth)) (fields : List Field) (taken : List Bool) (tails : List TailSpot) : Type 0 where
   pub keeps : KeepsFound before known
   pub right : AreFound program planes known
+  pub places : length taken ≡ length program.structures
+  pub members : AreMembers fields taken
   pub gathered : Gathered program planes fields tails
 
-pub member-found : (program : Program) (planes : List Plane) (before known found now : List (Option Growth)) (items : List Field) (i : ℕ) (f : Field) (tails more sum : List TailSpot) (inner : TypeId) (desc : Option Expr) → i < length items
-    → f ≡ get_or items i f → FoundSoFar program planes before known (take i items) tails → f.ty ≡ ty.Node inner desc → KeepsFound known found → AreFound program planes found → IsFound found inner.0
-    → ((growth : Growth) → slice_get found inner.0 ≡ Some (Some growth) → more ≡ growth.tails) → now ≡ found → sum ≡ with_tails more tails → FoundSoFar program planes before now (take (i + 1) items) sum
-member-found program planes before known found now items i f tails more sum inner desc within at so_far type keeps right there is same total =
-    subst (λ ks. FoundSoFar program planes before ks (take (i + 1) items) sum) (sym same) (record {
-      keeps = keeps-on before known found so_far.keeps keeps;
-      right = right;
-      gathered = tails-more program planes found items i f tails more sum inner desc within at so_far.gathered type right there is total;
-    })
+pub found-none : (program : Program) (planes : List Plane) (known : List (Option Growth)) (taken : List Bool) (tails : List TailSpot) (n : ℕ) → AreFound program planes known → taken ≡ replicate n false → n ≡ length program.structures
+    → tails ≡ [] → FoundSoFar program planes known known [] taken tails
+found-none program planes known taken tails n right none all empty = record {
+  keeps = record { all = refl; kept = λ place found. found };
+  right = right;
+  places = ap length none ∙ length-replicate n false ∙ all;
+  members = subst (AreMembers []) (sym none) (members-none n);
+  gathered = subst (Gathered program planes []) (sym empty) (gathered-none program planes);
+}
 
-pub other-member : (program : Program) (planes : List Plane) (before known now : List (Option Growth)) (items : List Field) (i : ℕ) (f : Field) (tails sum : List TailSpot) → i < length items
-    → f ≡ get_or items i f → FoundSoFar program planes before known (take i items) tails → ((inner : TypeId) (desc : Option Expr) → f.ty ≡ ty.Node inner desc → ⊥) → now ≡ known → sum ≡ tails
-    → FoundSoFar program planes before now (take (i + 1) items) sum
-other-member program planes before known now items i f tails sum within at so_far flat same none =
-    subst (λ ks. FoundSoFar program planes before ks (take (i + 1) items) sum) (sym same) (subst (FoundSoFar program planes before known (take (i + 1) items)) (sym none) (record {
-      keeps = so_far.keeps;
-      right = so_far.right;
-      gathered = tails-flat program planes items i f tails within at so_far.gathered flat;
-    }))
+pub member-found : (program : Program) (planes : List Plane) (before known found now : List (Option Growth)) (items : List Field) (i : ℕ) (f : Field) (taken marked : List Bool) (tails more sum : List TailSpot) (inner : TypeId) (desc : Option Expr) → i < length items
+    → f ≡ get_or items i f → FoundSoFar program planes before known (take i items) taken tails → f.ty ≡ ty.Node inner desc → KeepsFound known found → AreFound program planes found → IsFound found inner.0
+    → ((growth : Growth) → slice_get found inner.0 ≡ Some (Some growth) → more ≡ growth.tails) → now ≡ found → marked ≡ set taken inner.0 true → sum ≡ with_tails more tails
+    → FoundSoFar program planes before now (take (i + 1) items) marked sum
+member-found program planes before known found now items i f taken marked tails more sum inner desc within at so_far type keeps right there is same mark total = record {
+  keeps = subst (KeepsFound before) (sym same) (keeps-on before known found so_far.keeps keeps);
+  right = subst (AreFound program planes) (sym same) right;
+  places = ap length mark ∙ length-set taken inner.0 true ∙ so_far.places;
+  members = subst (AreMembers (take (i + 1) items)) (sym mark)
+      (subst (λ fs. AreMembers fs (set taken inner.0 true)) (sym (one_further items i f within at)) (members-more (take i items) f taken inner desc type so_far.members));
+  gathered = tails-more program planes found items i f tails more sum inner desc within at so_far.gathered type right there is total;
+}
+
+pub member-again : (program : Program) (planes : List Plane) (before known now : List (Option Growth)) (items : List Field) (i : ℕ) (f : Field) (taken marked : List Bool) (tails sum : List TailSpot) (inner : TypeId) (desc : Option Expr) → i < length items
+    → f ≡ get_or items i f → FoundSoFar program planes before known (take i items) taken tails → f.ty ≡ ty.Node inner desc → slice_get taken inner.0 ≡ Some true → now ≡ known → marked ≡ taken → sum ≡ tails
+    → FoundSoFar program planes before now (take (i + 1) items) marked sum
+member-again program planes before known now items i f taken marked tails sum inner desc within at so_far type is same mark none = record {
+  keeps = subst (KeepsFound before) (sym same) so_far.keeps;
+  right = subst (AreFound program planes) (sym same) so_far.right;
+  places = ap length mark ∙ so_far.places;
+  members = still-members items i f taken marked within at so_far.members mark;
+  gathered = subst (Gathered program planes (take (i + 1) items)) (sym none) (tails-again program planes items i f tails inner desc within at so_far.gathered type (so_far.members inner.0 is));
+}
+
+pub other-member : (program : Program) (planes : List Plane) (before known now : List (Option Growth)) (items : List Field) (i : ℕ) (f : Field) (taken marked : List Bool) (tails sum : List TailSpot) → i < length items
+    → f ≡ get_or items i f → FoundSoFar program planes before known (take i items) taken tails → ((inner : TypeId) (desc : Option Expr) → f.ty ≡ ty.Node inner desc → ⊥) → now ≡ known → marked ≡ taken → sum ≡ tails
+    → FoundSoFar program planes before now (take (i + 1) items) marked sum
+other-member program planes before known now items i f taken marked tails sum within at so_far flat same mark none = record {
+  keeps = subst (KeepsFound before) (sym same) so_far.keeps;
+  right = subst (AreFound program planes) (sym same) so_far.right;
+  places = ap length mark ∙ so_far.places;
+  members = still-members items i f taken marked within at so_far.members mark;
+  gathered = subst (Gathered program planes (take (i + 1) items)) (sym none) (tails-flat program planes items i f tails within at so_far.gathered flat);
+}
 
 -- ---- one structure after another
 

@@ -9,4 +9,4 @@ abbrev pub decreases-find_tails : goal.decreases-find_tails
 decreases-find_tails l = 2 * l.depth
 
 abbrev pub invariant-find_tails-loop-field : goal.invariant-find_tails-loop-field
-invariant-find_tails-loop-field l = FoundSoFar l.program l.planes l.fn.known.items l.known.items (take l.field-index l.field-items) l.tails.items
+invariant-find_tails-loop-field l = FoundSoFar l.program l.planes l.fn.known.items l.known.items (take l.field-index l.field-items) l.taken.items l.tails.items
