@@ -4,7 +4,7 @@ use crate::grounds::Ground;
 use crate::pointers::edge_of;
 use crate::scopes::{Around, Held};
 use crate::stops::Stop;
-use gt_layout::{Spot, extent};
+use gt_layout::{FieldSpot, extent};
 use gt_types::{Field, Ty, TypeId};
 use gt_value::Value;
 
@@ -51,7 +51,7 @@ fn fields_of(on: &Ground, id: TypeId) -> Result<&[Field], Stop> {
 }
 
 // Where the fields of a structure begin.
-fn spots_of(on: &Ground, id: TypeId) -> Result<&[Spot], Stop> {
+fn spots_of(on: &Ground, id: TypeId) -> Result<&[FieldSpot], Stop> {
     match on.layouts.structures.get(id.0 as usize) {
         Some(plane) => Ok(plane.fields.as_slice()),
         None => Err(Stop::Misshapen),

@@ -10,8 +10,6 @@ ghost use Rattle.gt_session.specs.Sessions.{Goes, IsAsBefore, IsSession, KeepsBy
 ghost use Rattle.gt_caching.specs.Members.{MayPut, HasRoom};
 
 use crate::members::{member, named_cache};
-use gt_caches::pairs_may_change;
-use gt_determined::good_states_stay_good;
 use gt_next::{Answer, Why};
 use gt_session::Session;
 use gt_types::Word;
@@ -75,8 +73,6 @@ pub fn put(s: &mut Session, cache: &Word, key: &Word, value: &Word) -> Result<An
     match new_pair(s, cache, key, value) {
         Err(why) => Ok(Answer::Refused(why)),
         Ok(pair) => {
-            good_states_stay_good();
-            pairs_may_change();
             s.caches.put(pair.place, pair.key, pair.value)?;
             Ok(Answer::Done)
         }

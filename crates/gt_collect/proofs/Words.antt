@@ -15,7 +15,7 @@ use Rattle.gt_types.specs.declared.program.Program.{Program}
 use Rattle.gt_types.specs.Shapes.{innermost, is_pointer}
 use Rattle.gt_layout.specs.declared.planes.Extent.{Extent}
 use Rattle.gt_layout.specs.declared.planes.Plane.{Plane}
-use Rattle.gt_layout.specs.declared.planes.Spot.{Spot}
+use Rattle.gt_layout.specs.declared.planes.FieldSpot.{FieldSpot}
 use Rattle.gt_layout.specs.declared.storages.Storage.TheVariants.{Bytes}
 use Rattle.gt_layout.specs.Storages.{extent_of, extent_step, storage_of}
 use Rattle.gt_layout.specs.Places.{Follow, begin_at, end_at, spot_of}
@@ -177,12 +177,12 @@ module _ (program : Program) (planes : List Plane) (start : ℕ) where
     -- ---- roots
 
     -- the leaves of a root at its spot, without pointers if it is deletable
-    abbrev RootNulled : Bool → Ty → Spot → Tree → List Leaf → Type 0
+    abbrev RootNulled : Bool → Ty → FieldSpot → Tree → List Leaf → Type 0
     RootNulled b type s tree old =
         (new : List Leaf) × HasLeaves program planes (0 + begin_at s) type (if b then without_pointers tree else tree) new
         × Nulled start (words_if b (start + s.offset) ((extent_of planes type).size / 8)) old new
 
-    root_nulled : (b : Bool) (type : Ty) (s : Spot) (tree : Tree) (old : List Leaf) → (IsTrue b → IsTrue (is_pointer (innermost type))) → s ≡ spot_of (storage_of planes type) (begin_at s) → (scope : Scope)
+    root_nulled : (b : Bool) (type : Ty) (s : FieldSpot) (tree : Tree) (old : List Leaf) → (IsTrue b → IsTrue (is_pointer (innermost type))) → s ≡ spot_of (storage_of planes type) (begin_at s) → (scope : Scope)
         → Fits program blocks 0 scope type tree → HasLeaves program planes (0 + begin_at s) type tree old → RootNulled b type s tree old
     root_nulled false type s tree old pointers lies scope fits has = (old, has, all_same old)
     root_nulled true type s tree old pointers lies scope fits has =
@@ -193,11 +193,11 @@ module _ (program : Program) (planes : List Plane) (start : ℕ) where
         let many : (extent_of planes type).size / 8 ≡ part.many = omega (arith, size) in
         (part.leaves, part.has, subst (λ ws. Nulled start ws old part.leaves) (sym (ap (words_from (start + s.offset)) many ∙ words_same (start + s.offset) part.many)) part.nulled)
 
-    abbrev pub RootsNulled : List Root → List Spot → Trees → List Leaf → Type 0
+    abbrev pub RootsNulled : List Root → List FieldSpot → Trees → List Leaf → Type 0
     RootsNulled roots spots trees old =
         (new : List Leaf) × FieldsHaveLeaves program planes 0 (map (λ r. r.ty) roots) spots (without_deletable roots trees) new × Nulled start (deletable_words planes start roots spots) old new
 
-    pub roots_nulled : (roots : List Root) → ((r : Root) → Contains roots r → IsTrue r.deletable → IsTrue (is_pointer (innermost r.ty))) → (spots : List Spot) (from : ℕ)
+    pub roots_nulled : (roots : List Root) → ((r : Root) → Contains roots r → IsTrue r.deletable → IsTrue (is_pointer (innermost r.ty))) → (spots : List FieldSpot) (from : ℕ)
         → Follow from (root_storages planes roots) spots → (scope : Scope) (trees : Trees) (old : List Leaf) → AllFit program blocks 0 scope (map (λ r. r.ty) roots) trees
         → FieldsHaveLeaves program planes 0 (map (λ r. r.ty) roots) spots trees old → RootsNulled roots spots trees old
     roots_nulled [] pointers spots from lie scope trees old fit FieldsHaveLeaves.none = ([], FieldsHaveLeaves.none, Nulled.none)

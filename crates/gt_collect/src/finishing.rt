@@ -9,7 +9,7 @@ ghost use Rattle.gt_collect.specs.Collecting.{AreCounted};
 ghost use Rattle.gt_collect.specs.Finishing.{CanFinish, finished_heap};
 
 use crate::clearing::clear_roots;
-use gt_caches::{Caches, pairs_may_change};
+use gt_caches::Caches;
 use gt_objects::Objects;
 use gt_schema::Schema;
 
@@ -35,7 +35,6 @@ pub fn finish(schema: &Schema, objects: &mut Objects, caches: &mut Caches) -> Fi
         → AreCounted heap (finished_heap schema.now.program objects.old caches.old heap) result.kept result.freed result.dropped }
 {
     clear_roots(schema, objects);
-    pairs_may_change();
     let dropped = caches.keep_staying();
     let freed = objects.sweep();
     Finished {

@@ -8,7 +8,8 @@ use Rattle.gt_script.specs.declared.command.Command.TheVariants as command
 use Rattle.gt_next.specs.declared.answer.Answer.{Answer}
 use Rattle.gt_next.specs.States.{State, IsGoodState}
 use Rattle.gt_next.specs.Next.{Next}
-use Rattle.gt_next.specs.Laws.{IsOfBytes, IsCollection}
+use Rattle.gt_next.specs.Laws.{IsRead, IsOfBytes, IsCollection}
+use Rattle.gt_determined.specs.Staying.{StaysGoodUncollected}
 use Rattle.gt_determined.proofs.Simples.{print-kept, heap-kept, stats-kept, tables-kept}
 use Rattle.gt_determined.proofs.Bound.{get-good, drop-good}
 use Rattle.gt_determined.proofs.Pairs.{put-good, find-good}
@@ -32,3 +33,6 @@ stays-good program layouts settled s t command.Heap a good bytes plain next = su
 stays-good program layouts settled s t command.Stats a good bytes plain next = subst (λ x. IsGoodState program layouts x) (sym (stats-kept s t a next)) good
 stays-good program layouts settled s t command.Tables a good bytes plain next = subst (λ x. IsGoodState program layouts x) (sym (tables-kept program layouts s t a next)) good
 stays-good program layouts settled s t c a good bytes plain next = absurd next
+
+pub states-stay-good : (program : Program) (layouts : Layouts) → IsRead program layouts → StaysGoodUncollected program layouts
+states-stay-good program layouts is_read s t command a = stays-good program layouts is_read.settled s t command a

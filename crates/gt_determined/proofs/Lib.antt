@@ -40,5 +40,5 @@ mod Graphs
 mod Valued
 mod Written
 mod Blocks
-mod Goods
+pub mod Goods
 pub mod Presence

@@ -5,7 +5,7 @@ ghost use Rattle.gt_drafts.specs.declared.types.Amount.TheVariants.{Is, NoValue}
 ghost use Rattle.gt_drafts.specs.Amounts.{has_path, with_values, constant_value, amount_of_tree, amount_of};
 
 use crate::Amount;
-use gt_expr::{RawExpr, one_answer, read};
+use gt_expr::{RawExpr, read};
 use gt_types::{Base, Boxed, Expr, Reader, Stop, Word, eval};
 use std::alloc::{AllocError, Global};
 
@@ -24,7 +24,6 @@ pub trait Values {
 pub fn amount<V: Values>(alloc: Global, values: &V, text: &[u8]) -> Result<Amount, AllocError>
     ensures { IfOk result (λ a. a ≡ amount_of (V.value_of values.now) text.now) }
 {
-    one_answer();
     match read(alloc, 0, 0, text) {
         Ok(tree) => tree_amount(alloc, values, &tree),
         Err(Stop::Memory) => Err(AllocError),

@@ -12,7 +12,7 @@ use Rattle.gt_types.specs.declared.program.Program.{Program}
 use Rattle.gt_types.specs.Contains.{HasStructure}
 use Rattle.gt_types.specs.Settled.{Settled}
 use Rattle.gt_layout.specs.declared.planes.Plane.{Plane}
-use Rattle.gt_layout.specs.declared.planes.Spot.{Spot}
+use Rattle.gt_layout.specs.declared.planes.FieldSpot.{FieldSpot}
 use Rattle.gt_layout.specs.Storages.{storage_of, storages_of}
 use Rattle.gt_layout.specs.Places.{Follow, begin_at, spot_of, end_at, Lie}
 use Rattle.gt_layout.specs.Planes.{IsPlane}
@@ -42,11 +42,11 @@ use Rattle.gt_edges.proofs.RowLaws.{base, edges_in, Valued, FieldsValued, AreEve
 
 -- ---- what is no bit-field begins at a byte
 
-storage-even : (planes : List Plane) (type : Ty) (s : Spot) → s ≡ spot_of (storage_of planes type) (begin_at s) → is_bits type ≡ false → s.bit ≡ 0
+storage-even : (planes : List Plane) (type : Ty) (s : FieldSpot) → s ≡ spot_of (storage_of planes type) (begin_at s) → is_bits type ≡ false → s.bit ≡ 0
 storage-even planes (ty.Bits unit width) s e plain = absurd (cc)
 storage-even planes type s e plain = ap (λ x. x.bit) e
 
-pub fields-even : {X : Type 0} (planes : List Plane) (type_of : X → Ty) (xs : List X) (spots : List Spot) (from : ℕ) → Follow from (map (λ x. storage_of planes (type_of x)) xs) spots → AreEven (map type_of xs) spots
+pub fields-even : {X : Type 0} (planes : List Plane) (type_of : X → Ty) (xs : List X) (spots : List FieldSpot) (from : ℕ) → Follow from (map (λ x. storage_of planes (type_of x)) xs) spots → AreEven (map type_of xs) spots
 fields-even planes type_of [] spots from follow = tt
 fields-even planes type_of (x ∷ xs) [] from follow = tt
 fields-even planes type_of (x ∷ xs) (s ∷ ss) from follow = (storage-even planes (type_of x) s follow.1, fields-even planes type_of xs ss (end_at (storage_of planes (type_of x)) s) follow.2)
@@ -76,7 +76,7 @@ module _ (source : Source) (tables : Tables) (blocks : Blocks) (capacity : ℕ) 
   row-first depth None rows f = refl
   row-first depth (Some r) rows f = refl
 
-  module _ (nodes : Nodes) (type : Ty) (types : List Ty) (spot : Spot) (spots : List Spot) (r : Option WalkRow) (rows : List WalkRow) where
+  module _ (nodes : Nodes) (type : Ty) (types : List Ty) (spot : FieldSpot) (spots : List FieldSpot) (r : Option WalkRow) (rows : List WalkRow) where
     field-valued : (around : Around) (at : ℕ) (tree : Tree) (trees : Trees) (leaves first : List Leaf) → FieldsValued source blocks capacity around (type ∷ types) (spot ∷ spots) at (And tree trees) leaves
         → HasLeaves source.program.now source.layouts.now.structures (at + begin_at spot) type tree first → Valued source blocks capacity around type (at + begin_at spot) tree first
     field-valued around at tree trees leaves first v part =

@@ -7,7 +7,7 @@ use Rattle.gt_types.specs.declared.program.Root.{Root}
 use Rattle.gt_types.specs.declared.program.Program.{Program}
 use Rattle.gt_types.specs.Settled.{Settled, IsRoot}
 use Rattle.gt_layout.specs.declared.planes.Layouts.{Layouts}
-use Rattle.gt_layout.specs.declared.planes.Spot.{Spot}
+use Rattle.gt_layout.specs.declared.planes.FieldSpot.{FieldSpot}
 use Rattle.gt_layout.specs.Places.{begin_at}
 use Rattle.gt_layout.specs.Planes.{IsLaidOut}
 use Rattle.gt_space.specs.Range.{Range, IsSpace, statics_start}
@@ -47,7 +47,7 @@ fits-at {program} {blocks} {capacity} {scope} (AllFit.more {type = t} {tree = v}
     subst (λ x. Fits program blocks capacity scope x tree) same (subst (Fits program blocks capacity scope t) equal fits)
 fits-at (AllFit.more fits all) (suc i) type tree e f = fits-at all i type tree e f
 
-even-at : (types : List Ty) (spots : List Spot) (i : ℕ) (type : Ty) (spot : Spot) → AreEven types spots → slice_get types i ≡ Some type → slice_get spots i ≡ Some spot → is_bits type ≡ false → spot.bit ≡ 0
+even-at : (types : List Ty) (spots : List FieldSpot) (i : ℕ) (type : Ty) (spot : FieldSpot) → AreEven types spots → slice_get types i ≡ Some type → slice_get spots i ≡ Some spot → is_bits type ≡ false → spot.bit ≡ 0
 even-at [] spots i type spot even e f plain = absurd (cc)
 even-at (t ∷ types) [] i type spot even e f plain = absurd (cc)
 even-at (t ∷ types) (s ∷ spots) zero type spot even e f plain =
@@ -64,7 +64,7 @@ rows-line tables range depth (Some r) = append-nil (row_at tables range depth r 
 -- ---- its edges
 
 module _ (program : Program) (layouts : Layouts) (tables : Tables) (settled : Settled program) (laid : IsLaidOut program layouts) (walks : AreWalksOf program layouts tables) (blocks : Blocks) (few : HaveFew blocks) (range : Range)
-    (space : IsSpace range) (start : range.start ≡ statics_start layouts.statics.size) (place : ℕ) (r : Root) (spot : Spot) (got : slice_get program.roots place ≡ Some r)
+    (space : IsSpace range) (start : range.start ≡ statics_start layouts.statics.size) (place : ℕ) (r : Root) (spot : FieldSpot) (got : slice_get program.roots place ≡ Some r)
     (spot_of : slice_get layouts.statics.fields place ≡ Some spot) (tree : Tree) (leaves : List Leaf) where
   abbrev source : Source
   source = source_of program layouts range 0

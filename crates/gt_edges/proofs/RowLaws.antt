@@ -6,7 +6,7 @@ use Rattle.gt_types.specs.declared.types.TypeId.{TypeId}
 use Rattle.gt_types.specs.declared.types.Ty.{Ty}
 use Rattle.gt_types.specs.declared.types.Ty.TheVariants as ty
 use Rattle.gt_types.specs.declared.program.Field.{Field}
-use Rattle.gt_layout.specs.declared.planes.Spot.{Spot}
+use Rattle.gt_layout.specs.declared.planes.FieldSpot.{FieldSpot}
 use Rattle.gt_layout.specs.Progress.{IsWithinDepth, HoldsWithinDepth}
 use Rattle.gt_tree.specs.Trees.{Tree, Trees}
 use Rattle.gt_tree.specs.Blocks.{Blocks}
@@ -50,7 +50,7 @@ pub record Valued (source : Source) (blocks : Blocks) (capacity : ℕ) (around :
   pub known : Known source type
 
 -- values of fields stand in a structure that begins at a bit, with these leaves
-pub record FieldsValued (source : Source) (blocks : Blocks) (capacity : ℕ) (around : Around) (types : List Ty) (spots : List Spot) (at : ℕ) (values : Trees) (leaves : List Leaf) : Type 0 where
+pub record FieldsValued (source : Source) (blocks : Blocks) (capacity : ℕ) (around : Around) (types : List Ty) (spots : List FieldSpot) (at : ℕ) (values : Trees) (leaves : List Leaf) : Type 0 where
   pub scope : Scope
   pub stand : FieldsStandIn source around scope types spots at values
   pub fit : AllFit source.program.now blocks capacity scope types values
@@ -59,7 +59,7 @@ pub record FieldsValued (source : Source) (blocks : Blocks) (capacity : ℕ) (ar
   pub known : All (Known source) types
 
 -- what is no bit-field begins at a byte
-abbrev pub AreEven : List Ty → List Spot → Type 0
+abbrev pub AreEven : List Ty → List FieldSpot → Type 0
 AreEven (type ∷ types) (spot ∷ spots) = (is_bits type ≡ false → spot.bit ≡ 0) × AreEven types spots
 AreEven types spots = Unit {0}
 
@@ -84,7 +84,7 @@ module _ (source : Source) (tables : Tables) (blocks : Blocks) (capacity : ℕ) 
       → rows_at tables source.space.now depth rows f ≡ edges_in source blocks leaves
 
   -- the rows of fields give the edges of their values
-  abbrev pub FieldsLaw : Nodes → List Ty → List Spot → List WalkRow → Type 0
+  abbrev pub FieldsLaw : Nodes → List Ty → List FieldSpot → List WalkRow → Type 0
   FieldsLaw nodes types spots rows =
       (depth : ℕ) (around : Around) (f : Frame) (at : ℕ) (values : Trees) (leaves : List Leaf) → IsFrame source around nodes f → FieldsValued source blocks capacity around types spots at values leaves
       → All (λ type. HoldsWithinDepth source.program.now type depth) types → AreEven types spots → IsAddress source f.at at

@@ -7,7 +7,7 @@ use Rattle.gt_types.specs.declared.types.Ty.{Ty}
 use Rattle.gt_types.specs.declared.types.Ty.TheVariants as ty
 use Rattle.gt_types.specs.declared.types.Scalar.{Scalar}
 use Rattle.gt_types.specs.declared.program.Field.{Field}
-use Rattle.gt_layout.specs.declared.planes.Spot.{Spot}
+use Rattle.gt_layout.specs.declared.planes.FieldSpot.{FieldSpot}
 use Rattle.gt_layout.specs.Progress.{IsWithinDepth, HoldsWithinDepth}
 use Rattle.gt_space.specs.Range.{IsSpace}
 use Rattle.gt_tree.specs.Trees.{Tree}
@@ -124,7 +124,7 @@ module _ (source : Source) (tables : Tables) (blocks : Blocks) (capacity : ℕ) 
       rows-give (AreRowsOf.union {around} {node} {desc} {s} {e} arms has union p some expr) = union-rows source tables blocks capacity around node desc s has union e arms (arms-give p) expr
       rows-give (AreRowsOf.bare {around} {node} {desc} {s} {arms} has union p silent) = bare-rows source tables blocks capacity around node desc s has union arms (arms-give p) silent
 
-      pub fields-give : {nodes : Nodes} {types : List Ty} {spots : List Spot} {rows : List WalkRow} → AreFieldRows source.program.now source.layouts.now tables nodes types spots rows
+      pub fields-give : {nodes : Nodes} {types : List Ty} {spots : List FieldSpot} {rows : List WalkRow} → AreFieldRows source.program.now source.layouts.now tables nodes types spots rows
           → FieldsLaw source tables blocks capacity nodes types spots rows
       fields-give (AreFieldRows.none {around}) = fields-none source tables blocks capacity around
       fields-give (AreFieldRows.more {around} {type} {types} {spot} {spots} {r} {rows} p ps) = fields-more source tables blocks capacity around type types spot spots r rows (row-gives p) (fields-give ps)

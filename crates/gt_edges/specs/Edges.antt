@@ -3,7 +3,7 @@ use Rattle.std.specs.Prelude.{◌≡◌, ◌≤◌, ◌<◌, ℕ, ◌+◌, ◌/�
 use Rattle.std.specs.List.{filter}
 use Rattle.gt_types.specs.declared.program.Root.{Root}
 use Rattle.gt_types.specs.declared.program.Program.{Program}
-use Rattle.gt_layout.specs.declared.planes.Spot.{Spot}
+use Rattle.gt_layout.specs.declared.planes.FieldSpot.{FieldSpot}
 use Rattle.gt_layout.specs.declared.planes.Layouts.{Layouts}
 use Rattle.gt_layout.specs.Places.{begin_at}
 use Rattle.gt_space.specs.Range.{Range, IsInside, IsSpace, bytes_at, statics_start}
@@ -60,7 +60,7 @@ root_walk program tables place = slice_get tables.roots (length (filter has_walk
 -- Where the bytes from the lowest address on stand for the roots, the walk of a root that is not deletable gives the edges of the root.
 abbrev pub GivesRoots : Program → Layouts → Tables → Type 0
 GivesRoots program layouts tables =
-    (blocks : Blocks) (range : Range) (values : Trees) (place walk : ℕ) (r : Root) (spot : Spot) (tree : Tree) (leaves : List Leaf) → IsSpace range → AreAddresses blocks itself → HaveFew blocks
+    (blocks : Blocks) (range : Range) (values : Trees) (place walk : ℕ) (r : Root) (spot : FieldSpot) (tree : Tree) (leaves : List Leaf) → IsSpace range → AreAddresses blocks itself → HaveFew blocks
     → range.start ≡ statics_start layouts.statics.size → IsInside range range.start layouts.statics.size
     → AreStaticsOf program layouts blocks itself (bytes_at range range.start layouts.statics.size) values
     → slice_get program.roots place ≡ Some r → r.deletable ≡ false → root_walk program tables place ≡ Some walk → slice_get layouts.statics.fields place ≡ Some spot

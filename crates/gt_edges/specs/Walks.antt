@@ -24,7 +24,7 @@ use Rattle.gt_types.specs.declared.program.Program.{Program}
 use Rattle.gt_types.specs.Contains.{HasStructure, itself}
 use Rattle.gt_types.specs.Paths.{MayStand}
 use Rattle.gt_layout.specs.declared.planes.Plane.{Plane}
-use Rattle.gt_layout.specs.declared.planes.Spot.{Spot}
+use Rattle.gt_layout.specs.declared.planes.FieldSpot.{FieldSpot}
 use Rattle.gt_layout.specs.declared.planes.Layouts.{Layouts}
 use Rattle.gt_layout.specs.Storages.{extent_of}
 use Rattle.gt_layout.specs.Places.{begin_at}
@@ -193,9 +193,9 @@ mutual
         → AreArmsOf program layouts tables around s.fields arms → All (λ arm. (out-Arm arm).row ≡ None) arms → AreRowsOf program layouts tables around node desc []
 
   -- the rows of fields at their places, in order
-  pub data AreFieldRows (program : Program) (layouts : Layouts) (tables : Tables) : Around → List Ty → List Spot → List WalkRow → Type 0 where
+  pub data AreFieldRows (program : Program) (layouts : Layouts) (tables : Tables) : Around → List Ty → List FieldSpot → List WalkRow → Type 0 where
     none : {around : Around} → AreFieldRows program layouts tables around [] [] []
-    more : {around : Around} {type : Ty} {types : List Ty} {spot : Spot} {spots : List Spot} {r : Option WalkRow} {rows : List WalkRow} → IsRowOf program layouts tables around type spot.offset r
+    more : {around : Around} {type : Ty} {types : List Ty} {spot : FieldSpot} {spots : List FieldSpot} {r : Option WalkRow} {rows : List WalkRow} → IsRowOf program layouts tables around type spot.offset r
         → AreFieldRows program layouts tables around types spots rows → AreFieldRows program layouts tables around (type ∷ types) (spot ∷ spots) (option_to_list r ++ rows)
 
   -- the arms of members, in order: each has the tag and the row of its member
@@ -227,5 +227,5 @@ pub record AreWalksOf (program : Program) (layouts : Layouts) (tables : Tables) 
   pub pointers : (node : TypeId) → MayStand program node → rows_of tables (walk_of program (Pointers node)) ≡ row.Note 8 None ∷ row.Ptr 0 (walk_of program (Nodes node)) (count.Fixed 1) false ∷ []
   pub strings : rows_of tables (walk_of program Strings) ≡ row.Note 8 None ∷ row.Ptr 0 (walk_of program Chars) (count.Fixed 0) false ∷ []
   pub unscanned : rows_of tables (walk_of program Chars) ≡ row.Note 1 None ∷ []
-  pub roots : (place walk : ℕ) (r : Root) (spot : Spot) → slice_get program.roots place ≡ Some r → r.deletable ≡ false → root_walk program tables place ≡ Some walk
+  pub roots : (place walk : ℕ) (r : Root) (spot : FieldSpot) → slice_get program.roots place ≡ Some r → r.deletable ≡ false → root_walk program tables place ≡ Some walk
       → slice_get layouts.statics.fields place ≡ Some spot → HasRowOfRoot program layouts tables r (statics_start layouts.statics.size + spot.offset) walk

@@ -3,7 +3,7 @@ use Rattle.std.proofs.Common.{◌≡◌, ℕ, List, [], ◌∷◌, Option, Some,
 use Rattle.std.specs.Prelude.{◌⊎◌, All, map}
 use Rattle.std.proofs.lemmas.List.Elements.{All-nil, All-cons}
 use Rattle.gt_scope.specs.declared.declaration.Declaration.{Declaration}
-use Rattle.gt_scope.specs.declared.meaning.TypeName.{TypeName}
+use Rattle.gt_scope.specs.declared.meaning.TypedefMeaning.{TypedefMeaning}
 use Rattle.gt_drafts.specs.declared.types.Resolved.{Resolved}
 use Rattle.gt_scope.specs.Meanings.{AreTypeNames, IsMeaning, follow, opaque, typedef_names}
 use Rattle.gt_exists.proofs.NotNot.{NotNot, holds, and_then, either}
@@ -26,7 +26,7 @@ module _ (ds : List Declaration) where
 
   -- names, each with its meaning
   abbrev AreMeant : List (List ℕ) → Type 0
-  AreMeant names = (types : List TypeName) × (map (λ t. t.name) types ≡ names) × All (λ t. IsMeaning ds t.name t.means) types
+  AreMeant names = (types : List TypedefMeaning) × (map (λ t. t.name) types ≡ names) × All (λ t. IsMeaning ds t.name t.means) types
 
   meant_more : (word : List ℕ) (names : List (List ℕ)) → (m : Resolved) × IsMeaning ds word m → AreMeant names → AreMeant (word ∷ names)
   meant_more word names (m, means) (types, named, meant) = (
@@ -39,5 +39,5 @@ module _ (ds : List Declaration) where
   meant [] = holds ([], refl, All-nil (λ t. IsMeaning ds t.name t.means))
   meant (word ∷ names) = and_then (meaning_of word) (λ m. and_then (meant names) (λ rest. holds (meant_more word names m rest)))
 
-  pub type_names : NotNot ((types : List TypeName) × AreTypeNames ds types)
+  pub type_names : NotNot ((types : List TypedefMeaning) × AreTypeNames ds types)
   type_names = and_then (meant (typedef_names [] ds)) (λ are. holds (are.0, record { names = are.1; meanings = are.2 }))

@@ -5,7 +5,7 @@ use Rattle.gt_items.specs.declared.items.Items.{Items}
 use Rattle.gt_types.specs.declared.limits.TheConstants.{MAX_DEPTH}
 use Rattle.gt_drafts.specs.declared.draft.Draft.{Draft}
 use Rattle.gt_drafts.specs.declared.draft.DraftStructure.{DraftStructure}
-use Rattle.gt_scope.specs.declared.meaning.TypeName.{TypeName}
+use Rattle.gt_scope.specs.declared.meaning.TypedefMeaning.{TypedefMeaning}
 use Rattle.gt_scope.specs.Declarations.{declarations}
 use Rattle.gt_resolve.specs.Drafts.{draft_of}
 use Rattle.gt_resolve.specs.Faults.{faults_of}
@@ -67,7 +67,7 @@ module _ (files : List Items) where
   by_faults draft (fault ∷ faults) read =
       by_first draft fault faults read (first_from None (fault ∷ faults)) (first_from_first (fault ∷ faults))
 
-  resolved : (types : List TypeName) → AreTypeNames (declarations files) types → Shaped (draft_of files (declarations files) types).structures → HasResolution files
+  resolved : (types : List TypedefMeaning) → AreTypeNames (declarations files) types → Shaped (draft_of files (declarations files) types).structures → HasResolution files
   resolved types named s =
       let draft = draft_of files (declarations files) types in
       by_faults draft (faults_of (declarations files) types draft s.cyclic s.deep s.tails)

@@ -1,7 +1,7 @@
 mod Again
 mod CharactersLemmas
 mod Derived
-mod ExpressionLemmas
+pub mod ExpressionLemmas
 mod IntegersLemmas
 mod Lines
 mod PartsLemmas

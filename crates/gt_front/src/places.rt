@@ -6,19 +6,19 @@ use crate::MAX_HEADER_BYTES;
 
 /// A line and a column in bytes, each from 1.
 #[derive(Clone, Copy, Debug, PartialEq, Eq)]
-pub struct Place {
+pub struct Position {
     pub line: u32,
     pub column: u32,
 }
 
 /// The place of an offset in a text.
-pub fn place_in(text: &[u8], at: u32) -> Place
+pub fn place_in(text: &[u8], at: u32) -> Position
     requires within { length text.now ≤ MAX_HEADER_BYTES }
     ensures line { result.line ≡ line_of text.now at }
     ensures column { result.column ≡ column_of text.now at }
 {
     let front = &text[..text.len().min(at as usize)];
-    Place {
+    Position {
         line: line_ends(front) + 1,
         column: after_newline(front) + 1,
     }

@@ -5,7 +5,7 @@ ghost use Rattle.gt_front.specs.Refused.{IsFaultLine, IsLineOf, IsRefusalLine, f
 ghost use Rattle.gt_front.specs.Stages.{HasWordAt};
 ghost use Rattle.gt_front.specs.Texts.{Texts};
 
-use crate::places::{Place, place_in};
+use crate::places::{Position, place_in};
 use crate::{FileWhy, MAX_HEADER_BYTES, Refusal, SCRIPT_SYNTAX};
 use gt_digits::push_decimal;
 use gt_types::{Bytes, Fault, Word};
@@ -101,7 +101,7 @@ fn file_word<'a>(script: &'a Word, headers: &'a [Word], place: u32) -> &'a Word
 }
 
 // What is said of a fault: its place in its text, and its number and name.
-fn fault_text(alloc: Global, place: Place, number: u8) -> Result<Bytes, AllocError>
+fn fault_text(alloc: Global, place: Position, number: u8) -> Result<Bytes, AllocError>
     ensures { IfOk result (λ bytes. bytes ≡ fault_text place.line place.column number) }
 {
     let mut said = Bytes::of(alloc, b":")?;

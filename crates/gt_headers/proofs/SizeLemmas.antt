@@ -12,7 +12,7 @@ use Rattle.gt_types.specs.declared.program.Program.{Program}
 use Rattle.gt_types.specs.Settled.{Settled}
 use Rattle.gt_items.specs.declared.items.Items.{Items}
 use Rattle.gt_layout.specs.declared.planes.Layouts.{Layouts}
-use Rattle.gt_layout.specs.declared.planes.Spot.{Spot}
+use Rattle.gt_layout.specs.declared.planes.FieldSpot.{FieldSpot}
 use Rattle.gt_layout.specs.declared.storages.Storage.{Storage}
 use Rattle.gt_layout.specs.Storages.{storage_of}
 use Rattle.gt_layout.specs.Places.{ends}
@@ -111,7 +111,7 @@ structure_within : (program : Program) (layouts : Layouts) (o : Option ℕ) → 
 structure_within program layouts None first = tt
 structure_within program layouts (Some place) first = slice_get_within program.structures place first.0.0 first.0.2
 
-few_ends : (fs : List Storage) (ss : List Spot) → length (ends fs ss) ≤ length fs
+few_ends : (fs : List Storage) (ss : List FieldSpot) → length (ends fs ss) ≤ length fs
 few_ends [] ss = omega arith
 few_ends (f ∷ fs) [] = omega arith
 few_ends (f ∷ fs) (s ∷ ss) = let rest = few_ends fs ss in omega (arith, rest)

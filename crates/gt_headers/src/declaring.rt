@@ -14,9 +14,7 @@ use gt_drafts::Draft;
 use gt_items::Items;
 use gt_layout::Layouts;
 use gt_options::settle;
-use gt_resolve::{few, resolve};
-use gt_settled::declared_is_settled;
-use gt_sound::{read_is_well_made, resolved_is_sound};
+use gt_resolve::resolve;
 use gt_types::{Bytes, MAX_HEADERS, Program, Stop};
 use std::alloc::Global;
 
@@ -45,7 +43,6 @@ pub fn declare(alloc: Global, texts: &[Bytes]) -> Result<Declared, Stop>
     ensures within { IfOk result (λ declared. IsWithin declared.program declared.layouts) }
     ensures stopped { IfErr result (IsHeaderStop texts.now) }
 {
-    declared_is_settled();
     let Resolution { files, draft } = match resolve_all(alloc, texts) {
         Ok(resolution) => resolution,
         Err(stop) => return Err(stop),
@@ -76,9 +73,6 @@ fn resolve_all(alloc: Global, texts: &[Bytes]) -> Result<Resolution, Stop>
     ensures sound { IfOk result (λ r. IsSound r.draft) }
     ensures stopped { IfErr result (IsHeaderStop texts.now) }
 {
-    few();
-    read_is_well_made();
-    resolved_is_sound();
     let files = match read_all(alloc, texts) {
         Ok(files) => files,
         Err(stop) => return Err(stop),

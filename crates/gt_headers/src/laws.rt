@@ -52,11 +52,7 @@ pub fn some_outcome()
 /// The program that headers declare is settled.
 pub fn declared_programs_are_settled()
     ensures settled { (texts : List (List ℕ)) (program : Program) → Declares texts program → Settled program }
-{
-    read_is_well_made();
-    resolved_is_sound();
-    declared_is_settled();
-}
+{}
 
 /// The file of a first fault is one of the texts, counted from 1.
 pub fn text_places()

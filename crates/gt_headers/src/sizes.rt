@@ -9,7 +9,6 @@ ghost use Rattle.gt_headers.specs.Sizes.{IsSizeFault};
 ghost use Rattle.gt_headers.specs.Stops.{IsSizeStop};
 
 use gt_items::Items;
-use gt_layout::laws::one_layout;
 use gt_layout::{LayoutStop, Layouts, layout};
 use gt_resolve::place;
 use gt_types::{MAX_HEADERS, Program, Stop};
@@ -26,7 +25,6 @@ pub fn lay_out(alloc: Global, files: &[Items], program: &Program) -> Result<Layo
     ensures sized { IfOk result (λ layouts. (fault : Fault) → ¬ IsSizeFault files.now program.now fault) }
     ensures stopped { IfErr result (IsSizeStop files.now program.now) }
 {
-    one_layout();
     match layout(alloc, program) {
         Ok(layouts) => Ok(layouts),
         Err(LayoutStop::Memory) => Err(Stop::Memory),

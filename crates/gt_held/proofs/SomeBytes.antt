@@ -23,7 +23,7 @@ use Rattle.gt_types.specs.Contains.{HasStructure, held_by}
 use Rattle.gt_types.specs.Tails.{IsTailType, elements_at, tail_of}
 use Rattle.gt_types.specs.Settled.{Settled, IsField, IsStruct, IsUnion, IsOfItsKind}
 use Rattle.gt_layout.specs.declared.planes.Plane.{Plane}
-use Rattle.gt_layout.specs.declared.planes.Spot.{Spot}
+use Rattle.gt_layout.specs.declared.planes.FieldSpot.{FieldSpot}
 use Rattle.gt_layout.specs.declared.storages.Storage.{Storage}
 use Rattle.gt_layout.specs.Storages.{bytes_of, extent_at, extent_of, extent_of_plane, storage_of, storages_of}
 use Rattle.gt_layout.specs.Places.{end_of, end_at, begin_at, ends, Lie, last_offset}
@@ -100,7 +100,7 @@ module _ (planes : List Plane) where
 
   -- ---- structures
 
-  first-end : (union : Bool) (f : Storage) (fs : List Storage) (spots : List Spot) (bound : ℕ) → Lie union (f ∷ fs) spots → ((begin : ℕ) → 1 ≤ end_of f begin) → All (λ end. end ≤ bound) (ends (f ∷ fs) spots) → 1 ≤ bound
+  first-end : (union : Bool) (f : Storage) (fs : List Storage) (spots : List FieldSpot) (bound : ℕ) → Lie union (f ∷ fs) spots → ((begin : ℕ) → 1 ≤ end_of f begin) → All (λ end. end ≤ bound) (ends (f ∷ fs) spots) → 1 ≤ bound
   first-end true f fs [] bound lie some inside = absurd lie
   first-end false f fs [] bound lie some inside = absurd lie
   first-end union f fs (s ∷ ss) bound lie some inside =
@@ -108,7 +108,7 @@ module _ (planes : List Plane) where
       let least = some (begin_at s) in
       omega (arith, first, least)
 
-  plane-by : (union : Bool) (fields : List Field) (spots : List Spot) (size : ℕ) → 1 ≤ length fields → Lie union (storages_of planes fields) spots → ((f : Field) → Contains fields f → (begin : ℕ) → 1 ≤ end_of (storage_of planes f.ty) begin)
+  plane-by : (union : Bool) (fields : List Field) (spots : List FieldSpot) (size : ℕ) → 1 ≤ length fields → Lie union (storages_of planes fields) spots → ((f : Field) → Contains fields f → (begin : ℕ) → 1 ≤ end_of (storage_of planes f.ty) begin)
       → All (λ end. end ≤ 8 * size) (ends (storages_of planes fields) spots) → 1 ≤ size
   plane-by union [] spots size some lie each inside = absurd (omega (arith, some))
   plane-by union (f ∷ fs) spots size some lie each inside =

@@ -5,7 +5,7 @@ use Rattle.std.proofs.lemmas.Bool.{cases_lt, lt-leb}
 use Rattle.gt_types.specs.declared.limits.TheConstants.{TOO_LARGE}
 use Rattle.gt_layout.specs.declared.planes.TheConstants.{MAX_SIZE}
 use Rattle.gt_layout.specs.declared.planes.Extent.{Extent}
-use Rattle.gt_layout.specs.declared.planes.Spot.{Spot}
+use Rattle.gt_layout.specs.declared.planes.FieldSpot.{FieldSpot}
 use Rattle.gt_layout.specs.declared.planes.Plane.{Plane}
 use Rattle.gt_layout.specs.declared.storages.Storage.{Storage}
 use Rattle.gt_layout.specs.declared.storages.Storage.TheVariants.{Bytes, Bits}
@@ -29,7 +29,7 @@ Agree is_union from fs gs =
     ⊎ ((8 * MAX_SIZE < reach is_union from fs) × (8 * MAX_SIZE < reach is_union from gs))
 
 agree_more : (is_union : Bool) (from : ℕ) (f : Storage) (fs gs : List Storage) → Agree is_union (next is_union from f) fs gs → Agree is_union from (f ∷ fs) (f ∷ gs)
-agree_more is_union from f fs gs (inl (same, places)) = inl (same, ap (λ (ss : List Spot). spot_of f (start is_union from f) ∷ ss) places)
+agree_more is_union from f fs gs (inl (same, places)) = inl (same, ap (λ (ss : List FieldSpot). spot_of f (start is_union from f) ∷ ss) places)
 agree_more is_union from f fs gs (inr large) = inr large
 
 pub agree : (is_union : Bool) (from : ℕ) (fs gs : List Storage) → AllZip Alike fs gs → Agree is_union from fs gs
@@ -57,7 +57,7 @@ large_plane align = record { size = TOO_LARGE; align = align; fields = [] }
 pub held-large : (p : Plane) → MAX_SIZE < p.size → held p ≡ large_plane p.align
 held-large p large = ap (λ (b : Bool). cond b p (large_plane p.align)) (lt-leb p.size MAX_SIZE large)
 
-finished-large : (last align : ℕ) (spots : List Spot) → 1 ≤ align → 8 * MAX_SIZE < last → held (finished last align spots) ≡ large_plane align
+finished-large : (last align : ℕ) (spots : List FieldSpot) → 1 ≤ align → 8 * MAX_SIZE < last → held (finished last align spots) ≡ large_plane align
 finished-large last align spots some large =
     held-large (finished last align spots) (omega (arith, up_after ((last + 7) / 8) align some))
 
@@ -65,7 +65,7 @@ held_by : (is_union : Bool) (fs gs : List Storage) → map align_of fs ≡ map a
 held_by is_union fs gs same (inl (last, spots)) =
     ap (λ (n : ℕ). held (finished n (greatest (map align_of fs)) (spots_from is_union 0 fs))) last ∙
     ap (λ (ns : List ℕ). held (finished (reach is_union 0 gs) (greatest ns) (spots_from is_union 0 fs))) same ∙
-    ap (λ (ss : List Spot). held (finished (reach is_union 0 gs) (greatest (map align_of gs)) ss)) spots
+    ap (λ (ss : List FieldSpot). held (finished (reach is_union 0 gs) (greatest (map align_of gs)) ss)) spots
 held_by is_union fs gs same (inr (large, large')) =
     finished-large (reach is_union 0 fs) (greatest (map align_of fs)) (spots_from is_union 0 fs) (greatest_some _) large
     ∙ ap (λ (ns : List ℕ). large_plane (greatest ns)) same

@@ -23,7 +23,7 @@ use Rattle.gt_types.specs.Settled.{Settled}
 use Rattle.gt_layout.specs.declared.planes.TheConstants.{MAX_SIZE}
 use Rattle.gt_layout.specs.declared.planes.Extent.{Extent}
 use Rattle.gt_layout.specs.declared.planes.Plane.{Plane}
-use Rattle.gt_layout.specs.declared.planes.Spot.{Spot}
+use Rattle.gt_layout.specs.declared.planes.FieldSpot.{FieldSpot}
 use Rattle.gt_layout.specs.declared.planes.TailSpot.{TailSpot}
 use Rattle.gt_layout.specs.declared.storages.Storage.TheVariants.{Bytes}
 use Rattle.gt_layout.specs.Storages.{extent_at, extent_of, extent_of_plane, extent_step, held_extent, storage_of, storages_of}
@@ -128,13 +128,13 @@ node-storage planes f node desc plane type at = ap (storage_of planes) type ∙ 
 node-end : (planes : List Plane) (f : Field) (node : TypeId) (desc : Option Expr) (plane : Plane) → f.ty ≡ ty.Node node desc → slice_get planes node.0 ≡ Some plane → end_of (storage_of planes f.ty) 0 ≡ 8 * plane.size
 node-end planes f node desc plane type at = ap (λ x. end_of x 0) (node-storage planes f node desc plane type at) ∙ omega arith
 
-member-begin : (planes : List Plane) (f : Field) (s : Spot) → s ≡ record { offset = 0; bit = 0 } → end_at (storage_of planes f.ty) s ≡ end_of (storage_of planes f.ty) 0
+member-begin : (planes : List Plane) (f : Field) (s : FieldSpot) → s ≡ record { offset = 0; bit = 0 } → end_at (storage_of planes f.ty) s ≡ end_of (storage_of planes f.ty) 0
 member-begin planes f s e = ap (λ x. end_at (storage_of planes f.ty) x) e
 
 abbrev EndsIn : List Plane → ℕ → Field → Type 0
 EndsIn planes bound f = end_of (storage_of planes f.ty) 0 ≤ bound
 
-to-ends : (planes : List Plane) (fs : List Field) (spots : List Spot) (bound : ℕ) → Overlap (storages_of planes fs) spots → All (EndsIn planes bound) fs → All (λ end. end ≤ bound) (ends (storages_of planes fs) spots)
+to-ends : (planes : List Plane) (fs : List Field) (spots : List FieldSpot) (bound : ℕ) → Overlap (storages_of planes fs) spots → All (EndsIn planes bound) fs → All (λ end. end ≤ bound) (ends (storages_of planes fs) spots)
 to-ends planes [] [] bound h all = All-nil (λ end. end ≤ bound)
 to-ends planes [] (s ∷ ss) bound h all = absurd h
 to-ends planes (f ∷ fs) [] bound h all = absurd h
@@ -142,7 +142,7 @@ to-ends planes (f ∷ fs) (s ∷ ss) bound h all =
     let here = All-head (EndsIn planes bound) f fs all in
     All-cons (λ end. end ≤ bound) (end_at (storage_of planes f.ty) s) (ends (storages_of planes fs) ss) (omega (arith, here, member-begin planes f s h.0)) (to-ends planes fs ss bound h.1 (All-tail (EndsIn planes bound) f fs all))
 
-from-ends : (planes : List Plane) (fs : List Field) (spots : List Spot) (bound : ℕ) → Overlap (storages_of planes fs) spots → All (λ end. end ≤ bound) (ends (storages_of planes fs) spots) → All (EndsIn planes bound) fs
+from-ends : (planes : List Plane) (fs : List Field) (spots : List FieldSpot) (bound : ℕ) → Overlap (storages_of planes fs) spots → All (λ end. end ≤ bound) (ends (storages_of planes fs) spots) → All (EndsIn planes bound) fs
 from-ends planes [] [] bound h all = All-nil (EndsIn planes bound)
 from-ends planes [] (s ∷ ss) bound h all = absurd h
 from-ends planes (f ∷ fs) [] bound h all = absurd h

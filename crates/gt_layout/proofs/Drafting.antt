@@ -7,7 +7,7 @@ use Rattle.std.proofs.lemmas.List.Elements.{All-map, All-weaker, All-get_or, All
 use Rattle.gt_types.specs.declared.limits.TheConstants.{TOO_LARGE}
 use Rattle.gt_layout.specs.declared.planes.TheConstants.{MAX_SIZE}
 use Rattle.gt_layout.specs.declared.planes.Plane.{Plane}
-use Rattle.gt_layout.specs.declared.planes.Spot.{Spot}
+use Rattle.gt_layout.specs.declared.planes.FieldSpot.{FieldSpot}
 use Rattle.gt_layout.specs.declared.storages.Storage.{Storage}
 use Rattle.gt_layout.specs.declared.storages.Storage.TheVariants.{Bytes, Bits}
 use Rattle.gt_layout.specs.Storages.{held_storage}
@@ -18,7 +18,7 @@ use Rattle.gt_layout.proofs.Agreement.{held-alike, all_held, large_plane}
 use Rattle.gt_layout.proofs.Placing.{IsPossible, start, spots_from, reach, plane_of, reach-append, spots-append, greatest-append, first_only}
 
 -- the fields so far are placed as the rules have it, and end within what so many fields can take
-pub record IsDraft (is_union : Bool) (fs : List Storage) (last most : ℕ) (places : List Spot) : Type 0 where
+pub record IsDraft (is_union : Bool) (fs : List Storage) (last most : ℕ) (places : List FieldSpot) : Type 0 where
   pub end : last ≡ reach is_union 0 fs
   pub align : most ≡ greatest (map align_of fs)
   pub spots : places ≡ spots_from is_union 0 fs
@@ -59,7 +59,7 @@ held_placeable (Bytes e) placeable = placeable
 held_placeable (Bits unit count) placeable = placeable
 
 -- one more field, which is held within the limit
-pub draft_more : (is_union : Bool) (fs : List Storage) (last most : ℕ) (places : List Spot) (f : Storage) (begin last' most' : ℕ) (places' : List Spot)
+pub draft_more : (is_union : Bool) (fs : List Storage) (last most : ℕ) (places : List FieldSpot) (f : Storage) (begin last' most' : ℕ) (places' : List FieldSpot)
     → IsDraft is_union fs last most places → IsTrue (is_placeable f) → Starts is_union last (held_storage f) begin → begin < last + 64
     → last' ≡ max last (end_of (held_storage f) begin) → most' ≡ max most (align_of (held_storage f)) → places' ≡ places ++ spot_of (held_storage f) begin ∷ []
     → IsDraft is_union (fs ++ held_storage f ∷ []) last' most' places'
@@ -73,14 +73,14 @@ draft_more is_union fs last most places f begin last' most' places' draft placea
       end = more_end ∙ ap (λ (n : ℕ). max last (end_of g n)) here ∙ ap (λ (n : ℕ). max n (end_of g (start is_union (reach is_union 0 fs) g))) draft.end ∙ sym (reach-append is_union 0 fs g);
       align = more_align ∙ ap (λ (n : ℕ). max n (align_of g)) draft.align ∙ sym (greatest-append (map align_of fs) (align_of g) (alignment_between (align_of g) align_g).0)
           ∙ ap greatest (sym (map-append align_of fs (g ∷ [])));
-      spots = more_spots ∙ ap (λ (n : ℕ). places ++ spot_of g n ∷ []) here ∙ ap (λ (ss : List Spot). ss ++ spot_of g (start is_union (reach is_union 0 fs) g) ∷ []) draft.spots
+      spots = more_spots ∙ ap (λ (n : ℕ). places ++ spot_of g n ∷ []) here ∙ ap (λ (ss : List FieldSpot). ss ++ spot_of g (start is_union (reach is_union 0 fs) g) ∷ []) draft.spots
           ∙ sym (spots-append is_union 0 fs g);
       aligned = subst (λ (n : ℕ). IsTrue (is_alignment n)) (sym more_align) (max_aligned most (align_of g) draft.aligned align_g);
       small = omega (arith, draft.small, near, more_end, end_held f begin placeable, length-append fs (g ∷ []));
     }
 
 -- no field
-pub draft_none : (is_union : Bool) (last most : ℕ) (places : List Spot) → last ≡ 0 → most ≡ 1 → places ≡ [] → IsDraft is_union [] last most places
+pub draft_none : (is_union : Bool) (last most : ℕ) (places : List FieldSpot) → last ≡ 0 → most ≡ 1 → places ≡ [] → IsDraft is_union [] last most places
 draft_none is_union last most places end align spots = record {
   end = end;
   align = align;
@@ -101,7 +101,7 @@ held_more {X} s xs i x within at =
     ∙ ap (map held_storage) (map-append s (take i xs) (x ∷ [])) ∙ map-append held_storage (map s (take i xs)) (s x ∷ [])
 
 -- the next of what has a type is placed
-pub one_more : {X : Type 0} (s : X → Storage) (xs : List X) (i : ℕ) (x : X) (is_union : Bool) (last most : ℕ) (places : List Spot) (g : Storage) (begin last' most' : ℕ) (places' : List Spot)
+pub one_more : {X : Type 0} (s : X → Storage) (xs : List X) (i : ℕ) (x : X) (is_union : Bool) (last most : ℕ) (places : List FieldSpot) (g : Storage) (begin last' most' : ℕ) (places' : List FieldSpot)
     → i < length xs → x ≡ get_or xs i x → g ≡ held_storage (s x) → IsTrue (is_placeable (s x))
     → IsDraft is_union (map held_storage (map s (take i xs))) last most places → Starts is_union last g begin → begin < last + 64
     → last' ≡ max last (end_of g begin) → most' ≡ max most (align_of g) → places' ≡ places ++ spot_of g begin ∷ []
@@ -116,13 +116,13 @@ one_more {X} s xs i x is_union last most places g begin last' most' places' with
 pub one_of : {X : Type 0} (P : X → Type 0) (xs ys : List X) (i : ℕ) (x : X) → All P ys → xs ≡ ys → i < length xs → x ≡ get_or xs i x → P x
 one_of {X} P xs ys i x all same within at = subst P (sym at) (All-get_or P xs i x within (All-same P xs ys same all))
 
-draft-plane : (is_union : Bool) (fs : List Storage) (last most : ℕ) (places : List Spot) → IsDraft is_union fs last most places → held (finished last most places) ≡ held (plane_of is_union fs)
+draft-plane : (is_union : Bool) (fs : List Storage) (last most : ℕ) (places : List FieldSpot) → IsDraft is_union fs last most places → held (finished last most places) ≡ held (plane_of is_union fs)
 draft-plane is_union fs last most places draft =
     ap (λ (n : ℕ). held (finished n most places)) draft.end ∙ ap (λ (n : ℕ). held (finished (reach is_union 0 fs) n places)) draft.align
-    ∙ ap (λ (ss : List Spot). held (finished (reach is_union 0 fs) (greatest (map align_of fs)) ss)) draft.spots
+    ∙ ap (λ (ss : List FieldSpot). held (finished (reach is_union 0 fs) (greatest (map align_of fs)) ss)) draft.spots
 
 -- when all are placed, the plane is held as the one of the fields without a limit
-pub made_plane : {X : Type 0} (s : X → Storage) (xs ys : List X) (i : ℕ) (is_union : Bool) (last most : ℕ) (places : List Spot) (result : Plane)
+pub made_plane : {X : Type 0} (s : X → Storage) (xs ys : List X) (i : ℕ) (is_union : Bool) (last most : ℕ) (places : List FieldSpot) (result : Plane)
     → IsDraft is_union (map held_storage (map s (take i xs))) last most places → length xs ≤ i → xs ≡ ys → result ≡ held (finished last most places)
     → result ≡ held (plane_of is_union (map s ys))
 made_plane {X} s xs ys i is_union last most places result draft all same is =

@@ -13,7 +13,7 @@ use Rattle.gt_types.specs.declared.program.Field.{Field}
 use Rattle.gt_types.specs.Tails.{elements_at, elements_of, tail_of}
 use Rattle.gt_layout.specs.declared.planes.Extent.{Extent}
 use Rattle.gt_layout.specs.declared.planes.Plane.{Plane}
-use Rattle.gt_layout.specs.declared.planes.Spot.{Spot}
+use Rattle.gt_layout.specs.declared.planes.FieldSpot.{FieldSpot}
 use Rattle.gt_layout.specs.declared.storages.Storage.{Storage}
 use Rattle.gt_layout.specs.declared.storages.Storage.TheVariants.{Bytes, Bits}
 use Rattle.gt_layout.specs.Storages.{extent_of, extent_step, storage_of, storages_of}
@@ -31,10 +31,10 @@ tail-storage planes (ty.Bits unit count) elem e = let o = ap elements_at (outs-B
 tail-storage planes type elem e = refl
 
 -- where bytes begin is told by their byte alone
-byte-begin : (storage : Storage) (e : Extent) (s : Spot) → storage ≡ Bytes e → s ≡ spot_of storage (begin_at s) → begin_at s ≡ 8 * s.offset
+byte-begin : (storage : Storage) (e : Extent) (s : FieldSpot) → storage ≡ Bytes e → s ≡ spot_of storage (begin_at s) → begin_at s ≡ 8 * s.offset
 byte-begin storage e s is lies =
     let spot = subst (λ x. s ≡ spot_of x (begin_at s)) is lies in
-    let bit : s.bit ≡ 0 = ap (λ (x : Spot). x.bit) spot in
+    let bit : s.bit ≡ 0 = ap (λ (x : FieldSpot). x.bit) spot in
     omega (arith, bit)
 
 grows : (storage : Storage) (begin : ℕ) → begin ≤ end_of storage begin
@@ -42,12 +42,12 @@ grows (Bytes e) begin = omega arith
 grows (Bits unit count) begin = omega arith
 
 -- no field of such a struct ends after its last one begins, which takes no bytes
-pub record LastEnds (from : ℕ) (fields : List Storage) (spots : List Spot) : Type 0 where
+pub record LastEnds (from : ℕ) (fields : List Storage) (spots : List FieldSpot) : Type 0 where
   pub after : from ≤ 8 * last_offset spots
   pub inside : All (λ end. end ≤ 8 * last_offset spots) (ends fields spots)
   pub least : (bound : ℕ) → All (λ end. end ≤ bound) (ends fields spots) → 8 * last_offset spots ≤ bound
 
-pub last-ends : (planes : List Plane) (fs : List Field) (spots : List Spot) (from : ℕ) (elem : Ty) → tail_of fs ≡ Some elem → Follow from (storages_of planes fs) spots → LastEnds from (storages_of planes fs) spots
+pub last-ends : (planes : List Plane) (fs : List Field) (spots : List FieldSpot) (from : ℕ) (elem : Ty) → tail_of fs ≡ Some elem → Follow from (storages_of planes fs) spots → LastEnds from (storages_of planes fs) spots
 last-ends planes [] spots from elem t h = absurd (cc)
 last-ends planes (f ∷ []) [] from elem t h = absurd h
 last-ends planes (f ∷ []) (s ∷ []) from elem t h =

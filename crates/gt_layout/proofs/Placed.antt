@@ -8,7 +8,7 @@ use Rattle.std.proofs.lemmas.Nat.{div-add-mod', mod_below, mod-mul-add}
 use Rattle.std.proofs.lemmas.Option.{same_Some, none-some, slice_get_within, get_or_from_slice_get}
 use Rattle.gt_types.specs.declared.program.Program.{Program}
 use Rattle.gt_types.specs.Settled.{Settled}
-use Rattle.gt_layout.specs.declared.planes.Spot.{Spot}
+use Rattle.gt_layout.specs.declared.planes.FieldSpot.{FieldSpot}
 use Rattle.gt_layout.specs.declared.planes.Plane.{Plane}
 use Rattle.gt_layout.specs.declared.planes.Layouts.{Layouts}
 use Rattle.gt_layout.specs.declared.storages.Storage.{Storage}
@@ -47,17 +47,17 @@ aligned-spot (Bits unit count) begin possible allowed = (
 
 -- ---- the field at a place
 
-spot_at : (is_union : Bool) (from : ℕ) (fs : List Storage) (i : ℕ) (f : Storage) (s : Spot) → slice_get fs i ≡ Some f → slice_get (spots_from is_union from fs) i ≡ Some s → s ≡ spot_of f (start is_union (reach is_union from (take i fs)) f)
+spot_at : (is_union : Bool) (from : ℕ) (fs : List Storage) (i : ℕ) (f : Storage) (s : FieldSpot) → slice_get fs i ≡ Some f → slice_get (spots_from is_union from fs) i ≡ Some s → s ≡ spot_of f (start is_union (reach is_union from (take i fs)) f)
 spot_at is_union from [] i f s there at = absurd (none-some f there)
 spot_at is_union from (g ∷ fs) zero f s there at =
     let same : g ≡ f = same_Some g f there in
     subst (λ (h : Storage). s ≡ spot_of h (start is_union from h)) same (sym (same_Some (spot_of g (start is_union from g)) s at))
 spot_at is_union from (g ∷ fs) (suc i) f s there at = spot_at is_union (next is_union from g) fs i f s there at
 
-ends_at : (fs : List Storage) (ss : List Spot) (i : ℕ) (f : Storage) (s : Spot) → slice_get fs i ≡ Some f → slice_get ss i ≡ Some s → slice_get (ends fs ss) i ≡ Some (end_at f s)
+ends_at : (fs : List Storage) (ss : List FieldSpot) (i : ℕ) (f : Storage) (s : FieldSpot) → slice_get fs i ≡ Some f → slice_get ss i ≡ Some s → slice_get (ends fs ss) i ≡ Some (end_at f s)
 ends_at [] ss i f s there at = absurd (none-some f there)
 ends_at (g ∷ fs) [] i f s there at = absurd (none-some s at)
-ends_at (g ∷ fs) (t ∷ ss) zero f s there at = ap (λ (h : Storage). Some (end_at h t)) (same_Some g f there) ∙ ap (λ (r : Spot). Some (end_at f r)) (same_Some t s at)
+ends_at (g ∷ fs) (t ∷ ss) zero f s there at = ap (λ (h : Storage). Some (end_at h t)) (same_Some g f there) ∙ ap (λ (r : FieldSpot). Some (end_at f r)) (same_Some t s at)
 ends_at (g ∷ fs) (t ∷ ss) (suc i) f s there at = ends_at fs ss i f s there at
 
 possible_at : (fs : List Storage) (i : ℕ) (f : Storage) → All IsPossible fs → slice_get fs i ≡ Some f → IsPossible f
@@ -65,18 +65,18 @@ possible_at fs i f all there = subst IsPossible (get_or_from_slice_get fs i f f 
 
 -- ---- all fields
 
-aligned_all : (is_union : Bool) (fs : List Storage) (i : ℕ) (f : Storage) (s : Spot) → All IsPossible fs → slice_get fs i ≡ Some f → slice_get (spots_from is_union 0 fs) i ≡ Some s → IsAligned f s
+aligned_all : (is_union : Bool) (fs : List Storage) (i : ℕ) (f : Storage) (s : FieldSpot) → All IsPossible fs → slice_get fs i ≡ Some f → slice_get (spots_from is_union 0 fs) i ≡ Some s → IsAligned f s
 aligned_all is_union fs i f s all there at =
     let possible = possible_at fs i f all there in
     subst (IsAligned f) (sym (spot_at is_union 0 fs i f s there at))
     (aligned-spot f (start is_union (reach is_union 0 (take i fs)) f) possible (start-allowed is_union (reach is_union 0 (take i fs)) f possible))
 
-inside_all : (fs : List Storage) (ss : List Spot) (size i : ℕ) (f : Storage) (s : Spot) → All (λ end. end ≤ 8 * size) (ends fs ss) → slice_get fs i ≡ Some f → slice_get ss i ≡ Some s → end_at f s ≤ 8 * size
+inside_all : (fs : List Storage) (ss : List FieldSpot) (size i : ℕ) (f : Storage) (s : FieldSpot) → All (λ end. end ≤ 8 * size) (ends fs ss) → slice_get fs i ≡ Some f → slice_get ss i ≡ Some s → end_at f s ≤ 8 * size
 inside_all fs ss size i f s inside there at =
     let here = ends_at fs ss i f s there at in
     subst (λ (n : ℕ). n ≤ 8 * size) (get_or_from_slice_get (ends fs ss) i (end_at f s) 0 here) (inside i 0 (slice_get_within (ends fs ss) i (end_at f s) here))
 
-ordered_all : (fs : List Storage) (i j : ℕ) (f g : Storage) (s t : Spot) → All IsPossible fs → i < j → slice_get fs i ≡ Some f → slice_get (spots_from false 0 fs) i ≡ Some s → slice_get fs j ≡ Some g
+ordered_all : (fs : List Storage) (i j : ℕ) (f g : Storage) (s t : FieldSpot) → All IsPossible fs → i < j → slice_get fs i ≡ Some f → slice_get (spots_from false 0 fs) i ≡ Some s → slice_get fs j ≡ Some g
     → slice_get (spots_from false 0 fs) j ≡ Some t → end_at f s ≤ begin_at t
 ordered_all fs i j f g s t all less there at there' at' =
     let possible = possible_at fs j g all there' in
@@ -93,7 +93,7 @@ apart_by i j bit a b c d low high low' high' before after (inl same) = same
 apart_by i j bit a b c d low high low' high' before after (inr (inl less)) = absurd (omega (arith, low, high, low', high', before less))
 apart_by i j bit a b c d low high low' high' before after (inr (inr more)) = absurd (omega (arith, low, high, low', high', after more))
 
-ordered_by : (is_union : Bool) (fs : List Storage) → All IsPossible fs → is_union ≡ false → (i j : ℕ) (f g : Storage) (s t : Spot) → i < j → slice_get fs i ≡ Some f → slice_get (spots_from is_union 0 fs) i ≡ Some s
+ordered_by : (is_union : Bool) (fs : List Storage) → All IsPossible fs → is_union ≡ false → (i j : ℕ) (f g : Storage) (s t : FieldSpot) → i < j → slice_get fs i ≡ Some f → slice_get (spots_from is_union 0 fs) i ≡ Some s
     → slice_get fs j ≡ Some g → slice_get (spots_from is_union 0 fs) j ≡ Some t → end_at f s ≤ begin_at t
 ordered_by true fs all union' i j f g s t less there at there' at' = let never : true ≡ false = union' in cc
 ordered_by false fs all struct' i j f g s t less there at there' at' = ordered_all fs i j f g s t all less there at there' at'

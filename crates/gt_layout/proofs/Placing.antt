@@ -2,7 +2,7 @@
 use Rattle.std.proofs.Common.{◌≡◌, ◌≤◌, ◌<◌, ℕ, ◌+◌, ◌-◌, ◌*◌, ◌/◌, ◌%◌, max, Bool, true, false, cond, eqb, List, [], ◌∷◌, ◌++◌, map, add-zero, sym, ap, ◌∙◌, refl, arith}
 use Rattle.std.proofs.lemmas.Bool.{cases_lt, eqb-true, eqb-false}
 use Rattle.std.proofs.lemmas.Nat.{div-add-mod', mod_below, mod-mul-add}
-use Rattle.gt_layout.specs.declared.planes.Spot.{Spot}
+use Rattle.gt_layout.specs.declared.planes.FieldSpot.{FieldSpot}
 use Rattle.gt_layout.specs.declared.planes.Plane.{Plane}
 use Rattle.gt_layout.specs.declared.storages.Storage.{Storage}
 use Rattle.gt_layout.specs.declared.storages.Storage.TheVariants.{Bytes, Bits}
@@ -33,7 +33,7 @@ start false from f = first_of from f
 abbrev pub next : Bool → ℕ → Storage → ℕ
 next is_union from f = max from (end_of f (start is_union from f))
 
-abbrev pub spots_from : Bool → ℕ → List Storage → List Spot
+abbrev pub spots_from : Bool → ℕ → List Storage → List FieldSpot
 spots_from is_union from [] = []
 spots_from is_union from (f ∷ fs) = spot_of f (start is_union from f) ∷ spots_from is_union (next is_union from f) fs
 
@@ -53,7 +53,7 @@ reach-append is_union from (g ∷ fs) f = reach-append is_union (next is_union f
 pub spots-append : (is_union : Bool) (from : ℕ) (fs : List Storage) (f : Storage)
     → spots_from is_union from (fs ++ f ∷ []) ≡ spots_from is_union from fs ++ spot_of f (start is_union (reach is_union from fs) f) ∷ []
 spots-append is_union from [] f = refl
-spots-append is_union from (g ∷ fs) f = ap (λ (ss : List Spot). spot_of g (start is_union from g) ∷ ss) (spots-append is_union (next is_union from g) fs f)
+spots-append is_union from (g ∷ fs) f = ap (λ (ss : List FieldSpot). spot_of g (start is_union from g) ∷ ss) (spots-append is_union (next is_union from g) fs f)
 
 pub greatest-append : (ns : List ℕ) (n : ℕ) → 1 ≤ n → greatest (ns ++ n ∷ []) ≡ max (greatest ns) n
 greatest-append [] n some = omega arith

@@ -3,7 +3,7 @@ use Rattle.std.proofs.Common.{◌≡◌, ◌≤◌, ◌<◌, ℕ, ◌+◌, ◌*�
 use Rattle.std.specs.List.{All}
 use Rattle.std.proofs.Math.Nat.{zero-div, zero-mod}
 use Rattle.std.proofs.lemmas.List.Elements.{All-nil, All-cons, All-head, All-tail}
-use Rattle.gt_layout.specs.declared.planes.Spot.{Spot}
+use Rattle.gt_layout.specs.declared.planes.FieldSpot.{FieldSpot}
 use Rattle.gt_layout.specs.declared.planes.Plane.{Plane}
 use Rattle.gt_layout.specs.declared.storages.Storage.{Storage}
 use Rattle.gt_layout.specs.declared.storages.Storage.TheVariants.{Bytes, Bits}
@@ -21,7 +21,7 @@ spot-zero (Bits unit count) =
 
 -- the end of a field at its place
 pub end-start : (is_union : Bool) (from : ℕ) (f : Storage) → IsPossible f → end_at f (spot_of f (start is_union from f)) ≡ end_of f (start is_union from f)
-end-start true from f possible = ap (λ (s : Spot). end_of f (begin_at s)) (spot-zero f)
+end-start true from f possible = ap (λ (s : FieldSpot). end_of f (begin_at s)) (spot-zero f)
 end-start false from f possible = ap (end_of f) (begin-spot f (first_of from f) (first-lies from f possible).allowed)
 
 end_after : (f : Storage) (begin : ℕ) → begin ≤ end_of f begin
@@ -43,7 +43,7 @@ follows from (f ∷ fs) all =
           (follows (next false from f) fs (All-tail IsPossible f fs all)),
     )
 
-follows_only : (from : ℕ) (fs : List Storage) (ss : List Spot) → All IsPossible fs → Follow from fs ss → ss ≡ spots_from false from fs
+follows_only : (from : ℕ) (fs : List Storage) (ss : List FieldSpot) → All IsPossible fs → Follow from fs ss → ss ≡ spots_from false from fs
 follows_only from [] [] all follow = refl
 follows_only from [] (s ∷ ss) all follow = absurd follow
 follows_only from (f ∷ fs) [] all follow = absurd follow
@@ -53,24 +53,24 @@ follows_only from (f ∷ fs) (s ∷ ss) all follow =
     let place = follow.1 ∙ ap (spot_of f) is in
     let to : end_at f s ≡ next false from f = ap (end_of f) is ∙ sym (next-struct from f possible) in
     let rest = follows_only (next false from f) fs ss (All-tail IsPossible f fs all) (subst (λ (n : ℕ). Follow n fs ss) to follow.2) in
-    ap (λ (t : Spot). t ∷ ss) place ∙ ap (λ (ts : List Spot). spot_of f (first_of from f) ∷ ts) rest
+    ap (λ (t : FieldSpot). t ∷ ss) place ∙ ap (λ (ts : List FieldSpot). spot_of f (first_of from f) ∷ ts) rest
 
 overlaps : (from : ℕ) (fs : List Storage) → Overlap fs (spots_from true from fs)
 overlaps from [] = tt
 overlaps from (f ∷ fs) = (spot-zero f, overlaps (next true from f) fs)
 
-overlaps_only : (from : ℕ) (fs : List Storage) (ss : List Spot) → Overlap fs ss → ss ≡ spots_from true from fs
+overlaps_only : (from : ℕ) (fs : List Storage) (ss : List FieldSpot) → Overlap fs ss → ss ≡ spots_from true from fs
 overlaps_only from [] [] overlap = refl
 overlaps_only from [] (s ∷ ss) overlap = absurd overlap
 overlaps_only from (f ∷ fs) [] overlap = absurd overlap
 overlaps_only from (f ∷ fs) (s ∷ ss) overlap =
-    ap (λ (t : Spot). t ∷ ss) (overlap.0 ∙ sym (spot-zero f)) ∙ ap (λ (ts : List Spot). spot_of f 0 ∷ ts) (overlaps_only (next true from f) fs ss overlap.1)
+    ap (λ (t : FieldSpot). t ∷ ss) (overlap.0 ∙ sym (spot-zero f)) ∙ ap (λ (ts : List FieldSpot). spot_of f 0 ∷ ts) (overlaps_only (next true from f) fs ss overlap.1)
 
 lie : (is_union : Bool) (fs : List Storage) → All IsPossible fs → Lie is_union fs (spots_from is_union 0 fs)
 lie true fs all = overlaps 0 fs
 lie false fs all = follows 0 fs all
 
-lie_only : (is_union : Bool) (fs : List Storage) (ss : List Spot) → All IsPossible fs → Lie is_union fs ss → ss ≡ spots_from is_union 0 fs
+lie_only : (is_union : Bool) (fs : List Storage) (ss : List FieldSpot) → All IsPossible fs → Lie is_union fs ss → ss ≡ spots_from is_union 0 fs
 lie_only true fs ss all lies = overlaps_only 0 fs ss lies
 lie_only false fs ss all lies = follows_only 0 fs ss all lies
 
@@ -118,17 +118,17 @@ plane_is is_union fs all = record {
       (λ bound inside. reach_least is_union 0 fs bound all (omega arith) inside);
 }
 
-same_plane : (size align size' align' : ℕ) (spots spots' : List Spot) → size ≡ size' → align ≡ align' → spots ≡ spots'
+same_plane : (size align size' align' : ℕ) (spots spots' : List FieldSpot) → size ≡ size' → align ≡ align' → spots ≡ spots'
     → ◌≡◌ {A = Plane} (record { size = size; align = align; fields = spots }) (record { size = size'; align = align'; fields = spots' })
 same_plane size align size' align' spots spots' a b c =
     ap (λ (n : ℕ). let p : Plane = record { size = n; align = align; fields = spots } in p) a ∙
     ap (λ (n : ℕ). let p : Plane = record { size = size'; align = n; fields = spots } in p) b ∙
-    ap (λ (ss : List Spot). let p : Plane = record { size = size'; align = align'; fields = ss } in p) c
+    ap (λ (ss : List FieldSpot). let p : Plane = record { size = size'; align = align'; fields = ss } in p) c
 
 pub plane_only : (is_union : Bool) (fs : List Storage) (plane : Plane) → All IsPossible fs → IsPlaneOf is_union fs plane → plane ≡ plane_of is_union fs
 plane_only is_union fs plane all is =
     let places = lie_only is_union fs plane.fields all is.places in
     let ours = plane_is is_union fs all in
     let size = subst (λ (n : ℕ). IsSize n (ends fs plane.fields) plane.size) is.align is.size in
-    let size' = subst (λ (ss : List Spot). IsSize (greatest (map align_of fs)) (ends fs ss) plane.size) places size in
+    let size' = subst (λ (ss : List FieldSpot). IsSize (greatest (map align_of fs)) (ends fs ss) plane.size) places size in
     same_plane plane.size plane.align _ _ plane.fields _ (one_size (ends fs (spots_from is_union 0 fs)) (greatest (map align_of fs)) _ _ size' ours.size) is.align places

@@ -19,7 +19,7 @@ use Rattle.gt_layout.specs.declared.planes.Growth.{Growth}
 use Rattle.gt_layout.specs.Growths.{AreGrowths}
 use Rattle.gt_layout.specs.declared.planes.TheConstants.{MAX_SIZE}
 use Rattle.gt_layout.specs.declared.planes.Plane.{Plane}
-use Rattle.gt_layout.specs.declared.planes.Spot.{Spot}
+use Rattle.gt_layout.specs.declared.planes.FieldSpot.{FieldSpot}
 use Rattle.gt_layout.specs.declared.planes.Layouts.{Layouts}
 use Rattle.gt_layout.specs.declared.storages.Storage.{Storage}
 use Rattle.gt_layout.specs.declared.storages.Storage.TheVariants.{Bytes, Bits}
@@ -117,7 +117,7 @@ held_possible : (fs : List Storage) → All IsPossible fs → All IsPossible (ma
 held_possible fs all = All-map IsPossible held_storage fs (All-weaker IsPossible (λ f. IsPossible (held_storage f)) possible_held fs all)
 
 -- the root at which what was placed goes beyond the limit
-pub beyond_record : (known : List Plane) (roots : List Root) (i : ℕ) (last most last' most' : ℕ) (places places' : List Spot) → All (λ (r : Root). IsTrue (is_placeable (storage_of known r.ty))) roots
+pub beyond_record : (known : List Plane) (roots : List Root) (i : ℕ) (last most last' most' : ℕ) (places places' : List FieldSpot) → All (λ (r : Root). IsTrue (is_placeable (storage_of known r.ty))) roots
     → IsDraft false (map held_storage (root_storages known (take i roots))) last most places → last ≤ 8 * MAX_SIZE
     → IsDraft false (map held_storage (root_storages known (take (i + 1) roots))) last' most' places' → 8 * MAX_SIZE < last' → IsBeyondRecord known roots i
 beyond_record known roots i last most last' most' places places' placeable draft small draft' large =
@@ -147,12 +147,12 @@ held_within p small = held_small p (leb p.size MAX_SIZE) refl small
 small_held : (p : Plane) → p.size ≤ MAX_SIZE → held p ≡ p
 small_held p small = ap (λ (b : Bool). cond b p (large_plane p.align)) (le-leb p.size MAX_SIZE small)
 
-finished_small : (last most : ℕ) (places : List Spot) → IsTrue (is_alignment most) → last ≤ 8 * MAX_SIZE → (finished last most places).size ≤ MAX_SIZE
+finished_small : (last most : ℕ) (places : List FieldSpot) → IsTrue (is_alignment most) → last ≤ 8 * MAX_SIZE → (finished last most places).size ≤ MAX_SIZE
 finished_small last most places aligned small =
     least_multiple ((last + 7) / 8) most MAX_SIZE (omega (arith, (alignment_between most aligned).0)) (omega (arith, small)) (limit_whole most aligned)
 
 -- all roots are placed within the limit
-pub within_record : (known : List Plane) (roots : List Root) (i last most : ℕ) (places : List Spot) (result : Plane) → All (λ (r : Root). IsTrue (is_placeable (storage_of known r.ty))) roots
+pub within_record : (known : List Plane) (roots : List Root) (i last most : ℕ) (places : List FieldSpot) (result : Plane) → All (λ (r : Root). IsTrue (is_placeable (storage_of known r.ty))) roots
     → IsDraft false (map held_storage (root_storages known (take i roots))) last most places → last ≤ 8 * MAX_SIZE → length roots ≤ i → result ≡ held (finished last most places) → IsWithinRecord known roots result
 within_record known roots i last most places result placeable draft small all is =
     let fs = root_storages known roots in

@@ -3,7 +3,7 @@ use Rattle.std.specs.Prelude.{◌≡◌, ◌≤◌, ◌<◌, ℕ, ◌+◌, ◌*�
 use Rattle.gt_types.specs.declared.types.TypeId.{TypeId}
 use Rattle.gt_types.specs.declared.program.Structure.{Structure}
 use Rattle.gt_types.specs.declared.program.Program.{Program}
-use Rattle.gt_layout.specs.declared.planes.Spot.{Spot}
+use Rattle.gt_layout.specs.declared.planes.FieldSpot.{FieldSpot}
 use Rattle.gt_layout.specs.declared.planes.Growth.{Growth}
 use Rattle.gt_layout.specs.declared.planes.Plane.{Plane}
 use Rattle.gt_layout.specs.declared.planes.Layouts.{Layouts}
@@ -20,20 +20,20 @@ abbrev pub HasOneLayout : Program → Type 0
 HasOneLayout program = (layouts : Layouts) × IsLaidOut program layouts × ((other : Layouts) → IsLaidOut program other → other ≡ layouts)
 
 -- an offset is a multiple of the alignment, and bits lie inside their unit
-abbrev pub IsAligned : Storage → Spot → Type 0
+abbrev pub IsAligned : Storage → FieldSpot → Type 0
 IsAligned (Bytes e) s = (s.offset % e.align ≡ 0) × (s.bit ≡ 0)
 IsAligned (Bits unit count) s = (s.offset % unit ≡ 0) × (s.bit + count ≤ 8 * unit)
 
 -- the field at a place takes this bit
 abbrev pub Takes : List Storage → Plane → ℕ → ℕ → Type 0
-Takes fields plane place bit = (f : Storage) × (s : Spot) × (slice_get fields place ≡ Some f) × (slice_get plane.fields place ≡ Some s) × (begin_at s ≤ bit) × (bit < end_at f s)
+Takes fields plane place bit = (f : Storage) × (s : FieldSpot) × (slice_get fields place ≡ Some f) × (slice_get plane.fields place ≡ Some s) × (begin_at s ≤ bit) × (bit < end_at f s)
 
 -- what holds of the fields of a plane: each is aligned and ends inside; in a struct each begins where those before it have ended,
 -- and no bit belongs to two of them
 pub record ArePlaced (is_union : Bool) (fields : List Storage) (plane : Plane) : Type 0 where
-  pub aligned : (place : ℕ) (f : Storage) (s : Spot) → slice_get fields place ≡ Some f → slice_get plane.fields place ≡ Some s → IsAligned f s
-  pub inside : (place : ℕ) (f : Storage) (s : Spot) → slice_get fields place ≡ Some f → slice_get plane.fields place ≡ Some s → end_at f s ≤ 8 * plane.size
-  pub ordered : is_union ≡ false → (place other : ℕ) (f g : Storage) (s t : Spot) → place < other → slice_get fields place ≡ Some f → slice_get plane.fields place ≡ Some s
+  pub aligned : (place : ℕ) (f : Storage) (s : FieldSpot) → slice_get fields place ≡ Some f → slice_get plane.fields place ≡ Some s → IsAligned f s
+  pub inside : (place : ℕ) (f : Storage) (s : FieldSpot) → slice_get fields place ≡ Some f → slice_get plane.fields place ≡ Some s → end_at f s ≤ 8 * plane.size
+  pub ordered : is_union ≡ false → (place other : ℕ) (f g : Storage) (s t : FieldSpot) → place < other → slice_get fields place ≡ Some f → slice_get plane.fields place ≡ Some s
       → slice_get fields other ≡ Some g → slice_get plane.fields other ≡ Some t → end_at f s ≤ begin_at t
   pub apart : is_union ≡ false → (place other bit : ℕ) → Takes fields plane place bit → Takes fields plane other bit → place ≡ other
 

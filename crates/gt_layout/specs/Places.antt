@@ -1,6 +1,6 @@
 -- Where fields lie in their structure. Places are counted in bits from its start, and bits from the lowest of each byte.
 use Rattle.std.specs.Prelude.{◌≡◌, ◌≤◌, ℕ, ◌+◌, ◌-◌, ◌*◌, ◌/◌, ◌%◌, Bool, true, false, List, [], ◌∷◌}
-use Rattle.gt_layout.specs.declared.planes.Spot.{Spot}
+use Rattle.gt_layout.specs.declared.planes.FieldSpot.{FieldSpot}
 use Rattle.gt_layout.specs.declared.storages.Storage.{Storage}
 use Rattle.gt_layout.specs.declared.storages.Storage.TheVariants.{Bytes, Bits}
 
@@ -25,45 +25,45 @@ abbrev pub align_of : Storage → ℕ
 align_of (Bytes e) = e.align
 align_of (Bits unit count) = unit
 
-abbrev pub spot : ℕ → ℕ → Spot
+abbrev pub spot : ℕ → ℕ → FieldSpot
 spot offset bit = record { offset = offset; bit = bit }
 
 -- how the place of a field is written: the byte; for bits the byte of their aligned unit, and the first bit in it
-abbrev pub spot_of : Storage → ℕ → Spot
+abbrev pub spot_of : Storage → ℕ → FieldSpot
 spot_of (Bytes e) begin = spot (begin / 8) 0
 spot_of (Bits unit count) begin = spot (begin / (8 * unit) * unit) (begin % (8 * unit))
 
 -- the first bit of a field, and the bit after its last, from its place as it is written
-abbrev pub begin_at : Spot → ℕ
+abbrev pub begin_at : FieldSpot → ℕ
 begin_at s = 8 * s.offset + s.bit
 
-abbrev pub end_at : Storage → Spot → ℕ
+abbrev pub end_at : Storage → FieldSpot → ℕ
 end_at field s = end_of field (begin_at s)
 
 -- the fields of a struct: each lies after the end of the one before it, and the first after `from`
-abbrev pub Follow : ℕ → List Storage → List Spot → Type 0
+abbrev pub Follow : ℕ → List Storage → List FieldSpot → Type 0
 Follow from [] [] = Unit {0}
 Follow from (f ∷ fs) (s ∷ ss) = LiesAfter from f (begin_at s) × (s ≡ spot_of f (begin_at s)) × Follow (end_at f s) fs ss
 Follow from _ _ = ⊥
 
 -- the members of a union all begin at 0
-abbrev pub Overlap : List Storage → List Spot → Type 0
+abbrev pub Overlap : List Storage → List FieldSpot → Type 0
 Overlap [] [] = Unit {0}
 Overlap (f ∷ fs) (s ∷ ss) = (s ≡ spot 0 0) × Overlap fs ss
 Overlap _ _ = ⊥
 
 -- where the fields lie, of a union where `true` is given, else of a struct
-abbrev pub Lie : Bool → List Storage → List Spot → Type 0
+abbrev pub Lie : Bool → List Storage → List FieldSpot → Type 0
 Lie true fields spots = Overlap fields spots
 Lie false fields spots = Follow 0 fields spots
 
 -- for each field at its place, the bit after its last
-abbrev pub ends : List Storage → List Spot → List ℕ
+abbrev pub ends : List Storage → List FieldSpot → List ℕ
 ends (f ∷ fs) (s ∷ ss) = end_at f s ∷ ends fs ss
 ends _ _ = []
 
 -- the offset of the last field
-abbrev pub last_offset : List Spot → ℕ
+abbrev pub last_offset : List FieldSpot → ℕ
 last_offset [] = 0
 last_offset (s ∷ []) = s.offset
 last_offset (s ∷ t ∷ ss) = last_offset (t ∷ ss)

@@ -6,7 +6,7 @@ use Rattle.gt_types.specs.declared.types.Ty.{Ty}
 use Rattle.gt_types.specs.Contains.{Nests, held_by}
 use Rattle.gt_types.specs.Tails.{tail_of}
 use Rattle.gt_layout.specs.declared.planes.Plane.{Plane}
-use Rattle.gt_layout.specs.declared.planes.Spot.{Spot}
+use Rattle.gt_layout.specs.declared.planes.FieldSpot.{FieldSpot}
 use Rattle.gt_layout.specs.declared.storages.Storage.{Storage}
 use Rattle.gt_layout.specs.Storages.{extent_of, held_extent}
 use Rattle.gt_layout.specs.Places.{LiesAfter}
@@ -60,7 +60,7 @@ pub record AreHeldPlanes (program : Program) (known : List Plane) : Type 0 where
   pub held : (planes : List Plane) → AreLaidOut program planes → (place : ℕ) (k plane : Plane) → slice_get known place ≡ Some k → slice_get planes place ≡ Some plane → k ≡ held plane
 
 -- the plane of fields that were placed: the bit after the last one, their alignment, and their places
-abbrev pub finished : ℕ → ℕ → List Spot → Plane
+abbrev pub finished : ℕ → ℕ → List FieldSpot → Plane
 finished end align spots = record { size = ((end + 7) / 8 + align - 1) / align * align; align = align; fields = spots }
 
 -- where a field begins in a union, or in a struct after the fields that end at `from`

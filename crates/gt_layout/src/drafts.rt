@@ -8,7 +8,7 @@ ghost use Rattle.gt_layout.specs.Planes.{IsHeldPlane, held, is_alignment, is_pla
 ghost use Rattle.gt_layout.specs.Progress.{finished};
 
 use crate::extents::storage;
-use crate::planes::{MAX_SIZE, Plane, Spot};
+use crate::planes::{MAX_SIZE, Plane, FieldSpot};
 use crate::rounding::round_up;
 use crate::storages::Storage;
 use gt_types::{List, Structure, TOO_LARGE};
@@ -21,7 +21,7 @@ pub struct Draft {
     pub end: u64,
     /// Their greatest alignment.
     pub align: u32,
-    pub spots: Vec<Spot>,
+    pub spots: Vec<FieldSpot>,
 }
 
 impl Draft {

@@ -17,7 +17,7 @@ pub struct Extent {
 /// Where a field begins: `offset` is in bytes from the start of the structure. For a bit-field it is the offset of its
 /// aligned storage unit, and `bit` its first bit in that unit, counted from the lowest; for any other field `bit` is 0.
 #[derive(Clone, Copy, Debug, PartialEq, Eq)]
-pub struct Spot {
+pub struct FieldSpot {
     pub offset: u32,
     pub bit: u8,
 }
@@ -29,7 +29,7 @@ pub struct Spot {
 pub struct Plane {
     pub size: u32,
     pub align: u32,
-    pub fields: List<Spot>,
+    pub fields: List<FieldSpot>,
 }
 
 /// Where an array with a length begins inside a structure, in bytes from its start, and the bytes of one of its elements.

@@ -4,7 +4,7 @@ ghost use Rattle.gt_layout.specs.Places.{LiesAfter, end_of, align_of, spot_of};
 ghost use Rattle.gt_layout.specs.Planes.{is_placeable};
 ghost use Rattle.gt_layout.specs.Progress.{Starts};
 
-use crate::planes::{Extent, Spot};
+use crate::planes::{Extent, FieldSpot};
 use crate::rounding::round_up;
 
 /// What a field takes of its structure: whole bytes, or `count` bits of an aligned storage unit of `unit` bytes.
@@ -80,19 +80,19 @@ impl Storage {
     }
 
     // The place of a field that begins at `begin`.
-    pub fn spot(self, begin: u64) -> Spot
+    pub fn spot(self, begin: u64) -> FieldSpot
         requires placeable { IsTrue (is_placeable self) }
         requires small { begin < 2 ^ 35 }
         ensures { result ≡ spot_of self begin }
     {
         match self {
-            Storage::Bytes(_) => Spot {
+            Storage::Bytes(_) => FieldSpot {
                 offset: (begin / 8) as u32,
                 bit: 0,
             },
             Storage::Bits { unit, .. } => {
                 let bits = 8 * unit as u64;
-                Spot {
+                FieldSpot {
                     offset: (begin / bits * unit as u64) as u32,
                     bit: (begin % bits) as u8,
                 }

@@ -4,7 +4,7 @@ ghost use Rattle.std.specs.Option.{option_copied};
 ghost use Rattle.gt_types.specs.Tails.{elements_of, tail_of};
 ghost use Rattle.gt_layout.specs.Places.{last_offset};
 
-use crate::planes::Spot;
+use crate::planes::FieldSpot;
 use gt_types::{Field, Ty};
 
 fn elements_of(ty: &Ty) -> Option<&Ty>
@@ -27,7 +27,7 @@ pub fn tail_of(fields: &[Field]) -> Option<&Ty>
 }
 
 /// The offset of the last field.
-pub fn last_offset(spots: &[Spot]) -> u32
+pub fn last_offset(spots: &[FieldSpot]) -> u32
     ensures { result ≡ last_offset spots.now }
 {
     match spots {

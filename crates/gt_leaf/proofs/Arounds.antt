@@ -14,7 +14,7 @@ use Rattle.gt_types.specs.declared.program.Structure.{Structure}
 use Rattle.gt_types.specs.declared.program.Program.{Program}
 use Rattle.gt_types.specs.Contains.{HasStructure}
 use Rattle.gt_layout.specs.declared.planes.Plane.{Plane}
-use Rattle.gt_layout.specs.declared.planes.Spot.{Spot}
+use Rattle.gt_layout.specs.declared.planes.FieldSpot.{FieldSpot}
 use Rattle.gt_tree.specs.Trees.{Trees}
 use Rattle.gt_tree.specs.Scopes.{◌then◌}
 use Rattle.gt_tree.proofs.FixedValues.{in-array, in-tail}
@@ -140,7 +140,7 @@ module _ (program : Program) where
         (subst (λ o. Covers around active (structures_from program (with_itself program (none_around top) type (i ∷ path)) o path)) (tail-at type elem length i e) covers)
 
   -- those on a path from a root are those in the static record
-  pub static-covers : {planes : List Plane} {spots : List Spot} {statics : Trees} {path : List ℕ} {p : Part} (active : Bool) (l : StaticPartLies program planes spots statics path p)
+  pub static-covers : {planes : List Plane} {spots : List FieldSpot} {statics : Trees} {path : List ℕ} {p : Part} (active : Bool) (l : StaticPartLies program planes spots statics path p)
       → Covers (structures_in_statics program path) active (structures_on program (Some l.r.ty) l.rest)
   static-covers {path} active l =
       let root_is : root_at program l.i ≡ Some l.r.ty = ap (λ o. o then λ (r : Root). Some r.ty) l.root in

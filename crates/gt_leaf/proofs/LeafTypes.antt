@@ -13,7 +13,7 @@ use Rattle.gt_types.specs.declared.program.Program.{Program}
 use Rattle.gt_types.specs.Shapes.{innermost}
 use Rattle.gt_types.specs.Contains.{HasStructure}
 use Rattle.gt_layout.specs.declared.planes.Plane.{Plane}
-use Rattle.gt_layout.specs.declared.planes.Spot.{Spot}
+use Rattle.gt_layout.specs.declared.planes.FieldSpot.{FieldSpot}
 use Rattle.gt_tree.specs.Trees.{Tree, Trees}
 use Rattle.gt_tree.specs.Scopes.{Scope, ◌then◌}
 use Rattle.gt_tree.proofs.Types.{innermost-node}
@@ -91,6 +91,6 @@ module _ (program : Program) where
       → (kind : LeafKind) → leaf_kind p.type ≡ Some kind → held_type program (Some type) p.holder ≡ Some p.type
   type-there {type} {p} l kind e = element-held type p kind e (held-in l kind e)
 
-  pub root-type-there : {planes : List Plane} {spots : List Spot} {values : Trees} {path : List ℕ} {p : Part} → StaticPartLies program planes spots values path p
+  pub root-type-there : {planes : List Plane} {spots : List FieldSpot} {values : Trees} {path : List ℕ} {p : Part} → StaticPartLies program planes spots values path p
       → (kind : LeafKind) → leaf_kind p.type ≡ Some kind → held_type program None p.holder ≡ Some p.type
   root-type-there {p} l kind e = root-held l.i l.r p kind l.root e (held-in l.lies kind e)

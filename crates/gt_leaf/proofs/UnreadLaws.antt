@@ -7,7 +7,7 @@ use Rattle.gt_types.specs.declared.program.Root.{Root}
 use Rattle.gt_types.specs.declared.program.Program.{Program}
 use Rattle.gt_types.specs.Settled.{Settled}
 use Rattle.gt_layout.specs.declared.planes.Plane.{Plane}
-use Rattle.gt_layout.specs.declared.planes.Spot.{Spot}
+use Rattle.gt_layout.specs.declared.planes.FieldSpot.{FieldSpot}
 use Rattle.gt_tree.specs.Trees.{Rec, Trees, tree_at, with_part, with_part_of}
 use Rattle.gt_tree.specs.Blocks.{element_type}
 use Rattle.gt_tree.specs.Scopes.{outside, number_at, ◌then◌}
@@ -42,7 +42,7 @@ roots-along program a =
     All-map (Along program a (outside a)) (λ (r : Root). r.ty) program.roots
     (All-weaker (Contains program.roots) (λ r. Along program a (outside a) r.ty) (λ r c. Along.at_root r c) program.roots (All-contains_itself program.roots))
 
-pub unread-statics : (program : Program) (planes : List Plane) (spots : List Spot) → Settled program → UnreadStaticsFit program planes spots
+pub unread-statics : (program : Program) (planes : List Plane) (spots : List FieldSpot) → Settled program → UnreadStaticsFit program planes spots
 unread-statics program planes spots settled blocks old new leaf path p fits l unread may leaf_fits e =
     let w = with_part_of old l.i l.rest leaf in
     let same_rec : Rec w ≡ Rec new = ap (λ y. with_part (Rec old) y leaf) (sym l.path_is) ∙ e in

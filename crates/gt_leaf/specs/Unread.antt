@@ -21,7 +21,7 @@ use Rattle.gt_types.specs.Shapes.{innermost, is_number, count_of}
 use Rattle.gt_types.specs.Contains.{HasStructure, ContainsStructure, ContainsAtDepth, itself}
 use Rattle.gt_types.specs.Paths.{paths_of, roots_of, own_expressions}
 use Rattle.gt_layout.specs.declared.planes.Plane.{Plane}
-use Rattle.gt_layout.specs.declared.planes.Spot.{Spot}
+use Rattle.gt_layout.specs.declared.planes.FieldSpot.{FieldSpot}
 use Rattle.gt_tree.specs.Trees.{Tree, Rec, Trees, is_leaf, with_part, without_pointers}
 use Rattle.gt_tree.specs.Blocks.{Kind, Blocks, element_type}
 use Rattle.gt_tree.specs.Scopes.{outside, ◌then◌}
@@ -244,7 +244,7 @@ UnreadElementsFit program planes = (blocks : Blocks) (statics : Trees) (kind : K
     → Fits program blocks capacity (outside statics) (element_type program kind) (with_part value path leaf)
 
 -- so it is for the static record
-abbrev pub UnreadStaticsFit : Program → List Plane → List Spot → Type 0
+abbrev pub UnreadStaticsFit : Program → List Plane → List FieldSpot → Type 0
 UnreadStaticsFit program planes spots = (blocks : Blocks) (old new : Trees) (leaf : Tree) (path : List ℕ) (p : Part)
     → StaticsFit program blocks old → StaticPartLies program planes spots old path p
     → IsUnread program (structures_in_statics program path) p.active p.holder → MayReplace p leaf → Fits program blocks 0 p.scope p.type leaf

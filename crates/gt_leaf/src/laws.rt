@@ -1,6 +1,6 @@
 //! What follows for leaves that no expression reads. These calls do nothing: their clauses are laws.
 ghost use Rattle.gt_layout.specs.declared.planes.Plane.{Plane};
-ghost use Rattle.gt_layout.specs.declared.planes.Spot.{Spot};
+ghost use Rattle.gt_layout.specs.declared.planes.FieldSpot.{FieldSpot};
 ghost use Rattle.gt_leaf.specs.Unread.{UnreadElementsFit, UnreadStaticsFit};
 ghost use Rattle.gt_types.specs.Settled.{Settled};
 ghost use Rattle.gt_types.specs.declared.program.Program.{Program};
@@ -10,5 +10,5 @@ ghost use Rattle.std.specs.Prelude.{List};
 /// block and for the static record.
 pub fn unread_leaves_keep_values_fitting()
     ensures elements { (program : Program) (planes : List Plane) → Settled program → UnreadElementsFit program planes }
-    ensures statics { (program : Program) (planes : List Plane) (spots : List Spot) → Settled program → UnreadStaticsFit program planes spots }
+    ensures statics { (program : Program) (planes : List Plane) (spots : List FieldSpot) → Settled program → UnreadStaticsFit program planes spots }
 {}

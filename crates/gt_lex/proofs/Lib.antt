@@ -12,7 +12,7 @@ mod Directives
 mod Front
 mod Scanning
 mod Unique
-mod Outcomes
+pub mod Outcomes
 mod Total
-mod Slices
-mod Names
+pub mod Slices
+pub mod Names

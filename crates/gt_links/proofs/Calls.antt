@@ -2,8 +2,8 @@
 use Rattle.std.proofs.Common.{◌≡◌, ℕ, eqb, suc, ◌+◌, ◌^◌, ◌<◌, ◌≤◌, [], ◌∷◌, ◌++◌, length, slice_get, Option, Some, None, IfSome, IfNone, sym, ap, subst, ◌∙◌, arith}
 use Rattle.std.specs.List.{IsDistinct}
 use Rattle.std.proofs.lemmas.Option.{none-some, IfSome_then, slice_get-get_or}
-use Rattle.gt_links.specs.declared.rings.Place.{Place}
-use Rattle.gt_links.specs.declared.rings.Place.TheVariants.{Head, Node}
+use Rattle.gt_links.specs.declared.rings.Neighbour.{Neighbour}
+use Rattle.gt_links.specs.declared.rings.Neighbour.TheVariants.{Head, Node}
 use Rattle.gt_links.specs.declared.rings.Rings.{Rings}
 use Rattle.gt_links.specs.Lists.{Lists, nodes_of, with_nodes, without, Holds, IsFree, StandsAt, AreDisjoint}
 use Rattle.gt_links.specs.Rings.{IsPlace, node_of, next_of, previous_of, list_of, Inserts, Removes}
@@ -39,7 +39,7 @@ module _ (r : Rings) (s : Lists) (is : lists_of r ≡ s) (sound : IsMadeOf r (li
   made = subst (IsMadeOf r) is sound
 
   -- a place that is a node is below the number of nodes
-  is_bounded : (p : Place) → IsPlace r p → IfSome (node_of p) (λ x. x < s.nodes)
+  is_bounded : (p : Neighbour) → IsPlace r p → IfSome (node_of p) (λ x. x < s.nodes)
   is_bounded (Head i) at = tt
   is_bounded (Node x) at = let l = made.lists in let n = made.entries in omega (arith, at)
 

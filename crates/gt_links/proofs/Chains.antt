@@ -4,8 +4,8 @@ use Rattle.std.specs.List.{AllByRecursion, IsDistinct}
 use Rattle.std.proofs.lemmas.Bool.{cases_eq, ne_eqb}
 use Rattle.std.proofs.lemmas.Option.{none-some, same_Some}
 use Rattle.std.proofs.lemmas.Map.Keys.{IsDistinct-cons}
-use Rattle.gt_links.specs.declared.rings.Place.{Place}
-use Rattle.gt_links.specs.declared.rings.Place.TheVariants.{Head, Node}
+use Rattle.gt_links.specs.declared.rings.Neighbour.{Neighbour}
+use Rattle.gt_links.specs.declared.rings.Neighbour.TheVariants.{Head, Node}
 use Rattle.gt_links.specs.declared.rings.Rings.{Rings}
 use Rattle.gt_links.specs.Lists.{without}
 use Rattle.gt_links.specs.Links.{IsChain, nodes_after, node_then}
@@ -25,11 +25,11 @@ pub Node-same : {x y : ℕ} → Node x ≡ Node y → x ≡ y
 Node-same e = cc
 
 -- what p leads to is a place
-pub leads : (r : Rings) (p q : Place) → LinksAgree r → IsPlace r p → next_of r p ≡ q → IsPlace r q
+pub leads : (r : Rings) (p q : Neighbour) → LinksAgree r → IsPlace r p → next_of r p ≡ q → IsPlace r q
 leads r p q a at e = subst (IsPlace r) e (a.next_leads p at)
 
 -- each node on a chain is a place
-pub IsPlace-from_chain : (r : Rings) (s end : Place) (xs : List ℕ) → LinksAgree r → IsPlace r s → IsChain r s xs end → (y : ℕ) → IsAmong y xs → IsPlace r (Node y)
+pub IsPlace-from_chain : (r : Rings) (s end : Neighbour) (xs : List ℕ) → LinksAgree r → IsPlace r s → IsChain r s xs end → (y : ℕ) → IsAmong y xs → IsPlace r (Node y)
 IsPlace-from_chain r s end [] a at c y m = absurd m
 IsPlace-from_chain r s end (x ∷ xs) a at c y m =
     let here = leads r s (Node x) a at c.0 in
@@ -40,13 +40,13 @@ IsPlace-from_chain r s end (x ∷ xs) a at c y m =
 
 module _ (old new : Rings) where
   -- a chain stays where the links of its nodes do, also from another place that leads to its first node
-  pub IsChain-same : (s t end : Place) (xs : List ℕ) → next_of new t ≡ next_of old s → ((y : ℕ) → IsAmong y xs → next_of new (Node y) ≡ next_of old (Node y)) → IsChain old s xs end → IsChain new t xs end
+  pub IsChain-same : (s t end : Neighbour) (xs : List ℕ) → next_of new t ≡ next_of old s → ((y : ℕ) → IsAmong y xs → next_of new (Node y) ≡ next_of old (Node y)) → IsChain old s xs end → IsChain new t xs end
   IsChain-same s t end [] start same c = start ∙ c
   IsChain-same s t end (x ∷ xs) start same c =
       (start ∙ c.0, IsChain-same (Node x) (Node x) end xs (same x (inl refl)) (λ y m. same y (inr m)) c.1)
 
   -- only p and q change, and a chain that does not pass where p led stays
-  pub IsChain-elsewhere : (p q s end : Place) (xs : List ℕ) → LinksAgree old → ((r : Place) → IsPlace old r → r ≢ p → r ≢ q → next_of new r ≡ next_of old r) → next_of old p ≢ end → ((y : ℕ) → IsAmong y xs → (next_of old p ≢ Node y) × (Node y ≢ q)) → IsPlace old s → s ≢ q → IsChain old s xs end → IsChain new s xs end
+  pub IsChain-elsewhere : (p q s end : Neighbour) (xs : List ℕ) → LinksAgree old → ((r : Neighbour) → IsPlace old r → r ≢ p → r ≢ q → next_of new r ≡ next_of old r) → next_of old p ≢ end → ((y : ℕ) → IsAmong y xs → (next_of old p ≢ Node y) × (Node y ≢ q)) → IsPlace old s → s ≢ q → IsChain old s xs end → IsChain new s xs end
   IsChain-elsewhere p q s end [] a others ends apart at not_q c =
       others s at (λ is. ends (sym (ap (next_of old) is) ∙ c)) not_q ∙ c
   IsChain-elsewhere p q s end (x ∷ xs) a others ends apart at not_q c =
@@ -56,7 +56,7 @@ module _ (old new : Rings) where
       )
 
   -- the place before the end has x after it now
-  pub IsChain-push : (s : Place) (x i : ℕ) (xs : List ℕ) → LinksAgree old → IsPlace old (Head i) → Inserts old new (previous_of old (Head i)) x i → ¬ (IsAmong x xs) → IsPlace old s → s ≢ Node x → IsChain old s xs (Head i) → IsChain new s (xs ++ x ∷ []) (Head i)
+  pub IsChain-push : (s : Neighbour) (x i : ℕ) (xs : List ℕ) → LinksAgree old → IsPlace old (Head i) → Inserts old new (previous_of old (Head i)) x i → ¬ (IsAmong x xs) → IsPlace old s → s ≢ Node x → IsChain old s xs (Head i) → IsChain new s (xs ++ x ∷ []) (Head i)
   IsChain-push s x i [] a head h free at not_x c =
       let last : s ≡ previous_of old (Head i) = sym (a.back s at) ∙ ap (previous_of old) c in
       (ap (next_of new) last ∙ h.before, h.node ∙ a.forth (Head i) head)
@@ -68,21 +68,21 @@ module _ (old new : Rings) where
       )
 
   -- what led to x leads past it now
-  leads_past : (s : Place) (x : ℕ) → LinksAgree old → Removes old new x → IsPlace old s → next_of old s ≡ Node x → next_of new s ≡ next_of old (Node x)
+  leads_past : (s : Neighbour) (x : ℕ) → LinksAgree old → Removes old new x → IsPlace old s → next_of old s ≡ Node x → next_of new s ≡ next_of old (Node x)
   leads_past s x a h at c =
       ap (next_of new) (sym (a.back s at) ∙ ap (previous_of old) c) ∙ h.before
 
   -- and what did not leads on as before
-  leads_on : (s : Place) (x : ℕ) → LinksAgree old → IsPlace old (Node x) → Removes old new x → IsPlace old s → s ≢ Node x → next_of old s ≢ Node x → next_of new s ≡ next_of old s
+  leads_on : (s : Neighbour) (x : ℕ) → LinksAgree old → IsPlace old (Node x) → Removes old new x → IsPlace old s → s ≢ Node x → next_of old s ≢ Node x → next_of new s ≡ next_of old s
   leads_on s x a node h at not_x apart =
       h.others s at (λ is. apart (ap (next_of old) is ∙ a.forth (Node x) node)) not_x
 
   -- a place that something else leads to does not lead to itself
-  not_alone : (s : Place) (x : ℕ) → LinksAgree old → IsPlace old (Node x) → IsPlace old s → s ≢ Node x → next_of old s ≡ Node x → next_of old (Node x) ≢ Node x
+  not_alone : (s : Neighbour) (x : ℕ) → LinksAgree old → IsPlace old (Node x) → IsPlace old s → s ≢ Node x → next_of old s ≡ Node x → next_of old (Node x) ≢ Node x
   not_alone s x a node at not_x c alone =
       not_x (sym (a.back s at) ∙ (ap (previous_of old) (c ∙ sym alone) ∙ a.back (Node x) node))
 
-  pub IsChain-remove : (s : Place) (x i : ℕ) (xs : List ℕ) → LinksAgree old → IsPlace old (Node x) → Removes old new x → IsPlace old s → s ≢ Node x → IsChain old s xs (Head i) → IsChain new s (without x xs) (Head i)
+  pub IsChain-remove : (s : Neighbour) (x i : ℕ) (xs : List ℕ) → LinksAgree old → IsPlace old (Node x) → Removes old new x → IsPlace old s → s ≢ Node x → IsChain old s xs (Head i) → IsChain new s (without x xs) (Head i)
   IsChain-remove s x i [] a node h at not_x c =
       leads_on s x a node h at not_x (λ is. Head≢Node i x (sym c ∙ is)) ∙ c
   IsChain-remove s x i (y ∷ []) a node h at not_x c =
@@ -111,7 +111,7 @@ apart_from x (y ∷ ys) free =
 
 module _ (r : Rings) where
   -- the link back from a node on a chain leads to the start or to a node on it
-  pub led_to : (s end : Place) (xs : List ℕ) → LinksAgree r → IsPlace r s → IsChain r s xs end → (y : ℕ) → IsAmong y xs → (previous_of r (Node y) ≡ s) ⊎ ((w : ℕ) × IsAmong w xs × (previous_of r (Node y) ≡ Node w))
+  pub led_to : (s end : Neighbour) (xs : List ℕ) → LinksAgree r → IsPlace r s → IsChain r s xs end → (y : ℕ) → IsAmong y xs → (previous_of r (Node y) ≡ s) ⊎ ((w : ℕ) × IsAmong w xs × (previous_of r (Node y) ≡ Node w))
   led_to s end [] a at c y m = absurd m
   led_to s end (x ∷ xs) a at c y m =
       elim m [
@@ -124,7 +124,7 @@ module _ (r : Rings) where
       ]
 
   -- no node stands twice on a chain that does not come back to its start
-  pub IsDistinct-chain : (s end : Place) (xs : List ℕ) → LinksAgree r → IsPlace r s → ((y : ℕ) → IsAmong y xs → s ≢ Node y) → IsChain r s xs end → IsDistinct eqb xs
+  pub IsDistinct-chain : (s end : Neighbour) (xs : List ℕ) → LinksAgree r → IsPlace r s → ((y : ℕ) → IsAmong y xs → s ≢ Node y) → IsChain r s xs end → IsDistinct eqb xs
   unfolding IsDistinct
   IsDistinct-chain s end [] a at apart c = tt
   IsDistinct-chain s end (x ∷ xs) a at apart c =
@@ -139,7 +139,7 @@ module _ (r : Rings) where
       IsDistinct-cons eqb x xs (apart_from x xs once) (IsDistinct-chain (Node x) end xs a here (λ y m e. once (subst (λ v. IsAmong v xs) (sym (Node-same e)) m)) c.1)
 
   -- a walk along a chain gives its nodes
-  pub nodes_after-chain : (most : ℕ) (p : Place) (i : ℕ) (xs : List ℕ) → length xs ≤ most → IsChain r p xs (Head i) → nodes_after r most p ≡ xs
+  pub nodes_after-chain : (most : ℕ) (p : Neighbour) (i : ℕ) (xs : List ℕ) → length xs ≤ most → IsChain r p xs (Head i) → nodes_after r most p ≡ xs
   nodes_after-chain zero p i [] long c = refl
   nodes_after-chain zero p i (x ∷ xs) long c = absurd (omega arith)
   nodes_after-chain (suc most) p i [] long c = ap (node_then (λ x. nodes_after r most (Node x))) c
@@ -147,17 +147,17 @@ module _ (r : Rings) where
       ap (node_then (λ v. nodes_after r most (Node v))) c.0
       ∙ ap (λ ys. x ∷ ys) (nodes_after-chain most (Node x) i xs (omega arith) c.1)
 
-  pub node_of-first : (p : Place) (i : ℕ) (xs : List ℕ) → IsChain r p xs (Head i) → node_of (next_of r p) ≡ slice_get xs 0
+  pub node_of-first : (p : Neighbour) (i : ℕ) (xs : List ℕ) → IsChain r p xs (Head i) → node_of (next_of r p) ≡ slice_get xs 0
   node_of-first p i [] c = ap node_of c
   node_of-first p i (x ∷ xs) c = ap node_of c.0
 
-  pub node_of-next : (p : Place) (i k x : ℕ) (xs : List ℕ) → IsChain r p xs (Head i) → slice_get xs k ≡ Some x → node_of (next_of r (Node x)) ≡ slice_get xs (suc k)
+  pub node_of-next : (p : Neighbour) (i k x : ℕ) (xs : List ℕ) → IsChain r p xs (Head i) → slice_get xs k ≡ Some x → node_of (next_of r (Node x)) ≡ slice_get xs (suc k)
   node_of-next p i k x [] c at = absurd (none-some x at)
   node_of-next p i zero x (y ∷ ys) c at =
       ap (λ v. node_of (next_of r (Node v))) (sym (same_Some y x at)) ∙ node_of-first (Node y) i ys c.1
   node_of-next p i (suc k) x (y ∷ ys) c at = node_of-next (Node y) i k x ys c.1 at
 
   -- a place on a chain leads to its end or to a node on it
-  pub leads_along : (p end : Place) (xs : List ℕ) → IsChain r p xs end → (next_of r p ≡ end) ⊎ ((w : ℕ) × IsAmong w xs × (next_of r p ≡ Node w))
+  pub leads_along : (p end : Neighbour) (xs : List ℕ) → IsChain r p xs end → (next_of r p ≡ end) ⊎ ((w : ℕ) × IsAmong w xs × (next_of r p ≡ Node w))
   leads_along p end [] c = inl c
   leads_along p end (x ∷ xs) c = inr (x, inl refl, c.0)

@@ -2,8 +2,8 @@
 use Rattle.std.proofs.Common.{◌≡◌, ◌≢◌, ℕ, ◌+◌, ◌^◌, ◌<◌, ◌↔◌, List, [], ◌∷◌, ◌++◌, length, Some, None, ◌⊎◌, inl, inr, ⊎_elim, sym, ap, subst, ◌∙◌, arith, length-set}
 use Rattle.std.proofs.lemmas.Bool.{cases_eq}
 use Rattle.std.proofs.lemmas.Option.{none-some, same_Some}
-use Rattle.gt_links.specs.declared.rings.Place.{Place}
-use Rattle.gt_links.specs.declared.rings.Place.TheVariants.{Head, Node}
+use Rattle.gt_links.specs.declared.rings.Neighbour.{Neighbour}
+use Rattle.gt_links.specs.declared.rings.Neighbour.TheVariants.{Head, Node}
 use Rattle.gt_links.specs.declared.rings.Rings.{Rings}
 use Rattle.gt_links.specs.Lists.{Lists, nodes_of, with_nodes, without, Holds}
 use Rattle.gt_links.specs.Links.{IsChain, IsMadeOf}
@@ -13,7 +13,7 @@ use Rattle.gt_links.proofs.Chains.{Head≢Node, Head-same, Node-same, Node-other
 use Rattle.gt_links.proofs.Made.{head_is_place, node_is_place, owner_from_among, bounded, disjoint}
 
 -- p leads to a place on the ring of list i
-abbrev pub LeadsOnRing : Rings → Lists → ℕ → Place → Type 0
+abbrev pub LeadsOnRing : Rings → Lists → ℕ → Neighbour → Type 0
 LeadsOnRing r s i p =
     (next_of r p ≡ Head i) ⊎ ((w : ℕ) × IsAmong w (nodes_of s i) × (next_of r p ≡ Node w))
 
@@ -39,7 +39,7 @@ module _ (old new : Rings) (s : Lists) (m : IsMadeOf old s) (x : ℕ) (node : x 
       (λ h. kept ∙ was.0 (Contains-from_among y (nodes_of s j) h), λ e. IsAmong-from_Contains y (nodes_of s j) (was.1 (sym kept ∙ e)))
 
   module _ (i : ℕ) (within : i < length s.lists) where
-    pub IsMadeOf-inserted : (p : Place) (xs : List ℕ) → ((j : ℕ) → ¬ (IsAmong x (nodes_of s j))) → Inserts old new p x i → LeadsOnRing old s i p → IsChain new (Head i) xs (Head i) → ((y : ℕ) → IsAmong y xs ↔ ((x ≡ y) ⊎ IsAmong y (nodes_of s i))) → IsMadeOf new (with_nodes s i xs)
+    pub IsMadeOf-inserted : (p : Neighbour) (xs : List ℕ) → ((j : ℕ) → ¬ (IsAmong x (nodes_of s j))) → Inserts old new p x i → LeadsOnRing old s i p → IsChain new (Head i) xs (Head i) → ((y : ℕ) → IsAmong y xs ↔ ((x ≡ y) ⊎ IsAmong y (nodes_of s i))) → IsMadeOf new (with_nodes s i xs)
     IsMadeOf-inserted p xs free h ring chain among =
         let size = length-set s.lists i xs in
         let leads_to_head : (j : ℕ) → j ≢ i → next_of old p ≢ Head j =

@@ -6,8 +6,8 @@ use Rattle.std.proofs.lemmas.Option.{none-some}
 use Rattle.std.proofs.lemmas.List.{get_or_append_left, get_or-append_right, get_or-replicate, get_or_past, length-replicate}
 use Rattle.std.proofs.lemmas.List.FromFn.{length-map-range_with_len, get_or-map-range_with_len}
 use Rattle.gt_links.specs.declared.rings.Entry.{Entry}
-use Rattle.gt_links.specs.declared.rings.Place.{Place}
-use Rattle.gt_links.specs.declared.rings.Place.TheVariants.{Head, Node}
+use Rattle.gt_links.specs.declared.rings.Neighbour.{Neighbour}
+use Rattle.gt_links.specs.declared.rings.Neighbour.TheVariants.{Head, Node}
 use Rattle.gt_links.specs.declared.rings.Rings.{Rings}
 use Rattle.gt_links.specs.Lists.{empty_lists, nodes_of}
 use Rattle.gt_links.specs.Links.{IsChain, IsMadeOf}
@@ -32,7 +32,7 @@ module _ (r : Rings) (lists nodes : ℕ) (count : r.lists ≡ lists) (alone : r.
       let node_count = length-map-range_with_len (λ x. lone_entry (Node x)) 0 nodes in
       ap length alone ∙ omega (arith, head_count)
 
-  entry_of-lone : (p : Place) → IsPlace r p → entry_of r p ≡ lone_entry p
+  entry_of-lone : (p : Neighbour) → IsPlace r p → entry_of r p ≡ lone_entry p
   entry_of-lone (Head i) at =
       let fronts = map (λ i. lone_entry (Head i)) (range_with_len 0 lists) in
       let backs = map (λ x. lone_entry (Node x)) (range_with_len 0 nodes) in
@@ -52,8 +52,8 @@ module _ (r : Rings) (lists nodes : ℕ) (count : r.lists ≡ lists) (alone : r.
   IsMadeOf-empty few_lists few_nodes =
       let s = empty_lists lists nodes in
       let long : length s.lists ≡ lists = length-replicate {A = List ℕ} lists [] in
-      let next : (p : Place) → IsPlace r p → next_of r p ≡ p = λ p at. ap (λ (e : Entry). e.next) (entry_of-lone p at) in
-      let previous : (p : Place) → IsPlace r p → previous_of r p ≡ p =
+      let next : (p : Neighbour) → IsPlace r p → next_of r p ≡ p = λ p at. ap (λ (e : Entry). e.next) (entry_of-lone p at) in
+      let previous : (p : Neighbour) → IsPlace r p → previous_of r p ≡ p =
       λ p at. ap (λ (e : Entry). e.previous) (entry_of-lone p at) in
       let head : (i : ℕ) → i < length s.lists → IsPlace r (Head i) =
       λ i within. (omega arith, omega (arith, size)) in

@@ -7,7 +7,7 @@ use Rattle.std.proofs.lemmas.List.{get_or_past}
 use Rattle.std.proofs.lemmas.List.FromFn.{fill_by_all}
 use Rattle.std.proofs.lemmas.Map.Steps.{length-le_from_distinct_below}
 use Rattle.std.proofs.lemmas.Map.Views.{Contains-from_any}
-use Rattle.gt_links.specs.declared.rings.Place.TheVariants.{Head, Node}
+use Rattle.gt_links.specs.declared.rings.Neighbour.TheVariants.{Head, Node}
 use Rattle.gt_links.specs.declared.rings.Rings.{Rings}
 use Rattle.gt_links.specs.Lists.{Lists, nodes_of}
 use Rattle.gt_links.specs.Links.{IsMadeOf, lists_of, nodes_after}

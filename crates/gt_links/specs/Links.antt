@@ -1,19 +1,19 @@
 -- No promise: how the lists stand in the links.
 use Rattle.std.specs.Prelude.{◌≡◌, ℕ, zero, suc, ◌+◌, ◌-◌, ◌^◌, ◌<◌, ◌↔◌, List, [], ◌∷◌, length, map, Some, None}
 use Rattle.std.specs.List.{range_with_len}
-use Rattle.gt_links.specs.declared.rings.Place.{Place}
-use Rattle.gt_links.specs.declared.rings.Place.TheVariants.{Head, Node}
+use Rattle.gt_links.specs.declared.rings.Neighbour.{Neighbour}
+use Rattle.gt_links.specs.declared.rings.Neighbour.TheVariants.{Head, Node}
 use Rattle.gt_links.specs.declared.rings.Rings.{Rings}
 use Rattle.gt_links.specs.Lists.{Lists, nodes_of, Holds}
 use Rattle.gt_links.specs.Rings.{next_of, list_of, LinksAgree}
 
 -- a node with those after it; none at a head, where a list ends
-abbrev pub node_then : (ℕ → List ℕ) → Place → List ℕ
+abbrev pub node_then : (ℕ → List ℕ) → Neighbour → List ℕ
 node_then rest (Head i) = []
 node_then rest (Node x) = x ∷ rest x
 
 -- the nodes after p, along `next` up to a head, at most so many
-abbrev pub nodes_after : Rings → ℕ → Place → List ℕ
+abbrev pub nodes_after : Rings → ℕ → Neighbour → List ℕ
 nodes_after r zero p = []
 nodes_after r (suc most) p = node_then (λ x. nodes_after r most (Node x)) (next_of r p)
 
@@ -25,7 +25,7 @@ lists_of r = record {
 }
 
 -- along `next` the nodes xs follow p, and then comes the end
-abbrev pub IsChain : Rings → Place → List ℕ → Place → Type 0
+abbrev pub IsChain : Rings → Neighbour → List ℕ → Neighbour → Type 0
 IsChain r p [] end = next_of r p ≡ end
 IsChain r p (x ∷ xs) end = (next_of r p ≡ Node x) × IsChain r (Node x) xs end
 

@@ -2,7 +2,7 @@ ghost use Rattle.std.specs.Prelude.{◌≡◌, ℕ, ◌+◌, ◌^◌, ◌<◌, �
 ghost use Rattle.std.specs.List.{IsDistinct};
 ghost use Rattle.gt_links.specs.Lists.{empty_lists, nodes_of, with_nodes, without, Holds, IsInList, IsFree, StandsAt, AreDisjoint};
 
-use crate::rings::{Place, Rings};
+use crate::rings::{Neighbour, Rings};
 use std::alloc::{AllocError, Global};
 use std::marker::Model;
 
@@ -44,7 +44,7 @@ impl Links {
         requires free { IsFree self.old node }
         ensures front { self.new ≡ with_nodes self.old list (node ∷ nodes_of self.old list) }
     {
-        self.rings.insert_after(Place::Head(list), node, list);
+        self.rings.insert_after(Neighbour::Head(list), node, list);
     }
 
     /// Puts a node that is in no list at the back of a list.
@@ -54,7 +54,7 @@ impl Links {
         requires free { IsFree self.old node }
         ensures back { self.new ≡ with_nodes self.old list (nodes_of self.old list ++ node ∷ []) }
     {
-        let last = self.rings.entry(Place::Head(list)).previous;
+        let last = self.rings.entry(Neighbour::Head(list)).previous;
         self.rings.insert_after(last, node, list);
     }
 
@@ -88,7 +88,7 @@ impl Links {
         ensures held { IfSome result (λ node. Holds self.now list node) }
         ensures bounded { IfSome result (λ node. node < self.now.nodes) }
     {
-        self.rings.entry(Place::Head(list)).next.node()
+        self.rings.entry(Neighbour::Head(list)).next.node()
     }
 
     /// The node after a node in its list, or `None` where the node is the last or is in no list.
@@ -101,7 +101,7 @@ impl Links {
         ensures free { IsFree self.now node → result ≡ None }
         ensures bounded { IfSome result (λ after. after < self.now.nodes) }
     {
-        let entry = self.rings.entry(Place::Node(node));
+        let entry = self.rings.entry(Neighbour::Node(node));
         if entry.list.is_none() {
             return None;
         }
@@ -118,7 +118,7 @@ impl Links {
         // There is no other list that it could be.
         ensures one { (i : ℕ) → Holds self.now i node → result ≡ Some i }
     {
-        self.rings.entry(Place::Node(node)).list
+        self.rings.entry(Neighbour::Node(node)).list
     }
 
     /// Does nothing, and tells a proof what holds of the lists at all times: no node stands twice, in one list or in

@@ -5,7 +5,7 @@ use std::alloc::{AllocError, Global};
 
 /// Where a link leads: to the head of a list, or to a node.
 #[derive(Clone, Copy)]
-pub(crate) enum Place {
+pub(crate) enum Neighbour {
     Head(u32),
     Node(u32),
 }
@@ -13,8 +13,8 @@ pub(crate) enum Place {
 /// The links of a place, and of a node the list that it is in.
 #[derive(Clone, Copy)]
 pub(crate) struct Entry {
-    pub(crate) previous: Place,
-    pub(crate) next: Place,
+    pub(crate) previous: Neighbour,
+    pub(crate) next: Neighbour,
     pub(crate) list: Option<u32>,
 }
 
@@ -26,21 +26,21 @@ pub(crate) struct Rings {
     entries: Vec<Entry>,
 }
 
-impl Place {
+impl Neighbour {
     /// The node that the place is, or `None` at a head.
     pub(crate) fn node(self) -> Option<u32>
         ensures { result ≡ node_of self }
     {
         match self {
-            Place::Head(_) => None,
-            Place::Node(node) => Some(node),
+            Neighbour::Head(_) => None,
+            Neighbour::Node(node) => Some(node),
         }
     }
 }
 
 impl Entry {
     /// The entry of a place that is alone on its ring.
-    fn alone(place: Place) -> Self
+    fn alone(place: Neighbour) -> Self
         ensures { result ≡ record { previous = place; next = place; list = None } }
     {
         Entry {
@@ -57,15 +57,15 @@ impl Rings {
         ensures lists { IfOk result (λ rings. rings.lists ≡ lists) }
         ensures alone { IfOk result (λ rings. rings.entries.items ≡ lone_entries lists nodes) }
     {
-        let heads = (0..lists).map(|list| Entry::alone(Place::Head(list)));
-        let nodes = (0..nodes).map(|node| Entry::alone(Place::Node(node)));
+        let heads = (0..lists).map(|list| Entry::alone(Neighbour::Head(list)));
+        let nodes = (0..nodes).map(|node| Entry::alone(Neighbour::Node(node)));
         Ok(Rings {
             lists,
             entries: heads.chain(nodes).collect(alloc)?,
         })
     }
 
-    pub(crate) fn entry(&self, place: Place) -> Entry
+    pub(crate) fn entry(&self, place: Neighbour) -> Entry
         requires { IsPlace self.now place }
         ensures { result ≡ entry_of self.now place }
     {
@@ -73,31 +73,31 @@ impl Rings {
     }
 
     /// Puts a node that is alone right after `before`, and says that it is in this list.
-    pub(crate) fn insert_after(&mut self, before: Place, node: u32, list: u32)
+    pub(crate) fn insert_after(&mut self, before: Neighbour, node: u32, list: u32)
         requires agree { LinksAgree self.old }
         requires before { IsPlace self.old before }
-        requires node { IsPlace self.old (Place.Node node) }
-        requires alone { next_of self.old (Place.Node node) ≡ Place.Node node }
+        requires node { IsPlace self.old (Neighbour.Node node) }
+        requires alone { next_of self.old (Neighbour.Node node) ≡ Neighbour.Node node }
         ensures { Inserts self.old self.new before node list }
     {
-        self.splice(before, Place::Node(node));
+        self.splice(before, Neighbour::Node(node));
         self.set_list(node, Some(list));
     }
 
     /// Takes a node off its ring, so that it is alone and in no list.
     pub(crate) fn remove(&mut self, node: u32)
         requires agree { LinksAgree self.old }
-        requires node { IsPlace self.old (Place.Node node) }
+        requires node { IsPlace self.old (Neighbour.Node node) }
         ensures { Removes self.old self.new node }
     {
-        let before = self.entry(Place::Node(node)).previous;
-        self.splice(before, Place::Node(node));
+        let before = self.entry(Neighbour::Node(node)).previous;
+        self.splice(before, Neighbour::Node(node));
         self.set_list(node, None);
     }
 
     /// Exchanges what comes after `first` with what comes after `second`. So a `second` that is alone comes right
     /// after `first`, and one that is right after `first` is alone.
-    fn splice(&mut self, first: Place, second: Place)
+    fn splice(&mut self, first: Neighbour, second: Neighbour)
         requires agree { LinksAgree self.old }
         requires first { IsPlace self.old first }
         requires second { IsPlace self.old second }
@@ -111,7 +111,7 @@ impl Rings {
     }
 
     /// Makes `after` come right after `before`, in both directions.
-    fn join(&mut self, before: Place, after: Place)
+    fn join(&mut self, before: Neighbour, after: Neighbour)
         requires before { IsPlace self.old before }
         requires after { IsPlace self.old after }
         ensures { Joins self.old self.new before after }
@@ -120,7 +120,7 @@ impl Rings {
         self.set_previous(after, before);
     }
 
-    fn set_next(&mut self, place: Place, next: Place)
+    fn set_next(&mut self, place: Neighbour, next: Neighbour)
         requires { IsPlace self.old place }
         ensures { Writes self.old self.new place
             (record (entry_of self.old place) { next = next }) }
@@ -129,7 +129,7 @@ impl Rings {
         self.entries[index].next = next;
     }
 
-    fn set_previous(&mut self, place: Place, previous: Place)
+    fn set_previous(&mut self, place: Neighbour, previous: Neighbour)
         requires { IsPlace self.old place }
         ensures { Writes self.old self.new place
             (record (entry_of self.old place) { previous = previous }) }
@@ -139,21 +139,21 @@ impl Rings {
     }
 
     fn set_list(&mut self, node: u32, list: Option<u32>)
-        requires { IsPlace self.old (Place.Node node) }
-        ensures { Writes self.old self.new (Place.Node node)
-            (record (entry_of self.old (Place.Node node)) { list = list }) }
+        requires { IsPlace self.old (Neighbour.Node node) }
+        ensures { Writes self.old self.new (Neighbour.Node node)
+            (record (entry_of self.old (Neighbour.Node node)) { list = list }) }
     {
-        let index = self.index(Place::Node(node));
+        let index = self.index(Neighbour::Node(node));
         self.entries[index].list = list;
     }
 
     /// Where a place stands in the vector.
-    fn index(&self, place: Place) -> usize
+    fn index(&self, place: Neighbour) -> usize
         ensures { result ≡ index_of self.now place }
     {
         match place {
-            Place::Head(list) => list as usize,
-            Place::Node(node) => self.lists as usize + node as usize,
+            Neighbour::Head(list) => list as usize,
+            Neighbour::Node(node) => self.lists as usize + node as usize,
         }
     }
 }

@@ -13,7 +13,7 @@ use Rattle.gt_types.specs.declared.program.Root.{Root}
 use Rattle.gt_types.specs.declared.program.Cache.{Cache}
 use Rattle.gt_types.specs.declared.program.Program.{Program}
 use Rattle.gt_types.specs.Tails.{IsTailType}
-use Rattle.gt_layout.specs.declared.planes.Spot.{Spot}
+use Rattle.gt_layout.specs.declared.planes.FieldSpot.{FieldSpot}
 use Rattle.gt_layout.specs.declared.planes.Plane.{Plane}
 use Rattle.gt_layout.specs.declared.planes.Layouts.{Layouts}
 use Rattle.gt_digits.specs.Digits.{decimal}
@@ -32,10 +32,10 @@ active_words Other = codes "default" ∷ []
 active_words Never = codes "never" ∷ []
 
 -- a field: two spaces, the byte at which it begins, its name and its type
-abbrev pub field_line : Program → Field → Spot → List ℕ
+abbrev pub field_line : Program → Field → FieldSpot → List ℕ
 field_line program f s = line (codes "  " ++ decimal s.offset) (encode_utf8_all f.name ∷ type_words program s.bit f.ty ++ active_words f.active)
 
-abbrev pub field_lines : Program → List Field → List Spot → List ℕ
+abbrev pub field_lines : Program → List Field → List FieldSpot → List ℕ
 field_lines program (f ∷ fs) (s ∷ ss) = field_line program f s ++ field_lines program fs ss
 field_lines program fs ss = []
 

@@ -9,7 +9,7 @@ ghost use Rattle.gt_listing.specs.Listing.{active_words, chain_line, chain_word,
 use crate::types::push_type;
 use gt_canon::{push_integer, push_named, push_number, push_path, push_word};
 use gt_digits::push_decimal;
-use gt_layout::{Plane, Spot};
+use gt_layout::{Plane, FieldSpot};
 use gt_types::{Active, Bytes, Chain, ChainKind, Field, Program, Structure};
 use std::alloc::{AllocError, Global};
 
@@ -57,7 +57,7 @@ fn push_fields(
     text: &mut Bytes,
     program: &Program,
     fields: &[Field],
-    spots: &[Spot],
+    spots: &[FieldSpot],
 ) -> Result<(), AllocError>
     ensures added { OnOk result (text.new ≡ text.old ++ field_lines program.now fields.now spots.now) }
 {
@@ -76,7 +76,7 @@ fn push_field(
     text: &mut Bytes,
     program: &Program,
     f: &Field,
-    s: Spot,
+    s: FieldSpot,
 ) -> Result<(), AllocError>
     ensures added { OnOk result (text.new ≡ text.old ++ field_line program.now f.now s) }
 {

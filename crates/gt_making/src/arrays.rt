@@ -11,7 +11,6 @@ ghost use Rattle.gt_making.specs.Binding.{LeavesBy};
 
 use crate::binding::bind_many;
 use crate::counts::natural;
-use gt_determined::good_states_stay_good;
 use gt_next::{Answer, Why};
 use gt_schema::Schema;
 use gt_script::{Number, TypeName};
@@ -82,7 +81,6 @@ pub fn make_array(
     ensures space { OnErr result (s.new.objects.space ≡ s.old.objects.space) }
     ensures schema { s.new.schema ≡ s.old.schema }
 {
-    good_states_stay_good();
     array(s, var, ty, n)
 }
 
@@ -95,6 +93,5 @@ pub fn make_block(s: &mut Session, var: &Word, n: Number) -> Result<Answer, Allo
     ensures space { OnErr result (s.new.objects.space ≡ s.old.objects.space) }
     ensures schema { s.new.schema ≡ s.old.schema }
 {
-    good_states_stay_good();
     block(s, var, n)
 }

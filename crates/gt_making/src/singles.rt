@@ -11,10 +11,9 @@ ghost use Rattle.gt_making.specs.Binding.{LeavesBy, MakesSingle, is_shaped, room
 
 use crate::binding::bind_zeros;
 use crate::counts::natural;
-use gt_determined::good_states_stay_good;
 use gt_held::has_zero;
 use gt_next::{Answer, Why};
-use gt_objects::{Known, block_size, blocks_have_a_greatest_size};
+use gt_objects::{Known, block_size};
 use gt_schema::Schema;
 use gt_script::{Number, TypeName};
 use gt_session::Session;
@@ -67,7 +66,6 @@ fn bind_single(
     ensures space { OnErr result (s.new.objects.space ≡ s.old.objects.space) }
     ensures schema { s.new.schema ≡ s.old.schema }
 {
-    blocks_have_a_greatest_size();
     let tail = is_tail(&s.schema, node);
     let room = room_of(tail, number);
     if room > u32::MAX as u128 {
@@ -142,6 +140,5 @@ pub fn make_single(
     ensures space { OnErr result (s.new.objects.space ≡ s.old.objects.space) }
     ensures schema { s.new.schema ≡ s.old.schema }
 {
-    good_states_stay_good();
     single(alloc, s, var, ty, n)
 }

@@ -5,9 +5,7 @@ ghost use Rattle.gt_session.specs.Sessions.{Goes, IsAsBefore, IsSession, KeepsBy
 ghost use Rattle.gt_making.specs.Binding.{LeavesBy};
 
 use crate::binding::conclude;
-use gt_determined::good_states_stay_good;
 use gt_next::{Answer, MAX_BLOCK, Why};
-use gt_objects::blocks_have_a_greatest_size;
 use gt_session::Session;
 use gt_types::Word;
 use std::alloc::AllocError;
@@ -22,7 +20,6 @@ fn string(s: &mut Session, var: &Word, text: &[u8]) -> Result<Answer, AllocError
     ensures space { OnErr result (s.new.objects.space ≡ s.old.objects.space) }
     ensures schema { s.new.schema ≡ s.old.schema }
 {
-    blocks_have_a_greatest_size();
     if text.len() + 1 > MAX_BLOCK as usize {
         return Ok(Answer::Refused(Why::TooLarge));
     }
@@ -45,6 +42,5 @@ pub fn make_string(s: &mut Session, var: &Word, text: &[u8]) -> Result<Answer, A
     ensures space { OnErr result (s.new.objects.space ≡ s.old.objects.space) }
     ensures schema { s.new.schema ≡ s.old.schema }
 {
-    good_states_stay_good();
     string(s, var, text)
 }

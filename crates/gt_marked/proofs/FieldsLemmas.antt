@@ -6,12 +6,12 @@ use Rattle.gt_items.specs.declared.items.RawField.{RawField}
 use Rattle.gt_items.specs.declared.items.RawOption.{RawOption}
 use Rattle.gt_items.specs.declared.items.RawType.{RawType}
 use Rattle.gt_items.specs.declared.items.Stars.{Stars}
-use Rattle.gt_search.specs.declared.lexeme.Spot.{Spot}
+use Rattle.gt_search.specs.declared.lexeme.TokenText.{TokenText}
 use Rattle.gt_search.specs.declared.lexeme.Bracket.{Bracket}
 use Rattle.gt_search.specs.declared.lexeme.Bracket.TheVariants.{Round, Square, Brace}
 use Rattle.gt_search.specs.declared.lexeme.Lexeme.{Lexeme}
 use Rattle.gt_search.specs.declared.lexeme.Lexeme.TheVariants as lexeme
-use Rattle.gt_marked.specs.declared.types.Place.TheVariants.{InField}
+use Rattle.gt_marked.specs.declared.types.Context.TheVariants.{InField}
 use Rattle.gt_marked.specs.FieldGrammar.{is_semicolon, is_colon, opens_square, closes_brace, begins_label, closes_any, IsFree, Bounds, Bits, PlainDeclarator, ADeclarator, Declarators, Field, FieldsToBrace}
 use Rattle.gt_marked.specs.Fields.{bits_at, no_function_at, plain_declarator_at, star_at, function_declarator_at, declarator_at, after_declarator, declarators_from, is_access, no_label_at, field_at, until_brace, fields_from}
 use Rattle.gt_marked.specs.Groups.{bounds_from}
@@ -56,12 +56,12 @@ bounds-leaves (Bounds.bound {inside} {ts} b o p n m) = omega (arith, bounds-leav
 bounds-leaves (Bounds.not_closed o u) = tt
 bounds-leaves (Bounds.in_more b o p why n m) = failed_leaves (List (List ℕ)) why _
 
-bounds_more : (o : Spot) {inside ts : List Lexeme} (b : Bracket) (p : Spot) {out : Outcome (List (List ℕ))} → IsFree closes_any inside → Bounds ts out → Comes out
+bounds_more : (o : TokenText) {inside ts : List Lexeme} (b : Bracket) (p : TokenText) {out : Outcome (List (List ℕ))} → IsFree closes_any inside → Bounds ts out → Comes out
     → Has Bounds (lexeme.Open Square o ∷ inside ++ lexeme.Close b p ∷ ts)
 bounds_more o b p n m (read bounds rest) = record { outcome = _; holds = Bounds.bound b o p n m }
 bounds_more o b p n m (unread why) = record { outcome = failed why; holds = Bounds.in_more b o p why n m }
 
-bounds_after : (o : Spot) {ts : List Lexeme} → Closes ts → ((us : List Lexeme) → suc (length us) ≤ length ts → Has Bounds us) → Has Bounds (lexeme.Open Square o ∷ ts)
+bounds_after : (o : TokenText) {ts : List Lexeme} → Closes ts → ((us : List Lexeme) → suc (length us) ≤ length ts → Has Bounds us) → Has Bounds (lexeme.Open Square o ∷ ts)
 bounds_after o (closed {inside} rest b p n) again =
     let more = again rest (omega (arith, length-append inside (lexeme.Close b p ∷ rest))) in bounds_more o b p n more.holds (comes more.outcome)
 bounds_after o (unclosed u) again = record { outcome = Ends; holds = Bounds.not_closed o u }
@@ -94,7 +94,7 @@ bits-leaves (Bits.no_bits h) = omega arith
 bits-leaves (Bits.bits {text} {rest} c t x e) = omega (arith, length-append text (t ∷ rest))
 bits-leaves (Bits.endless c u) = tt
 
-bits_after : (c : Spot) {ts : List Lexeme} → EndsText ts → Has Bits (lexeme.Colon c ∷ ts)
+bits_after : (c : TokenText) {ts : List Lexeme} → EndsText ts → Has Bits (lexeme.Colon c ∷ ts)
 bits_after c (ended rest t x e) = record { outcome = _; holds = Bits.bits c t x e }
 bits_after c (endless u) = record { outcome = Ends; holds = Bits.endless c u }
 
@@ -131,19 +131,19 @@ plain-leaves (PlainDeclarator.in_bounds n why a m h b) = failed_leaves Declarato
 plain-leaves (PlainDeclarator.in_bits n why a m h b c) = failed_leaves Declarator why _
 plain-leaves (PlainDeclarator.no_name {rest} a m h) = unexpected_leaves Declarator rest _
 
-plain_bits : {ts us vs ws : List Lexeme} {stars : Stars} {options : List RawOption} {bounds : List (List ℕ)} (n : Spot)
+plain_bits : {ts us vs ws : List Lexeme} {stars : Stars} {options : List RawOption} {bounds : List (List ℕ)} (n : TokenText)
     → AreStars ts stars us → MaybeMarker us (Read options (lexeme.Name n ∷ vs)) → begins opens_round vs ≡ false → Bounds vs (Read bounds ws)
     → {o : Outcome (Option (List ℕ))} → Bits ws o → Comes o → Has PlainDeclarator ts
 plain_bits n a m h b c (read bits rest) = record { outcome = _; holds = PlainDeclarator.plain n a m h b c }
 plain_bits n a m h b c (unread why) = record { outcome = failed why; holds = PlainDeclarator.in_bits n why a m h b c }
 
-plain_bounds : {ts us vs : List Lexeme} {stars : Stars} {options : List RawOption} (n : Spot)
+plain_bounds : {ts us vs : List Lexeme} {stars : Stars} {options : List RawOption} (n : TokenText)
     → AreStars ts stars us → MaybeMarker us (Read options (lexeme.Name n ∷ vs)) → begins opens_round vs ≡ false
     → {o : Outcome (List (List ℕ))} → Bounds vs o → Comes o → Has PlainDeclarator ts
 plain_bounds n a m h b (read bounds ws) = plain_bits n a m h b (bits_has ws).holds (comes (bits_has ws).outcome)
 plain_bounds n a m h b (unread why) = record { outcome = failed why; holds = PlainDeclarator.in_bounds n why a m h b }
 
-plain_name : {ts us : List Lexeme} {stars : Stars} {options : List RawOption} (n : Spot) (vs : List Lexeme)
+plain_name : {ts us : List Lexeme} {stars : Stars} {options : List RawOption} (n : TokenText) (vs : List Lexeme)
     → AreStars ts stars us → MaybeMarker us (Read options (lexeme.Name n ∷ vs)) → Has PlainDeclarator ts
 plain_name n (lexeme.Open Round o ∷ vs) a m = record { outcome = _; holds = PlainDeclarator.member_function n o a m }
 plain_name n [] a m = plain_bounds n a m refl (bounds_has []).holds (comes (bounds_has []).outcome)
@@ -195,24 +195,24 @@ declarator-leaves (ADeclarator.not_closed {rest} a s n q m h) = unexpected_leave
 declarator-leaves (ADeclarator.no_arguments {rest} a s n c q m h) = unexpected_leaves Declarator rest _
 declarator-leaves (ADeclarator.arguments_not_closed a s n c d q m u) = tt
 
-function_arguments : (a s n c d : Spot) {ts us rest : List Lexeme} {options : List RawOption} → Qualifiers ts us → Closes rest
+function_arguments : (a s n c d : TokenText) {ts us rest : List Lexeme} {options : List RawOption} → Qualifiers ts us → Closes rest
     → MaybeMarker us (Read options (lexeme.Name n ∷ lexeme.Close Round c ∷ lexeme.Open Round d ∷ rest)) → Has ADeclarator (lexeme.Open Round a ∷ lexeme.Star s ∷ ts)
 function_arguments a s n c d q (closed rest b e k) m = record { outcome = _; holds = ADeclarator.function a s n c d e b q m k }
 function_arguments a s n c d q (unclosed u) m = record { outcome = Ends; holds = ADeclarator.arguments_not_closed a s n c d q m u }
 
-function_closed : (a s n c : Spot) {ts us : List Lexeme} {options : List RawOption} (rest : List Lexeme) → Qualifiers ts us
+function_closed : (a s n c : TokenText) {ts us : List Lexeme} {options : List RawOption} (rest : List Lexeme) → Qualifiers ts us
     → MaybeMarker us (Read options (lexeme.Name n ∷ lexeme.Close Round c ∷ rest)) → Has ADeclarator (lexeme.Open Round a ∷ lexeme.Star s ∷ ts)
 function_closed a s n c (lexeme.Open Round d ∷ rest) q m = function_arguments a s n c d q (closes rest) m
 function_closed a s n c [] q m = record { outcome = unexpected []; holds = ADeclarator.no_arguments a s n c q m refl }
 function_closed a s n c (v ∷ vs) q m = record { outcome = unexpected (v ∷ vs); holds = ADeclarator.no_arguments a s n c q m refl }
 
-function_name : (a s n : Spot) {ts us : List Lexeme} {options : List RawOption} (rest : List Lexeme) → Qualifiers ts us
+function_name : (a s n : TokenText) {ts us : List Lexeme} {options : List RawOption} (rest : List Lexeme) → Qualifiers ts us
     → MaybeMarker us (Read options (lexeme.Name n ∷ rest)) → Has ADeclarator (lexeme.Open Round a ∷ lexeme.Star s ∷ ts)
 function_name a s n (lexeme.Close Round c ∷ rest) q m = function_closed a s n c rest q m
 function_name a s n [] q m = record { outcome = unexpected []; holds = ADeclarator.not_closed a s n q m refl }
 function_name a s n (v ∷ vs) q m = record { outcome = unexpected (v ∷ vs); holds = ADeclarator.not_closed a s n q m refl }
 
-function_marker : (a s : Spot) {ts us : List Lexeme} → Qualifiers ts us → {o : Outcome (List RawOption)} → MaybeMarker us o → Comes o
+function_marker : (a s : TokenText) {ts us : List Lexeme} → Qualifiers ts us → {o : Outcome (List RawOption)} → MaybeMarker us o → Comes o
     → Has ADeclarator (lexeme.Open Round a ∷ lexeme.Star s ∷ ts)
 function_marker a s q m (unread why) = record { outcome = failed why; holds = ADeclarator.in_marker a s why q m }
 function_marker a s q m (read options (lexeme.Name n ∷ rest)) = function_name a s n rest q m
@@ -267,7 +267,7 @@ declarators-leaves (Declarators.in_declarator why d) n h = failed_leaves (List D
 declarators-leaves (Declarators.in_more c why d m) n h = failed_leaves (List Declarator) why n
 declarators-leaves (Declarators.not_ended {rest} d k l) n h = unexpected_leaves (List Declarator) rest n
 
-declarators_more : {ts us : List Lexeme} {x : Declarator} (c : Spot) {o : Outcome (List Declarator)} → ADeclarator ts (Read x (lexeme.Comma c ∷ us)) → Declarators us o → Comes o → Has Declarators ts
+declarators_more : {ts us : List Lexeme} {x : Declarator} (c : TokenText) {o : Outcome (List Declarator)} → ADeclarator ts (Read x (lexeme.Comma c ∷ us)) → Declarators us o → Comes o → Has Declarators ts
 declarators_more c d m (read xs rest) = record { outcome = _; holds = Declarators.more c d m }
 declarators_more c d m (unread why) = record { outcome = failed why; holds = Declarators.in_more c why d m }
 
@@ -327,7 +327,7 @@ field_type h t (unread why) = record { outcome = failed why; holds = Field.in_ty
 field_after : (ts : List Lexeme) → begins_label ts ≡ false → Has Field ts
 field_after ts h = field_type h (type_has InField ts).holds (comes (type_has InField ts).outcome)
 
-field_label : (s c : Spot) (ts : List Lexeme) (is : Bool) → is_access s.word ≡ is → Has Field (lexeme.Name s ∷ lexeme.Colon c ∷ ts)
+field_label : (s c : TokenText) (ts : List Lexeme) (is : Bool) → is_access s.word ≡ is → Has Field (lexeme.Name s ∷ lexeme.Colon c ∷ ts)
 field_label s c ts true h = record { outcome = _; holds = Field.label s c h }
 field_label s c ts false h = field_after (lexeme.Name s ∷ lexeme.Colon c ∷ ts) h
 

@@ -1,6 +1,6 @@
 -- What stands in brackets, and texts that are kept, are read as their rules say.
 use Rattle.std.proofs.Common.{◌≡◌, ℕ, zero, suc, Bool, true, false, List, [], ◌∷◌, ◌++◌, refl, ap, ◌∙◌, arith}
-use Rattle.gt_search.specs.declared.lexeme.Spot.{Spot}
+use Rattle.gt_search.specs.declared.lexeme.TokenText.{TokenText}
 use Rattle.gt_search.specs.declared.lexeme.Bracket.{Bracket}
 use Rattle.gt_search.specs.declared.lexeme.Lexeme.{Lexeme}
 use Rattle.gt_search.specs.declared.lexeme.Lexeme.TheVariants as lexeme
@@ -23,7 +23,7 @@ inside_suc depth (lexeme.Close b s) ts = refl
 inside_suc depth (lexeme.Open b s) ts = refl
 inside_suc depth t ts = refl
 
-inside_found : (us : List Lexeme) (depth : ℕ) (b : Bracket) (p : Spot) (ts : List Lexeme) → depth_through depth us ≡ 0 → stands closes_any depth us ≡ false
+inside_found : (us : List Lexeme) (depth : ℕ) (b : Bracket) (p : TokenText) (ts : List Lexeme) → depth_through depth us ≡ 0 → stands closes_any depth us ≡ false
     → inside_from depth (us ++ lexeme.Close b p ∷ ts) ≡ Read us ts
 unfolding inside_from
 inside_found [] zero b p ts o h = refl
@@ -44,7 +44,7 @@ inside_none (t ∷ ts) (suc depth) h =
     inside_suc depth t ts ∙ ap (λ (out : Outcome (List Lexeme)). with_token t out) (inside_none ts (depth_after (suc depth) t) h)
 
 -- what stands in brackets, after the one that opens
-pub inside-closed : {inside : List Lexeme} → IsFree closes_any inside → (b : Bracket) (p : Spot) (ts : List Lexeme) → inside_from 0 (inside ++ lexeme.Close b p ∷ ts) ≡ Read inside ts
+pub inside-closed : {inside : List Lexeme} → IsFree closes_any inside → (b : Bracket) (p : TokenText) (ts : List Lexeme) → inside_from 0 (inside ++ lexeme.Close b p ∷ ts) ≡ Read inside ts
 inside-closed {inside} f b p ts = inside_found inside 0 b p ts f.closed (not-stands closes_any inside f.free)
 
 pub inside-unclosed : {ts : List Lexeme} → ¬ Stands closes_any ts → inside_from 0 ts ≡ Ends
@@ -52,7 +52,7 @@ inside-unclosed {ts} h = inside_none ts 0 (not-stands closes_any ts h)
 
 -- the bracket before the tokens is closed in them, or it is not
 pub data Closes : List Lexeme → Type 0 where
-  closed : {inside : List Lexeme} (rest : List Lexeme) (b : Bracket) (p : Spot) → IsFree closes_any inside → Closes (inside ++ lexeme.Close b p ∷ rest)
+  closed : {inside : List Lexeme} (rest : List Lexeme) (b : Bracket) (p : TokenText) → IsFree closes_any inside → Closes (inside ++ lexeme.Close b p ∷ rest)
   unclosed : {ts : List Lexeme} → ¬ Stands closes_any ts → Closes ts
 
 closes_here : (front : List Lexeme) (t : Lexeme) (following : List Lexeme) → closes_any t ≡ true → IsFree closes_any front → Closes (front ++ t ∷ following)

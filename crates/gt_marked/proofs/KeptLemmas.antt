@@ -3,7 +3,7 @@ use Rattle.std.proofs.Common.{◌≡◌, ◌≢◌, ℕ, ◌+◌, ◌<◌, ◌�
 use Rattle.std.specs.Prelude.{◌==◌, encode_utf8_all}
 use Rattle.std.proofs.lemmas.List.{append-nil, drop_all}
 use Rattle.gt_search.specs.declared.lexeme.Lexeme.{Lexeme}
-use Rattle.gt_search.specs.declared.lexeme.Spot.{Spot}
+use Rattle.gt_search.specs.declared.lexeme.TokenText.{TokenText}
 use Rattle.gt_search.specs.Lexemes.{spot_of, text_after}
 use Rattle.gt_marked.proofs.Insides.{drop_at}
 
@@ -11,7 +11,7 @@ module _ (tokens : List Lexeme) (made total : List ℕ) (end at : ℕ) (t : Lexe
   here : made ++ text_after end (t ∷ drop (at + 1) tokens) ≡ total
   here = ap (λ ts. made ++ text_after end ts) (sym (drop_at tokens at t lt is)) ∙ so_far
 
-  module _ (s : Spot) (new : List ℕ) (spot : s ≡ spot_of t) where
+  module _ (s : TokenText) (new : List ℕ) (spot : s ≡ spot_of t) where
     pub text_joined : s.start ≡ end → new ≡ made ++ encode_utf8_all s.word → new ++ text_after s.end (drop (at + 1) tokens) ≡ total
     unfolding text_after
     text_joined e added =

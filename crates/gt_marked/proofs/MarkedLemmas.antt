@@ -10,12 +10,12 @@ use Rattle.gt_items.specs.declared.items.RawField.{RawField}
 use Rattle.gt_items.specs.declared.items.RawOption.{RawOption}
 use Rattle.gt_items.specs.declared.items.RawType.{RawType}
 use Rattle.gt_items.specs.declared.items.Stars.{Stars}
-use Rattle.gt_search.specs.declared.lexeme.Spot.{Spot}
+use Rattle.gt_search.specs.declared.lexeme.TokenText.{TokenText}
 use Rattle.gt_search.specs.declared.lexeme.Bracket.TheVariants.{Brace}
 use Rattle.gt_search.specs.declared.lexeme.Lexeme.{Lexeme}
 use Rattle.gt_search.specs.declared.lexeme.Lexeme.TheVariants as lexeme
-use Rattle.gt_marked.specs.declared.types.Place.{Place}
-use Rattle.gt_marked.specs.declared.types.Place.TheVariants.{Elsewhere}
+use Rattle.gt_marked.specs.declared.types.Context.{Context}
+use Rattle.gt_marked.specs.declared.types.Context.TheVariants.{Elsewhere}
 use Rattle.gt_marked.specs.FieldGrammar.{is_semicolon, is_colon, Bounds, FieldsToBrace}
 use Rattle.gt_marked.specs.Fields.{fields_from}
 use Rattle.gt_marked.specs.Groups.{bounds_from}
@@ -83,13 +83,13 @@ tag-one (TagAndMarker.no_name {rest} a m h) = rw (← marker-one m, no_name rest
 tag-one (TagAndMarker.no_marker {ts} n h k) = rw (marker_no_colon ts k, no_marker ts h) (sym (unexpected_step ts _))
 tag-one (TagAndMarker.neither {ts} h k) = rw (no_tag ts k, no_marker ts h) (sym (unexpected_step ts _))
 
-tag_first : (a : Spot) {ts : List Lexeme} {o : Outcome (List RawOption)} → Marker (lexeme.Gty a ∷ ts) o → Comes o → Has TagAndMarker (lexeme.Gty a ∷ ts)
+tag_first : (a : TokenText) {ts : List Lexeme} {o : Outcome (List RawOption)} → Marker (lexeme.Gty a ∷ ts) o → Comes o → Has TagAndMarker (lexeme.Gty a ∷ ts)
 tag_first a m (unread why) = record { outcome = failed why; holds = TagAndMarker.in_first a why m }
 tag_first a m (read options (lexeme.Name n ∷ rest)) = record { outcome = _; holds = TagAndMarker.marker_first a n m }
 tag_first a m (read options []) = record { outcome = unexpected []; holds = TagAndMarker.no_name a m refl }
 tag_first a m (read options (u ∷ us)) = record { outcome = unexpected (u ∷ us); holds = TagAndMarker.no_name a m refl }
 
-tag_second : (n a : Spot) {ts : List Lexeme} {o : Outcome (List RawOption)} → Marker (lexeme.Gty a ∷ ts) o → Comes o → Has TagAndMarker (lexeme.Name n ∷ lexeme.Gty a ∷ ts)
+tag_second : (n a : TokenText) {ts : List Lexeme} {o : Outcome (List RawOption)} → Marker (lexeme.Gty a ∷ ts) o → Comes o → Has TagAndMarker (lexeme.Name n ∷ lexeme.Gty a ∷ ts)
 tag_second n a m (unread why) = record { outcome = failed why; holds = TagAndMarker.in_second n a why m }
 tag_second n a m (read options rest) = record { outcome = _; holds = TagAndMarker.name_first n a m }
 
@@ -138,20 +138,20 @@ structure-one (AStructure.no_body {rest} t h k) = rw (← tag-one t, no_open_bra
 structure-one (AStructure.not_ended {rest} b t f h) = rw (← tag-one t, fields-all f, no_semicolon rest h) (sym (unexpected_step rest _))
 structure-one (AStructure.alias_not_ended {rest} b t f a h) = rw (← tag-one t, fields-all f, ← alias-one a, no_semicolon rest h) (sym (unexpected_step rest _))
 
-structure_alias : (is_union : Bool) (b : Spot) {ts us vs : List Lexeme} {tag : Name × List RawOption} {fields : List RawField}
+structure_alias : (is_union : Bool) (b : TokenText) {ts us vs : List Lexeme} {tag : Name × List RawOption} {fields : List RawField}
     → TagAndMarker ts (Read tag (lexeme.Open Brace b ∷ us)) → FieldsToBrace us (Read fields vs) → {o : Outcome Alias} → AnAlias vs o → Comes o → Has (AStructure true is_union) ts
 structure_alias is_union b t f a (unread why) = record { outcome = failed why; holds = AStructure.in_alias b why t f a }
 structure_alias is_union b t f a (read alias (lexeme.Semicolon s ∷ rest)) = record { outcome = _; holds = AStructure.with_alias b s t f a }
 structure_alias is_union b t f a (read alias []) = record { outcome = unexpected []; holds = AStructure.alias_not_ended b t f a refl }
 structure_alias is_union b t f a (read alias (u ∷ us)) = record { outcome = unexpected (u ∷ us); holds = AStructure.alias_not_ended b t f a refl }
 
-structure_end : (is_union : Bool) (b : Spot) {ts us : List Lexeme} (vs : List Lexeme) {tag : Name × List RawOption} {fields : List RawField}
+structure_end : (is_union : Bool) (b : TokenText) {ts us : List Lexeme} (vs : List Lexeme) {tag : Name × List RawOption} {fields : List RawField}
     → TagAndMarker ts (Read tag (lexeme.Open Brace b ∷ us)) → FieldsToBrace us (Read fields vs) → Has (AStructure false is_union) ts
 structure_end is_union b (lexeme.Semicolon s ∷ rest) t f = record { outcome = _; holds = AStructure.structure b s t f }
 structure_end is_union b [] t f = record { outcome = unexpected []; holds = AStructure.not_ended b t f refl }
 structure_end is_union b (u ∷ us) t f = record { outcome = unexpected (u ∷ us); holds = AStructure.not_ended b t f refl }
 
-structure_fields : (has_alias is_union : Bool) (b : Spot) {ts us : List Lexeme} {tag : Name × List RawOption}
+structure_fields : (has_alias is_union : Bool) (b : TokenText) {ts us : List Lexeme} {tag : Name × List RawOption}
     → TagAndMarker ts (Read tag (lexeme.Open Brace b ∷ us)) → {o : Outcome (List RawField)} → FieldsToBrace us o → Comes o → Has (AStructure has_alias is_union) ts
 structure_fields has_alias is_union b t f (unread why) = record { outcome = failed why; holds = AStructure.in_fields b why t f }
 structure_fields true is_union b t f (read fields vs) = structure_alias is_union b t f (alias_has vs).holds (comes (alias_has vs).outcome)
@@ -169,7 +169,7 @@ structure_has has_alias is_union ts = structure_tag has_alias is_union (tag_has 
 
 -- ---- globals that are no maps
 
-type-one : {place : Place} {ts : List Lexeme} {o : Outcome RawType} → AType place ts o → o ≡ type_at place ts
+type-one : {place : Context} {ts : List Lexeme} {o : Outcome RawType} → AType place ts o → o ≡ type_at place ts
 type-one {place} {ts} {o} t = type-alone place ts o t
 
 bounds-all : {ts : List Lexeme} {o : Outcome (List (List ℕ))} → Bounds ts o → bounds_from (length ts) [] ts ≡ o
@@ -191,7 +191,7 @@ root-one (ARoot.in_bounds n why t a b) = rw (← type-one t, stars-one a, bounds
 root-one (ARoot.no_name {rest} t a h) = rw (← type-one t, stars-one a, no_name rest h) (sym (unexpected_step rest _))
 root-one (ARoot.not_ended {rest} n t a b h k) = rw (← type-one t, stars-one a, bounds-all b, no_initialiser rest h k) (sym (unexpected_step rest _))
 
-root_bounds : (options : List RawOption) (n : Spot) {ts us vs : List Lexeme} {type : RawType} {stars : Stars} → AType Elsewhere ts (Read type us)
+root_bounds : (options : List RawOption) (n : TokenText) {ts us vs : List Lexeme} {type : RawType} {stars : Stars} → AType Elsewhere ts (Read type us)
     → AreStars us stars (lexeme.Name n ∷ vs) → {o : Outcome (List (List ℕ))} → Bounds vs o → Comes o → Has (ARoot options) ts
 root_bounds options n t a b (unread why) = record { outcome = failed why; holds = ARoot.in_bounds n why t a b }
 root_bounds options n t a b (read bounds (lexeme.Semicolon s ∷ rest)) = record { outcome = _; holds = ARoot.root n s t a b }
@@ -266,19 +266,19 @@ record Map (ts ws : List Lexeme) : Type 0 where
   vs : List Lexeme
   key : PointedType
   value : PointedType
-  comma : Spot
+  comma : TokenText
   has_key : APointed ts (Read key (lexeme.Comma comma ∷ us))
   has_value : APointed us (Read value vs)
   has_traits : Traits vs (Read tt ws)
 
-cache_end : (options : List RawOption) {ts ws : List Lexeme} (g s n : Spot) (rest : List Lexeme) (is : Bool) → is_cache options ≡ is
+cache_end : (options : List RawOption) {ts ws : List Lexeme} (g s n : TokenText) (rest : List Lexeme) (is : Bool) → is_cache options ≡ is
     → Map ts (lexeme.Greater g ∷ lexeme.Star s ∷ ws) → Qualifiers ws (lexeme.Name n ∷ rest) → Has (ACache options) ts
 cache_end options g s n rest false h m q = record { outcome = _; holds = ACache.no_cache m.comma g s n m.has_key m.has_value m.has_traits q h }
 cache_end options g s n (lexeme.Semicolon e ∷ rest) true h m q = record { outcome = _; holds = ACache.cache m.comma g s n e m.has_key m.has_value m.has_traits q h }
 cache_end options g s n [] true h m q = record { outcome = unexpected []; holds = ACache.not_ended m.comma g s n m.has_key m.has_value m.has_traits q h refl }
 cache_end options g s n (u ∷ us) true h m q = record { outcome = unexpected (u ∷ us); holds = ACache.not_ended m.comma g s n m.has_key m.has_value m.has_traits q h refl }
 
-cache_name : (options : List RawOption) {ts ws : List Lexeme} (g s : Spot) (rest : List Lexeme)
+cache_name : (options : List RawOption) {ts ws : List Lexeme} (g s : TokenText) (rest : List Lexeme)
     → Map ts (lexeme.Greater g ∷ lexeme.Star s ∷ ws) → Qualifiers ws rest → Has (ACache options) ts
 cache_name options g s (lexeme.Name n ∷ rest) m q = cache_end options g s n rest (is_cache options) refl m q
 cache_name options g s [] m q = record { outcome = unexpected []; holds = ACache.no_name m.comma g s m.has_key m.has_value m.has_traits q refl }
@@ -291,13 +291,13 @@ cache_closed options (lexeme.Greater g ∷ u ∷ us) m = record { outcome = unex
 cache_closed options [] m = record { outcome = unexpected []; holds = ACache.not_closed m.comma m.has_key m.has_value m.has_traits refl }
 cache_closed options (u ∷ us) m = record { outcome = unexpected (u ∷ us); holds = ACache.not_closed m.comma m.has_key m.has_value m.has_traits refl }
 
-cache_traits : (options : List RawOption) {ts us vs : List Lexeme} {key value : PointedType} (c : Spot) → APointed ts (Read key (lexeme.Comma c ∷ us)) → APointed us (Read value vs)
+cache_traits : (options : List RawOption) {ts us vs : List Lexeme} {key value : PointedType} (c : TokenText) → APointed ts (Read key (lexeme.Comma c ∷ us)) → APointed us (Read value vs)
     → {o : Outcome (Unit {0})} → Traits vs o → Comes o → Has (ACache options) ts
 cache_traits options c k v t (unread why) = record { outcome = failed why; holds = ACache.in_traits c why k v t }
 cache_traits options c k v t (read x ws) =
     cache_closed options ws (record { us = _; vs = _; key = _; value = _; comma = c; has_key = k; has_value = v; has_traits = t })
 
-cache_value : (options : List RawOption) {ts us : List Lexeme} {key : PointedType} (c : Spot) → APointed ts (Read key (lexeme.Comma c ∷ us))
+cache_value : (options : List RawOption) {ts us : List Lexeme} {key : PointedType} (c : TokenText) → APointed ts (Read key (lexeme.Comma c ∷ us))
     → {o : Outcome PointedType} → APointed us o → Comes o → Has (ACache options) ts
 cache_value options c k v (unread why) = record { outcome = failed why; holds = ACache.in_value c why k v }
 cache_value options c k v (read value vs) = cache_traits options c k v (traits_has vs).holds (comes (traits_has vs).outcome)
@@ -330,7 +330,7 @@ global-one (AGlobal.in_marker why m) = rw (← marker-one m) (sym (failed_step w
 global_root : {ts us : List Lexeme} {options : List RawOption} → Marker ts (Read options us) → begins_map us ≡ false → Has AGlobal ts
 global_root {us} {options} m h = record { outcome = _; holds = AGlobal.root m h (root_has options us).holds }
 
-global_map : {ts us : List Lexeme} {options : List RawOption} (s l : Spot) (is : Bool) → bytes_eq s.word (codes "hash_map") ≡ is
+global_map : {ts us : List Lexeme} {options : List RawOption} (s l : TokenText) (is : Bool) → bytes_eq s.word (codes "hash_map") ≡ is
     → Marker ts (Read options (lexeme.Name s ∷ lexeme.Less l ∷ us)) → Has AGlobal ts
 global_map {us} {options} s l true h m = record { outcome = _; holds = AGlobal.cache s l m h (cache_has options us).holds }
 global_map s l false h m = global_root m h
@@ -381,7 +381,7 @@ marked-one (MarkedItem.no_keyword {ts} t h) = sym (no_keyword_at ts h)
 marked-one (MarkedItem.namespace s h) = rw h refl
 marked-one (MarkedItem.no_beginning {ts} h) = sym (no_beginning_at ts h)
 
-reserved_has : (s : Spot) (ts : List Lexeme) (is : Bool) → bytes_eq s.word (codes "namespace") ≡ is → Has MarkedItem (lexeme.Reserved s ∷ ts)
+reserved_has : (s : TokenText) (ts : List Lexeme) (is : Bool) → bytes_eq s.word (codes "namespace") ≡ is → Has MarkedItem (lexeme.Reserved s ∷ ts)
 reserved_has s ts true h = record { outcome = _; holds = MarkedItem.namespace s h }
 reserved_has s ts false h = record { outcome = _; holds = MarkedItem.unsupported s h }
 

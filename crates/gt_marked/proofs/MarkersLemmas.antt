@@ -8,7 +8,7 @@ use Rattle.gt_expr.specs.Expression.{expression_of}
 use Rattle.gt_items.specs.declared.items.RawOption.{RawOption}
 use Rattle.gt_items.specs.declared.items.Parameter.{Parameter}
 use Rattle.gt_items.specs.declared.items.Parameter.TheVariants.{Absent, Expression, Text}
-use Rattle.gt_search.specs.declared.lexeme.Spot.{Spot}
+use Rattle.gt_search.specs.declared.lexeme.TokenText.{TokenText}
 use Rattle.gt_search.specs.declared.lexeme.Bracket.TheVariants.{Round}
 use Rattle.gt_search.specs.declared.lexeme.Lexeme.{Lexeme}
 use Rattle.gt_search.specs.declared.lexeme.Lexeme.TheVariants as lexeme
@@ -58,11 +58,11 @@ has_texts (b ∷ bytes) =
 
 -- ---- parameters
 
-abbrev answered : Spot → Result Parameter ℕ → List Lexeme → Outcome Parameter
+abbrev answered : TokenText → Result Parameter ℕ → List Lexeme → Outcome Parameter
 answered name (Ok parameter) ts = Read parameter ts
 answered name (Err number) ts = Stops number name.start
 
-parameter-one : (name : Spot) (bytes : List ℕ) (answer : Result Parameter ℕ) (ts : List Lexeme) → IsParameter name.word bytes answer
+parameter-one : (name : TokenText) (bytes : List ℕ) (answer : Result Parameter ℕ) (ts : List Lexeme) → IsParameter name.word bytes answer
     → parameter_at name (unescaped false bytes) ts ≡ answered name answer ts
 parameter-one name bytes answer ts (empty u) = rw (unescapes-one u) refl
 parameter-one name bytes answer ts (text b u h) = rw (unescapes-one u, h) refl
@@ -121,7 +121,7 @@ joins_has [] = record { joined = []; following = []; joins = Joins.no_string ref
 joins_has (t ∷ ts) = record { joined = []; following = t ∷ ts; joins = Joins.no_string refl }
 
 -- at least one string
-strings-one : {ts us : List Lexeme} {text : List ℕ} (q : Spot) → Joins (lexeme.Quoted q ∷ ts) text us → strings_at (lexeme.Quoted q ∷ ts) ≡ Read text us
+strings-one : {ts us : List Lexeme} {text : List ℕ} (q : TokenText) → Joins (lexeme.Quoted q ∷ ts) text us → strings_at (lexeme.Quoted q ∷ ts) ≡ Read text us
 unfolding strings_at more_strings
 strings-one {ts} {us} q j = joins-one j []
 
@@ -133,7 +133,7 @@ no_strings (t ∷ ts) h = refl
 
 -- ---- options
 
-no_parameters : (name : Spot) (ts : List Lexeme) → begins opens_round ts ≡ false → parameters_at name ts ≡ Read Absent ts
+no_parameters : (name : TokenText) (ts : List Lexeme) → begins opens_round ts ≡ false → parameters_at name ts ≡ Read Absent ts
 unfolding parameters_at
 no_parameters name [] h = refl
 no_parameters name (lexeme.Open Round s ∷ ts) h = absurd cc
@@ -163,7 +163,7 @@ option-leaves (AnOption.no_identifier {ts} h) = unexpected_leaves RawOption ts _
 option-leaves (AnOption.no_string {ts} t o h k) = unexpected_leaves RawOption ts _
 option-leaves (AnOption.not_closed {rest} t o q h j k) = unexpected_leaves RawOption rest _
 
-option_past : (t : Lexeme) (o q : Spot) (ts : List Lexeme) {text : List ℕ} (rest : List Lexeme) → is_identifier t ≡ true → Joins (lexeme.Quoted q ∷ ts) text rest
+option_past : (t : Lexeme) (o q : TokenText) (ts : List Lexeme) {text : List ℕ} (rest : List Lexeme) → is_identifier t ≡ true → Joins (lexeme.Quoted q ∷ ts) text rest
     → (answer : Result Parameter ℕ) → IsParameter (spot_of t).word text answer → Has AnOption (t ∷ lexeme.Open Round o ∷ lexeme.Quoted q ∷ ts)
 option_past t o q ts (lexeme.Close Round c ∷ rest) h j (Ok parameter) p = record { outcome = _; holds = AnOption.with_strings t o q c h j p }
 option_past t o q ts (lexeme.Close Round c ∷ rest) h j (Err number) p = record { outcome = _; holds = AnOption.bad_strings t o q c h j p }
@@ -214,7 +214,7 @@ options-leaves (Options.more c d m) = omega (arith, option-leaves d, options-lea
 options-leaves (Options.in_option why d) = failed_leaves (List RawOption) why _
 options-leaves (Options.in_more c why d m) = failed_leaves (List RawOption) why _
 
-options_more : {ts us : List Lexeme} {option : RawOption} (c : Spot) {o : Outcome (List RawOption)} → AnOption ts (Read option (lexeme.Comma c ∷ us)) → Options us o → Comes o → Has Options ts
+options_more : {ts us : List Lexeme} {option : RawOption} (c : TokenText) {o : Outcome (List RawOption)} → AnOption ts (Read option (lexeme.Comma c ∷ us)) → Options us o → Comes o → Has Options ts
 options_more c d m (read options rest) = record { outcome = _; holds = Options.more c d m }
 options_more c d m (unread why) = record { outcome = failed why; holds = Options.in_more c why d m }
 
@@ -273,7 +273,7 @@ marker-leaves (Marker.not_opened_twice {ts} a b h) = unexpected_leaves (List Raw
 marker-leaves (Marker.not_closed {rest} a b c m h) = unexpected_leaves (List RawOption) rest _
 marker-leaves (Marker.not_closed_twice {rest} a b c d m h) = unexpected_leaves (List RawOption) rest _
 
-marker_after : (a b c : Spot) (ts : List Lexeme) {o : Outcome (List RawOption)} → MaybeOptions ts o → Comes o → Has Marker (lexeme.Gty a ∷ lexeme.Open Round b ∷ lexeme.Open Round c ∷ ts)
+marker_after : (a b c : TokenText) (ts : List Lexeme) {o : Outcome (List RawOption)} → MaybeOptions ts o → Comes o → Has Marker (lexeme.Gty a ∷ lexeme.Open Round b ∷ lexeme.Open Round c ∷ ts)
 marker_after a b c ts m (unread why) = record { outcome = failed why; holds = Marker.in_options a b c why m }
 marker_after a b c ts m (read options (lexeme.Close Round d ∷ lexeme.Close Round e ∷ rest)) = record { outcome = _; holds = Marker.marker a b c d e m }
 marker_after a b c ts m (read options (lexeme.Close Round d ∷ [])) = record { outcome = unexpected []; holds = Marker.not_closed_twice a b c d m refl }

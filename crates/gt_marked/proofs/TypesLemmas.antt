@@ -8,13 +8,13 @@ use Rattle.gt_items.specs.declared.items.Keyword.{Keyword}
 use Rattle.gt_items.specs.declared.items.RawOption.{RawOption}
 use Rattle.gt_items.specs.declared.items.RawType.{RawType}
 use Rattle.gt_items.specs.declared.items.RawType.TheVariants.{Words, Named}
-use Rattle.gt_search.specs.declared.lexeme.Spot.{Spot}
+use Rattle.gt_search.specs.declared.lexeme.TokenText.{TokenText}
 use Rattle.gt_search.specs.declared.lexeme.Bracket.TheVariants.{Round, Brace}
 use Rattle.gt_search.specs.declared.lexeme.TypeWord.{TypeWord}
 use Rattle.gt_search.specs.declared.lexeme.Lexeme.{Lexeme}
 use Rattle.gt_search.specs.declared.lexeme.Lexeme.TheVariants as lexeme
-use Rattle.gt_marked.specs.declared.types.Place.{Place}
-use Rattle.gt_marked.specs.declared.types.Place.TheVariants.{InField, Elsewhere}
+use Rattle.gt_marked.specs.declared.types.Context.{Context}
+use Rattle.gt_marked.specs.declared.types.Context.TheVariants.{InField, Elsewhere}
 use Rattle.gt_search.specs.Lexemes.{name_of}
 use Rattle.gt_marked.specs.MarkerGrammar.{failed, begins, opens_round, Marker}
 use Rattle.gt_marked.specs.Markers.{marker_at}
@@ -31,7 +31,7 @@ no_name [] h = refl
 no_name (lexeme.Name s ∷ ts) h = absurd cc
 no_name (t ∷ ts) h = refl
 
-pub a_name : (s : Spot) (ts : List Lexeme) → name_at (lexeme.Name s ∷ ts) ≡ Read (name_of s) ts
+pub a_name : (s : TokenText) (ts : List Lexeme) → name_at (lexeme.Name s ∷ ts) ≡ Read (name_of s) ts
 unfolding name_at
 a_name s ts = refl
 
@@ -130,7 +130,7 @@ pub record HasStars (ts : List Lexeme) : Type 0 where
   pub following : List Lexeme
   pub are : AreStars ts stars following
 
-one_star_has : (s : Spot) (ts us : List Lexeme) → Qualifiers ts us → HasStars us → HasStars (lexeme.Star s ∷ ts)
+one_star_has : (s : TokenText) (ts us : List Lexeme) → Qualifiers ts us → HasStars us → HasStars (lexeme.Star s ∷ ts)
 one_star_has s ts us q has = record { stars = one_more has.stars; following = has.following; are = AreStars.star s q has.are }
 
 stars_up_to : (n : ℕ) (ts : List Lexeme) → length ts ≤ n → HasStars ts
@@ -175,12 +175,12 @@ words-leaves (MoreWords.host_wide s h k q) = omega (arith, qualifiers-leaves q)
 words-leaves (MoreWords.name_after s h) = omega arith
 words-leaves (MoreWords.no_word h) = omega arith
 
-word_has : (before : Combination) (w : TypeWord) (s : Spot) (ts : List Lexeme) (with_it : Option Combination) → with_word w before ≡ with_it
+word_has : (before : Combination) (w : TypeWord) (s : TokenText) (ts : List Lexeme) (with_it : Option Combination) → with_word w before ≡ with_it
     → ((c : Combination) → Has (MoreWords c) ts) → Has (MoreWords before) (lexeme.Type w s ∷ ts)
 word_has before w s ts (Some with_it) e has = record { outcome = (has with_it).outcome; holds = MoreWords.word w s e (has with_it).holds }
 word_has before w s ts None e has = record { outcome = _; holds = MoreWords.bad_word w s e }
 
-name_has : (before : Combination) (s : Spot) (ts : List Lexeme) (alone host : Bool) → is_unsigned_alone before ≡ alone → bytes_eq s.word (codes "HOST_WIDE_INT") ≡ host
+name_has : (before : Combination) (s : TokenText) (ts : List Lexeme) (alone host : Bool) → is_unsigned_alone before ≡ alone → bytes_eq s.word (codes "HOST_WIDE_INT") ≡ host
     → Has (MoreWords before) (lexeme.Name s ∷ ts)
 name_has before s ts true true h k = record { outcome = _; holds = MoreWords.host_wide s h k (qualifiers_has ts).qualifiers }
 name_has before s ts false host h k = record { outcome = _; holds = MoreWords.name_after s (rw h refl) }
@@ -195,38 +195,38 @@ words_has (t ∷ ts) before = record { outcome = _; holds = MoreWords.no_word re
 
 -- ---- types
 
-no_brace : (place : Place) (ts : List Lexeme) → begins opens_brace ts ≡ false → no_brace_at place ts ≡ Read tt ts
+no_brace : (place : Context) (ts : List Lexeme) → begins opens_brace ts ≡ false → no_brace_at place ts ≡ Read tt ts
 no_brace place [] h = refl
 no_brace place (lexeme.Open Brace s ∷ ts) h = absurd cc
 no_brace place (t ∷ ts) h = refl
 
-unmarked : (place : Place) (ts : List Lexeme) → (in_field place && begins is_gty ts) ≡ false → no_body_at place ts ≡ no_brace_at place ts
+unmarked : (place : Context) (ts : List Lexeme) → (in_field place && begins is_gty ts) ≡ false → no_body_at place ts ≡ no_brace_at place ts
 unfolding no_body_at
 unmarked InField [] h = refl
 unmarked InField (lexeme.Gty g ∷ ts) h = absurd cc
 unmarked InField (t ∷ ts) h = refl
 unmarked Elsewhere ts h = refl
 
-brace_body : (place : Place) (b : Spot) (ts : List Lexeme) → no_body_at place (lexeme.Open Brace b ∷ ts) ≡ no_brace_at place (lexeme.Open Brace b ∷ ts)
+brace_body : (place : Context) (b : TokenText) (ts : List Lexeme) → no_body_at place (lexeme.Open Brace b ∷ ts) ≡ no_brace_at place (lexeme.Open Brace b ∷ ts)
 unfolding no_body_at
 brace_body InField b ts = refl
 brace_body Elsewhere b ts = refl
 
-marked : (place : Place) (g : Spot) (ts : List Lexeme) → in_field place ≡ true
+marked : (place : Context) (g : TokenText) (ts : List Lexeme) → in_field place ≡ true
     → no_body_at place (lexeme.Gty g ∷ ts)
     ≡ (marker_at (lexeme.Gty g ∷ ts) >>= λ options. no_brace_at InField options.1 >>= λ no_brace. Read tt (lexeme.Gty g ∷ ts))
 unfolding no_body_at
 marked InField g ts h = refl
 marked Elsewhere g ts h = absurd cc
 
-no_tags : (place : Place) (k : Keyword) (ts : List Lexeme) → begins is_name ts ≡ false → begins opens_brace ts ≡ false → tagged_at place k ts ≡ unexpected ts
+no_tags : (place : Context) (k : Keyword) (ts : List Lexeme) → begins is_name ts ≡ false → begins opens_brace ts ≡ false → tagged_at place k ts ≡ unexpected ts
 unfolding tagged_at
 no_tags place k [] h g = refl
 no_tags place k (lexeme.Name s ∷ ts) h g = absurd cc
 no_tags place k (lexeme.Open Brace s ∷ ts) h g = absurd cc
 no_tags place k (t ∷ ts) h g = refl
 
-no_bracket : (place : Place) (s : Spot) (ts : List Lexeme) → begins opens_round ts ≡ false → after_bitfield place s ts ≡ Read (Named (name_of s)) ts
+no_bracket : (place : Context) (s : TokenText) (ts : List Lexeme) → begins opens_round ts ≡ false → after_bitfield place s ts ≡ Read (Named (name_of s)) ts
 no_bracket InField s [] h = refl
 no_bracket InField s (lexeme.Open Round p ∷ ts) h = absurd cc
 no_bracket InField s (t ∷ ts) h = refl
@@ -235,23 +235,23 @@ no_bracket Elsewhere s (lexeme.Open Round p ∷ ts) h = absurd cc
 no_bracket Elsewhere s (t ∷ ts) h = refl
 
 -- a name has to stand after a bracket, where no pointer to a function is declared
-bitfield_bracket : (place : Place) (s a : Spot) (ts : List Lexeme) → (in_field place && begins is_star ts) ≡ false
+bitfield_bracket : (place : Context) (s a : TokenText) (ts : List Lexeme) → (in_field place && begins is_star ts) ≡ false
     → after_bitfield place s (lexeme.Open Round a ∷ ts) ≡ bitfield_at ts
 bitfield_bracket InField s a [] h = refl
 bitfield_bracket InField s a (lexeme.Star p ∷ ts) h = absurd cc
 bitfield_bracket InField s a (t ∷ ts) h = refl
 bitfield_bracket Elsewhere s a ts h = refl
 
-pointer : (place : Place) (s a p : Spot) (ts : List Lexeme) → in_field place ≡ true
+pointer : (place : Context) (s a p : TokenText) (ts : List Lexeme) → in_field place ≡ true
     → after_bitfield place s (lexeme.Open Round a ∷ lexeme.Star p ∷ ts) ≡ Read (Named (name_of s)) (lexeme.Open Round a ∷ lexeme.Star p ∷ ts)
 pointer InField s a p ts h = refl
 pointer Elsewhere s a p ts h = absurd cc
 
-no_pointer : (place : Place) (ts : List Lexeme) → begins is_star ts ≡ false → (in_field place && begins is_star ts) ≡ false
+no_pointer : (place : Context) (ts : List Lexeme) → begins is_star ts ≡ false → (in_field place && begins is_star ts) ≡ false
 no_pointer InField ts h = h
 no_pointer Elsewhere ts h = refl
 
-no_types : (place : Place) (ts : List Lexeme) → begins begins_type ts ≡ false → bare_type_at place ts ≡ unexpected ts
+no_types : (place : Context) (ts : List Lexeme) → begins begins_type ts ≡ false → bare_type_at place ts ≡ unexpected ts
 unfolding bare_type_at
 no_types place [] h = refl
 no_types place (lexeme.Type w s ∷ ts) h = absurd cc
@@ -259,7 +259,7 @@ no_types place (lexeme.Tag k s ∷ ts) h = absurd cc
 no_types place (lexeme.Name s ∷ ts) h = absurd cc
 no_types place (t ∷ ts) h = refl
 
-pub bare_type-one : {place : Place} {ts : List Lexeme} {o : Outcome RawType} → BareType place ts o → o ≡ bare_type_at place ts
+pub bare_type-one : {place : Context} {ts : List Lexeme} {o : Outcome RawType} → BareType place ts o → o ≡ bare_type_at place ts
 unfolding bare_type_at tagged_at bitfield_at words_from
 bare_type-one (BareType.words w s m) = words-one m
 bare_type-one {place} (BareType.tagged {rest} k t s q r h g) = rw (qualifiers-one q, qualifiers-one r, unmarked place rest g, no_brace place rest h) refl
@@ -282,7 +282,7 @@ bare_type-one {place} (BareType.bitfield_not_closed {us} {vs} {rest} s a n e q r
     rw (e, qualifiers-one q, bitfield_bracket place s a us (no_pointer place us (qualifiers-no_star r refl)), qualifiers-one r, a_name n vs, qualifiers-one p, no_close_round rest k, unexpected_step) refl
 bare_type-one {place} (BareType.no_type {ts} h) = sym (no_types place ts h)
 
-bare_type-leaves : {place : Place} {ts : List Lexeme} {o : Outcome RawType} → BareType place ts o → Leaves (length ts) o
+bare_type-leaves : {place : Context} {ts : List Lexeme} {o : Outcome RawType} → BareType place ts o → Leaves (length ts) o
 bare_type-leaves (BareType.words w s m) = words-leaves m
 bare_type-leaves (BareType.tagged k t s q r h g) = omega (arith, qualifiers-leaves q, qualifiers-leaves r)
 bare_type-leaves (BareType.before_marker k t s g f q r m h) = omega (arith, qualifiers-leaves q, qualifiers-leaves r)
@@ -300,14 +300,14 @@ bare_type-leaves (BareType.bitfield_not_closed {rest} s a n e q r p k) = unexpec
 bare_type-leaves (BareType.no_type {ts} h) = unexpected_leaves RawType ts _
 
 -- a marker after a tag in a field
-marker_after_tag : (k : Keyword) (t s g : Spot) (ts us rest : List Lexeme) → Qualifiers ts (lexeme.Name s ∷ us) → Qualifiers us (lexeme.Gty g ∷ rest)
+marker_after_tag : (k : Keyword) (t s g : TokenText) (ts us rest : List Lexeme) → Qualifiers ts (lexeme.Name s ∷ us) → Qualifiers us (lexeme.Gty g ∷ rest)
     → {o : Outcome (List RawOption)} → Marker (lexeme.Gty g ∷ rest) o → Comes o → Has (BareType InField) (lexeme.Tag k t ∷ ts)
 marker_after_tag k t s g ts us rest q r m (unread why) = record { outcome = failed why; holds = BareType.in_marker k t s g why refl q r m }
 marker_after_tag k t s g ts us rest q r m (read options (lexeme.Open Brace b ∷ following)) = record { outcome = _; holds = BareType.marked_body k t s g b refl q r m }
 marker_after_tag k t s g ts us rest q r m (read options []) = record { outcome = _; holds = BareType.before_marker k t s g refl q r m refl }
 marker_after_tag k t s g ts us rest q r m (read options (u ∷ following)) = record { outcome = _; holds = BareType.before_marker k t s g refl q r m refl }
 
-tag_after : (place : Place) (k : Keyword) (t s : Spot) (ts us rest : List Lexeme) → Qualifiers ts (lexeme.Name s ∷ us) → Qualifiers us rest → Has (BareType place) (lexeme.Tag k t ∷ ts)
+tag_after : (place : Context) (k : Keyword) (t s : TokenText) (ts us rest : List Lexeme) → Qualifiers ts (lexeme.Name s ∷ us) → Qualifiers us rest → Has (BareType place) (lexeme.Tag k t ∷ ts)
 tag_after place k t s ts us (lexeme.Open Brace b ∷ rest) q r = record { outcome = _; holds = BareType.with_body k t s b q r }
 tag_after InField k t s ts us (lexeme.Gty g ∷ rest) q r =
     let has = marker_has (lexeme.Gty g ∷ rest) in marker_after_tag k t s g ts us rest q r has.holds (comes has.outcome)
@@ -316,63 +316,63 @@ tag_after InField k t s ts us (u ∷ rest) q r = record { outcome = _; holds = B
 tag_after Elsewhere k t s ts us [] q r = record { outcome = _; holds = BareType.tagged k t s q r refl refl }
 tag_after Elsewhere k t s ts us (u ∷ rest) q r = record { outcome = _; holds = BareType.tagged k t s q r refl refl }
 
-tagged_has : (place : Place) (k : Keyword) (t : Spot) (ts us : List Lexeme) → Qualifiers ts us → Has (BareType place) (lexeme.Tag k t ∷ ts)
+tagged_has : (place : Context) (k : Keyword) (t : TokenText) (ts us : List Lexeme) → Qualifiers ts us → Has (BareType place) (lexeme.Tag k t ∷ ts)
 tagged_has place k t ts (lexeme.Name s ∷ us) q = tag_after place k t s ts us (qualifiers_has us).following q (qualifiers_has us).qualifiers
 tagged_has place k t ts (lexeme.Open Brace b ∷ us) q = record { outcome = _; holds = BareType.body_alone k t b q }
 tagged_has place k t ts [] q = record { outcome = unexpected []; holds = BareType.no_tag k t q refl refl }
 tagged_has place k t ts (u ∷ us) q = record { outcome = unexpected (u ∷ us); holds = BareType.no_tag k t q refl refl }
 
-bitfield_closes : (place : Place) (s a n : Spot) (ts us vs rest : List Lexeme) → bytes_eq s.word (codes "ENUM_BITFIELD") ≡ true
+bitfield_closes : (place : Context) (s a n : TokenText) (ts us vs rest : List Lexeme) → bytes_eq s.word (codes "ENUM_BITFIELD") ≡ true
     → Qualifiers ts (lexeme.Open Round a ∷ us) → Qualifiers us (lexeme.Name n ∷ vs) → Qualifiers vs rest → Has (BareType place) (lexeme.Name s ∷ ts)
 bitfield_closes place s a n ts us vs (lexeme.Close Round b ∷ rest) e q r p = record { outcome = _; holds = BareType.bitfield s a n b e q r p (qualifiers_has rest).qualifiers }
 bitfield_closes place s a n ts us vs [] e q r p = record { outcome = unexpected []; holds = BareType.bitfield_not_closed s a n e q r p refl }
 bitfield_closes place s a n ts us vs (u ∷ rest) e q r p = record { outcome = unexpected (u ∷ rest); holds = BareType.bitfield_not_closed s a n e q r p refl }
 
-bitfield_name : (place : Place) (s a : Spot) (ts us rest : List Lexeme) → bytes_eq s.word (codes "ENUM_BITFIELD") ≡ true
+bitfield_name : (place : Context) (s a : TokenText) (ts us rest : List Lexeme) → bytes_eq s.word (codes "ENUM_BITFIELD") ≡ true
     → Qualifiers ts (lexeme.Open Round a ∷ us) → (in_field place && begins is_star us) ≡ false → Qualifiers us rest → Has (BareType place) (lexeme.Name s ∷ ts)
 bitfield_name place s a ts us (lexeme.Name n ∷ rest) e q h r = bitfield_closes place s a n ts us rest (qualifiers_has rest).following e q r (qualifiers_has rest).qualifiers
 bitfield_name place s a ts us [] e q h r = record { outcome = unexpected []; holds = BareType.bitfield_no_name s a e q h r refl }
 bitfield_name place s a ts us (u ∷ rest) e q h r = record { outcome = unexpected (u ∷ rest); holds = BareType.bitfield_no_name s a e q h r refl }
 
-bitfield_opened : (place : Place) (s a : Spot) (ts us : List Lexeme) → bytes_eq s.word (codes "ENUM_BITFIELD") ≡ true
+bitfield_opened : (place : Context) (s a : TokenText) (ts us : List Lexeme) → bytes_eq s.word (codes "ENUM_BITFIELD") ≡ true
     → Qualifiers ts (lexeme.Open Round a ∷ us) → Has (BareType place) (lexeme.Name s ∷ ts)
 bitfield_opened InField s a ts (lexeme.Star p ∷ us) e q = record { outcome = _; holds = BareType.function_pointer s a p refl e q }
 bitfield_opened InField s a ts [] e q = bitfield_name InField s a ts [] (qualifiers_has []).following e q refl (qualifiers_has []).qualifiers
 bitfield_opened InField s a ts (u ∷ us) e q = bitfield_name InField s a ts (u ∷ us) (qualifiers_has (u ∷ us)).following e q refl (qualifiers_has (u ∷ us)).qualifiers
 bitfield_opened Elsewhere s a ts us e q = bitfield_name Elsewhere s a ts us (qualifiers_has us).following e q refl (qualifiers_has us).qualifiers
 
-bitfield_has : (place : Place) (s : Spot) (ts us : List Lexeme) → bytes_eq s.word (codes "ENUM_BITFIELD") ≡ true → Qualifiers ts us → Has (BareType place) (lexeme.Name s ∷ ts)
+bitfield_has : (place : Context) (s : TokenText) (ts us : List Lexeme) → bytes_eq s.word (codes "ENUM_BITFIELD") ≡ true → Qualifiers ts us → Has (BareType place) (lexeme.Name s ∷ ts)
 bitfield_has place s ts (lexeme.Open Round a ∷ us) e q = bitfield_opened place s a ts us e q
 bitfield_has place s ts [] e q = record { outcome = _; holds = BareType.no_bitfield s e q refl }
 bitfield_has place s ts (u ∷ us) e q = record { outcome = _; holds = BareType.no_bitfield s e q refl }
 
-named_has : (place : Place) (s : Spot) (ts : List Lexeme) (is : Bool) → bytes_eq s.word (codes "ENUM_BITFIELD") ≡ is → Has (BareType place) (lexeme.Name s ∷ ts)
+named_has : (place : Context) (s : TokenText) (ts : List Lexeme) (is : Bool) → bytes_eq s.word (codes "ENUM_BITFIELD") ≡ is → Has (BareType place) (lexeme.Name s ∷ ts)
 named_has place s ts true e = bitfield_has place s ts (qualifiers_has ts).following e (qualifiers_has ts).qualifiers
 named_has place s ts false e = record { outcome = _; holds = BareType.named s e (qualifiers_has ts).qualifiers }
 
-bare_type_has : (place : Place) (ts : List Lexeme) → Has (BareType place) ts
+bare_type_has : (place : Context) (ts : List Lexeme) → Has (BareType place) ts
 bare_type_has place (lexeme.Type w s ∷ ts) = record { outcome = _; holds = BareType.words w s (words_has (lexeme.Type w s ∷ ts) no_words).holds }
 bare_type_has place (lexeme.Tag k t ∷ ts) = tagged_has place k t ts (qualifiers_has ts).following (qualifiers_has ts).qualifiers
 bare_type_has place (lexeme.Name s ∷ ts) = named_has place s ts (bytes_eq s.word (codes "ENUM_BITFIELD")) refl
 bare_type_has place [] = record { outcome = unexpected []; holds = BareType.no_type refl }
 bare_type_has place (t ∷ ts) = record { outcome = unexpected (t ∷ ts); holds = BareType.no_type refl }
 
-type-one : {place : Place} {ts : List Lexeme} {o : Outcome RawType} → AType place ts o → o ≡ type_at place ts
+type-one : {place : Context} {ts : List Lexeme} {o : Outcome RawType} → AType place ts o → o ≡ type_at place ts
 unfolding type_at
 type-one (AType.type q b) = rw (qualifiers-one q) (bare_type-one b)
 
-pub type-leaves : {place : Place} {ts : List Lexeme} {o : Outcome RawType} → AType place ts o → Leaves (length ts) o
+pub type-leaves : {place : Context} {ts : List Lexeme} {o : Outcome RawType} → AType place ts o → Leaves (length ts) o
 type-leaves (AType.type {o = Read x us} q b) = omega (arith, qualifiers-leaves q, bare_type-leaves b)
 type-leaves (AType.type {o = Stops number at} q b) = tt
 type-leaves (AType.type {o = Ends} q b) = tt
 
-pub type_has : (place : Place) (ts : List Lexeme) → Has (AType place) ts
+pub type_has : (place : Context) (ts : List Lexeme) → Has (AType place) ts
 type_has place ts =
     let bare = bare_type_has place (qualifiers_has ts).following in
     record { outcome = bare.outcome; holds = AType.type (qualifiers_has ts).qualifiers bare.holds }
 
-pub type-alone : (place : Place) (ts : List Lexeme) (o : Outcome RawType) → AType place ts o → o ≡ type_at place ts
+pub type-alone : (place : Context) (ts : List Lexeme) (o : Outcome RawType) → AType place ts o → o ≡ type_at place ts
 type-alone place ts o d = type-one d
 
-pub type-allowed : (place : Place) (ts : List Lexeme) → AType place ts (type_at place ts)
+pub type-allowed : (place : Context) (ts : List Lexeme) → AType place ts (type_at place ts)
 type-allowed place = allowed (AType place) (type_at place) (type-alone place) (type_has place)

@@ -7,12 +7,12 @@ use Rattle.gt_items.specs.declared.items.RawOption.{RawOption}
 use Rattle.gt_items.specs.declared.items.RawType.{RawType}
 use Rattle.gt_items.specs.declared.items.Stars.{Stars}
 use Rattle.gt_items.specs.declared.items.Stars.TheVariants.{Zero}
-use Rattle.gt_search.specs.declared.lexeme.Spot.{Spot}
+use Rattle.gt_search.specs.declared.lexeme.TokenText.{TokenText}
 use Rattle.gt_search.specs.declared.lexeme.Bracket.{Bracket}
 use Rattle.gt_search.specs.declared.lexeme.Bracket.TheVariants.{Round, Square, Brace}
 use Rattle.gt_search.specs.declared.lexeme.Lexeme.{Lexeme}
 use Rattle.gt_search.specs.declared.lexeme.Lexeme.TheVariants as lexeme
-use Rattle.gt_marked.specs.declared.types.Place.TheVariants.{InField}
+use Rattle.gt_marked.specs.declared.types.Context.TheVariants.{InField}
 use Rattle.gt_marked.specs.Fields.{is_access}
 use Rattle.gt_search.specs.Lexemes.{name_of, kept_text}
 use Rattle.gt_marked.specs.MarkerGrammar.{Failure, failed, begins, is_comma, opens_round, closes_round, MaybeMarker}
@@ -86,35 +86,35 @@ pub record IsFree (is : Lexeme → Bool) (ts : List Lexeme) : Type 0 where
 -- bounds := {"[" text "]"}
 pub data Bounds : List Lexeme → Outcome (List (List ℕ)) → Type 0 where
   no_bound : {ts : List Lexeme} → begins opens_square ts ≡ false → Bounds ts (Read [] ts)
-  bound : {inside ts rest : List Lexeme} {bounds : List (List ℕ)} (b : Bracket) (o p : Spot) → IsFree closes_any inside → Bounds ts (Read bounds rest)
+  bound : {inside ts rest : List Lexeme} {bounds : List (List ℕ)} (b : Bracket) (o p : TokenText) → IsFree closes_any inside → Bounds ts (Read bounds rest)
       → Bounds (lexeme.Open Square o ∷ inside ++ lexeme.Close b p ∷ ts) (Read (kept_text inside ∷ bounds) rest)
   -- the tokens end in a bound
-  not_closed : {ts : List Lexeme} (o : Spot) → ¬ Stands closes_any ts → Bounds (lexeme.Open Square o ∷ ts) Ends
-  in_more : {inside ts : List Lexeme} (b : Bracket) (o p : Spot) (why : Failure) → IsFree closes_any inside → Bounds ts (failed why)
+  not_closed : {ts : List Lexeme} (o : TokenText) → ¬ Stands closes_any ts → Bounds (lexeme.Open Square o ∷ ts) Ends
+  in_more : {inside ts : List Lexeme} (b : Bracket) (o p : TokenText) (why : Failure) → IsFree closes_any inside → Bounds ts (failed why)
       → Bounds (lexeme.Open Square o ∷ inside ++ lexeme.Close b p ∷ ts) (failed why)
 
 -- bits := [":" text]
 pub data Bits : List Lexeme → Outcome (Option (List ℕ)) → Type 0 where
   no_bits : {ts : List Lexeme} → begins is_colon ts ≡ false → Bits ts (Read None ts)
-  bits : {text rest : List Lexeme} (c : Spot) (t : Lexeme) → IsFree ends_text text → ends_text t ≡ true
+  bits : {text rest : List Lexeme} (c : TokenText) (t : Lexeme) → IsFree ends_text text → ends_text t ≡ true
       → Bits (lexeme.Colon c ∷ text ++ t ∷ rest) (Read (Some (kept_text text)) (t ∷ rest))
   -- the tokens end in the text
-  endless : {ts : List Lexeme} (c : Spot) → ¬ Stands ends_text ts → Bits (lexeme.Colon c ∷ ts) Ends
+  endless : {ts : List Lexeme} (c : TokenText) → ¬ Stands ends_text ts → Bits (lexeme.Colon c ∷ ts) Ends
 
 -- {"*"} [marker] NAME bounds bits
 pub data PlainDeclarator : List Lexeme → Outcome Declarator → Type 0 where
-  plain : {ts us vs ws rest : List Lexeme} {stars : Stars} {options : List RawOption} {bounds : List (List ℕ)} {bits : Option (List ℕ)} (n : Spot)
+  plain : {ts us vs ws rest : List Lexeme} {stars : Stars} {options : List RawOption} {bounds : List (List ℕ)} {bits : Option (List ℕ)} (n : TokenText)
       → AreStars ts stars us → MaybeMarker us (Read options (lexeme.Name n ∷ vs)) → begins opens_round vs ≡ false → Bounds vs (Read bounds ws) → Bits ws (Read bits rest)
       → PlainDeclarator ts (Read (record { is_function = false; stars = stars; options = options; name = name_of n; bounds = bounds; bits = bits }) rest)
   -- 9: a member function, at the bracket after its name
-  member_function : {ts us vs : List Lexeme} {stars : Stars} {options : List RawOption} (n o : Spot)
+  member_function : {ts us vs : List Lexeme} {stars : Stars} {options : List RawOption} (n o : TokenText)
       → AreStars ts stars us → MaybeMarker us (Read options (lexeme.Name n ∷ lexeme.Open Round o ∷ vs)) → PlainDeclarator ts (Stops UNSUPPORTED o.start)
   -- the fault of the marker, of a bound, of the bit count
   in_marker : {ts us : List Lexeme} {stars : Stars} (why : Failure) → AreStars ts stars us → MaybeMarker us (failed why) → PlainDeclarator ts (failed why)
-  in_bounds : {ts us vs : List Lexeme} {stars : Stars} {options : List RawOption} (n : Spot) (why : Failure)
+  in_bounds : {ts us vs : List Lexeme} {stars : Stars} {options : List RawOption} (n : TokenText) (why : Failure)
       → AreStars ts stars us → MaybeMarker us (Read options (lexeme.Name n ∷ vs)) → begins opens_round vs ≡ false → Bounds vs (failed why)
       → PlainDeclarator ts (failed why)
-  in_bits : {ts us vs ws : List Lexeme} {stars : Stars} {options : List RawOption} {bounds : List (List ℕ)} (n : Spot) (why : Failure)
+  in_bits : {ts us vs ws : List Lexeme} {stars : Stars} {options : List RawOption} {bounds : List (List ℕ)} (n : TokenText) (why : Failure)
       → AreStars ts stars us → MaybeMarker us (Read options (lexeme.Name n ∷ vs)) → begins opens_round vs ≡ false → Bounds vs (Read bounds ws) → Bits ws (failed why)
       → PlainDeclarator ts (failed why)
   -- 8: a name has to stand here
@@ -124,35 +124,35 @@ pub data PlainDeclarator : List Lexeme → Outcome Declarator → Type 0 where
 -- declarator := {"*"} [marker] NAME bounds bits | "(" "*" [marker] NAME ")" "(" skipped ")"
 pub data ADeclarator : List Lexeme → Outcome Declarator → Type 0 where
   plain : {ts : List Lexeme} {o : Outcome Declarator} → begins opens_round ts ≡ false → PlainDeclarator ts o → ADeclarator ts o
-  function : {ts us inside rest : List Lexeme} {options : List RawOption} (a s n c d e : Spot) (b : Bracket) → Qualifiers ts us
+  function : {ts us inside rest : List Lexeme} {options : List RawOption} (a s n c d e : TokenText) (b : Bracket) → Qualifiers ts us
       → MaybeMarker us (Read options (lexeme.Name n ∷ lexeme.Close Round c ∷ lexeme.Open Round d ∷ inside ++ lexeme.Close b e ∷ rest)) → IsFree closes_any inside
       → ADeclarator (lexeme.Open Round a ∷ lexeme.Star s ∷ ts)
       (Read (record { is_function = true; stars = Zero; options = options; name = name_of n; bounds = []; bits = None }) rest)
   -- the fault of the marker
-  in_marker : {ts us : List Lexeme} (a s : Spot) (why : Failure) → Qualifiers ts us → MaybeMarker us (failed why)
+  in_marker : {ts us : List Lexeme} (a s : TokenText) (why : Failure) → Qualifiers ts us → MaybeMarker us (failed why)
       → ADeclarator (lexeme.Open Round a ∷ lexeme.Star s ∷ ts) (failed why)
   -- 8: a star has to stand here; a name; a closing bracket; an opening bracket
-  no_star : {ts : List Lexeme} (a : Spot) → begins is_star ts ≡ false → ADeclarator (lexeme.Open Round a ∷ ts) (unexpected ts)
-  no_name : {ts us rest : List Lexeme} {options : List RawOption} (a s : Spot) → Qualifiers ts us → MaybeMarker us (Read options rest)
+  no_star : {ts : List Lexeme} (a : TokenText) → begins is_star ts ≡ false → ADeclarator (lexeme.Open Round a ∷ ts) (unexpected ts)
+  no_name : {ts us rest : List Lexeme} {options : List RawOption} (a s : TokenText) → Qualifiers ts us → MaybeMarker us (Read options rest)
       → begins is_name rest ≡ false → ADeclarator (lexeme.Open Round a ∷ lexeme.Star s ∷ ts) (unexpected rest)
-  not_closed : {ts us rest : List Lexeme} {options : List RawOption} (a s n : Spot) → Qualifiers ts us → MaybeMarker us (Read options (lexeme.Name n ∷ rest))
+  not_closed : {ts us rest : List Lexeme} {options : List RawOption} (a s n : TokenText) → Qualifiers ts us → MaybeMarker us (Read options (lexeme.Name n ∷ rest))
       → begins closes_round rest ≡ false → ADeclarator (lexeme.Open Round a ∷ lexeme.Star s ∷ ts) (unexpected rest)
-  no_arguments : {ts us rest : List Lexeme} {options : List RawOption} (a s n c : Spot) → Qualifiers ts us
+  no_arguments : {ts us rest : List Lexeme} {options : List RawOption} (a s n c : TokenText) → Qualifiers ts us
       → MaybeMarker us (Read options (lexeme.Name n ∷ lexeme.Close Round c ∷ rest)) → begins opens_round rest ≡ false
       → ADeclarator (lexeme.Open Round a ∷ lexeme.Star s ∷ ts) (unexpected rest)
   -- the tokens end in the last brackets
-  arguments_not_closed : {ts us rest : List Lexeme} {options : List RawOption} (a s n c d : Spot) → Qualifiers ts us
+  arguments_not_closed : {ts us rest : List Lexeme} {options : List RawOption} (a s n c d : TokenText) → Qualifiers ts us
       → MaybeMarker us (Read options (lexeme.Name n ∷ lexeme.Close Round c ∷ lexeme.Open Round d ∷ rest)) → ¬ Stands closes_any rest
       → ADeclarator (lexeme.Open Round a ∷ lexeme.Star s ∷ ts) Ends
 
 -- declarator {"," declarator} ";"
 pub data Declarators : List Lexeme → Outcome (List Declarator) → Type 0 where
-  last : {ts rest : List Lexeme} {d : Declarator} (s : Spot) → ADeclarator ts (Read d (lexeme.Semicolon s ∷ rest)) → Declarators ts (Read (d ∷ []) rest)
-  more : {ts us rest : List Lexeme} {d : Declarator} {ds : List Declarator} (c : Spot) → ADeclarator ts (Read d (lexeme.Comma c ∷ us))
+  last : {ts rest : List Lexeme} {d : Declarator} (s : TokenText) → ADeclarator ts (Read d (lexeme.Semicolon s ∷ rest)) → Declarators ts (Read (d ∷ []) rest)
+  more : {ts us rest : List Lexeme} {d : Declarator} {ds : List Declarator} (c : TokenText) → ADeclarator ts (Read d (lexeme.Comma c ∷ us))
       → Declarators us (Read ds rest) → Declarators ts (Read (d ∷ ds) rest)
   -- the fault of a declarator
   in_declarator : {ts : List Lexeme} (why : Failure) → ADeclarator ts (failed why) → Declarators ts (failed why)
-  in_more : {ts us : List Lexeme} {d : Declarator} (c : Spot) (why : Failure) → ADeclarator ts (Read d (lexeme.Comma c ∷ us))
+  in_more : {ts us : List Lexeme} {d : Declarator} (c : TokenText) (why : Failure) → ADeclarator ts (Read d (lexeme.Comma c ∷ us))
       → Declarators us (failed why) → Declarators ts (failed why)
   -- 8: a comma or a semicolon has to stand here
   not_ended : {ts rest : List Lexeme} {d : Declarator} → ADeclarator ts (Read d rest) → begins is_comma rest ≡ false → begins is_semicolon rest ≡ false
@@ -165,7 +165,7 @@ pub data Field : List Lexeme → Outcome RawField → Type 0 where
   field : {ts us rest : List Lexeme} {type : RawType} {declarators : List Declarator} → begins_label ts ≡ false → AType InField ts (Read type us)
       → Declarators us (Read declarators rest) → Field ts (Read (record { ty = type; declarators = declarators }) rest)
   -- 9: an access label, at its word
-  label : {ts : List Lexeme} (s c : Spot) → is_access s.word ≡ true → Field (lexeme.Name s ∷ lexeme.Colon c ∷ ts) (Stops UNSUPPORTED s.start)
+  label : {ts : List Lexeme} (s c : TokenText) → is_access s.word ≡ true → Field (lexeme.Name s ∷ lexeme.Colon c ∷ ts) (Stops UNSUPPORTED s.start)
   -- the fault of the type, 9 where one is defined there; of a declarator
   in_type : {ts : List Lexeme} (why : Failure) → begins_label ts ≡ false → AType InField ts (failed why) → Field ts (failed why)
   in_declarators : {ts us : List Lexeme} {type : RawType} (why : Failure) → begins_label ts ≡ false → AType InField ts (Read type us)
@@ -173,7 +173,7 @@ pub data Field : List Lexeme → Outcome RawField → Type 0 where
 
 -- field+ "}"
 pub data FieldsToBrace : List Lexeme → Outcome (List RawField) → Type 0 where
-  last : {ts rest : List Lexeme} {f : RawField} (s : Spot) → Field ts (Read f (lexeme.Close Brace s ∷ rest)) → FieldsToBrace ts (Read (f ∷ []) rest)
+  last : {ts rest : List Lexeme} {f : RawField} (s : TokenText) → Field ts (Read f (lexeme.Close Brace s ∷ rest)) → FieldsToBrace ts (Read (f ∷ []) rest)
   more : {ts us rest : List Lexeme} {f : RawField} {fs : List RawField} → Field ts (Read f us) → begins closes_brace us ≡ false
       → FieldsToBrace us (Read fs rest) → FieldsToBrace ts (Read (f ∷ fs) rest)
   -- the fault of a field

@@ -8,7 +8,7 @@ use Rattle.gt_items.specs.declared.items.Stars.TheVariants.{Zero}
 use Rattle.gt_search.specs.declared.lexeme.Bracket.TheVariants.{Round, Brace}
 use Rattle.gt_search.specs.declared.lexeme.Lexeme.{Lexeme}
 use Rattle.gt_search.specs.declared.lexeme.Lexeme.TheVariants as lexeme
-use Rattle.gt_marked.specs.declared.types.Place.TheVariants.{InField}
+use Rattle.gt_marked.specs.declared.types.Context.TheVariants.{InField}
 use Rattle.gt_search.specs.Lexemes.{kept_text}
 use Rattle.gt_marked.specs.Outcome.{Outcome, Read, Stops, Ends, ◌>>=◌, unexpected}
 use Rattle.gt_marked.specs.Markers.{maybe_marker, open_round_at, close_round_at}

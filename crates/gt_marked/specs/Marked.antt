@@ -10,11 +10,11 @@ use Rattle.gt_items.specs.declared.items.Alias.{Alias}
 use Rattle.gt_items.specs.declared.items.RawOption.{RawOption}
 use Rattle.gt_items.specs.declared.items.PointedType.{PointedType}
 use Rattle.gt_items.specs.declared.items.Keyword.TheVariants.{Struct, Union}
-use Rattle.gt_search.specs.declared.lexeme.Spot.{Spot}
+use Rattle.gt_search.specs.declared.lexeme.TokenText.{TokenText}
 use Rattle.gt_search.specs.declared.lexeme.Bracket.TheVariants.{Brace}
 use Rattle.gt_search.specs.declared.lexeme.Lexeme.{Lexeme}
 use Rattle.gt_search.specs.declared.lexeme.Lexeme.TheVariants as lexeme
-use Rattle.gt_marked.specs.declared.types.Place.TheVariants.{Elsewhere}
+use Rattle.gt_marked.specs.declared.types.Context.TheVariants.{Elsewhere}
 use Rattle.gt_search.specs.Lexemes.{name_of}
 use Rattle.gt_marked.specs.Outcome.{Outcome, Read, Stops, ◌>>=◌, unexpected}
 use Rattle.gt_marked.specs.Markers.{marker_at}
@@ -133,7 +133,7 @@ typedef_structure_at (lexeme.Tag Union s ∷ ts) = structure_at true true ts
 typedef_structure_at ts = unexpected ts
 
 -- class and template are not supported; namespace may not stand here
-abbrev pub reserved_at : Spot → Outcome Item
+abbrev pub reserved_at : TokenText → Outcome Item
 reserved_at s = if bytes_eq s.word (codes "namespace") then Stops UNEXPECTED s.start else Stops UNSUPPORTED s.start
 
 -- a marked item

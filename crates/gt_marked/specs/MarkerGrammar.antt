@@ -8,7 +8,7 @@ use Rattle.gt_expr.specs.Expression.{expression_of}
 use Rattle.gt_items.specs.declared.items.RawOption.{RawOption}
 use Rattle.gt_items.specs.declared.items.Parameter.{Parameter}
 use Rattle.gt_items.specs.declared.items.Parameter.TheVariants.{Absent, Expression, Text}
-use Rattle.gt_search.specs.declared.lexeme.Spot.{Spot}
+use Rattle.gt_search.specs.declared.lexeme.TokenText.{TokenText}
 use Rattle.gt_search.specs.declared.lexeme.Bracket.TheVariants.{Round}
 use Rattle.gt_search.specs.declared.lexeme.Lexeme.{Lexeme}
 use Rattle.gt_search.specs.declared.lexeme.Lexeme.TheVariants as lexeme
@@ -77,61 +77,61 @@ pub data IsParameter : List ℕ → List ℕ → Result Parameter ℕ → Type 0
 -- as many string literals as follow one another, the text that they join to, and the tokens after them
 pub data Joins : List Lexeme → List ℕ → List Lexeme → Type 0 where
   no_string : {ts : List Lexeme} → begins is_quoted ts ≡ false → Joins ts [] ts
-  string : {ts us : List Lexeme} {text : List ℕ} (s : Spot) → Joins ts text us
+  string : {ts us : List Lexeme} {text : List ℕ} (s : TokenText) → Joins ts text us
       → Joins (lexeme.Quoted s ∷ ts) (inside_quotes (encode_utf8_all s.word) ++ text) us
 
 -- option := NAME ["(" string+ ")"], whose name is any identifier
 pub data AnOption : List Lexeme → Outcome RawOption → Type 0 where
   name_alone : {ts : List Lexeme} (t : Lexeme) → is_identifier t ≡ true → begins opens_round ts ≡ false
       → AnOption (t ∷ ts) (Read (record { name = name_of (spot_of t); parameter = Absent }) ts)
-  with_strings : {ts rest : List Lexeme} {text : List ℕ} {parameter : Parameter} (t : Lexeme) (o q c : Spot) → is_identifier t ≡ true
+  with_strings : {ts rest : List Lexeme} {text : List ℕ} {parameter : Parameter} (t : Lexeme) (o q c : TokenText) → is_identifier t ≡ true
       → Joins (lexeme.Quoted q ∷ ts) text (lexeme.Close Round c ∷ rest) → IsParameter (spot_of t).word text (Ok parameter)
       → AnOption (t ∷ lexeme.Open Round o ∷ lexeme.Quoted q ∷ ts) (Read (record { name = name_of (spot_of t); parameter = parameter }) rest)
   -- 5, 6: a whole option whose strings are no parameter, at its name
-  bad_strings : {ts rest : List Lexeme} {text : List ℕ} {number : ℕ} (t : Lexeme) (o q c : Spot) → is_identifier t ≡ true
+  bad_strings : {ts rest : List Lexeme} {text : List ℕ} {number : ℕ} (t : Lexeme) (o q c : TokenText) → is_identifier t ≡ true
       → Joins (lexeme.Quoted q ∷ ts) text (lexeme.Close Round c ∷ rest) → IsParameter (spot_of t).word text (Err number)
       → AnOption (t ∷ lexeme.Open Round o ∷ lexeme.Quoted q ∷ ts) (Stops number (spot_of t).start)
   -- 8: an identifier has to stand here; a string; a string or a closing bracket
   no_identifier : {ts : List Lexeme} → begins is_identifier ts ≡ false → AnOption ts (unexpected ts)
-  no_string : {ts : List Lexeme} (t : Lexeme) (o : Spot) → is_identifier t ≡ true → begins is_quoted ts ≡ false
+  no_string : {ts : List Lexeme} (t : Lexeme) (o : TokenText) → is_identifier t ≡ true → begins is_quoted ts ≡ false
       → AnOption (t ∷ lexeme.Open Round o ∷ ts) (unexpected ts)
-  not_closed : {ts rest : List Lexeme} {text : List ℕ} (t : Lexeme) (o q : Spot) → is_identifier t ≡ true
+  not_closed : {ts rest : List Lexeme} {text : List ℕ} (t : Lexeme) (o q : TokenText) → is_identifier t ≡ true
       → Joins (lexeme.Quoted q ∷ ts) text rest → begins closes_round rest ≡ false
       → AnOption (t ∷ lexeme.Open Round o ∷ lexeme.Quoted q ∷ ts) (unexpected rest)
 
 -- options := option {"," option}
 pub data Options : List Lexeme → Outcome (List RawOption) → Type 0 where
   last : {ts rest : List Lexeme} {option : RawOption} → AnOption ts (Read option rest) → begins is_comma rest ≡ false → Options ts (Read (option ∷ []) rest)
-  more : {ts us rest : List Lexeme} {option : RawOption} {options : List RawOption} (c : Spot) → AnOption ts (Read option (lexeme.Comma c ∷ us))
+  more : {ts us rest : List Lexeme} {option : RawOption} {options : List RawOption} (c : TokenText) → AnOption ts (Read option (lexeme.Comma c ∷ us))
       → Options us (Read options rest) → Options ts (Read (option ∷ options) rest)
   -- the fault of an option
   in_option : {ts : List Lexeme} (why : Failure) → AnOption ts (failed why) → Options ts (failed why)
-  in_more : {ts us : List Lexeme} {option : RawOption} (c : Spot) (why : Failure) → AnOption ts (Read option (lexeme.Comma c ∷ us))
+  in_more : {ts us : List Lexeme} {option : RawOption} (c : TokenText) (why : Failure) → AnOption ts (Read option (lexeme.Comma c ∷ us))
       → Options us (failed why) → Options ts (failed why)
 
 -- [options], before a closing bracket
 pub data MaybeOptions : List Lexeme → Outcome (List RawOption) → Type 0 where
-  none : {ts : List Lexeme} (c : Spot) → MaybeOptions (lexeme.Close Round c ∷ ts) (Read [] (lexeme.Close Round c ∷ ts))
+  none : {ts : List Lexeme} (c : TokenText) → MaybeOptions (lexeme.Close Round c ∷ ts) (Read [] (lexeme.Close Round c ∷ ts))
   some : {ts : List Lexeme} {o : Outcome (List RawOption)} → begins closes_round ts ≡ false → Options ts o → MaybeOptions ts o
 
 -- marker := "GTY" "(" "(" [options] ")" ")"
 pub data Marker : List Lexeme → Outcome (List RawOption) → Type 0 where
-  marker : {ts rest : List Lexeme} {options : List RawOption} (a b c d e : Spot)
+  marker : {ts rest : List Lexeme} {options : List RawOption} (a b c d e : TokenText)
       → MaybeOptions ts (Read options (lexeme.Close Round d ∷ lexeme.Close Round e ∷ rest))
       → Marker (lexeme.Gty a ∷ lexeme.Open Round b ∷ lexeme.Open Round c ∷ ts) (Read options rest)
   -- the fault of an option
-  in_options : {ts : List Lexeme} (a b c : Spot) (why : Failure) → MaybeOptions ts (failed why)
+  in_options : {ts : List Lexeme} (a b c : TokenText) (why : Failure) → MaybeOptions ts (failed why)
       → Marker (lexeme.Gty a ∷ lexeme.Open Round b ∷ lexeme.Open Round c ∷ ts) (failed why)
   -- 8: GTY has to stand here; an opening bracket, and one more; a comma or a closing bracket; one more closing bracket
   no_word : {ts : List Lexeme} → begins is_gty ts ≡ false → Marker ts (unexpected ts)
-  not_opened : {ts : List Lexeme} (a : Spot) → begins opens_round ts ≡ false → Marker (lexeme.Gty a ∷ ts) (unexpected ts)
-  not_opened_twice : {ts : List Lexeme} (a b : Spot) → begins opens_round ts ≡ false → Marker (lexeme.Gty a ∷ lexeme.Open Round b ∷ ts) (unexpected ts)
-  not_closed : {ts rest : List Lexeme} {options : List RawOption} (a b c : Spot) → MaybeOptions ts (Read options rest) → begins closes_round rest ≡ false
+  not_opened : {ts : List Lexeme} (a : TokenText) → begins opens_round ts ≡ false → Marker (lexeme.Gty a ∷ ts) (unexpected ts)
+  not_opened_twice : {ts : List Lexeme} (a b : TokenText) → begins opens_round ts ≡ false → Marker (lexeme.Gty a ∷ lexeme.Open Round b ∷ ts) (unexpected ts)
+  not_closed : {ts rest : List Lexeme} {options : List RawOption} (a b c : TokenText) → MaybeOptions ts (Read options rest) → begins closes_round rest ≡ false
       → Marker (lexeme.Gty a ∷ lexeme.Open Round b ∷ lexeme.Open Round c ∷ ts) (unexpected rest)
-  not_closed_twice : {ts rest : List Lexeme} {options : List RawOption} (a b c d : Spot) → MaybeOptions ts (Read options (lexeme.Close Round d ∷ rest))
+  not_closed_twice : {ts rest : List Lexeme} {options : List RawOption} (a b c d : TokenText) → MaybeOptions ts (Read options (lexeme.Close Round d ∷ rest))
       → begins closes_round rest ≡ false → Marker (lexeme.Gty a ∷ lexeme.Open Round b ∷ lexeme.Open Round c ∷ ts) (unexpected rest)
 
 -- a marker may stand here; without one there is no option
 pub data MaybeMarker : List Lexeme → Outcome (List RawOption) → Type 0 where
-  marked : {ts : List Lexeme} {o : Outcome (List RawOption)} (a : Spot) → Marker (lexeme.Gty a ∷ ts) o → MaybeMarker (lexeme.Gty a ∷ ts) o
+  marked : {ts : List Lexeme} {o : Outcome (List RawOption)} (a : TokenText) → Marker (lexeme.Gty a ∷ ts) o → MaybeMarker (lexeme.Gty a ∷ ts) o
   unmarked : {ts : List Lexeme} → begins is_gty ts ≡ false → MaybeMarker ts (Read [] ts)

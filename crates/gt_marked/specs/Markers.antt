@@ -9,7 +9,7 @@ use Rattle.gt_expr.specs.Expression.{expression_of}
 use Rattle.gt_items.specs.declared.items.RawOption.{RawOption}
 use Rattle.gt_items.specs.declared.items.Parameter.{Parameter}
 use Rattle.gt_items.specs.declared.items.Parameter.TheVariants.{Absent, Expression, Text}
-use Rattle.gt_search.specs.declared.lexeme.Spot.{Spot}
+use Rattle.gt_search.specs.declared.lexeme.TokenText.{TokenText}
 use Rattle.gt_search.specs.declared.lexeme.Bracket.TheVariants.{Round}
 use Rattle.gt_search.specs.declared.lexeme.Lexeme.{Lexeme}
 use Rattle.gt_search.specs.declared.lexeme.Lexeme.TheVariants as lexeme
@@ -42,7 +42,7 @@ expression_at at (Ok tree) ts = Read (Expression tree) ts
 expression_at at (Err number) ts = Stops number at
 
 -- the parameter that the joined strings of an option are: none where the text is empty, else an expression or a text
-abbrev pub parameter_at : Spot → Option (List ℕ) → List Lexeme → Outcome Parameter
+abbrev pub parameter_at : TokenText → Option (List ℕ) → List Lexeme → Outcome Parameter
 parameter_at name None ts = Stops BAD_EXPR name.start
 parameter_at name (Some []) ts = Read Absent ts
 parameter_at name (Some (b ∷ bs)) ts =
@@ -72,7 +72,7 @@ strings_at (lexeme.Quoted s ∷ ts) = more_strings (inside_quotes (encode_utf8_a
 strings_at ts = unexpected ts
 
 -- the parameter of an option, after its name: strings in brackets, or none
-unfoldable pub parameters_at : Spot → List Lexeme → Outcome Parameter
+unfoldable pub parameters_at : TokenText → List Lexeme → Outcome Parameter
 parameters_at name (lexeme.Open Round s ∷ ts) = do
   text ← strings_at ts
   closed ← close_round_at text.1

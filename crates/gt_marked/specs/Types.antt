@@ -16,14 +16,14 @@ use Rattle.gt_items.specs.declared.items.Keyword.{Keyword}
 use Rattle.gt_items.specs.declared.items.Keyword.TheVariants as keyword
 use Rattle.gt_items.specs.declared.items.RawType.{RawType}
 use Rattle.gt_items.specs.declared.items.RawType.TheVariants.{Words, UnsignedHostWide, Tagged, Named}
-use Rattle.gt_search.specs.declared.lexeme.Spot.{Spot}
+use Rattle.gt_search.specs.declared.lexeme.TokenText.{TokenText}
 use Rattle.gt_search.specs.declared.lexeme.Bracket.TheVariants.{Round, Brace}
 use Rattle.gt_search.specs.declared.lexeme.TypeWord.{TypeWord}
 use Rattle.gt_search.specs.declared.lexeme.TypeWord.TheVariants as word
 use Rattle.gt_search.specs.declared.lexeme.Lexeme.{Lexeme}
 use Rattle.gt_search.specs.declared.lexeme.Lexeme.TheVariants as lexeme
-use Rattle.gt_marked.specs.declared.types.Place.{Place}
-use Rattle.gt_marked.specs.declared.types.Place.TheVariants.{InField, Elsewhere}
+use Rattle.gt_marked.specs.declared.types.Context.{Context}
+use Rattle.gt_marked.specs.declared.types.Context.TheVariants.{InField, Elsewhere}
 use Rattle.gt_search.specs.Lexemes.{name_of}
 use Rattle.gt_marked.specs.Outcome.{Outcome, Read, Stops, ◌>>=◌, unexpected}
 use Rattle.gt_marked.specs.Markers.{close_round_at, marker_at}
@@ -115,7 +115,7 @@ words_with go at (Some c) = go c
 words_with go at None = Stops UNEXPECTED at
 
 -- a name after a combination is no part of it, but for unsigned HOST_WIDE_INT
-abbrev pub words_before : Combination → Spot → List Lexeme → Outcome RawType
+abbrev pub words_before : Combination → TokenText → List Lexeme → Outcome RawType
 words_before c s ts =
     if is_unsigned_alone c && bytes_eq s.word (codes "HOST_WIDE_INT") then Read UnsignedHostWide (without_qualifiers ts) else Read (Words c) (lexeme.Name s ∷ ts)
 
@@ -127,17 +127,17 @@ words_from c (lexeme.Name s ∷ ts) = words_before c s ts
 words_from c ts = Read (Words c) ts
 
 -- the number of the fault of a type that is defined at a place where none may be
-abbrev pub definition_fault : Place → ℕ
+abbrev pub definition_fault : Context → ℕ
 definition_fault InField = UNSUPPORTED
 definition_fault Elsewhere = UNEXPECTED
 
 -- no brace may open a body at the front
-abbrev pub no_brace_at : Place → List Lexeme → Outcome (Unit {0})
+abbrev pub no_brace_at : Context → List Lexeme → Outcome (Unit {0})
 no_brace_at place (lexeme.Open Brace s ∷ ts) = Stops (definition_fault place) s.start
 no_brace_at place ts = Read tt ts
 
 -- no body may stand after a tag, nor in a field after a tag and a marker
-unfoldable pub no_body_at : Place → List Lexeme → Outcome (Unit {0})
+unfoldable pub no_body_at : Context → List Lexeme → Outcome (Unit {0})
 no_body_at InField (lexeme.Gty s ∷ ts) = do
   options ← marker_at (lexeme.Gty s ∷ ts)
   no_brace ← no_brace_at InField options.1
@@ -145,7 +145,7 @@ no_body_at InField (lexeme.Gty s ∷ ts) = do
 no_body_at place ts = no_brace_at place ts
 
 -- the tag after a keyword
-unfoldable pub tagged_at : Place → Keyword → List Lexeme → Outcome RawType
+unfoldable pub tagged_at : Context → Keyword → List Lexeme → Outcome RawType
 tagged_at place k (lexeme.Name s ∷ ts) = no_body_at place (without_qualifiers ts) >>= λ no_body. Read (Tagged k (name_of s)) no_body.1
 tagged_at place k (lexeme.Open Brace s ∷ ts) = Stops (definition_fault place) s.start
 tagged_at place k ts = unexpected ts
@@ -158,22 +158,22 @@ bitfield_at ts = do
   Read (Tagged keyword.Enum tag.0) (without_qualifiers closed.1)
 
 -- what stands after the word ENUM_BITFIELD: an enum in brackets, but for `(*` in a field, which declares a pointer to a function
-abbrev pub after_bitfield : Place → Spot → List Lexeme → Outcome RawType
+abbrev pub after_bitfield : Context → TokenText → List Lexeme → Outcome RawType
 after_bitfield InField s (lexeme.Open Round p ∷ lexeme.Star q ∷ ts) = Read (Named (name_of s)) (lexeme.Open Round p ∷ lexeme.Star q ∷ ts)
 after_bitfield place s (lexeme.Open Round p ∷ ts) = bitfield_at ts
 after_bitfield place s ts = Read (Named (name_of s)) ts
 
 -- a type that begins with a name
-abbrev pub named_at : Place → Spot → List Lexeme → Outcome RawType
+abbrev pub named_at : Context → TokenText → List Lexeme → Outcome RawType
 named_at place s ts = if bytes_eq s.word (codes "ENUM_BITFIELD") then after_bitfield place s (without_qualifiers ts) else Read (Named (name_of s)) (without_qualifiers ts)
 
 -- a type at the front, without qualifiers before it
-unfoldable pub bare_type_at : Place → List Lexeme → Outcome RawType
+unfoldable pub bare_type_at : Context → List Lexeme → Outcome RawType
 bare_type_at place (lexeme.Type w s ∷ ts) = words_with (λ c. words_from c ts) s.start (with_word w no_words)
 bare_type_at place (lexeme.Tag k s ∷ ts) = tagged_at place k (without_qualifiers ts)
 bare_type_at place (lexeme.Name s ∷ ts) = named_at place s ts
 bare_type_at place ts = unexpected ts
 
 -- a type that stands at a place, with the qualifiers before and after it
-unfoldable pub type_at : Place → List Lexeme → Outcome RawType
+unfoldable pub type_at : Context → List Lexeme → Outcome RawType
 type_at place ts = bare_type_at place (without_qualifiers ts)

@@ -5,7 +5,7 @@ ghost use Rattle.gt_marked.specs.Marked.{comma_at, greater_at, pointed_at, trait
 
 use crate::declarators::star;
 use crate::structures::semicolon;
-use crate::types::{Place, base_type, name, stars, without_qualifiers};
+use crate::types::{Context, base_type, name, stars, without_qualifiers};
 use crate::unread::{Unread, unexpected};
 use gt_items::{Item, Name, PointedType, RawCache, RawOption};
 use gt_search::{Lexeme, UNSUPPORTED};
@@ -43,7 +43,7 @@ pub fn cache(
 fn pointed(alloc: Global, tokens: &[Lexeme]) -> Result<(PointedType, &[Lexeme]), Unread>
     ensures { Gives (λ x. (x.0, x.1.now)) result (pointed_at tokens.now) }
 {
-    let (ty, rest) = base_type(alloc, Place::Elsewhere, tokens)?;
+    let (ty, rest) = base_type(alloc, Context::Elsewhere, tokens)?;
     let (stars, rest) = stars(rest);
     Ok((PointedType { ty, stars }, rest))
 }

@@ -5,7 +5,7 @@ ghost use Rattle.gt_marked.specs.Outcome.{Gives};
 ghost use Rattle.gt_marked.specs.Fields.{is_access, no_label_at, field_at, brace_after, fields_from};
 
 use crate::declarators::declarators;
-use crate::types::{Place, base_type};
+use crate::types::{Context, base_type};
 use crate::unread::Unread;
 use gt_items::RawField;
 use gt_search::{Bracket, Lexeme, UNSUPPORTED};
@@ -44,7 +44,7 @@ fn field(alloc: Global, tokens: &[Lexeme]) -> Result<(RawField, &[Lexeme]), Unre
     ensures { Gives (λ x. (x.0, x.1.now)) result (field_at tokens.now) }
 {
     let rest = no_label(tokens)?;
-    let (ty, rest) = base_type(alloc, Place::InField, rest)?;
+    let (ty, rest) = base_type(alloc, Context::InField, rest)?;
     let (declarators, rest) = declarators(alloc, rest)?;
     Ok((RawField { ty, declarators }, rest))
 }

@@ -7,7 +7,7 @@ use crate::caches::cache;
 use crate::groups::bounds;
 use crate::markers::marker;
 use crate::structures::semicolon;
-use crate::types::{Place, base_type, name, stars};
+use crate::types::{Context, base_type, name, stars};
 use crate::unread::Unread;
 use gt_items::{Item, RawOption, RawRoot};
 use gt_search::Lexeme;
@@ -50,7 +50,7 @@ fn root(
 ) -> Result<(Item, &[Lexeme]), Unread>
     ensures { Gives (λ x. (x.0, x.1.now)) result (root_at options tokens.now) }
 {
-    let (ty, rest) = base_type(alloc, Place::Elsewhere, tokens)?;
+    let (ty, rest) = base_type(alloc, Context::Elsewhere, tokens)?;
     let (stars, rest) = stars(rest);
     let (name, rest) = name(alloc, rest)?;
     let (bounds, rest) = bounds(alloc, rest)?;

@@ -7,7 +7,7 @@ use crate::globals::global;
 use crate::structures::structure;
 use crate::unread::{Unread, unexpected};
 use gt_items::{Item, Keyword};
-use gt_search::{BAD_MARKER_PLACE, Lexeme, Spot, UNEXPECTED, UNSUPPORTED};
+use gt_search::{BAD_MARKER_PLACE, Lexeme, TokenText, UNEXPECTED, UNSUPPORTED};
 use std::alloc::Global;
 
 /// A marked item.
@@ -42,7 +42,7 @@ fn typedef_structure(alloc: Global, tokens: &[Lexeme]) -> Result<(Item, &[Lexeme
 }
 
 // `class` and `template` are not supported; `namespace` may not stand here.
-fn reserved(spot: &Spot) -> Unread
+fn reserved(spot: &TokenText) -> Unread
     ensures { Fails result (reserved_at spot.now) }
 {
     let number = if spot.word.is("namespace") {

@@ -5,7 +5,7 @@ ghost use Rattle.gt_items.specs.declared.items.RawField.{RawField as TheField};
 ghost use Rattle.gt_items.specs.declared.items.RawOption.{RawOption as TheOption};
 ghost use Rattle.gt_items.specs.declared.items.RawType.{RawType as TheType};
 ghost use Rattle.gt_search.specs.declared.lexeme.Lexeme.{Lexeme as TheLexeme};
-ghost use Rattle.gt_marked.specs.declared.types.Place.{Place as ThePlace};
+ghost use Rattle.gt_marked.specs.declared.types.Context.{Context as ThePlace};
 ghost use Rattle.gt_marked.specs.FieldGrammar.{Field};
 ghost use Rattle.gt_marked.specs.Fields.{field_at};
 ghost use Rattle.gt_marked.specs.Marked.{marked_at};

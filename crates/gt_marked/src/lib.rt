@@ -22,5 +22,5 @@ pub use groups::{depth_after, inside, kept_text};
 pub use items::marked;
 pub use laws::{field_rules, marked_rules, marker_rules, type_rules};
 pub use structures::alias;
-pub use types::{Place, base_type, without_qualifiers};
+pub use types::{Context, base_type, without_qualifiers};
 pub use unread::{Unread, unexpected};

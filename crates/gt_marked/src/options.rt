@@ -10,7 +10,7 @@ use crate::strings::{strings, unescaped};
 use crate::unread::{Unread, unexpected};
 use gt_expr::BAD_EXPR;
 use gt_items::{Parameter, RawOption};
-use gt_search::{Bracket, Lexeme, Spot};
+use gt_search::{Bracket, Lexeme, TokenText};
 use gt_types::{Bytes, List, Stop, Word};
 use std::alloc::Global;
 
@@ -72,7 +72,7 @@ fn option(alloc: Global, tokens: &[Lexeme]) -> Result<(RawOption, &[Lexeme]), Un
 #[tactic(auto, unfolding(crate::specs::Markers::parameters_at))]
 fn parameters<'a>(
     alloc: Global,
-    name: &Spot,
+    name: &TokenText,
     tokens: &'a [Lexeme],
 ) -> Result<(Parameter, &'a [Lexeme]), Unread>
     ensures { Gives (λ x. (x.0, x.1.now)) result (parameters_at name.now tokens.now) }
@@ -87,7 +87,7 @@ fn parameters<'a>(
 }
 
 // The parameter that the joined strings of an option are.
-fn parameter(alloc: Global, name: &Spot, text: &[u8]) -> Result<Parameter, Unread>
+fn parameter(alloc: Global, name: &TokenText, text: &[u8]) -> Result<Parameter, Unread>
     ensures { GivesBefore result (parameter_at name.now (unescaped false text.now)) }
 {
     let Some(text) = unescaped(alloc, text)? else {
@@ -119,10 +119,9 @@ fn takes_expression(name: &Word) -> bool
 }
 
 // The expression that a text is. Its fault stands at the name of the option.
-fn expression(alloc: Global, name: &Spot, text: &[u8]) -> Result<Parameter, Unread>
+fn expression(alloc: Global, name: &TokenText, text: &[u8]) -> Result<Parameter, Unread>
     ensures { GivesBefore result (expression_at name.now.start (expression_of text.now)) }
 {
-    gt_expr::one_answer();
     match gt_expr::read(alloc, 0, 0, text) {
         Ok(tree) => Ok(Parameter::Expression(tree)),
         Err(Stop::Memory) => Err(Unread::Memory),

@@ -7,13 +7,13 @@ use crate::combinations::words;
 use crate::markers::{close_round, marker};
 use crate::unread::{Unread, unexpected};
 use gt_items::{Keyword, Name, RawType, Stars};
-use gt_search::{Bracket, Lexeme, Spot, UNEXPECTED, UNSUPPORTED};
+use gt_search::{Bracket, Lexeme, TokenText, UNEXPECTED, UNSUPPORTED};
 use std::alloc::Global;
 
 /// Where a type without a body stands: in a field, or else in a global, a map or a typedef. Only a field may declare a pointer to
 /// a function.
 #[derive(Clone, Copy, Debug, PartialEq, Eq)]
-pub enum Place {
+pub enum Context {
     InField,
     Elsewhere,
 }
@@ -22,7 +22,7 @@ pub enum Place {
 #[tactic(auto, unfolding(crate::specs::Types::type_at, crate::specs::Types::bare_type_at))]
 pub fn base_type(
     alloc: Global,
-    place: Place,
+    place: Context,
     tokens: &[Lexeme],
 ) -> Result<(RawType, &[Lexeme]), Unread>
     ensures { Gives (λ x. (x.0, x.1.now)) result (type_at place tokens.now) }
@@ -31,7 +31,7 @@ pub fn base_type(
 }
 
 #[tactic(auto, unfolding(crate::specs::Types::bare_type_at, crate::specs::Types::words_from))]
-fn bare_type(alloc: Global, place: Place, tokens: &[Lexeme]) -> Result<(RawType, &[Lexeme]), Unread>
+fn bare_type(alloc: Global, place: Context, tokens: &[Lexeme]) -> Result<(RawType, &[Lexeme]), Unread>
     ensures { Gives (λ x. (x.0, x.1.now)) result (bare_type_at place tokens.now) }
 {
     match tokens {
@@ -48,7 +48,7 @@ fn bare_type(alloc: Global, place: Place, tokens: &[Lexeme]) -> Result<(RawType,
 #[tactic(auto, unfolding(crate::specs::Types::tagged_at))]
 fn tagged(
     alloc: Global,
-    place: Place,
+    place: Context,
     keyword: Keyword,
     tokens: &[Lexeme],
 ) -> Result<(RawType, &[Lexeme]), Unread>
@@ -70,11 +70,11 @@ fn tagged(
 
 // No body may stand after a tag, nor in a field after a tag and a marker.
 #[tactic(auto, unfolding(crate::specs::Types::no_body_at))]
-fn no_body(alloc: Global, place: Place, tokens: &[Lexeme]) -> Result<&[Lexeme], Unread>
+fn no_body(alloc: Global, place: Context, tokens: &[Lexeme]) -> Result<&[Lexeme], Unread>
     ensures { Gives (λ rest. (tt, rest.now)) result (no_body_at place tokens.now) }
 {
     match (place, tokens) {
-        (Place::InField, [Lexeme::Gty(_), ..]) => {
+        (Context::InField, [Lexeme::Gty(_), ..]) => {
             let (_, rest) = marker(alloc, tokens)?;
             no_brace(place, rest)?;
             Ok(tokens)
@@ -84,7 +84,7 @@ fn no_body(alloc: Global, place: Place, tokens: &[Lexeme]) -> Result<&[Lexeme], 
 }
 
 // No brace may open a body at the front.
-fn no_brace(place: Place, tokens: &[Lexeme]) -> Result<&[Lexeme], Unread>
+fn no_brace(place: Context, tokens: &[Lexeme]) -> Result<&[Lexeme], Unread>
     ensures { Gives (λ rest. (tt, rest.now)) result (no_brace_at place tokens.now) }
 {
     match tokens {
@@ -97,20 +97,20 @@ fn no_brace(place: Place, tokens: &[Lexeme]) -> Result<&[Lexeme], Unread>
 }
 
 // The number of the fault of a type that is defined at a place.
-fn definition_fault(place: Place) -> u8
+fn definition_fault(place: Context) -> u8
     ensures { result ≡ definition_fault place }
 {
     match place {
-        Place::InField => UNSUPPORTED,
-        Place::Elsewhere => UNEXPECTED,
+        Context::InField => UNSUPPORTED,
+        Context::Elsewhere => UNEXPECTED,
     }
 }
 
 // A type that begins with a name.
 fn named<'a>(
     alloc: Global,
-    place: Place,
-    spot: &Spot,
+    place: Context,
+    spot: &TokenText,
     tokens: &'a [Lexeme],
 ) -> Result<(RawType, &'a [Lexeme]), Unread>
     ensures { Gives (λ x. (x.0, x.1.now)) result (named_at place spot.now tokens.now) }
@@ -126,14 +126,14 @@ fn named<'a>(
 // function.
 fn after_bitfield<'a>(
     alloc: Global,
-    place: Place,
-    spot: &Spot,
+    place: Context,
+    spot: &TokenText,
     tokens: &'a [Lexeme],
 ) -> Result<(RawType, &'a [Lexeme]), Unread>
     ensures { Gives (λ x. (x.0, x.1.now)) result (after_bitfield place spot.now tokens.now) }
 {
     match (place, tokens) {
-        (Place::InField, [Lexeme::Open(Bracket::Round, _), Lexeme::Star(_), ..]) => {
+        (Context::InField, [Lexeme::Open(Bracket::Round, _), Lexeme::Star(_), ..]) => {
             Ok((RawType::Named(spot.name(alloc)?), tokens))
         }
         (_, [Lexeme::Open(Bracket::Round, _), after @ ..]) => bitfield(alloc, after),

@@ -6,7 +6,7 @@ use Rattle.std.proofs.lemmas.List.Elements.{All-nil, All-cons, All-head, All-tai
 use Rattle.gt_types.specs.declared.types.Ty.{Ty}
 use Rattle.gt_types.specs.declared.program.Program.{Program}
 use Rattle.gt_layout.specs.declared.planes.Plane.{Plane}
-use Rattle.gt_layout.specs.declared.planes.Spot.{Spot}
+use Rattle.gt_layout.specs.declared.planes.FieldSpot.{FieldSpot}
 use Rattle.gt_layout.specs.Storages.{bytes_of}
 use Rattle.gt_tree.specs.Trees.{Tree, To, Rec, Alt, Trees}
 use Rattle.gt_tree.specs.Blocks.{Block, Blocks}
@@ -56,7 +56,7 @@ module _ (a b : ℕ → ℕ) where
       same_leaves (HasLeaves.array {at} {type} {elem} {n} {trees} {leaves} e each) scope fits = same_each each scope (fits-array type elem n trees e fits).1
       same_leaves (HasLeaves.tail {at} {type} {elem} {length} {trees} {leaves} e each) scope fits = same_each each scope (fits-tail type elem length trees e fits).1
 
-      pub same_fields : {at : ℕ} {types : List Ty} {spots : List Spot} {trees : Trees} {ls : List Leaf} → FieldsHaveLeaves program planes at types spots trees ls
+      pub same_fields : {at : ℕ} {types : List Ty} {spots : List FieldSpot} {trees : Trees} {ls : List Leaf} → FieldsHaveLeaves program planes at types spots trees ls
           → (scope : Scope) → AllFit program blocks capacity scope types trees → All IsSame ls
       same_fields FieldsHaveLeaves.none scope fits = All-nil IsSame
       same_fields (FieldsHaveLeaves.more {at} {type} {types} {s} {spots} {tree} {trees} {first} {rest} part parts) scope fits =

@@ -1,6 +1,6 @@
 -- The sizes of blocks.
 use Rattle.std.proofs.Common.{◌≡◌, ℕ, ◌<◌, ◌≤◌, Bool, true, ◌&&◌, nat_le, Some, None, refl, inl, inr, arith}
-use Rattle.std.specs.Prelude.{Contains}
+use Rattle.std.specs.Prelude.{◌↔◌, Contains}
 use Rattle.std.specs.List.{list_all}
 use Rattle.std.proofs.lemmas.Bool.{and_parts, cases_lt, le-leb, leb-true, lt-leb}
 use Rattle.gt_pages.specs.Ledger.{rounded, sizes}
@@ -34,3 +34,6 @@ none_far bytes none = elim (cases_lt 1048576 bytes) as (λ _. 1048576 < bytes) [
   | inl far ↦ far
   | inr near ↦ absurd (find_none (λ s. nat_le bytes s) sizes 1048576 none (28, omega arith, refl) (le-leb bytes 1048576 near))
 ]
+
+pub greatest-size : (bytes : ℕ) → (rounded bytes ≡ None) ↔ (1048576 < bytes)
+greatest-size bytes = (none_far bytes, none_rounded bytes)

@@ -1,1 +1,1 @@
-mod Settled
+pub mod Settled

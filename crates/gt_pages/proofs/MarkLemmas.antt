@@ -7,7 +7,7 @@ use Rattle.std.proofs.Math.Nat.{mul-div_right}
 use Rattle.gt_entries.specs.declared.marks.Mark.{Mark}
 use Rattle.gt_entries.specs.Cells.{Cell, Free, Used, cell_at, is_free, is_marked, mark_in}
 use Rattle.gt_pages.specs.declared.store.Entry.{Entry}
-use Rattle.gt_pages.specs.declared.parts.Spot.{Spot}
+use Rattle.gt_pages.specs.declared.parts.EntryPlace.{EntryPlace}
 use Rattle.gt_pages.specs.Ledger.{page_address, page_of}
 use Rattle.gt_pages.specs.Slots.{Slot, StartsSome, mark_at}
 use Rattle.gt_pages.specs.Spots.{IsNowhere, IsSpot}
@@ -52,7 +52,7 @@ find_start start size (suc k) addr (c ∷ cells) some is =
     ∙ find_start (start + size) size k addr cells some next
 
 -- a spot of an address where a block starts
-pub record IsStart (p : Parts) (addr : ℕ) (spot : Spot) : Type 0 where
+pub record IsStart (p : Parts) (addr : ℕ) (spot : EntryPlace) : Type 0 where
   pub slot : Slot
   pub is : IsSlotOf (page_address spot.page) (entry_at p.entries spot.page).size (entry_at p.entries spot.page).places slot
   pub address : slot.address ≡ addr
@@ -84,7 +84,7 @@ module _ (p : Parts) (addr : ℕ) (kept : IsKept p) (start : StartsSome (content
   pub start_within : page_of addr < p.pages
   start_within = elim (cases_lt (page_of addr) p.pages) [ inl within ↦ within | inr past ↦ absurd (start_nowhere (inr (inl past))) ]
 
-  pub start_spot : (spot : Spot) → IsSpot p addr spot → IsStart p addr spot
+  pub start_spot : (spot : EntryPlace) → IsSpot p addr spot → IsStart p addr spot
   start_spot spot is =
       let same : in_page.0 ≡ spot.page = same_some in_page.0 spot.page (sym leads_here.0 ∙ is.leads) in
       let there : Contains (page_slots p spot.page) start.0 = subst (λ k. Contains (page_slots p k) start.0) same in_page.3 in
@@ -98,7 +98,7 @@ module _ (p : Parts) (addr : ℕ) (kept : IsKept p) (start : StartsSome (content
         place = is.place ∙ (ap (λ n. n / (entry_at p.entries spot.page).size) offset ∙ mul-div_right at.1.place some);
       }
 
-  other_start : (j : ℕ) → (spot : Spot) → IsSpot p addr spot → j ≢ spot.page → find (starts_at addr) (page_slots p j) ≡ None
+  other_start : (j : ℕ) → (spot : EntryPlace) → IsSpot p addr spot → j ≢ spot.page → find (starts_at addr) (page_slots p j) ≡ None
   other_start j spot is apart =
       find_none (starts_at addr) (page_slots p j)
       (λ s there. elim (cases_Bool (starts_at addr s)) [
@@ -111,7 +111,7 @@ module _ (p : Parts) (addr : ℕ) (kept : IsKept p) (start : StartsSome (content
         | inr not_here ↦ not_here
       ])
 
-  pub mark_spot : (spot : Spot) → IsSpot p addr spot → mark_at (contents_of p).slots addr ≡ mark_in (cell_at (entry_at p.entries spot.page).places spot.place)
+  pub mark_spot : (spot : EntryPlace) → IsSpot p addr spot → mark_at (contents_of p).slots addr ≡ mark_in (cell_at (entry_at p.entries spot.page).places spot.place)
   mark_spot spot is =
       let at = start_spot spot is in
       let entry : Entry = entry_at p.entries spot.page in
@@ -124,7 +124,7 @@ module _ (p : Parts) (addr : ℕ) (kept : IsKept p) (start : StartsSome (content
       ∙ sym (ap (λ k. mark_in (cell_at entry.places k)) at.place)
 
 -- the place of a block that starts at an address has this block
-pub start_used : (p : Parts) (addr : ℕ) (spot : Spot) → IsStart p addr spot → is_free (cell_at (entry_at p.entries spot.page).places spot.place) ≡ false
+pub start_used : (p : Parts) (addr : ℕ) (spot : EntryPlace) → IsStart p addr spot → is_free (cell_at (entry_at p.entries spot.page).places spot.place) ≡ false
 start_used p addr spot is =
     ap is_free (ap (λ k. cell_at (entry_at p.entries spot.page).places k) is.place ∙ is.is.cell)
 

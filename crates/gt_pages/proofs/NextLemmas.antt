@@ -9,10 +9,10 @@ use Rattle.gt_bits.specs.Sets.{has}
 use Rattle.gt_entries.specs.declared.marks.Mark.{Mark}
 use Rattle.gt_entries.specs.Cells.{Cell, Free, Used, cell_at, is_free, mark_in}
 use Rattle.gt_pages.specs.declared.store.Entry.{Entry}
-use Rattle.gt_pages.specs.declared.parts.Spot.{Spot}
+use Rattle.gt_pages.specs.declared.parts.EntryPlace.{EntryPlace}
 use Rattle.gt_pages.specs.Ledger.{page_address, page_of}
 use Rattle.gt_pages.specs.Slots.{Slot, next_slot, told_of}
-use Rattle.gt_pages.specs.Spots.{HasNoneAbove, IsAbove, IsFirstIn, IsNextSpot, IsNowhere, IsSpot, place_at, told_at}
+use Rattle.gt_pages.specs.Spots.{HasNoneAbove, IsAbove, IsFirstIn, IsNextSpot, IsNowhere, IsSpot, place_at, marked_at}
 use Rattle.gt_pages.specs.Parts.{IsKept, Parts, contents_of, entry_at, entry_pages, page_slots, slots_in}
 use Rattle.gt_pages.proofs.WhereLemmas.{entry_some, find_append, find_flat_none, find_none, page_slot, place_ends, same_some}
 
@@ -44,7 +44,7 @@ place_end p page k low =
 -- ---- the places above an address
 
 module _ (p : Parts) (after : ℕ) (kept : IsKept p) where
-  pub above_spot : (spot : Spot) → IsSpot p after spot → IsAbove p after (record { page = spot.page; place = spot.place + 1 })
+  pub above_spot : (spot : EntryPlace) → IsSpot p after spot → IsAbove p after (record { page = spot.page; place = spot.place + 1 })
   above_spot spot is = record {
     starts = is.starts;
     below = λ page k before starts low.
@@ -105,7 +105,7 @@ module _ (p : Parts) (after : ℕ) (kept : IsKept p) where
       | inr past ↦ let is = past.1 in omega (arith, is, high)
     ]
 
-    pub above_next : (result : Option Spot) → IsNextSpot p page result → IfSome result (IsAbove p after) × IfNone result (HasNoneAbove p after)
+    pub above_next : (result : Option EntryPlace) → IsNextSpot p page result → IfSome result (IsAbove p after) × IfNone result (HasNoneAbove p after)
     above_next None next = (
       tt,
       λ j k starts low. elim (cases_lt j page) [
@@ -202,7 +202,7 @@ marked_used Free m is = absurd (false≢true (ap is_some is))
 marked_used (Used mark) m is = refl
 
 -- the places from a spot on start above an address, and no place before it is above and passes
-pub record Skips (test : Cell → Bool) (p : Parts) (after : ℕ) (spot : Spot) : Type 0 where
+pub record Skips (test : Cell → Bool) (p : Parts) (after : ℕ) (spot : EntryPlace) : Type 0 where
   pub starts : has p.starts spot.page ≡ true
   pub below : (page k : ℕ) → page < spot.page → has p.starts page ≡ true → k < length (entry_at p.entries page).places
       → (place_at p page k ≤ after) ⊎ (test (cell_at (entry_at p.entries page).places k) ≡ false)
@@ -210,7 +210,7 @@ pub record Skips (test : Cell → Bool) (p : Parts) (after : ℕ) (spot : Spot) 
   pub from : (k : ℕ) → spot.place ≤ k → after < place_at p spot.page k
   pub above : (page k : ℕ) → spot.page < page → has p.starts page ≡ true → after < place_at p page k
 
-pub skips_first : (test : Cell → Bool) (p : Parts) (after : ℕ) (spot : Spot) → IsAbove p after spot → Skips test p after spot
+pub skips_first : (test : Cell → Bool) (p : Parts) (after : ℕ) (spot : EntryPlace) → IsAbove p after spot → Skips test p after spot
 skips_first test p after spot is = record {
   starts = is.starts;
   below = λ page k before starts low. inl (is.below page k before starts low);
@@ -220,7 +220,7 @@ skips_first test p after spot is = record {
 }
 
 -- one entry further
-pub skips_step : (test : Cell → Bool) (p : Parts) (after : ℕ) (spot next : Spot) → Skips test p after spot
+pub skips_step : (test : Cell → Bool) (p : Parts) (after : ℕ) (spot next : EntryPlace) → Skips test p after spot
     → IsFirstIn test p spot None → IsNextSpot p (spot.page + 1) (Some next) → Skips test p after next
 skips_step test p after spot next is none reached = record {
   starts = reached.starts;
@@ -259,7 +259,7 @@ module _ (stest : Slot → Bool) (test : Cell → Bool) (agree : (s : Slot) → 
       not_wanted s (place_at p page at.1.place) (cell_at (entry_at p.entries page).places at.1.place) at.1.address at.1.cell (out at.0 at.1.place at.1.low))
 
   -- no entry is left
-  pub next_none : (spot : Spot) → Skips test p after spot → IsFirstIn test p spot None → IsNextSpot p (spot.page + 1) None
+  pub next_none : (spot : EntryPlace) → Skips test p after spot → IsFirstIn test p spot None → IsNextSpot p (spot.page + 1) None
       → None ≡ told_of (next_slot stest (contents_of p).slots after)
   next_none spot is none last =
       sym (ap told_of (find_flat_none wanted (page_slots p) 0 p.pages
@@ -287,8 +287,8 @@ module _ (stest : Slot → Bool) (test : Cell → Bool) (agree : (s : Slot) → 
   used_is (Used m) used = refl
 
   -- the first place that passes
-  pub next_found : (spot found : Spot) → Skips test p after spot → IsFirstIn test p spot (Some found)
-      → told_at p found ≡ told_of (next_slot stest (contents_of p).slots after)
+  pub next_found : (spot found : EntryPlace) → Skips test p after spot → IsFirstIn test p spot (Some found)
+      → marked_at p found ≡ told_of (next_slot stest (contents_of p).slots after)
   next_found spot found is first =
       let entry : Entry = entry_at p.entries spot.page in
       let low = kept.starts spot.page is.starts in
@@ -303,6 +303,6 @@ module _ (stest : Slot → Bool) (test : Cell → Bool) (agree : (s : Slot) → 
       (λ j before used. not_wanted (slot_in (page_address spot.page) entry.size entry.places j) (place_at p spot.page j) (cell_at entry.places j) refl
       (used_is (cell_at entry.places j) used)
       (elim (cases_lt j spot.place) [ inl low ↦ is.before j low | inr high ↦ inr (first.first j high before) ])) in
-      ap (λ page. told_at p (record { page = page; place = found.place })) first.page
+      ap (λ page. marked_at p (record { page = page; place = found.place })) first.page
       ∙ sym (ap told_of (find_pages wanted (page_slots p) 0 p.pages spot.page s (omega arith) (omega (arith, low))
       (λ j _ before. page_skipped j (λ starts k low. is.below j k before starts low)) here))

@@ -6,7 +6,7 @@ use Rattle.std.proofs.Math.Nat.{mul-div_right}
 use Rattle.gt_entries.specs.declared.marks.Mark.{Mark}
 use Rattle.gt_entries.specs.Cells.{Cell, Free, Used, cell_at, is_free, is_marked, mark_in}
 use Rattle.gt_pages.specs.declared.store.Entry.{Entry}
-use Rattle.gt_pages.specs.declared.parts.Spot.{Spot}
+use Rattle.gt_pages.specs.declared.parts.EntryPlace.{EntryPlace}
 use Rattle.gt_pages.specs.Ledger.{page_address, page_of}
 use Rattle.gt_pages.specs.Slots.{Slot, StartsSome, has_byte, mark_at, owner_of, with_mark_at}
 use Rattle.gt_pages.specs.Contents.{with_slots}
@@ -69,7 +69,7 @@ marks_none p addr m kept none = record {
   unchanged = λ _. refl;
 }
 
-module _ (p : Parts) (addr : ℕ) (spot : Spot) (kept : IsKept p) (is : IsSpot p addr spot) where
+module _ (p : Parts) (addr : ℕ) (spot : EntryPlace) (kept : IsKept p) (is : IsSpot p addr spot) where
   abbrev entry : Entry
   entry = entry_at p.entries spot.page
 

@@ -9,7 +9,7 @@ use Rattle.gt_entries.specs.declared.marks.Mark.{Mark}
 use Rattle.gt_entries.specs.Cells as cells
 use Rattle.gt_entries.specs.Cells.{Cell, Free, Used, cell_at, is_free, mark_in}
 use Rattle.gt_pages.specs.declared.store.Entry.{Entry}
-use Rattle.gt_pages.specs.declared.parts.Spot.{Spot}
+use Rattle.gt_pages.specs.declared.parts.EntryPlace.{EntryPlace}
 use Rattle.gt_pages.specs.Ledger.{page_address}
 use Rattle.gt_pages.specs.Slots.{Slot, StartsSome, postponed, walked, with_mark, with_mark_at}
 use Rattle.gt_pages.specs.Contents.{with_slots}
@@ -59,7 +59,7 @@ free_kept cells k m used =
     let old : cond {A = ℕ} (is_free (get_or cells k Free)) 1 0 ≡ 0 = ap (λ b. cond {A = ℕ} b 1 0) used in
     omega (arith, sum, old)
 
-module _ (p : Parts) (addr : ℕ) (spot : Spot) (m : Option Mark) (kept : IsKept p) (is : IsSpot p addr spot)
+module _ (p : Parts) (addr : ℕ) (spot : EntryPlace) (m : Option Mark) (kept : IsKept p) (is : IsSpot p addr spot)
     (used : is_free (cell_at (entry_at p.entries spot.page).places spot.place) ≡ false) where
   low : spot.page < length p.entries
   low = let inside = kept.starts spot.page is.starts in omega (arith, inside, kept.entries)

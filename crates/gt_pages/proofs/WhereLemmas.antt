@@ -8,7 +8,7 @@ use Rattle.gt_bits.specs.Sets.{has}
 use Rattle.gt_entries.specs.Cells.{Cell, Free, Used, cell_at, is_free}
 use Rattle.gt_pages.specs.declared.store.Entry.{Entry}
 use Rattle.gt_pages.specs.Ledger.{page_address, page_of, pages_of}
-use Rattle.gt_pages.specs.declared.parts.Spot.{Spot}
+use Rattle.gt_pages.specs.declared.parts.EntryPlace.{EntryPlace}
 use Rattle.gt_pages.specs.Slots.{Slot, has_byte, owner_of}
 use Rattle.gt_pages.specs.Spots.{IsNowhere, IsSpot, block_at, block_in}
 use Rattle.gt_pages.specs.Tables.{page_at}
@@ -179,7 +179,7 @@ owner_nowhere p addr kept nowhere =
       ]
     ])))
 
-pub owner_spot : (p : Parts) (addr : ℕ) (spot : Spot) → IsKept p → IsSpot p addr spot → owner_of (contents_of p).slots addr ≡ block_at p spot
+pub owner_spot : (p : Parts) (addr : ℕ) (spot : EntryPlace) → IsKept p → IsSpot p addr spot → owner_of (contents_of p).slots addr ≡ block_at p spot
 owner_spot p addr spot kept is =
     let entry : Entry = entry_at p.entries spot.page in
     let low = kept.starts spot.page is.starts in

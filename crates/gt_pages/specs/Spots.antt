@@ -5,7 +5,7 @@ use Rattle.gt_bits.specs.Sets.{has, HoldsNone}
 use Rattle.gt_entries.specs.declared.marks.Mark.{Mark}
 use Rattle.gt_pages.specs.declared.store.Entry.{Entry}
 use Rattle.gt_entries.specs.Cells.{Cell, Free, Used, cell_at, mark_in}
-use Rattle.gt_pages.specs.declared.parts.Spot.{Spot}
+use Rattle.gt_pages.specs.declared.parts.EntryPlace.{EntryPlace}
 use Rattle.gt_pages.specs.Ledger.{page_address, page_of}
 use Rattle.gt_pages.specs.Parts.{Parts, entry_at}
 use Rattle.gt_pages.specs.Tables.{page_at}
@@ -15,7 +15,7 @@ abbrev pub IsNowhere : Parts → ℕ → Type 0
 IsNowhere p addr = (addr < HEAP_START) ⊎ ((p.pages ≤ page_of addr) ⊎ (page_at p.table (page_of addr) ≡ None))
 
 -- the place of an entry in use that has the byte, or is the first after its places where these do not fill its pages
-pub record IsSpot (p : Parts) (addr : ℕ) (spot : Spot) : Type 0 where
+pub record IsSpot (p : Parts) (addr : ℕ) (spot : EntryPlace) : Type 0 where
   pub starts : has p.starts spot.page ≡ true
   pub leads : page_at p.table (page_of addr) ≡ Some spot.page
   pub above : page_address spot.page ≤ addr
@@ -27,7 +27,7 @@ block_in start size Free k = None
 block_in start size (Used mark) k = Some (start + size * k, size)
 
 -- the block at the place of a spot
-abbrev pub block_at : Parts → Spot → Option (ℕ × ℕ)
+abbrev pub block_at : Parts → EntryPlace → Option (ℕ × ℕ)
 block_at p spot =
     let entry = entry_at p.entries spot.page in
     block_in (page_address spot.page) entry.size (cell_at entry.places spot.place) spot.place
@@ -37,7 +37,7 @@ abbrev pub with_mark_in : Entry → ℕ → Option Mark → Entry
 with_mark_in e k m = record { size = e.size; places = slice_set e.places k (Used m) }
 
 -- the parts with another mark at a spot
-abbrev pub with_mark_spot : Parts → Spot → Option Mark → Parts
+abbrev pub with_mark_spot : Parts → EntryPlace → Option Mark → Parts
 with_mark_spot p spot m =
     record p { entries = slice_set p.entries spot.page (with_mark_in (entry_at p.entries spot.page) spot.place m) }
 
@@ -51,7 +51,7 @@ HasNoneAbove p after =
     (page k : ℕ) → has p.starts page ≡ true → k < length (entry_at p.entries page).places → place_at p page k ≤ after
 
 -- the places of the entries in use that start above an address are those from this spot on
-pub record IsAbove (p : Parts) (after : ℕ) (spot : Spot) : Type 0 where
+pub record IsAbove (p : Parts) (after : ℕ) (spot : EntryPlace) : Type 0 where
   pub starts : has p.starts spot.page ≡ true
   pub below : (page k : ℕ) → page < spot.page → has p.starts page ≡ true → k < length (entry_at p.entries page).places → place_at p page k ≤ after
   pub before : (k : ℕ) → k < spot.place → place_at p spot.page k ≤ after
@@ -59,7 +59,7 @@ pub record IsAbove (p : Parts) (after : ℕ) (spot : Spot) : Type 0 where
   pub above : (page k : ℕ) → spot.page < page → has p.starts page ≡ true → after < place_at p page k
 
 -- the first place of the first entry in use from a page on, or none where there is none
-pub record IsNextSpot (p : Parts) (page : ℕ) (result : Option Spot) : Type 0 where
+pub record IsNextSpot (p : Parts) (page : ℕ) (result : Option EntryPlace) : Type 0 where
   pub starts : IfSome result (λ s. has p.starts s.page ≡ true)
   pub place : IfSome result (λ s. s.place ≡ 0)
   pub reached : IfSome result (λ s. page ≤ s.page)
@@ -67,7 +67,7 @@ pub record IsNextSpot (p : Parts) (page : ℕ) (result : Option Spot) : Type 0 w
   pub none : IfNone result ((j : ℕ) → page ≤ j → has p.starts j ≡ false)
 
 -- the first place of the spot's entry, from the spot on, that passes a test, or none where there is none
-pub record IsFirstIn (test : Cell → Bool) (p : Parts) (from : Spot) (result : Option Spot) : Type 0 where
+pub record IsFirstIn (test : Cell → Bool) (p : Parts) (from : EntryPlace) (result : Option EntryPlace) : Type 0 where
   pub page : IfSome result (λ s. s.page ≡ from.page)
   pub reached : IfSome result (λ s. from.place ≤ s.place)
   pub within : IfSome result (λ s. s.place < length (entry_at p.entries from.page).places)
@@ -75,7 +75,7 @@ pub record IsFirstIn (test : Cell → Bool) (p : Parts) (from : Spot) (result : 
   pub first : IfSome result (λ s. (j : ℕ) → from.place ≤ j → j < s.place → test (cell_at (entry_at p.entries from.page).places j) ≡ false)
   pub none : IfNone result ((j : ℕ) → from.place ≤ j → test (cell_at (entry_at p.entries from.page).places j) ≡ false)
 
--- what is told of the marked block at a spot: its address, walk and count
-abbrev pub told_at : Parts → Spot → Option (ℕ × ℕ × ℕ)
-told_at p spot =
+-- the marked block at a place: its address, walk and count
+abbrev pub marked_at : Parts → EntryPlace → Option (ℕ × ℕ × ℕ)
+marked_at p spot =
     option_map (λ m. (place_at p spot.page spot.place, m.walk, m.count)) (mark_in (cell_at (entry_at p.entries spot.page).places spot.place))

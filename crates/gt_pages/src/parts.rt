@@ -12,7 +12,7 @@ use std::alloc::{AllocError, Global};
 
 /// A place of an entry: the first page of the entry, and the number of the place.
 #[derive(Clone, Copy)]
-pub(crate) struct Spot {
+pub(crate) struct EntryPlace {
     pub(crate) page: u32,
     pub(crate) place: u32,
 }

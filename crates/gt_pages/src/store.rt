@@ -4,7 +4,7 @@ ghost use Rattle.gt_space.specs.declared.TheConstants.{MIN_PAGES, MAX_PAGES};
 ghost use Rattle.gt_bits.specs.Sets.{has, HasRun};
 ghost use Rattle.gt_pages.specs.Ledger.{AreFree, Base, HasSharedPage, IsTooLong, Place, Room, page_address as ledger_page_address, pages_of as ledger_pages_of, sizes};
 ghost use Rattle.gt_pages.specs.Parts.{IsKept, IsOfImage, contents_of, empty_entry, entry_at, entry_pages, free_places, parts_of};
-ghost use Rattle.gt_pages.specs.Spots.{HasNoneAbove, IsAbove, IsFirstIn, IsNextSpot, IsNowhere, IsSpot, block_at, told_at, with_mark_spot};
+ghost use Rattle.gt_pages.specs.Spots.{HasNoneAbove, IsAbove, IsFirstIn, IsNextSpot, IsNowhere, IsSpot, block_at, marked_at, with_mark_spot};
 ghost use Rattle.gt_pages.specs.Slots as slots;
 ghost use Rattle.gt_entries.specs.Cells as cells;
 ghost use Rattle.gt_pages.specs.Slots.{StartsSome, block_of, is_unmarked, mark_at, new_mark, next_slot, owner_of, postponed, slot_at, told_of, unmarked, walked, with_mark_at, with_slot};
@@ -19,7 +19,7 @@ ghost use Rattle.gt_links.specs.Lists.{Holds, IsFree, IsInList, nodes_of, with_n
 
 use crate::pages::{CACHED, LISTS, Run, SlotFail};
 use crate::parts::{
-    Spot, empty_entries, first_pages, insert_range, page_address, pages_of, place_address,
+    EntryPlace, empty_entries, first_pages, insert_range, page_address, pages_of, place_address,
     places_of, remove_range,
 };
 use crate::sizes::{BlockSize, list_of};
@@ -179,7 +179,7 @@ impl Store {
     }
 
     // The block at a place: where it starts, and its size.
-    fn block_at(&self, spot: Spot) -> Option<(u64, u32)>
+    fn block_at(&self, spot: EntryPlace) -> Option<(u64, u32)>
         requires kept { IsKept (parts_of self.now) }
         requires starts { has (parts_of self.now).starts spot.page ≡ true }
         ensures { result ≡ block_at (parts_of self.now) spot }
@@ -243,7 +243,7 @@ impl Store {
     }
 
     // Marks the block at a place.
-    fn mark_spot(&mut self, spot: Spot, walk: u32, count: u32) -> bool
+    fn mark_spot(&mut self, spot: EntryPlace, walk: u32, count: u32) -> bool
         requires page { spot.page < length (parts_of self.old).entries }
         requires used { is_free (cell_at (entry_at (parts_of self.old).entries spot.page).places spot.place) ≡ false }
         ensures fresh { result ≡ not (is_marked (cell_at (entry_at (parts_of self.old).entries spot.page).places spot.place)) }
@@ -272,7 +272,7 @@ impl Store {
     }
 
     // Marks the block at a place; `None` where there is none.
-    fn mark_used(&mut self, spot: Spot, walk: u32, count: u32) -> Option<bool>
+    fn mark_used(&mut self, spot: EntryPlace, walk: u32, count: u32) -> Option<bool>
         requires { spot.page < length (parts_of self.old).entries }
         ensures free { IfNone result (is_free (cell_at (entry_at (parts_of self.old).entries spot.page).places spot.place) ≡ true) }
         ensures used { IfSome result (λ _. is_free (cell_at (entry_at (parts_of self.old).entries spot.page).places spot.place) ≡ false) }
@@ -296,7 +296,7 @@ impl Store {
     }
 
     // The mark of the block at a place.
-    fn mark_of(&self, spot: Spot) -> Option<Mark>
+    fn mark_of(&self, spot: EntryPlace) -> Option<Mark>
         requires { spot.page < length (parts_of self.now).entries }
         ensures { result ≡ mark_in (cell_at (entry_at (parts_of self.now).entries spot.page).places spot.place) }
     {
@@ -318,7 +318,7 @@ impl Store {
     }
 
     // Leaves the block at a place to a pass, where it is marked.
-    fn postpone_spot(&mut self, spot: Spot)
+    fn postpone_spot(&mut self, spot: EntryPlace)
         requires page { spot.page < length (parts_of self.old).entries }
         requires used { is_free (cell_at (entry_at (parts_of self.old).entries spot.page).places spot.place) ≡ false }
         ensures { parts_of self.new ≡ with_mark_spot (parts_of self.old) spot
@@ -342,7 +342,7 @@ impl Store {
     }
 
     // The block at a place is no more left to a pass.
-    fn set_spot_walked(&mut self, spot: Spot)
+    fn set_spot_walked(&mut self, spot: EntryPlace)
         requires page { spot.page < length (parts_of self.old).entries }
         requires used { is_free (cell_at (entry_at (parts_of self.old).entries spot.page).places spot.place) ≡ false }
         ensures { parts_of self.new ≡ with_mark_spot (parts_of self.old) spot
@@ -369,14 +369,14 @@ impl Store {
     }
 
     // The first marked place of an entry from a spot on.
-    fn next_marked_in(&self, from: Spot) -> Option<Spot>
+    fn next_marked_in(&self, from: EntryPlace) -> Option<EntryPlace>
         requires { from.page < length (parts_of self.now).entries }
         ensures { IsFirstIn cells.is_marked (parts_of self.now) from result }
     {
         let place = self.entries[from.page as usize]
             .places
             .next_marked(from.place)?;
-        Some(Spot {
+        Some(EntryPlace {
             page: from.page,
             place,
         })
@@ -399,14 +399,14 @@ impl Store {
     }
 
     // The first place of an entry from a spot on with a block that is left to a pass.
-    fn next_pending_in(&self, from: Spot) -> Option<Spot>
+    fn next_pending_in(&self, from: EntryPlace) -> Option<EntryPlace>
         requires { from.page < length (parts_of self.now).entries }
         ensures { IsFirstIn cells.is_pending (parts_of self.now) from result }
     {
         let place = self.entries[from.page as usize]
             .places
             .next_pending(from.place)?;
-        Some(Spot {
+        Some(EntryPlace {
             page: from.page,
             place,
         })
@@ -493,7 +493,7 @@ impl Store {
     }
 
     /// The place that has the byte at an address, which may be free; `None` where the address is in no entry.
-    pub(crate) fn spot(&self, addr: u64) -> Option<Spot>
+    pub(crate) fn spot(&self, addr: u64) -> Option<EntryPlace>
         requires { IsKept (parts_of self.now) }
         ensures none { IfNone result (IsNowhere (parts_of self.now) addr) }
         ensures some { IfSome result (IsSpot (parts_of self.now) addr) }
@@ -513,7 +513,7 @@ impl Store {
 
     // The place of the block that starts at an address.
     #[inline(always)]
-    fn start_spot(&self, addr: u64) -> Spot
+    fn start_spot(&self, addr: u64) -> EntryPlace
         requires kept { IsKept (parts_of self.now) }
         requires start { StartsSome (contents_of (parts_of self.now)).slots addr }
         ensures { IsSpot (parts_of self.now) addr result }
@@ -526,7 +526,7 @@ impl Store {
     }
 
     // The place of an entry that has the byte at an address of its pages.
-    fn spot_in(&self, page: u32, addr: u64) -> Spot
+    fn spot_in(&self, page: u32, addr: u64) -> EntryPlace
         requires kept { IsKept (parts_of self.now) }
         requires starts { has (parts_of self.now).starts page ≡ true }
         requires above { ledger_page_address page ≤ addr }
@@ -536,18 +536,18 @@ impl Store {
     {
         let offset = addr - HEAP_START - PAGE_BYTES * page as u64;
         let place = self.entries[page as usize].size.place_of(offset);
-        Spot { page, place }
+        EntryPlace { page, place }
     }
 
     /// The first place of those in use or free that starts above an address; `None` where there is none.
-    pub(crate) fn spot_above(&self, after: u64) -> Option<Spot>
+    pub(crate) fn spot_above(&self, after: u64) -> Option<EntryPlace>
         requires { IsKept (parts_of self.now) }
         ensures above { IfSome result (IsAbove (parts_of self.now) after) }
         ensures none { IfNone result (HasNoneAbove (parts_of self.now) after) }
     {
         match self.spot(after) {
             None => self.first_above(after),
-            Some(spot) => Some(Spot {
+            Some(spot) => Some(EntryPlace {
                 page: spot.page,
                 place: spot.place + 1,
             }),
@@ -555,7 +555,7 @@ impl Store {
     }
 
     // The same for an address in no entry.
-    fn first_above(&self, after: u64) -> Option<Spot>
+    fn first_above(&self, after: u64) -> Option<EntryPlace>
         requires kept { IsKept (parts_of self.now) }
         requires nowhere { IsNowhere (parts_of self.now) after }
         ensures above { IfSome result (IsAbove (parts_of self.now) after) }
@@ -572,19 +572,19 @@ impl Store {
     }
 
     /// The first place of the first entry from a page on.
-    pub(crate) fn next_spot(&self, page: u32) -> Option<Spot>
+    pub(crate) fn next_spot(&self, page: u32) -> Option<EntryPlace>
         requires { IsKept (parts_of self.now) }
         ensures { IsNextSpot (parts_of self.now) page result }
     {
         let page = self.starts.next(page)?;
-        Some(Spot { page, place: 0 })
+        Some(EntryPlace { page, place: 0 })
     }
 
     /// The address, walk and count of the marked block at a place.
-    pub(crate) fn tell(&self, spot: Spot) -> Option<(u64, u32, u32)>
+    pub(crate) fn tell(&self, spot: EntryPlace) -> Option<(u64, u32, u32)>
         requires kept { IsKept (parts_of self.now) }
         requires starts { has (parts_of self.now).starts spot.page ≡ true }
-        ensures { result ≡ told_at (parts_of self.now) spot }
+        ensures { result ≡ marked_at (parts_of self.now) spot }
     {
         let entry = &self.entries[spot.page as usize];
         let mark = entry.places.mark_of(spot.place)?;

@@ -5,7 +5,7 @@ use Rattle.std.proofs.lemmas.List.Edits.{between_more}
 use Rattle.gt_items.specs.declared.items.Name.{Name}
 use Rattle.gt_items.specs.declared.items.Item.{Item}
 use Rattle.gt_items.specs.declared.items.Enumerator.{Enumerator}
-use Rattle.gt_search.specs.declared.lexeme.Spot.{Spot}
+use Rattle.gt_search.specs.declared.lexeme.TokenText.{TokenText}
 use Rattle.gt_search.specs.declared.lexeme.Bracket.TheVariants.{Round}
 use Rattle.gt_search.specs.declared.lexeme.Lexeme.{Lexeme}
 use Rattle.gt_search.specs.declared.lexeme.Lexeme.TheVariants as lexeme
@@ -49,11 +49,11 @@ round_after zero (lexeme.Close b s) ts n = refl
 round_after (suc depth) (lexeme.Close b s) ts n = refl
 round_after depth t ts n = refl
 
-name_here : (last : Option Name) (t : Lexeme) (s : Spot) (ts : List Lexeme) → t ≡ lexeme.Name s → last_name 0 last (t ∷ ts) ≡ last_name 0 (Some (name_of s)) ts
+name_here : (last : Option Name) (t : Lexeme) (s : TokenText) (ts : List Lexeme) → t ≡ lexeme.Name s → last_name 0 last (t ∷ ts) ≡ last_name 0 (Some (name_of s)) ts
 unfolding last_name
 name_here last t s ts e = rw e refl
 
-name_after : (depth : ℕ) (last : Option Name) (t : Lexeme) (ts : List Lexeme) → (depth ≡ 0 → (s : Spot) → t ≡ lexeme.Name s → ⊥) → last_name depth last (t ∷ ts) ≡ last_name (depth_after depth t) last ts
+name_after : (depth : ℕ) (last : Option Name) (t : Lexeme) (ts : List Lexeme) → (depth ≡ 0 → (s : TokenText) → t ≡ lexeme.Name s → ⊥) → last_name depth last (t ∷ ts) ≡ last_name (depth_after depth t) last ts
 unfolding last_name
 name_after depth last (lexeme.Open b s) ts n = refl
 name_after zero last (lexeme.Close b s) ts n = refl
@@ -74,7 +74,7 @@ comma_after zero piece (lexeme.Close b s) ts n = refl
 comma_after (suc depth) piece (lexeme.Close b s) ts n = refl
 comma_after depth piece t ts n = refl
 
-other : (whole : List Lexeme) (t : Lexeme) (ts : List Lexeme) → ((s : Spot) → t ≡ lexeme.Gty s → ⊥) → unmarked_at whole (t ∷ ts) ≡ unmarked_at whole ts
+other : (whole : List Lexeme) (t : Lexeme) (ts : List Lexeme) → ((s : TokenText) → t ≡ lexeme.Gty s → ⊥) → unmarked_at whole (t ∷ ts) ≡ unmarked_at whole ts
 unfolding unmarked_at
 other whole (lexeme.Gty s) ts n = absurd (n s refl)
 other whole t ts n = refl
@@ -97,13 +97,13 @@ module _ (tokens : List Lexeme) (depth at : ℕ) (t : Lexeme) (lt : at < length 
     after_round_after n = sym (ap (after_round depth) (drop_at tokens at t lt is) ∙ round_after depth t _ n) ∙ so_far
 
   module _ (last total : Option Name) (so_far : last_name depth last (drop at tokens) ≡ total) where
-    pub last_name_here : (s : Spot) → depth ≡ 0 → t ≡ lexeme.Name s → last_name depth (Some (name_of s)) (drop (at + 1) tokens) ≡ total
+    pub last_name_here : (s : TokenText) → depth ≡ 0 → t ≡ lexeme.Name s → last_name depth (Some (name_of s)) (drop (at + 1) tokens) ≡ total
     last_name_here s z e =
         ap (λ d. last_name d (Some (name_of s)) (drop (at + 1) tokens)) z
         ∙ sym (ap (λ d. last_name d last (drop at tokens)) z ∙ ap (last_name 0 last) (drop_at tokens at t lt is) ∙ name_here last t s _ e)
         ∙ so_far
 
-    pub last_name_after : (depth ≡ 0 → (s : Spot) → t ≡ lexeme.Name s → ⊥) → last_name (depth_after depth t) last (drop (at + 1) tokens) ≡ total
+    pub last_name_after : (depth ≡ 0 → (s : TokenText) → t ≡ lexeme.Name s → ⊥) → last_name (depth_after depth t) last (drop (at + 1) tokens) ≡ total
     last_name_after n = sym (ap (last_name depth last) (drop_at tokens at t lt is) ∙ name_after depth last t _ n) ∙ so_far
 
   module _ (start : ℕ) (found total : List Enumerator) (begun : start ≤ at) (so_far : found ++ enumerators_of (pieces_from depth (take (at - start) (drop start tokens)) (drop at tokens)) ≡ total) where
@@ -143,11 +143,11 @@ module _ (tokens : List Lexeme) (depth at : ℕ) (end : length tokens ≤ at) wh
 
 -- no marker stands among the tokens
 module _ (tokens : List Lexeme) (at : ℕ) (t : Lexeme) (total : Outcome (Option Item)) (lt : at < length tokens) (is : t ≡ get_or tokens at t) (so_far : unmarked_at tokens (drop at tokens) ≡ total) where
-  pub unmarked_stops : (s : Spot) → t ≡ lexeme.Gty s → total ≡ Stops 10 s.start
+  pub unmarked_stops : (s : TokenText) → t ≡ lexeme.Gty s → total ≡ Stops 10 s.start
   unfolding unmarked_at
   unmarked_stops s e = sym so_far ∙ ap (unmarked_at tokens) (drop_at tokens at t lt is) ∙ rw e refl
 
-  pub unmarked_after : ((s : Spot) → t ≡ lexeme.Gty s → ⊥) → unmarked_at tokens (drop (at + 1) tokens) ≡ total
+  pub unmarked_after : ((s : TokenText) → t ≡ lexeme.Gty s → ⊥) → unmarked_at tokens (drop (at + 1) tokens) ≡ total
   unmarked_after n = sym (ap (unmarked_at tokens) (drop_at tokens at t lt is) ∙ other tokens t _ n) ∙ so_far
 
 pub unmarked_end : (tokens : List Lexeme) (at : ℕ) (total : Outcome (Option Item)) → length tokens ≤ at → unmarked_at tokens (drop at tokens) ≡ total → total ≡ Read (unmarked_of tokens) []

@@ -4,7 +4,7 @@ use Rattle.std.specs.List.{list_any}
 use Rattle.gt_search.specs.declared.faults.TheConstants.{BAD_MARKER_PLACE}
 use Rattle.gt_items.specs.declared.items.Item.{Item}
 use Rattle.gt_items.specs.declared.items.Keyword.TheVariants as keyword
-use Rattle.gt_search.specs.declared.lexeme.Spot.{Spot}
+use Rattle.gt_search.specs.declared.lexeme.TokenText.{TokenText}
 use Rattle.gt_search.specs.declared.lexeme.Lexeme.{Lexeme}
 use Rattle.gt_search.specs.declared.lexeme.Lexeme.TheVariants as lexeme
 use Rattle.gt_marked.specs.FieldGrammar.{depth_after, Stands}
@@ -56,7 +56,7 @@ no_marker whole (t ∷ ts) h =
     let parts = or_false (is_gty t) (list_any is_gty ts) h in
     unmarked_step whole t ts parts.0 ∙ no_marker whole ts parts.1
 
-first_marker : (whole front : List Lexeme) (g : Spot) (following : List Lexeme) → list_any is_gty front ≡ false
+first_marker : (whole front : List Lexeme) (g : TokenText) (following : List Lexeme) → list_any is_gty front ≡ false
     → unmarked_at whole (front ++ lexeme.Gty g ∷ following) ≡ Stops BAD_MARKER_PLACE g.start
 unfolding unmarked_at
 first_marker whole [] g following h = refl
@@ -113,7 +113,7 @@ item-alone ts o (AnItem.bad_place front following g h k) =
 
 record HasMarker (ts : List Lexeme) : Type 0 where
   front : List Lexeme
-  marker : Spot
+  marker : TokenText
   following : List Lexeme
   parts : ts ≡ front ++ lexeme.Gty marker ∷ following
   first : list_any is_gty front ≡ false

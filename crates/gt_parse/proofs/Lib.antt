@@ -1,7 +1,7 @@
 mod AliasLists
 mod Depths
 mod First
-mod ItemsLemmas
+pub mod ItemsLemmas
 mod Parsed
 mod UnmarkedLemmas
 mod UnmarkedPlaces

@@ -15,11 +15,11 @@ use Rattle.gt_items.specs.declared.items.RawTypedef.{RawTypedef}
 use Rattle.gt_items.specs.declared.items.Enumerator.{Enumerator}
 use Rattle.gt_items.specs.declared.items.Enumerator.TheVariants.{Undefined, Passed}
 use Rattle.gt_items.specs.declared.items.Stars.{Stars}
-use Rattle.gt_search.specs.declared.lexeme.Spot.{Spot}
+use Rattle.gt_search.specs.declared.lexeme.TokenText.{TokenText}
 use Rattle.gt_search.specs.declared.lexeme.Bracket.TheVariants.{Brace}
 use Rattle.gt_search.specs.declared.lexeme.Lexeme.{Lexeme}
 use Rattle.gt_search.specs.declared.lexeme.Lexeme.TheVariants as lexeme
-use Rattle.gt_marked.specs.declared.types.Place.TheVariants.{Elsewhere}
+use Rattle.gt_marked.specs.declared.types.Context.TheVariants.{Elsewhere}
 use Rattle.gt_marked.specs.FieldGrammar.{depth_after, depth_through, Stands, closes_any}
 use Rattle.gt_parse.specs.ItemGrammar.{is_enum, begins_body, is_starred, IsEnumerator, Enumerators, EnumBody, UnmarkedEnum, HasBody, HasMeaning, Aliases, FirstForm, HasPointer, StarredName, LastName, UnmarkedTypedef}
 use Rattle.gt_search.specs.Lexemes.{name_of}
@@ -61,7 +61,7 @@ unexpected_read (t ∷ ts) x us e = cc
 
 -- ---- enums
 
-undefined_of : (n : Spot) (t : Lexeme) (ts : List Lexeme) → is_equals t ≡ false → enumerator_of (lexeme.Name n ∷ t ∷ ts) ≡ Undefined (name_of n)
+undefined_of : (n : TokenText) (t : Lexeme) (ts : List Lexeme) → is_equals t ≡ false → enumerator_of (lexeme.Name n ∷ t ∷ ts) ≡ Undefined (name_of n)
 undefined_of n (lexeme.Equals e) ts h = absurd cc
 undefined_of n t ts h = refl
 
@@ -88,11 +88,11 @@ last_piece : (piece : List Lexeme) → stands is_comma 0 piece ≡ false → pie
 unfolding pieces_from
 last_piece piece h = ap (λ (ts : List Lexeme). pieces_from 0 [] ts) (sym (append-nil piece)) ∙ pieces_pass piece 0 [] [] h
 
-comma_piece : (piece ts : List Lexeme) (c : Spot) → pieces_from 0 piece (lexeme.Comma c ∷ ts) ≡ piece ∷ pieces_from 0 [] ts
+comma_piece : (piece ts : List Lexeme) (c : TokenText) → pieces_from 0 piece (lexeme.Comma c ∷ ts) ≡ piece ∷ pieces_from 0 [] ts
 unfolding pieces_from
 comma_piece piece ts c = refl
 
-first_piece : (piece ts : List Lexeme) (c : Spot) → stands is_comma 0 piece ≡ false → depth_through 0 piece ≡ 0
+first_piece : (piece ts : List Lexeme) (c : TokenText) → stands is_comma 0 piece ≡ false → depth_through 0 piece ≡ 0
     → pieces_from 0 [] (piece ++ lexeme.Comma c ∷ ts) ≡ piece ∷ pieces_from 0 [] ts
 first_piece piece ts c h o =
     pieces_pass piece 0 [] (lexeme.Comma c ∷ ts) h ∙ ap (λ (depth : ℕ). pieces_from depth piece (lexeme.Comma c ∷ ts)) o ∙ comma_piece piece ts c
@@ -106,7 +106,7 @@ enumerators-one (Enumerators.more {piece} {ts} c f i m) =
 pieces_last : (piece : List Lexeme) → stands is_comma 0 piece ≡ false → Has Enumerators piece
 pieces_last piece h = record { outcome = _; holds = Enumerators.last (stands-not is_comma piece h) (enumerator_has piece).holds }
 
-pieces_more : (piece : List Lexeme) (c : Spot) (ts : List Lexeme) → stands is_comma 0 piece ≡ false → depth_through 0 piece ≡ 0 → Has Enumerators ts → Has Enumerators (piece ++ lexeme.Comma c ∷ ts)
+pieces_more : (piece : List Lexeme) (c : TokenText) (ts : List Lexeme) → stands is_comma 0 piece ≡ false → depth_through 0 piece ≡ 0 → Has Enumerators ts → Has Enumerators (piece ++ lexeme.Comma c ∷ ts)
 pieces_more piece c ts h o has = record { outcome = _; holds = Enumerators.more c (record { closed = o; free = stands-not is_comma piece h }) (enumerator_has piece).holds has.holds }
 
 pieces_on : (us : List Lexeme) (t : Lexeme) (ts : List Lexeme) → Has Enumerators ((us ++ t ∷ []) ++ ts) → Has Enumerators (us ++ t ∷ ts)
@@ -162,11 +162,11 @@ enum-alone ts found (UnmarkedEnum.no_body h) = sym (no_enum ts h)
 enum-alone ts found (UnmarkedEnum.untagged_not_closed o u) = rw (enum_body-endless None u) refl
 enum-alone ts found (UnmarkedEnum.tagged_not_closed n o u) = rw (enum_body-endless (Some (name_of n)) u) refl
 
-untagged_has : (o : Spot) (ts : List Lexeme) → HasEnumBody None ts → Has UnmarkedEnum (lexeme.Open Brace o ∷ ts)
+untagged_has : (o : TokenText) (ts : List Lexeme) → HasEnumBody None ts → Has UnmarkedEnum (lexeme.Open Brace o ∷ ts)
 untagged_has o ts (has_body found rest b) = record { outcome = _; holds = UnmarkedEnum.untagged o b }
 untagged_has o ts (has_none u) = record { outcome = _; holds = UnmarkedEnum.untagged_not_closed o u }
 
-tagged_has : (n o : Spot) (ts : List Lexeme) → HasEnumBody (Some (name_of n)) ts → Has UnmarkedEnum (lexeme.Name n ∷ lexeme.Open Brace o ∷ ts)
+tagged_has : (n o : TokenText) (ts : List Lexeme) → HasEnumBody (Some (name_of n)) ts → Has UnmarkedEnum (lexeme.Name n ∷ lexeme.Open Brace o ∷ ts)
 tagged_has n o ts (has_body found rest b) = record { outcome = _; holds = UnmarkedEnum.tagged n o b }
 tagged_has n o ts (has_none u) = record { outcome = _; holds = UnmarkedEnum.tagged_not_closed n o u }
 
@@ -273,13 +273,13 @@ plain_sound ts us means rest q e =
     let step = steps (type_at Elsewhere us) (λ type. Read (meaning.Type type.0) type.1) means rest e in
     type_meaning ts step.found step.following means rest (same_type q ∙ step.first) step.second
 
-tagged_sound : (ts : List Lexeme) (k : Keyword) (t n : Spot) (us vs ws : List Lexeme) (means : Meaning) (rest : List Lexeme) → Qualifiers ts (lexeme.Tag k t ∷ us)
+tagged_sound : (ts : List Lexeme) (k : Keyword) (t n : TokenText) (us vs ws : List Lexeme) (means : Meaning) (rest : List Lexeme) → Qualifiers ts (lexeme.Tag k t ∷ us)
     → Qualifiers us (lexeme.Name n ∷ vs) → Qualifiers vs ws → tagged_meaning_at k (name_of n) (lexeme.Tag k t ∷ us) ws ≡ Read means rest → HasMeaning ts means rest
 tagged_sound ts k t n us vs (lexeme.Open Brace o ∷ ws) means rest q r p e = HasMeaning.tagged k t n o q r p (body-sound k (Some (name_of n)) ws means rest e)
 tagged_sound ts k t n us vs [] means rest q r p e = plain_sound ts (lexeme.Tag k t ∷ us) means rest q e
 tagged_sound ts k t n us vs (w ∷ ws) means rest q r p e = plain_sound ts (lexeme.Tag k t ∷ us) means rest q e
 
-keyword_sound : (ts : List Lexeme) (k : Keyword) (t : Spot) (us vs : List Lexeme) (means : Meaning) (rest : List Lexeme) → Qualifiers ts (lexeme.Tag k t ∷ us)
+keyword_sound : (ts : List Lexeme) (k : Keyword) (t : TokenText) (us vs : List Lexeme) (means : Meaning) (rest : List Lexeme) → Qualifiers ts (lexeme.Tag k t ∷ us)
     → Qualifiers us vs → keyword_meaning_at k (lexeme.Tag k t ∷ us) vs ≡ Read means rest → HasMeaning ts means rest
 keyword_sound ts k t us (lexeme.Open Brace o ∷ vs) means rest q r e = HasMeaning.untagged k t o q r (body-sound k None vs means rest e)
 keyword_sound ts k t us (lexeme.Name n ∷ vs) means rest q r e =
@@ -321,7 +321,7 @@ aliases-from (Aliases.more {us} {stars} {others} n c a m) (suc count) before h =
 -- the other way round
 record IsAlias (ts : List Lexeme) (x : Alias) (us : List Lexeme) : Type 0 where
   stars : Stars
-  name : Spot
+  name : TokenText
   are : AreStars ts stars (lexeme.Name name ∷ us)
   same : ◌≡◌ {A = Alias} (record { stars = stars; name = name_of name }) x
 

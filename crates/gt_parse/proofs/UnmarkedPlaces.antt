@@ -3,7 +3,7 @@ use Rattle.std.proofs.Common.{◌≡◌, ℕ, zero, suc, Bool, true, false, List
 use Rattle.std.proofs.lemmas.Bool.{or_cases}
 use Rattle.std.proofs.lemmas.List.{append-nil}
 use Rattle.gt_items.specs.declared.items.Name.{Name}
-use Rattle.gt_search.specs.declared.lexeme.Spot.{Spot}
+use Rattle.gt_search.specs.declared.lexeme.TokenText.{TokenText}
 use Rattle.gt_search.specs.declared.lexeme.Bracket.TheVariants.{Round}
 use Rattle.gt_search.specs.declared.lexeme.Lexeme.{Lexeme}
 use Rattle.gt_search.specs.declared.lexeme.Lexeme.TheVariants as lexeme
@@ -71,7 +71,7 @@ last_stays (t ∷ ts) zero last h =
     last_step zero last t ts ∙ last_stays ts (depth_after zero t) (new_last zero last t) parts.1 ∙ same_last last t parts.0
 last_stays (t ∷ ts) (suc depth) last h = last_step (suc depth) last t ts ∙ last_stays ts (depth_after (suc depth) t) last h
 
-pub last_found : (front : List Lexeme) (depth : ℕ) (last : Option Name) (n : Spot) (following : List Lexeme) → depth_through depth front ≡ 0
+pub last_found : (front : List Lexeme) (depth : ℕ) (last : Option Name) (n : TokenText) (following : List Lexeme) → depth_through depth front ≡ 0
     → last_name depth last (front ++ lexeme.Name n ∷ following) ≡ last_name 0 (Some (name_of n)) following
 last_found [] zero last n following o = last_step zero last (lexeme.Name n) following
 last_found [] (suc depth) last n following o = absurd (omega arith)
@@ -80,7 +80,7 @@ last_found (t ∷ front) depth last n following o =
 
 pub record HasLast (depth : ℕ) (ts : List Lexeme) : Type 0 where
   pub front : List Lexeme
-  pub name : Spot
+  pub name : TokenText
   pub following : List Lexeme
   pub parts : ts ≡ front ++ lexeme.Name name ∷ following
   pub outside : depth_through depth front ≡ 0
@@ -121,7 +121,7 @@ round_suc depth (lexeme.Open Round s) ts = refl
 round_suc depth (lexeme.Close b s) ts = refl
 round_suc depth t ts = refl
 
-round_found : (front : List Lexeme) (depth : ℕ) (a : Spot) (ts : List Lexeme) → depth_through depth front ≡ 0 → stands opens_round depth front ≡ false
+round_found : (front : List Lexeme) (depth : ℕ) (a : TokenText) (ts : List Lexeme) → depth_through depth front ≡ 0 → stands opens_round depth front ≡ false
     → after_round depth (front ++ lexeme.Open Round a ∷ ts) ≡ ts
 unfolding after_round
 round_found [] zero a ts o h = refl
@@ -137,7 +137,7 @@ pointer-round {ts} p = rw (p.parts) (round_found p.front 0 p.bracket (lexeme.Sta
 
 record HasRound (depth : ℕ) (ts rest : List Lexeme) : Type 0 where
   front : List Lexeme
-  bracket : Spot
+  bracket : TokenText
   parts : ts ≡ front ++ lexeme.Open Round bracket ∷ rest
   outside : depth_through depth front ≡ 0
   first : stands opens_round depth front ≡ false
@@ -158,7 +158,7 @@ round_place (lexeme.Close b s ∷ ts) zero u us e = round_further_zero (lexeme.C
 round_place (t ∷ ts) zero u us e = round_further_zero t ts (u ∷ us) refl (round_place ts (depth_after zero t) u us (sym (round_zero t ts refl) ∙ e))
 round_place (t ∷ ts) (suc depth) u us e = round_further depth t ts (u ∷ us) (round_place ts (depth_after (suc depth) t) u us (sym (round_suc depth t ts) ∙ e))
 
-pub round-pointer : (ts : List Lexeme) (s : Spot) (us : List Lexeme) → after_round 0 ts ≡ lexeme.Star s ∷ us → HasPointer ts
+pub round-pointer : (ts : List Lexeme) (s : TokenText) (us : List Lexeme) → after_round 0 ts ≡ lexeme.Star s ∷ us → HasPointer ts
 round-pointer ts s us e =
     let r = round_place ts 0 (lexeme.Star s) us e in
     record { front = r.front; bracket = r.bracket; star = s; following = us; parts = r.parts; first = record { closed = r.outside; free = stands-not opens_round r.front r.first } }

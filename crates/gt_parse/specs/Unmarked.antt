@@ -17,7 +17,7 @@ use Rattle.gt_items.specs.declared.items.Enumerator.TheVariants.{Counted, Valued
 use Rattle.gt_search.specs.declared.lexeme.Bracket.TheVariants.{Round, Brace}
 use Rattle.gt_search.specs.declared.lexeme.Lexeme.{Lexeme}
 use Rattle.gt_search.specs.declared.lexeme.Lexeme.TheVariants as lexeme
-use Rattle.gt_marked.specs.declared.types.Place.TheVariants.{Elsewhere}
+use Rattle.gt_marked.specs.declared.types.Context.TheVariants.{Elsewhere}
 use Rattle.gt_search.specs.Lexemes.{name_of, kept_text}
 use Rattle.gt_marked.specs.Outcome.{Outcome, Read, Stops, Ends, ◌>>=◌, unexpected}
 use Rattle.gt_marked.specs.Types.{without_qualifiers, type_at}

@@ -5,7 +5,7 @@ ghost use Rattle.gt_parse.specs.Header.{constant_in};
 
 use crate::slices::word_in;
 use gt_items::{Name, RawConstant};
-use gt_lex::{Lexed, constant_names};
+use gt_lex::Lexed;
 use gt_types::List;
 use std::alloc::{AllocError, Global};
 use std::str;
@@ -15,7 +15,6 @@ pub fn constants(alloc: Global, text: &[u8], lexed: &Lexed) -> Result<List<RawCo
     requires { IsLexed text.now lexed.now.tokens lexed.now.defines }
     ensures { IfOk result (λ made. made ≡ map (constant_in text.now) lexed.now.defines) }
 {
-    constant_names();
     let Ok(text) = str::from_utf8(text) else {
         unreachable!()
     };

@@ -8,9 +8,9 @@ ghost use Rattle.gt_parse.specs.Unmarked.{body_at, plain_meaning_at, tagged_mean
 use crate::enums::enum_body;
 use gt_items::{Alias, Item, Keyword, Meaning, Name, RawTypedef, Stars};
 use gt_marked::{
-    Place, Unread, alias, base_type, depth_after, goes_on, inside, unexpected, without_qualifiers,
+    Context, Unread, alias, base_type, depth_after, goes_on, inside, unexpected, without_qualifiers,
 };
-use gt_search::{Bracket, Lexeme, Spot};
+use gt_search::{Bracket, Lexeme, TokenText};
 use gt_types::List;
 use std::alloc::{AllocError, Global};
 
@@ -136,12 +136,12 @@ fn body(
 fn plain_meaning(alloc: Global, tokens: &[Lexeme]) -> Result<(Meaning, &[Lexeme]), Unread>
     ensures { Gives (λ x. (x.0, x.1.now)) result (plain_meaning_at tokens.now) }
 {
-    let (ty, rest) = base_type(alloc, Place::Elsewhere, tokens)?;
+    let (ty, rest) = base_type(alloc, Context::Elsewhere, tokens)?;
     Ok((Meaning::Type(ty), rest))
 }
 
 // A typedef of one opaque name; without a name it declares nothing.
-fn opaque_typedef(alloc: Global, spot: Option<&Spot>) -> Result<Option<Item>, AllocError>
+fn opaque_typedef(alloc: Global, spot: Option<&TokenText>) -> Result<Option<Item>, AllocError>
     ensures { IfOk result (λ found. found ≡ opaque_typedef (option_map (λ s. name_of s.now) spot.entry)) }
 {
     let Some(spot) = spot else {
@@ -158,7 +158,7 @@ fn opaque_typedef(alloc: Global, spot: Option<&Spot>) -> Result<Option<Item>, Al
 
 // The one opaque name: where a star stands directly after the first round bracket, the name after the stars there; otherwise
 // the last name.
-fn opaque_name(tokens: &[Lexeme]) -> Option<&Spot>
+fn opaque_name(tokens: &[Lexeme]) -> Option<&TokenText>
     ensures { option_map (λ s. name_of s.now) result ≡ opaque_name tokens.now (after_round 0 tokens.now) }
 {
     match after_round(tokens) {
@@ -169,7 +169,7 @@ fn opaque_name(tokens: &[Lexeme]) -> Option<&Spot>
 
 // The name after stars.
 #[tactic(auto, unfolding(crate::specs::Unmarked::starred_name))]
-fn starred_name(tokens: &[Lexeme]) -> Option<&Spot>
+fn starred_name(tokens: &[Lexeme]) -> Option<&TokenText>
     ensures { option_map (λ s. name_of s.now) result ≡ starred_name tokens.now }
 {
     let mut rest = tokens;
@@ -204,7 +204,7 @@ fn opens_round(token: &Lexeme) -> bool
 }
 
 // The last name that stands in no brackets.
-fn last_name(tokens: &[Lexeme]) -> Option<&Spot>
+fn last_name(tokens: &[Lexeme]) -> Option<&TokenText>
     ensures { option_map (λ s. name_of s.now) result ≡ last_name 0 None tokens.now }
 {
     let mut last = None;

@@ -16,8 +16,8 @@ use Rattle.gt_types.specs.declared.types.TypeId.{TypeId}
 use Rattle.gt_types.specs.declared.program.Program.{Program}
 use Rattle.gt_types.specs.Operators.{HasOperators}
 use Rattle.gt_types.specs.Paths.{AreSteps, DescPathFitsBeside, Inner, IsFieldDescBeside, IsOptionBeside, LeadsToNumber, PathFitsBeside, Way, paths_of, roots_of}
-use Rattle.gt_paths.specs.declared.checks.Place.{Place}
-use Rattle.gt_paths.specs.declared.checks.Place.TheVariants.{Own, Desc}
+use Rattle.gt_paths.specs.declared.checks.PathOption.{PathOption}
+use Rattle.gt_paths.specs.declared.checks.PathOption.TheVariants.{Own, Desc}
 use Rattle.gt_paths.specs.declared.containers.Containers.{Containers}
 use Rattle.gt_paths.specs.Checks.{Checked, inner_of}
 use Rattle.gt_paths.specs.Containers.{AreContainersOf, containers_of}
@@ -82,42 +82,42 @@ containers_lead inner program containers node list steps b are same decides = (
 
 -- ---- one path in an option
 
-pub own_at : {E : Type 0} (c : Checked) (place : Place) (base : Base) (steps : List (List ℕ)) (r : Result Bool E) → place ≡ Own → AreSteps steps
+pub own_at : {E : Type 0} (c : Checked) (place : PathOption) (base : Base) (steps : List (List ℕ)) (r : Result Bool E) → place ≡ Own → AreSteps steps
     → IfOk r (λ b. Decides b (PathFitsBeside (inner_of c) c.program c.node base steps)) → IfOk r (λ b. Decides b (PathAt c place base steps))
 own_at c place base steps r is are decides =
-    subst (λ (p : Place). IfOk r (λ b. Decides b (PathAt c p base steps))) (sym is)
+    subst (λ (p : PathOption). IfOk r (λ b. Decides b (PathAt c p base steps))) (sym is)
     (IfOk-weaker r (λ b. Decides b (PathFitsBeside (inner_of c) c.program c.node base steps)) (λ b. Decides b (PathAt c Own base steps)) (λ b d. (λ e. (are, d.0 e), λ fits. d.1 fits.1)) decides)
 
-pub desc_at : {E : Type 0} (c : Checked) (place : Place) (union : TypeId) (base : Base) (steps : List (List ℕ)) (r : Result Bool E) → place ≡ Desc union → AreSteps steps
+pub desc_at : {E : Type 0} (c : Checked) (place : PathOption) (union : TypeId) (base : Base) (steps : List (List ℕ)) (r : Result Bool E) → place ≡ Desc union → AreSteps steps
     → IfOk r (λ b. Decides b (DescPathFitsBeside (inner_of c) c.program c.node union base steps)) → IfOk r (λ b. Decides b (PathAt c place base steps))
 desc_at c place union base steps r is are decides =
-    subst (λ (p : Place). IfOk r (λ b. Decides b (PathAt c p base steps))) (sym is)
+    subst (λ (p : PathOption). IfOk r (λ b. Decides b (PathAt c p base steps))) (sym is)
     (IfOk-weaker r (λ b. Decides b (DescPathFitsBeside (inner_of c) c.program c.node union base steps)) (λ b. Decides b (PathAt c (Desc union) base steps)) (λ b d. (λ e. (are, d.0 e), λ fits. d.1 fits.1))
     decides)
 
 -- ---- the paths of an expression, where a later part may fail to be looked at
 
 -- the paths of an expression are good in an option
-abbrev pub AllFit : Checked → Place → List Way → Type 0
+abbrev pub AllFit : Checked → PathOption → List Way → Type 0
 AllFit c place ways = All (λ (path : Way). PathAt c place path.0 path.1) ways
 
-pub of_path : {E : Type 0} (c : Checked) (place : Place) (e : Expr) (path : Way) (r : Result Bool E) → paths_of e ≡ path ∷ [] → IfOk r (λ b. Decides b (PathAt c place path.0 path.1))
+pub of_path : {E : Type 0} (c : Checked) (place : PathOption) (e : Expr) (path : Way) (r : Result Bool E) → paths_of e ≡ path ∷ [] → IfOk r (λ b. Decides b (PathAt c place path.0 path.1))
     → IfOk r (λ b. Decides b (AllFit c place (paths_of e)))
 of_path c place e path r same decides =
     subst (λ (ways : List Way). IfOk r (λ b. Decides b (AllFit c place ways))) (sym same)
     (IfOk-weaker r (λ b. Decides b (PathAt c place path.0 path.1)) (λ b. Decides b (AllFit c place (path ∷ []))) (λ b d. each_of_one (λ (way : Way). PathAt c place way.0 way.1) path b d) decides)
 
 -- the checks are of the same structure, and the part is the one that is meant
-pub at_part : (c d : Checked) (place : Place) (x y : Expr) (b : Bool) → c ≡ d → x ≡ y → Decides b (AllFit c place (paths_of x)) → Decides b (AllFit d place (paths_of y))
+pub at_part : (c d : Checked) (place : PathOption) (x y : Expr) (b : Bool) → c ≡ d → x ≡ y → Decides b (AllFit c place (paths_of x)) → Decides b (AllFit d place (paths_of y))
 at_part c d place x y b of part decides =
     subst (λ (k : Checked). Decides b (AllFit k place (paths_of y))) of (subst (λ (z : Expr). Decides b (AllFit c place (paths_of z))) part decides)
 
-pub at_last : {E : Type 0} (c d : Checked) (place : Place) (x y : Expr) (r : Result Bool E) → c ≡ d → x ≡ y → IfOk r (λ b. Decides b (AllFit c place (paths_of x)))
+pub at_last : {E : Type 0} (c d : Checked) (place : PathOption) (x y : Expr) (r : Result Bool E) → c ≡ d → x ≡ y → IfOk r (λ b. Decides b (AllFit c place (paths_of x)))
     → IfOk r (λ b. Decides b (AllFit d place (paths_of y)))
 at_last c d place x y r of part decides =
     IfOk-weaker r (λ b. Decides b (AllFit c place (paths_of x))) (λ b. Decides b (AllFit d place (paths_of y))) (λ b fits. at_part c d place x y b of part fits) decides
 
-pub goes_last : {E : Type 0} (c : Checked) (place : Place) (zs xs ys : List Way) (a : Bool) (r : Result Bool E) → zs ≡ xs ++ ys → Decides a (AllFit c place xs) → a ≡ true
+pub goes_last : {E : Type 0} (c : Checked) (place : PathOption) (zs xs ys : List Way) (a : Bool) (r : Result Bool E) → zs ≡ xs ++ ys → Decides a (AllFit c place xs) → a ≡ true
     → IfOk r (λ b. Decides b (AllFit c place ys)) → IfOk r (λ b. Decides b (AllFit c place zs))
 goes_last c place zs xs ys a r same decides holds rest =
     IfOk-weaker r (λ b. Decides b (AllFit c place ys)) (λ b. Decides b (AllFit c place zs))

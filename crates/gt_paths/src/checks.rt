@@ -25,7 +25,7 @@ fn are_steps(steps: &[Word]) -> bool
 
 // The option in which a path stands.
 #[derive(Clone, Copy)]
-enum Place {
+enum PathOption {
     /// The length of a field of the structure, or its own `desc`.
     Own,
     /// The `desc` of a field that holds this union.
@@ -95,7 +95,7 @@ impl<'a> PathChecks<'a> {
         if !has_no_roots(e) {
             return Ok(false);
         }
-        self.all_paths_fit(Place::Own, e)
+        self.all_paths_fit(PathOption::Own, e)
     }
 
     /// Whether an expression is good as the `desc` of a field of the structure that holds this union, where the structures are
@@ -110,11 +110,11 @@ impl<'a> PathChecks<'a> {
         if !has_no_roots(e) {
             return Ok(false);
         }
-        self.all_paths_fit(Place::Desc(union), e)
+        self.all_paths_fit(PathOption::Desc(union), e)
     }
 
     // Whether all paths of an expression are good in an option.
-    fn all_paths_fit(&mut self, place: Place, e: &Expr) -> Result<bool, AllocError>
+    fn all_paths_fit(&mut self, place: PathOption, e: &Expr) -> Result<bool, AllocError>
         ensures decides { IfOk result (λ r. Decides r (All (λ (path : Way). PathAt self.old place path.0 path.1) (paths_of e.now))) }
         ensures same { self.new ≡ self.old }
     {
@@ -143,7 +143,7 @@ impl<'a> PathChecks<'a> {
     // Whether a path is good in an option.
     fn path_fits(
         &mut self,
-        place: Place,
+        place: PathOption,
         base: Base,
         steps: &List<Word>,
     ) -> Result<bool, AllocError>
@@ -154,8 +154,8 @@ impl<'a> PathChecks<'a> {
             return Ok(false);
         }
         match place {
-            Place::Own => self.own_path_fits(base, steps),
-            Place::Desc(union) => self.desc_path_fits(union, base, steps),
+            PathOption::Own => self.own_path_fits(base, steps),
+            PathOption::Desc(union) => self.desc_path_fits(union, base, steps),
         }
     }
 

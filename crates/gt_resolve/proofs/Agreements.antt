@@ -20,7 +20,7 @@ use Rattle.gt_drafts.specs.declared.types.Resolved.{Resolved}
 use Rattle.gt_scope.specs.declared.declaration.Declaration.{Declaration}
 use Rattle.gt_scope.specs.declared.declaration.What.{What}
 use Rattle.gt_scope.specs.declared.declaration.What.TheVariants as what
-use Rattle.gt_scope.specs.declared.meaning.TypeName.{TypeName}
+use Rattle.gt_scope.specs.declared.meaning.TypedefMeaning.{TypedefMeaning}
 use Rattle.gt_scope.specs.declared.types.Spelled.{Spelled}
 use Rattle.gt_scope.specs.Meanings.{means_after, resolved_type}
 use Rattle.gt_scope.specs.Repeats.{type_of}
@@ -99,7 +99,7 @@ two test is a b c h k = subst (λ x. test x c ≡ true) (is a b h) k
 through_one : {A : Type 0} (test : A → A → Bool) → ((a b : A) → test a b ≡ true → a ≡ b) → (a b c : A) → test a c ≡ true → test b c ≡ true → test a b ≡ true
 through_one test is a b c h k = subst (λ x. test a x ≡ true) (sym (is b c k)) h
 
-module _ (ds : List Declaration) (types : List TypeName) where
+module _ (ds : List Declaration) (types : List TypedefMeaning) where
   -- a definition agrees with two, and they with one another
   pub agree_two : (a b c : What) → agree ds types a b ≡ true → agree ds types a c ≡ true → agree ds types b c ≡ true
   unfolding agree
@@ -130,7 +130,7 @@ module _ (ds : List Declaration) (types : List TypeName) where
   agree_through a b c h k = never h
 
 -- typedefs agree where they mean the same
-pub typedefs_agree : (ds : List Declaration) (types : List TypeName) (place first : ℕ) (a b : What) (t u : Spelled) (s r : Stars) (result : Bool)
+pub typedefs_agree : (ds : List Declaration) (types : List TypedefMeaning) (place first : ℕ) (a b : What) (t u : Spelled) (s r : Stars) (result : Bool)
     → a ≡ what.Typedef t s → b ≡ what.Typedef u r
     → ((d e : Declaration) (t u : Spelled) → slice_get ds place ≡ Some d → type_of d.what ≡ Some t → slice_get ds first ≡ Some e → type_of e.what ≡ Some u
     → result ≡ same_type (means_after s (resolved_type ds types t Zero)) (means_after r (resolved_type ds types u Zero)))

@@ -11,7 +11,7 @@ use Rattle.std.proofs.lemmas.Slice.Eq.{bytes_eq-Decides}
 use Rattle.gt_types.specs.declared.faults.Fault.{Fault}
 use Rattle.gt_resolve.specs.declared.TheConstants.{REDEFINED}
 use Rattle.gt_scope.specs.declared.declaration.Declaration.{Declaration}
-use Rattle.gt_scope.specs.declared.meaning.TypeName.{TypeName}
+use Rattle.gt_scope.specs.declared.meaning.TypedefMeaning.{TypedefMeaning}
 use Rattle.gt_names.specs.declared.tables.Entry.{Entry}
 use Rattle.gt_names.specs.Entries.{first_some, value_in, with_value}
 use Rattle.gt_resolve.specs.Faults.{agree, clashes, is_tag, redefinitions}
@@ -193,7 +193,7 @@ same_tests false false f g = refl
 
 -- ---- clashes
 
-module _ (all : List Declaration) (types : List TypeName) where
+module _ (all : List Declaration) (types : List TypedefMeaning) where
   abbrev tags : List (Entry ℕ)
   tags = first_places true 0 [] all
 
@@ -490,7 +490,7 @@ first_places_end tags ds i es l = ap (first_places tags i es) (sym (drop_all i d
 
 -- one more declaration
 pub marked_more :
-    (all : List Declaration) (types : List TypeName) (tags others : List (Entry ℕ)) (items ds : List Declaration) (i : ℕ) (d : Declaration) (clashed tests after : List Bool)
+    (all : List Declaration) (types : List TypedefMeaning) (tags others : List (Entry ℕ)) (items ds : List Declaration) (i : ℕ) (d : Declaration) (clashed tests after : List Bool)
     (first : ℕ) (clash : Bool) (e e1 : Option Fault) → items ≡ ds → i < length items → d ≡ get_or items i d → first ≡ first_place tags others d i → tests ≡ clashed
     → clash ≡ is_clash all types tests d.what first i → after ≡ with_clash clash first clashed → e1 ≡ first_from e (fault_if clash REDEFINED d.file d.name.at)
     → first_from e1 (marked_faults all types tags others (i + 1) after (drop (i + 1) ds)) ≡ first_from e (marked_faults all types tags others i clashed (drop i ds))
@@ -512,7 +512,7 @@ marked_more all types tags others items ds i d clashed tests after first clash e
     ∙ ap (λ (xs : List Declaration). first_from e (marked_faults all types tags others i clashed xs)) (sym item)
 
 pub marked_end :
-    (all : List Declaration) (types : List TypeName) (tags others : List (Entry ℕ)) (items ds : List Declaration) (i : ℕ) (clashed : List Bool) (e : Option Fault)
+    (all : List Declaration) (types : List TypedefMeaning) (tags others : List (Entry ℕ)) (items ds : List Declaration) (i : ℕ) (clashed : List Bool) (e : Option Fault)
     → items ≡ ds → length items ≤ i → e ≡ first_from e (marked_faults all types tags others i clashed (drop i ds))
 unfolding marked_faults
 marked_end all types tags others items ds i clashed e same l =
@@ -522,7 +522,7 @@ marked_end all types tags others items ds i clashed e same l =
 -- ---- the earliest
 
 pub earliest_redefined :
-    {E : Type 0} (all : List Declaration) (types : List TypeName) (items more : List Declaration) (tags others : List (Entry ℕ)) (r : Result (Option Fault) E)
+    {E : Type 0} (all : List Declaration) (types : List TypedefMeaning) (items more : List Declaration) (tags others : List (Entry ℕ)) (r : Result (Option Fault) E)
     → items ≡ all → more ≡ all → tags ≡ first_places true 0 [] items → others ≡ first_places false 0 [] more
     → IfOk r (λ x. x ≡ first_from None (marked_faults all types tags others 0 (replicate (length all) false) all))
     → IfOk r (λ x. x ≡ first_from None (redefinitions all types [] all))

@@ -12,7 +12,7 @@ use Rattle.gt_types.specs.declared.limits.TheConstants.{MAX_STRUCTURES}
 use Rattle.gt_scope.specs.declared.declaration.Declaration.{Declaration}
 use Rattle.gt_drafts.specs.declared.draft.Draft.{Draft}
 use Rattle.gt_drafts.specs.declared.draft.DraftStructure.{DraftStructure}
-use Rattle.gt_scope.specs.declared.meaning.TypeName.{TypeName}
+use Rattle.gt_scope.specs.declared.meaning.TypedefMeaning.{TypedefMeaning}
 use Rattle.gt_shapes.specs.Cycles.{comes_before, IsPreceded, Suffice}
 use Rattle.gt_drafts.specs.FirstFaults.{is_no_later, fault_if, IsFirstOf}
 use Rattle.gt_resolve.specs.Faults.{faults_of, fields_faults, structure_faults, structures_faults, redefinitions, roots_faults, caches_faults}
@@ -168,7 +168,7 @@ none_contained : (xs : List Fault) → ((f : Fault) → Contains xs f → ⊥) �
 none_contained [] h = refl
 none_contained (x ∷ xs) h = absurd (h x (Contains_head x xs))
 
-module _ (ds : List Declaration) (types : List TypeName) (draft : Draft) (cyclic told deep tails : List Bool) (suffice : Suffice draft.structures deep cyclic told) where
+module _ (ds : List Declaration) (types : List TypedefMeaning) (draft : Draft) (cyclic told deep tails : List Bool) (suffice : Suffice draft.structures deep cyclic told) where
   abbrev ss : List DraftStructure
   ss = draft.structures
 

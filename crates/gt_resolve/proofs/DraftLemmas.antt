@@ -21,7 +21,7 @@ use Rattle.gt_scope.specs.Spelling.{spelled_of}
 use Rattle.gt_items.specs.declared.items.Stars.TheVariants.{Zero, One, Two, More}
 use Rattle.gt_drafts.specs.declared.types.BaseType.{BaseType}
 use Rattle.gt_drafts.specs.declared.types.Resolved.{Resolved}
-use Rattle.gt_scope.specs.declared.meaning.TypeName.{TypeName}
+use Rattle.gt_scope.specs.declared.meaning.TypedefMeaning.{TypedefMeaning}
 use Rattle.gt_scope.specs.declared.types.Spelled.{Spelled}
 use Rattle.gt_scope.specs.declared.types.Spelled.TheVariants as spelled
 use Rattle.gt_scope.specs.Meanings.{meaning_in, more_stars, plain_type, resolved_type, with_stars}
@@ -137,7 +137,7 @@ later_case None base s = refl
 later_case (Some m) base s = ap (λ (t : Stars). with_stars (record { base = m.base; stars = t }) s) (no_more m.stars)
 
 -- a type is looked up without stars, and has its stars later
-stars_later : (ds : List Declaration) (types : List TypeName) (ty : Spelled) (s : Stars) → with_stars (resolved_type ds types ty Zero) s ≡ resolved_type ds types ty s
+stars_later : (ds : List Declaration) (types : List TypedefMeaning) (ty : Spelled) (s : Stars) → with_stars (resolved_type ds types ty Zero) s ≡ resolved_type ds types ty s
 unfolding resolved_type
 stars_later ds types (spelled.Number scalar is_char) s = refl
 stars_later ds types spelled.Float s = refl
@@ -146,12 +146,12 @@ stars_later ds types spelled.Sizeless s = refl
 stars_later ds types (spelled.Tagged keyword tag) s = refl
 stars_later ds types (spelled.Named word) s = later_case (meaning_in types word) (plain_type ds (spelled.Named word)) s
 
-pub stars_after : (ds : List Declaration) (types : List TypeName) (ty : Spelled) (s : Stars) (means r : Resolved) → means ≡ resolved_type ds types ty Zero
+pub stars_after : (ds : List Declaration) (types : List TypedefMeaning) (ty : Spelled) (s : Stars) (means r : Resolved) → means ≡ resolved_type ds types ty Zero
     → r ≡ with_stars means s → r ≡ resolved_type ds types ty s
 stars_after ds types ty s means r m e = e ∙ ap (λ (x : Resolved). with_stars x s) m ∙ stars_later ds types ty s
 
 -- a declarator after a type that was looked up
-pub declarator_after : (ds : List Declaration) (types : List TypeName) (ty : RawType) (d : Declarator) (means r : Resolved) (replaced : Bool) (texts : List (List ℕ))
+pub declarator_after : (ds : List Declaration) (types : List TypedefMeaning) (ty : RawType) (d : Declarator) (means r : Resolved) (replaced : Bool) (texts : List (List ℕ))
     (bounds : List Amount) (bits : Option Amount) → means ≡ resolved_type ds types (spelled_of ty) Zero → r ≡ with_stars means d.stars
     → replaced ≡ has_length d.options → texts ≡ d.bounds → bounds ≡ bounds_of ds replaced texts → bits ≡ option_map (amount_in ds) d.bits
     → ◌≡◌ {A = DeclaredType} (record { resolved = r; bounds = bounds; bits = bits; is_function = d.is_function }) (declarator_type ds types ty d)

@@ -8,7 +8,7 @@ use Rattle.gt_types.specs.declared.faults.Fault.{Fault}
 use Rattle.gt_resolve.specs.declared.TheConstants.{REDEFINED, UNDEFINED, BY_VALUE_CYCLE, BAD_BOUND, TOO_MANY}
 use Rattle.gt_types.specs.declared.limits.TheConstants.{MAX_STRUCTURES, MAX_FIELDS, MAX_ROOTS, MAX_CACHES}
 use Rattle.gt_scope.specs.declared.declaration.Declaration.{Declaration}
-use Rattle.gt_scope.specs.declared.meaning.TypeName.{TypeName}
+use Rattle.gt_scope.specs.declared.meaning.TypedefMeaning.{TypedefMeaning}
 use Rattle.gt_drafts.specs.declared.draft.Draft.{Draft}
 use Rattle.gt_drafts.specs.declared.draft.DraftCache.{DraftCache}
 use Rattle.gt_drafts.specs.declared.draft.DraftField.{DraftField}
@@ -33,7 +33,7 @@ module _ (P : ℕ → Type 0) where
   both : (xs ys : List Fault) → All OfFault xs → All OfFault ys → All OfFault (xs ++ ys)
   both xs ys a b = All-append OfFault xs ys a b
 
-  second : (all : List Declaration) (types : List TypeName) (earlier ds : List Declaration) → All (Of P) ds → All OfFault (redefinitions all types earlier ds)
+  second : (all : List Declaration) (types : List TypedefMeaning) (earlier ds : List Declaration) → All (Of P) ds → All OfFault (redefinitions all types earlier ds)
   unfolding redefinitions
   second all types earlier [] of = All-nil OfFault
   second all types earlier (d ∷ ds) of =
@@ -113,7 +113,7 @@ module _ (P : ℕ → Type 0) where
       both (cache_faults place c) (caches_faults (suc place) cs) (of_cache place c (All-head OfCache c cs of)) (of_caches (suc place) cs (All-tail OfCache c cs of))
 
   -- all faults stand in the files of what they are of
-  pub of_all : (ds : List Declaration) (types : List TypeName) (draft : Draft) (cyclic deep tails : List Bool) → All (Of P) ds → All OfStructure draft.structures
+  pub of_all : (ds : List Declaration) (types : List TypedefMeaning) (draft : Draft) (cyclic deep tails : List Bool) → All (Of P) ds → All OfStructure draft.structures
       → All OfRoot draft.roots → All OfCache draft.caches → All OfFault (faults_of ds types draft cyclic deep tails)
   unfolding faults_of
   of_all ds types draft cyclic deep tails declared structures roots caches =

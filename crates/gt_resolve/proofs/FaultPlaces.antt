@@ -8,7 +8,7 @@ use Rattle.gt_items.specs.declared.items.Item.{Item}
 use Rattle.gt_items.specs.declared.items.Item.TheVariants as item
 use Rattle.gt_items.specs.declared.items.Items.{Items}
 use Rattle.gt_scope.specs.declared.declaration.Declaration.{Declaration}
-use Rattle.gt_scope.specs.declared.meaning.TypeName.{TypeName}
+use Rattle.gt_scope.specs.declared.meaning.TypedefMeaning.{TypedefMeaning}
 use Rattle.gt_drafts.specs.declared.draft.Draft.{Draft}
 use Rattle.gt_scope.specs.Declarations.{Progress, declare_file, declare_files, nothing_declared, declarations}
 use Rattle.gt_resolve.specs.Drafts.{structure_item, root_item, cache_item, items_from}
@@ -47,7 +47,7 @@ items_in n Q reading file (items ∷ files) gives l h =
     (filtered Q (reading file) items.items (λ x. gives file x (omega arith, omega arith)))
     (items_in n Q reading (suc file) files gives (omega arith) (omega arith))
 
-module _ (ds : List Declaration) (types : List TypeName) (n : ℕ) where
+module _ (ds : List Declaration) (types : List TypedefMeaning) (n : ℕ) where
   structure_in : (at : ℕ) (x : Item) → InFiles n at → IfSome (structure_item ds types at x) (OfStructure (InFiles n))
   structure_in at (item.Structure s) here = here
   structure_in at (item.Root r) here = tt

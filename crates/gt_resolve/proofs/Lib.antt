@@ -4,8 +4,8 @@ mod CycleFaults
 mod DraftLemmas
 pub mod FaultFiles
 pub mod FaultPlaces
-mod FewLemmas
+pub mod FewLemmas
 mod Firsts
 mod NameTests
-mod Outcomes
+pub mod Outcomes
 mod PlacingLemmas

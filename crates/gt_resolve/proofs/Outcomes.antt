@@ -10,7 +10,7 @@ use Rattle.gt_items.specs.declared.items.Stars.TheVariants.{Zero}
 use Rattle.gt_scope.specs.declared.declaration.Declaration.{Declaration}
 use Rattle.gt_drafts.specs.declared.draft.Draft.{Draft}
 use Rattle.gt_drafts.specs.declared.draft.DraftStructure.{DraftStructure}
-use Rattle.gt_scope.specs.declared.meaning.TypeName.{TypeName}
+use Rattle.gt_scope.specs.declared.meaning.TypedefMeaning.{TypedefMeaning}
 use Rattle.gt_drafts.specs.declared.types.Resolved.{Resolved}
 use Rattle.gt_scope.specs.declared.types.Spelled.{Spelled}
 use Rattle.gt_scope.specs.declared.types.Spelled.TheVariants as spelled
@@ -79,24 +79,24 @@ module _ (ds : List Declaration) where
   one_meaning word m n (inr (none, e)) (inl (b, k)) = absurd (none-some n (sym (none b) ∙ k))
   one_meaning word m n (inr (none, e)) (inr (never, k)) = e ∙ sym k
 
-  abbrev type_name : List ℕ → Resolved → TypeName
+  abbrev type_name : List ℕ → Resolved → TypedefMeaning
   type_name name means = record { name = name; means = means }
 
-  abbrev Means : TypeName → Type 0
+  abbrev Means : TypedefMeaning → Type 0
   Means t = IsMeaning ds t.name t.means
 
-  one_type : (t u : TypeName) → t.name ≡ u.name → Means t → Means u → t ≡ u
+  one_type : (t u : TypedefMeaning) → t.name ≡ u.name → Means t → Means u → t ≡ u
   one_type t u e h k =
       ap (λ (w : List ℕ). type_name w t.means) e
       ∙ ap (λ (m : Resolved). type_name u.name m) (one_meaning u.name t.means u.means (subst (λ (w : List ℕ). IsMeaning ds w t.means) e h) k)
 
-  one_types : (ts us : List TypeName) → map (λ t. t.name) ts ≡ map (λ t. t.name) us → All Means ts → All Means us → ts ≡ us
+  one_types : (ts us : List TypedefMeaning) → map (λ t. t.name) ts ≡ map (λ t. t.name) us → All Means ts → All Means us → ts ≡ us
   one_types [] [] e h k = refl
   one_types [] (u ∷ us) e h k = absurd (not_nil u.name (map (λ t. t.name) us) (sym e))
   one_types (t ∷ ts) [] e h k = absurd (not_nil t.name (map (λ t. t.name) ts) e)
   one_types (t ∷ ts) (u ∷ us) e h k =
       let p = cons_parts t.name u.name (map (λ x. x.name) ts) (map (λ x. x.name) us) e in
-      ap₂ (λ (x : TypeName) (xs : List TypeName). x ∷ xs) (one_type t u p.0 (All-head Means t ts h) (All-head Means u us k))
+      ap₂ (λ (x : TypedefMeaning) (xs : List TypedefMeaning). x ∷ xs) (one_type t u p.0 (All-head Means t ts h) (All-head Means u us k))
       (one_types ts us p.1 (All-tail Means t ts h) (All-tail Means u us k))
 
 -- ---- shapes
@@ -145,7 +145,7 @@ one_reading files draft other faults more h k =
     let deep = one_deep other.structures h.cyclic h.deep h.tails k.cyclic k.deep k.tails shaped k.shaped in
     let tails = one_tails other.structures h.cyclic h.deep h.tails k.cyclic k.deep k.tails shaped k.shaped in (
       drafts,
-      h.faulty ∙ ap₂ (λ (ts : List TypeName) (x : Draft). faults_of all ts x h.cyclic h.deep h.tails) types drafts
+      h.faulty ∙ ap₂ (λ (ts : List TypedefMeaning) (x : Draft). faults_of all ts x h.cyclic h.deep h.tails) types drafts
           ∙ ap₂ (λ (c d : List Bool). faults_of all k.types other c d h.tails) cyclic deep
           ∙ ap (λ (t : List Bool). faults_of all k.types other k.cyclic k.deep t) tails ∙ sym k.faulty,
     )

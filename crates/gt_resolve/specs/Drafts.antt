@@ -22,7 +22,7 @@ use Rattle.gt_drafts.specs.declared.types.BaseType.TheVariants as base
 use Rattle.gt_drafts.specs.declared.types.DeclaredType.{DeclaredType}
 use Rattle.gt_drafts.specs.declared.types.Resolved.{Resolved}
 use Rattle.gt_scope.specs.declared.declaration.Declaration.{Declaration}
-use Rattle.gt_scope.specs.declared.meaning.TypeName.{TypeName}
+use Rattle.gt_scope.specs.declared.meaning.TypedefMeaning.{TypedefMeaning}
 use Rattle.gt_drafts.specs.declared.draft.Draft.{Draft}
 use Rattle.gt_drafts.specs.declared.draft.DraftCache.{DraftCache}
 use Rattle.gt_drafts.specs.declared.draft.DraftConstant.{DraftConstant}
@@ -50,7 +50,7 @@ bounds_of ds replaced (text ∷ texts) = (if replaced then Unread else amount_in
 -- ---- fields, roots and caches
 
 -- the type of a declarator after a type
-abbrev pub declarator_type : List Declaration → List TypeName → RawType → Declarator → DeclaredType
+abbrev pub declarator_type : List Declaration → List TypedefMeaning → RawType → Declarator → DeclaredType
 declarator_type ds types ty d =
     record {
       resolved = resolved_type ds types (spelled_of ty) d.stars;
@@ -59,18 +59,18 @@ declarator_type ds types ty d =
       is_function = d.is_function;
     }
 
-abbrev pub field_of : List Declaration → List TypeName → RawType → Declarator → DraftField
+abbrev pub field_of : List Declaration → List TypedefMeaning → RawType → Declarator → DraftField
 field_of ds types ty d = record { name = d.name; options = d.options; ty = declarator_type ds types ty d }
 
 -- the fields of one type
-abbrev pub fields_in : List Declaration → List TypeName → RawField → List DraftField
+abbrev pub fields_in : List Declaration → List TypedefMeaning → RawField → List DraftField
 fields_in ds types f = map (field_of ds types f.ty) f.declarators
 
-abbrev pub structure_of : List Declaration → List TypeName → ℕ → RawStructure → DraftStructure
+abbrev pub structure_of : List Declaration → List TypedefMeaning → ℕ → RawStructure → DraftStructure
 structure_of ds types file s =
     record { file = file; is_union = s.is_union; tag = s.tag; options = s.options; fields = flat_map (fields_in ds types) s.fields }
 
-abbrev pub root_type : List Declaration → List TypeName → RawRoot → DeclaredType
+abbrev pub root_type : List Declaration → List TypedefMeaning → RawRoot → DeclaredType
 root_type ds types r =
     record {
       resolved = resolved_type ds types (spelled_of r.ty) r.stars;
@@ -79,28 +79,28 @@ root_type ds types r =
       is_function = false;
     }
 
-abbrev pub root_of : List Declaration → List TypeName → ℕ → RawRoot → DraftRoot
+abbrev pub root_of : List Declaration → List TypedefMeaning → ℕ → RawRoot → DraftRoot
 root_of ds types file r = record { file = file; name = r.name; options = r.options; ty = root_type ds types r }
 
-abbrev pub pointed_type : List Declaration → List TypeName → PointedType → Resolved
+abbrev pub pointed_type : List Declaration → List TypedefMeaning → PointedType → Resolved
 pointed_type ds types p = resolved_type ds types (spelled_of p.ty) p.stars
 
-abbrev pub cache_of : List Declaration → List TypeName → ℕ → RawCache → DraftCache
+abbrev pub cache_of : List Declaration → List TypedefMeaning → ℕ → RawCache → DraftCache
 cache_of ds types file c =
     record { file = file; name = c.name; options = c.options; key = pointed_type ds types c.key; value = pointed_type ds types c.value }
 
 -- ---- files
 
 -- the structure that an item is
-abbrev pub structure_item : List Declaration → List TypeName → ℕ → Item → Option DraftStructure
+abbrev pub structure_item : List Declaration → List TypedefMeaning → ℕ → Item → Option DraftStructure
 structure_item ds types file (item.Structure s) = Some (structure_of ds types file s)
 structure_item ds types file one = None
 
-abbrev pub root_item : List Declaration → List TypeName → ℕ → Item → Option DraftRoot
+abbrev pub root_item : List Declaration → List TypedefMeaning → ℕ → Item → Option DraftRoot
 root_item ds types file (item.Root r) = Some (root_of ds types file r)
 root_item ds types file one = None
 
-abbrev pub cache_item : List Declaration → List TypeName → ℕ → Item → Option DraftCache
+abbrev pub cache_item : List Declaration → List TypedefMeaning → ℕ → Item → Option DraftCache
 cache_item ds types file (item.Cache c) = Some (cache_of ds types file c)
 cache_item ds types file one = None
 
@@ -115,7 +115,7 @@ word_by name (base.Structure id) Zero = Some (record { name = name; pointer = fa
 word_by name (base.Structure id) One = Some (record { name = name; pointer = true; id = id })
 word_by name b stars = None
 
-abbrev pub word_of : TypeName → Option DraftWord
+abbrev pub word_of : TypedefMeaning → Option DraftWord
 word_of t = word_by t.name t.means.base t.means.stars
 
 -- constants, each once and with the value of its first declaration, after those that are there
@@ -128,7 +128,7 @@ constants_from constants [] = constants
 constants_from constants (d ∷ ds) = constants_from (option_map_or (with_constant constants d.name.word) (as_constant d.what) constants) ds
 
 -- what the files declare, by their declarations and the meanings of typedefs
-abbrev pub draft_of : List Items → List Declaration → List TypeName → Draft
+abbrev pub draft_of : List Items → List Declaration → List TypedefMeaning → Draft
 draft_of files ds types =
     record {
       structures = items_from (structure_item ds types) 1 files;

@@ -19,7 +19,7 @@ use Rattle.gt_drafts.specs.declared.types.Resolved.{Resolved}
 use Rattle.gt_scope.specs.declared.declaration.Declaration.{Declaration}
 use Rattle.gt_scope.specs.declared.declaration.What.{What}
 use Rattle.gt_scope.specs.declared.declaration.What.TheVariants as what
-use Rattle.gt_scope.specs.declared.meaning.TypeName.{TypeName}
+use Rattle.gt_scope.specs.declared.meaning.TypedefMeaning.{TypedefMeaning}
 use Rattle.gt_drafts.specs.declared.draft.Draft.{Draft}
 use Rattle.gt_drafts.specs.declared.draft.DraftCache.{DraftCache}
 use Rattle.gt_drafts.specs.declared.draft.DraftField.{DraftField}
@@ -41,7 +41,7 @@ is_tag (what.Enum is_signed) = true
 is_tag w = false
 
 -- Two definitions of one name may stand beside one another: enums of one sign, constants of one value, typedefs of one meaning.
-unfoldable pub agree : List Declaration → List TypeName → What → What → Bool
+unfoldable pub agree : List Declaration → List TypedefMeaning → What → What → Bool
 agree ds types (what.Enum a) (what.Enum b) = same_bool a b
 agree ds types (what.Constant a) (what.Constant b) = int_eq a b
 agree ds types (what.Typedef t s) (what.Typedef u r) =
@@ -49,11 +49,11 @@ agree ds types (what.Typedef t s) (what.Typedef u r) =
 agree ds types a b = false
 
 -- the definition defines the other's name again, as another thing
-abbrev pub clashes : List Declaration → List TypeName → Declaration → Declaration → Bool
+abbrev pub clashes : List Declaration → List TypedefMeaning → Declaration → Declaration → Bool
 clashes ds types d other = bytes_eq d.name.word other.name.word && same_bool (is_tag d.what) (is_tag other.what) && not (agree ds types d.what other.what)
 
 -- the faults of definitions, of which some stand earlier
-unfoldable pub redefinitions : List Declaration → List TypeName → (earlier ds : List Declaration) → List Fault
+unfoldable pub redefinitions : List Declaration → List TypedefMeaning → (earlier ds : List Declaration) → List Fault
 redefinitions all types earlier [] = []
 redefinitions all types earlier (d ∷ ds) =
     fault_if (list_any (λ other. clashes all types d other) earlier) REDEFINED d.file d.name.at ++ redefinitions all types (earlier ++ d ∷ []) ds
@@ -141,6 +141,6 @@ caches_faults place (c ∷ cs) = cache_faults place c ++ caches_faults (suc plac
 -- ---- all faults
 
 -- the faults of what files declare
-unfoldable pub faults_of : List Declaration → List TypeName → Draft → (cyclic deep tails : List Bool) → List Fault
+unfoldable pub faults_of : List Declaration → List TypedefMeaning → Draft → (cyclic deep tails : List Bool) → List Fault
 faults_of ds types draft cyclic deep tails =
     redefinitions ds types [] ds ++ structures_faults cyclic deep tails 0 draft.structures ++ roots_faults tails 0 draft.roots ++ caches_faults 0 draft.caches

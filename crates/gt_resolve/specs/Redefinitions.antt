@@ -5,7 +5,7 @@ use Rattle.gt_types.specs.declared.faults.Fault.{Fault}
 use Rattle.gt_resolve.specs.declared.TheConstants.{REDEFINED}
 use Rattle.gt_scope.specs.declared.declaration.Declaration.{Declaration}
 use Rattle.gt_scope.specs.declared.declaration.What.{What}
-use Rattle.gt_scope.specs.declared.meaning.TypeName.{TypeName}
+use Rattle.gt_scope.specs.declared.meaning.TypedefMeaning.{TypedefMeaning}
 use Rattle.gt_names.specs.declared.tables.Entry.{Entry}
 use Rattle.gt_resolve.specs.Faults.{agree, is_tag}
 use Rattle.gt_drafts.specs.FirstFaults.{fault_if}
@@ -27,18 +27,18 @@ abbrev pub first_place : (tags others : List (Entry ℕ)) → Declaration → �
 first_place tags others d place = option_map_or (λ first. first) (value_in (if is_tag d.what then tags else others) d.name.word) place
 
 -- the definition agrees with the first of its name
-abbrev pub agrees_at : List Declaration → List TypeName → What → ℕ → Bool
+abbrev pub agrees_at : List Declaration → List TypedefMeaning → What → ℕ → Bool
 agrees_at all types w first = option_map_or (λ other. agree all types w other.what) (slice_get all first) true
 
 -- the definition has another meaning than the first of its name, or than one between that has another
-abbrev pub is_clash : List Declaration → List TypeName → (clashed : List Bool) → What → (first place : ℕ) → Bool
+abbrev pub is_clash : List Declaration → List TypedefMeaning → (clashed : List Bool) → What → (first place : ℕ) → Bool
 is_clash all types clashed w first place = not (first == place) && (has_flag clashed first || not (agrees_at all types w first))
 
 abbrev pub with_clash : Bool → ℕ → List Bool → List Bool
 with_clash clash first clashed = if clash then slice_set clashed first true else clashed
 
 -- the faults of declarations of which the first has this place, where some first declarations are marked
-unfoldable pub marked_faults : List Declaration → List TypeName → (tags others : List (Entry ℕ)) → ℕ → List Bool → List Declaration → List Fault
+unfoldable pub marked_faults : List Declaration → List TypedefMeaning → (tags others : List (Entry ℕ)) → ℕ → List Bool → List Declaration → List Fault
 marked_faults all types tags others place clashed [] = []
 marked_faults all types tags others place clashed (d ∷ ds) =
     let first = first_place tags others d place in

@@ -4,7 +4,7 @@ use Rattle.gt_types.specs.declared.faults.Fault.{Fault}
 use Rattle.gt_types.specs.declared.faults.Stop.{Stop}
 use Rattle.gt_types.specs.declared.faults.Stop.TheVariants.{Memory, At}
 use Rattle.gt_items.specs.declared.items.Items.{Items}
-use Rattle.gt_scope.specs.declared.meaning.TypeName.{TypeName}
+use Rattle.gt_scope.specs.declared.meaning.TypedefMeaning.{TypedefMeaning}
 use Rattle.gt_drafts.specs.declared.draft.Draft.{Draft}
 use Rattle.gt_scope.specs.Declarations.{declarations}
 use Rattle.gt_resolve.specs.Drafts.{draft_of}
@@ -15,7 +15,7 @@ use Rattle.gt_drafts.specs.Shapes.{AreShapes}
 
 -- what the files declare, and the faults that they have
 pub record IsRead (files : List Items) (draft : Draft) (faults : List Fault) : Type 0 where
-  pub types : List TypeName
+  pub types : List TypedefMeaning
   pub cyclic : List Bool
   pub deep : List Bool
   pub tails : List Bool

@@ -6,7 +6,7 @@ ghost use Rattle.gt_items.specs.declared.items.Item.{Item};
 ghost use Rattle.gt_items.specs.declared.items.RawType.{RawType};
 ghost use Rattle.gt_items.specs.declared.items.Stars.TheVariants.{Zero};
 ghost use Rattle.gt_scope.specs.declared.declaration.Declaration.{Declaration};
-ghost use Rattle.gt_scope.specs.declared.meaning.TypeName.{TypeName};
+ghost use Rattle.gt_scope.specs.declared.meaning.TypedefMeaning.{TypedefMeaning};
 ghost use Rattle.gt_drafts.specs.declared.types.Amount.TheVariants.{Unread};
 ghost use Rattle.gt_scope.specs.Meanings.{resolved_type};
 ghost use Rattle.gt_scope.specs.Spelling.{spelled_of};
@@ -20,7 +20,7 @@ use gt_drafts::{
 use gt_items::{
     Declarator, Item, Items, PointedType, RawCache, RawField, RawRoot, RawStructure, RawType, Stars,
 };
-use gt_scope::{Scope, TypeName, spelled, with_stars};
+use gt_scope::{Scope, TypedefMeaning, spelled, with_stars};
 use gt_types::{Bytes, Copied, List};
 use std::alloc::{AllocError, Global};
 
@@ -232,7 +232,7 @@ fn cache(alloc: Global, scope: &Scope, file: u32, raw: &RawCache) -> Result<Draf
 /// What a draft has of items of one kind.
 trait OfItem: Drop {
     /// What it is of an item of a file, by the declarations and the meanings of names of typedefs.
-    ghost reading: { List Declaration → List TypeName → ℕ → Item → Option Self };
+    ghost reading: { List Declaration → List TypedefMeaning → ℕ → Item → Option Self };
 
     /// What it is of an item. Its only error is out of memory.
     fn of_item(
@@ -341,7 +341,7 @@ fn of_files<D: OfItem>(alloc: Global, scope: &Scope, files: &[Items]) -> Result<
 
 // ---- names of typedefs and constants
 
-fn word(alloc: Global, name: &TypeName) -> Result<Option<DraftWord>, AllocError>
+fn word(alloc: Global, name: &TypedefMeaning) -> Result<Option<DraftWord>, AllocError>
     ensures word { IfOk result (λ made. made ≡ word_of name.now) }
 {
     match (&name.means.base, name.means.stars) {
@@ -359,7 +359,7 @@ fn word(alloc: Global, name: &TypeName) -> Result<Option<DraftWord>, AllocError>
     }
 }
 
-fn words(alloc: Global, names: &[TypeName]) -> Result<List<DraftWord>, AllocError>
+fn words(alloc: Global, names: &[TypedefMeaning]) -> Result<List<DraftWord>, AllocError>
     ensures words { IfOk result (λ made. made ≡ filter_map word_of names.now) }
 {
     let mut made = Vec::new(alloc);

@@ -26,12 +26,12 @@ told_or_fault NotBuilt = inl tt
 told_or_fault (Script number line) = inl tt
 
 -- at most one refusal that is told comes first
-abbrev OneRefusal : Type 0
+abbrev pub OneRefusal : Type 0
 OneRefusal = (words : List (List ℕ)) (held : Held) (texts others : Texts) (refusal other : Refusal)
     → IsRefusedFirst words (Some held) texts refusal → IsRefusedFirst words (Some held) others other → IsTold refusal → IsTold other → refusal ≡ other
 
 -- and where one does, no command is run
-abbrev NoRun : Type 0
+abbrev pub NoRun : Type 0
 NoRun = (words : List (List ℕ)) (held : Held) (texts : Texts) (refusal : Refusal) (answers : List Answer) (range : Range)
     → IsRefusedFirst words (Some held) texts refusal → IsTold refusal → Runs words (Some held) answers range → ⊥
 

@@ -14,7 +14,6 @@ ghost use Rattle.gt_run.specs.Comes.{IsRefusedFirst, IsTold};
 ghost use Rattle.gt_run.specs.Runs.{Runs};
 
 use gt_front::Refusal;
-use gt_headers::one_outcome as headers_outcome;
 use gt_next::Answer;
 
 /// The ranges and defaults of the arguments, the limits of files in bytes, the numbers of the faults of a script, where the
@@ -39,7 +38,4 @@ pub fn numbers()
 pub fn one_refusal()
     ensures refusal { (words : List (List ℕ)) (held : Held) (texts others : Texts) (refusal other : Refusal) → IsRefusedFirst words (Some held) texts refusal → IsRefusedFirst words (Some held) others other → IsTold refusal → IsTold other → refusal ≡ other }
     ensures no_run { (words : List (List ℕ)) (held : Held) (texts : Texts) (refusal : Refusal) (answers : List Answer) (range : Range) → IsRefusedFirst words (Some held) texts refusal → IsTold refusal → Runs words (Some held) answers range → ⊥ }
-{
-    gt_script::one_outcome();
-    headers_outcome();
-}
+{}

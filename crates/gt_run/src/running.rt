@@ -23,12 +23,10 @@ ghost use Rattle.gt_run.specs.Runs.{Opens};
 
 use crate::built::are_built;
 use crate::ending::Ending;
-use crate::laws::one_refusal;
 use crate::opening::open;
 use crate::outcome::Outcome;
 use crate::refuse::refuse;
 use gt_front::{FileWhy, Halt, Ready, Refusal, not_built_line, prepare};
-use gt_headers::{declared_programs_are_settled, one_outcome as headers_outcome};
 use gt_io::{Files, Sink};
 use gt_lines::run_script;
 use gt_script::Line;
@@ -89,9 +87,6 @@ pub fn top<F: Files, K: Sink>(
         → (Rose (F.faults files.old) (F.faults files.new) → ⊥)
         → ((result.refusal ≡ Some refusal) × (result.status ≡ refusal_status refusal)) ⊎ (result.status ≡ 4) ⊎ (result.status ≡ 9) }
 {
-    declared_programs_are_settled();
-    well_is_not_refused();
-    refused_is_told();
     match prepare(alloc, words, files) {
         Ok(ready) => run_ready(alloc, ready, files, out, space),
         Err(Halt::Memory) => Outcome::of(Ending::NoMemory, List::new(alloc)),
@@ -102,24 +97,6 @@ pub fn top<F: Files, K: Sink>(
             out,
         ),
     }
-}
-
-// Where all is well, nothing is refused first but a file whose reading failed. It does nothing: its clause is a law.
-fn well_is_not_refused()
-    ensures { (words : List (List ℕ)) (told : Option Held) (texts : Texts) (refusal : Refusal) → IsWell words told → IsRefusedFirst words told texts refusal → (word : ℕ) × (refusal ≡ Refusal.File word FileWhy.Fault) }
-{
-    gt_script::one_outcome();
-    headers_outcome();
-}
-
-// Where something is refused first, and no file's reading failed, it is what is told, or the sink failed, or memory runs out.
-// It does nothing: its clause is a law.
-fn refused_is_told()
-    ensures { (words : List (List ℕ)) (held : Held) (texts : Texts) (refusal : Refusal) (read : Option Extent) (old new : Option (List ℕ)) (outcome : Outcome) (range : Range) → IsRefusedFirst words (Some held) texts refusal → IsTold refusal
-        → Ends words (Some held) read old new outcome range → ((word : ℕ) → outcome.refusal ≡ Some (Refusal.File word FileWhy.Fault) → ⊥)
-        → ((outcome.refusal ≡ Some refusal) × (outcome.status ≡ refusal_status refusal)) ⊎ (outcome.status ≡ 4) ⊎ (outcome.status ≡ 9) }
-{
-    one_refusal();
 }
 
 // Runs the lines from the opening state, where all of their commands are built.

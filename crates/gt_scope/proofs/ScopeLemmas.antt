@@ -12,7 +12,7 @@ use Rattle.gt_drafts.specs.declared.types.BaseType.{BaseType}
 use Rattle.gt_drafts.specs.declared.types.Resolved.{Resolved}
 use Rattle.gt_scope.specs.declared.declaration.Declaration.{Declaration}
 use Rattle.gt_scope.specs.declared.declaration.What.{What}
-use Rattle.gt_scope.specs.declared.meaning.TypeName.{TypeName}
+use Rattle.gt_scope.specs.declared.meaning.TypedefMeaning.{TypedefMeaning}
 use Rattle.gt_scope.specs.declared.link.Link.{Link}
 use Rattle.gt_scope.specs.declared.link.Target.TheVariants.{End, Next}
 use Rattle.gt_names.specs.declared.tables.Entry.{Entry}
@@ -201,13 +201,13 @@ module _ (ds : List Declaration) (tags : List (List ℕ)) (links : List Link) (a
 
   -- ---- names with their meanings
 
-  module _ (meant : List Meant) (types : List TypeName) (means : AreMeanings links meant) (names : map (λ t. t.name) types ≡ names_in (typedefs_of ds)) (named : AreNamed tags meant types) where
-    name_case : (i : ℕ) (t : TypeName) (m : Meant) (o : Option (Entry (Spelled × Stars))) → slice_get (typedefs_of ds) i ≡ o
+  module _ (meant : List Meant) (types : List TypedefMeaning) (means : AreMeanings links meant) (names : map (λ t. t.name) types ≡ names_in (typedefs_of ds)) (named : AreNamed tags meant types) where
+    name_case : (i : ℕ) (t : TypedefMeaning) (m : Meant) (o : Option (Entry (Spelled × Stars))) → slice_get (typedefs_of ds) i ≡ o
         → Some t.name ≡ option_map (λ e. e.name) o → IsMeaningAt links i m → Means t.name m
     name_case i t m None h n a = absurd (none-some t.name (sym n))
     name_case i t m (Some e) h n a = subst (λ (name : List ℕ). Means name m) (sym (same_Some t.name e.name n)) (meaning_same i e m h a)
 
-    means_of : (k : ℕ) (t : TypeName) (m : Meant) → slice_get types k ≡ Some t → slice_get meant k ≡ Some m → Means t.name m
+    means_of : (k : ℕ) (t : TypedefMeaning) (m : Meant) → slice_get types k ≡ Some t → slice_get meant k ≡ Some m → Means t.name m
     means_of k t m h a =
         name_case k t m (slice_get (typedefs_of ds) k) refl
         (sym (ap (option_map (λ t. t.name)) h) ∙ sym (slice_get-map (λ t. t.name) types k) ∙ ap (λ names. slice_get names k) names
@@ -217,19 +217,19 @@ module _ (ds : List Declaration) (tags : List (List ℕ)) (links : List Link) (a
     as_many : length meant ≡ length types
     as_many = means.counted ∙ are.counted ∙ sym (length_map (λ e. e.name) (typedefs_of ds)) ∙ ap length (sym names) ∙ length_map (λ t. t.name) types
 
-    one_meant : (k : ℕ) (t : TypeName) → slice_get types k ≡ Some t → IsMeaning ds t.name t.means
+    one_meant : (k : ℕ) (t : TypedefMeaning) → slice_get types k ≡ Some t → IsMeaning ds t.name t.means
     one_meant k t h =
         let m = there_too types meant k t as_many h in
         let r = means_of k t m.0 h m.1 in
         subst (IsMeaning ds t.name) (sym (named.each k t m.0 r.type h m.1 r.meant)) r.meaning
 
-    have_meaning : (k : ℕ) (t : TypeName) (m : Meant) → slice_get types k ≡ Some t → slice_get meant k ≡ Some m → IsMeant tags m t.means
+    have_meaning : (k : ℕ) (t : TypedefMeaning) (m : Meant) → slice_get types k ≡ Some t → slice_get meant k ≡ Some m → IsMeant tags m t.means
     have_meaning k t m h a =
         let r = means_of k t m h a in
         subst (IsMeant tags m) (sym (named.each k t m r.type h a r.meant)) r.meant
 
 -- the meanings by places are those of the names
-all_of : (ds : List Declaration) (tags : List (List ℕ)) (links : List Link) (meant : List Meant) (types : List TypeName)
+all_of : (ds : List Declaration) (tags : List (List ℕ)) (links : List Link) (meant : List Meant) (types : List TypedefMeaning)
     → AreLinks (tags_of ds) (typedefs_of ds) tags links → AreMeanings links meant → map (λ t. t.name) types ≡ names_in (typedefs_of ds) → AreNamed tags meant types
     → AreAllMeant ds tags meant types
 all_of ds tags links meant types are means names named =
@@ -245,7 +245,7 @@ all_of ds tags links meant types are means names named =
     }
 
 pub all_meant : (ds : List Declaration) (defined : List (Entry What)) (typedefs : List (Entry (Spelled × Stars))) (tags : List (List ℕ)) (links : List Link)
-    (meant : List Meant) (types : List TypeName) → defined ≡ values_from as_tag [] ds → typedefs ≡ values_from as_typedef [] ds
+    (meant : List Meant) (types : List TypedefMeaning) → defined ≡ values_from as_tag [] ds → typedefs ≡ values_from as_typedef [] ds
     → AreLinks defined typedefs tags links → AreMeanings links meant → map (λ t. t.name) types ≡ names_in typedefs → AreNamed tags meant types
     → AreAllMeant ds tags meant types
 all_meant ds defined typedefs tags links meant types t d are means names named =
@@ -256,7 +256,7 @@ all_meant ds defined typedefs tags links meant types t d are means names named =
 -- ---- types
 
 -- a name has the same place among the typedefs and among the meanings
-same_place : (ds : List Declaration) (typedefs : List (Entry (Spelled × Stars))) (types : List TypeName) (word : List ℕ)
+same_place : (ds : List Declaration) (typedefs : List (Entry (Spelled × Stars))) (types : List TypedefMeaning) (word : List ℕ)
     → typedefs ≡ values_from as_typedef [] ds → map (λ t. t.name) types ≡ typedef_names [] ds
     → position (λ t. bytes_eq t.name word) types ≡ position (λ e. bytes_eq e.name word) typedefs
 same_place ds typedefs types word d a =
@@ -265,7 +265,7 @@ same_place ds typedefs types word d a =
     ∙ position-map (λ e. e.name) (λ name. bytes_eq name word) typedefs
 
 -- the meaning of a name of a typedef
-pub meaning_here : (ds : List Declaration) (typedefs : List (Entry (Spelled × Stars))) (types : List TypeName) (word : List ℕ) (i : ℕ) (t : TypeName)
+pub meaning_here : (ds : List Declaration) (typedefs : List (Entry (Spelled × Stars))) (types : List TypedefMeaning) (word : List ℕ) (i : ℕ) (t : TypedefMeaning)
     → typedefs ≡ values_from as_typedef [] ds → map (λ t. t.name) types ≡ typedef_names [] ds → Some i ≡ position (λ e. bytes_eq e.name word) typedefs → Some t ≡ slice_get types i
     → (s : Stars) (r : Resolved) → r ≡ with_stars t.means s → r ≡ resolved_type ds types (spelled.Named word) s
 unfolding resolved_type
@@ -274,7 +274,7 @@ meaning_here ds typedefs types word i t d a h found s r e =
     ∙ ap (λ o. option_map_or (λ m. with_stars m s) o (record { base = plain_type ds (spelled.Named word); stars = s }))
     (sym (ap (option_map (λ t. t.means)) (found_at (λ t. bytes_eq t.name word) types i (same_place ds typedefs types word d a ∙ sym h) ∙ sym found)))
 
-plain_named : (ds : List Declaration) (types : List TypeName) (word : List ℕ) (s : Stars) (r : Resolved) → find (λ t. bytes_eq t.name word) types ≡ None
+plain_named : (ds : List Declaration) (types : List TypedefMeaning) (word : List ℕ) (s : Stars) (r : Resolved) → find (λ t. bytes_eq t.name word) types ≡ None
     → r ≡ plain_after ds (spelled.Named word) s → r ≡ resolved_type ds types (spelled.Named word) s
 unfolding resolved_type
 plain_named ds types word s r h e =
@@ -283,13 +283,13 @@ plain_named ds types word s r h e =
     (sym (ap (option_map (λ t. t.means)) h))
 
 -- a name that is none of a typedef
-pub no_meaning : (ds : List Declaration) (typedefs : List (Entry (Spelled × Stars))) (types : List TypeName) (word : List ℕ)
+pub no_meaning : (ds : List Declaration) (typedefs : List (Entry (Spelled × Stars))) (types : List TypedefMeaning) (word : List ℕ)
     → typedefs ≡ values_from as_typedef [] ds → map (λ t. t.name) types ≡ typedef_names [] ds → None ≡ position (λ e. bytes_eq e.name word) typedefs
     → (s : Stars) (r : Resolved) → r ≡ plain_after ds (spelled.Named word) s → r ≡ resolved_type ds types (spelled.Named word) s
 no_meaning ds typedefs types word d a h s r e =
     plain_named ds types word s r (none_found (λ t. bytes_eq t.name word) types (same_place ds typedefs types word d a ∙ sym h)) e
 
-pub no_meaning_there : (ds : List Declaration) (typedefs : List (Entry (Spelled × Stars))) (types : List TypeName) (word : List ℕ) (i : ℕ)
+pub no_meaning_there : (ds : List Declaration) (typedefs : List (Entry (Spelled × Stars))) (types : List TypedefMeaning) (word : List ℕ) (i : ℕ)
     → typedefs ≡ values_from as_typedef [] ds → map (λ t. t.name) types ≡ typedef_names [] ds → Some i ≡ position (λ e. bytes_eq e.name word) typedefs → None ≡ slice_get types i
     → (s : Stars) (r : Resolved) → r ≡ plain_after ds (spelled.Named word) s → r ≡ resolved_type ds types (spelled.Named word) s
 no_meaning_there ds typedefs types word i d a h found s r e =
@@ -309,14 +309,14 @@ ok_then (Ok x) P Q f h = f x h
 ok_then (Err e) P Q f h = h
 
 -- the answers of the scope, by what is found of a name
-pub none_resolved : {E : Type 0} (result : Result Resolved E) (ds : List Declaration) (typedefs : List (Entry (Spelled × Stars))) (types : List TypeName) (ty : Spelled)
+pub none_resolved : {E : Type 0} (result : Result Resolved E) (ds : List Declaration) (typedefs : List (Entry (Spelled × Stars))) (types : List TypedefMeaning) (ty : Spelled)
     (word : List ℕ) (s : Stars) → ty ≡ spelled.Named word → typedefs ≡ values_from as_typedef [] ds → map (λ t. t.name) types ≡ typedef_names [] ds
     → None ≡ position (λ e. bytes_eq e.name word) typedefs → IfOk result (λ r. r ≡ plain_after ds ty s) → IfOk result (λ r. r ≡ resolved_type ds types ty s)
 none_resolved result ds typedefs types ty word s t d a h ok =
     ok_then result (λ r. r ≡ plain_after ds ty s) (λ r. r ≡ resolved_type ds types ty s)
     (λ r e. subst (λ ty. r ≡ resolved_type ds types ty s) (sym t) (no_meaning ds typedefs types word d a h s r (subst (λ ty. r ≡ plain_after ds ty s) t e))) ok
 
-pub past_resolved : {E : Type 0} (result : Result Resolved E) (ds : List Declaration) (typedefs : List (Entry (Spelled × Stars))) (types : List TypeName) (ty : Spelled)
+pub past_resolved : {E : Type 0} (result : Result Resolved E) (ds : List Declaration) (typedefs : List (Entry (Spelled × Stars))) (types : List TypedefMeaning) (ty : Spelled)
     (word : List ℕ) (i : ℕ) (s : Stars) → ty ≡ spelled.Named word → typedefs ≡ values_from as_typedef [] ds → map (λ t. t.name) types ≡ typedef_names [] ds
     → Some i ≡ position (λ e. bytes_eq e.name word) typedefs → None ≡ slice_get types i → IfOk result (λ r. r ≡ plain_after ds ty s)
     → IfOk result (λ r. r ≡ resolved_type ds types ty s)
@@ -325,8 +325,8 @@ past_resolved result ds typedefs types ty word i s t d a h found ok =
     (λ r e. subst (λ ty. r ≡ resolved_type ds types ty s) (sym t)
     (no_meaning_there ds typedefs types word i d a h found s r (subst (λ ty. r ≡ plain_after ds ty s) t e))) ok
 
-pub found_resolved : {E : Type 0} (result : Result Resolved E) (ds : List Declaration) (typedefs : List (Entry (Spelled × Stars))) (types : List TypeName) (ty : Spelled)
-    (word : List ℕ) (i : ℕ) (found : TypeName) (s : Stars) → ty ≡ spelled.Named word → typedefs ≡ values_from as_typedef [] ds
+pub found_resolved : {E : Type 0} (result : Result Resolved E) (ds : List Declaration) (typedefs : List (Entry (Spelled × Stars))) (types : List TypedefMeaning) (ty : Spelled)
+    (word : List ℕ) (i : ℕ) (found : TypedefMeaning) (s : Stars) → ty ≡ spelled.Named word → typedefs ≡ values_from as_typedef [] ds
     → map (λ t. t.name) types ≡ typedef_names [] ds → Some i ≡ position (λ e. bytes_eq e.name word) typedefs → Some found ≡ slice_get types i
     → IfOk result (λ r. r ≡ with_stars found.means s) → IfOk result (λ r. r ≡ resolved_type ds types ty s)
 found_resolved result ds typedefs types ty word i found s t d a h at ok =
@@ -342,7 +342,7 @@ no_more stars.Two = refl
 no_more stars.More = refl
 
 module _ (ds : List Declaration) (defined : List (Entry What)) (typedefs : List (Entry (Spelled × Stars))) (tags : List (List ℕ)) (targets : List Target)
-    (meant : List Meant) (types : List TypeName) (t : defined ≡ values_from as_tag [] ds) (v : typedefs ≡ values_from as_typedef [] ds)
+    (meant : List Meant) (types : List TypedefMeaning) (t : defined ≡ values_from as_tag [] ds) (v : typedefs ≡ values_from as_typedef [] ds)
     (a : map (λ t. t.name) types ≡ typedef_names [] ds) (leads : AreTargets defined typedefs tags ds targets) (have : HaveMeanings tags meant types)
     (place : ℕ) (d : Declaration) (ty : Spelled) (found : slice_get ds place ≡ Some d) (is : type_of d.what ≡ Some ty) where
   -- each declaration leads somewhere
@@ -372,11 +372,11 @@ module _ (ds : List Declaration) (defined : List (Entry What)) (typedefs : List 
 
   -- a typedef is a name with its meaning
   record Follows (next : ℕ) : Type 0 where
-    name : TypeName
+    name : TypedefMeaning
     there : slice_get types next ≡ Some name
     same : resolved_type ds types ty stars.Zero ≡ name.means
 
-  name_there : (i : ℕ) (word : List ℕ) → position (λ e. bytes_eq e.name word) typedefs ≡ Some i → (t : TypeName) × (slice_get types i ≡ Some t)
+  name_there : (i : ℕ) (word : List ℕ) → position (λ e. bytes_eq e.name word) typedefs ≡ Some i → (t : TypedefMeaning) × (slice_get types i ≡ Some t)
   name_there i word h =
       let s = stands_at ds word i (ap (position (λ e. bytes_eq e.name word)) (sym v) ∙ h) in
       there_too (typedefs_of ds) types i s.entry

@@ -21,7 +21,7 @@ use Rattle.gt_scope.specs.declared.kinds.Meant.{Meant}
 use Rattle.gt_scope.specs.declared.link.Link.{Link}
 use Rattle.gt_scope.specs.declared.link.Target.{Target}
 use Rattle.gt_scope.specs.declared.link.Target.TheVariants.{End, Next}
-use Rattle.gt_scope.specs.declared.meaning.TypeName.{TypeName}
+use Rattle.gt_scope.specs.declared.meaning.TypedefMeaning.{TypedefMeaning}
 use Rattle.gt_scope.specs.Chains.{IsTarget}
 use Rattle.gt_scope.specs.Declarations.{define_of}
 use Rattle.gt_drafts.specs.declared.types.Resolved.{Resolved}
@@ -320,10 +320,10 @@ first_within ds typedefs firsts targets i place are count within first =
 
 -- ---- names with their types
 
-pub record NamedSoFar (typedefs : List (Entry (Spelled × Stars))) (tags : List (List ℕ)) (meant : List Meant) (types : List TypeName) (count : ℕ) : Type 0 where
+pub record NamedSoFar (typedefs : List (Entry (Spelled × Stars))) (tags : List (List ℕ)) (meant : List Meant) (types : List TypedefMeaning) (count : ℕ) : Type 0 where
   pub counted : length types ≡ count
   pub names : map (λ t. t.name) types ≡ names_in (take count typedefs)
-  pub each : (i : ℕ) (t : TypeName) (m : Meant) (r : Resolved) → slice_get types i ≡ Some t → slice_get meant i ≡ Some m → IsMeant tags m r → t.means ≡ r
+  pub each : (i : ℕ) (t : TypedefMeaning) (m : Meant) (r : Resolved) → slice_get types i ≡ Some t → slice_get meant i ≡ Some m → IsMeant tags m r → t.means ≡ r
 
 pub named_none : (typedefs : List (Entry (Spelled × Stars))) (tags : List (List ℕ)) (meant : List Meant) → NamedSoFar typedefs tags meant [] 0
 named_none typedefs tags meant = record { counted = refl; names = refl; each = λ i t m r h k a. absurd (none-some t h) }
@@ -332,18 +332,18 @@ map_added : {A B : Type 0} (f : A → B) (xs : List A) (x : A) → map f (xs ++ 
 map_added f [] x = refl
 map_added f (y ∷ xs) x = ap (λ ys. f y ∷ ys) (map_added f xs x)
 
-module _ (typedefs : List (Entry (Spelled × Stars))) (tags : List (List ℕ)) (meant : List Meant) (types : List TypeName) (count : ℕ)
+module _ (typedefs : List (Entry (Spelled × Stars))) (tags : List (List ℕ)) (meant : List Meant) (types : List TypedefMeaning) (count : ℕ)
     (so : NamedSoFar typedefs tags meant types count) (entry : Entry (Spelled × Stars)) (within : count < length typedefs) (is : entry ≡ get_or typedefs count entry)
     (m : Meant) (at : slice_get meant count ≡ Some m) (name : List ℕ) (same : name ≡ entry.name) (type : Resolved)
     (means : (r : Resolved) → IsMeant tags m r → type ≡ r) where
-  named_case : (i : ℕ) (t : TypeName) (n : Meant) (r : Resolved) → slice_get meant i ≡ Some n → IsMeant tags n r
+  named_case : (i : ℕ) (t : TypedefMeaning) (n : Meant) (r : Resolved) → slice_get meant i ≡ Some n → IsMeant tags n r
       → (slice_get types i ≡ Some t) ⊎ ((record { name = name; means = type } ≡ t) × (i ≡ length types)) → t.means ≡ r
   named_case i t n r h a (inl old) = so.each i t n r old h a
   named_case i t n r h a (inr new) =
       let here : n ≡ m = same_Some n m (sym h ∙ ap (slice_get meant) (new.1 ∙ so.counted) ∙ at) in
-      sym (ap (λ (t : TypeName). t.means) new.0) ∙ means r (subst (λ (x : Meant). IsMeant tags x r) here a)
+      sym (ap (λ (t : TypedefMeaning). t.means) new.0) ∙ means r (subst (λ (x : Meant). IsMeant tags x r) here a)
 
-  pub named_more : (pushed : List TypeName) → pushed ≡ types ++ record { name = name; means = type } ∷ [] → NamedSoFar typedefs tags meant pushed (count + 1)
+  pub named_more : (pushed : List TypedefMeaning) → pushed ≡ types ++ record { name = name; means = type } ∷ [] → NamedSoFar typedefs tags meant pushed (count + 1)
   named_more pushed p =
       record {
         counted = ap length p ∙ (let e = length-added types (record { name = name; means = type }) in let f = so.counted in omega arith);
@@ -354,7 +354,7 @@ module _ (typedefs : List (Entry (Spelled × Stars))) (tags : List (List ℕ)) (
         each = λ i t n r h k a. named_case i t n r k a (get_more types (record { name = name; means = type }) i t (ap (λ ts. slice_get ts i) (sym p) ∙ h));
       }
 
-pub named_all : (typedefs : List (Entry (Spelled × Stars))) (tags : List (List ℕ)) (meant : List Meant) (types : List TypeName) (count : ℕ)
+pub named_all : (typedefs : List (Entry (Spelled × Stars))) (tags : List (List ℕ)) (meant : List Meant) (types : List TypedefMeaning) (count : ℕ)
     → NamedSoFar typedefs tags meant types count → length typedefs ≤ count → (map (λ t. t.name) types ≡ names_in typedefs) × AreNamed tags meant types
 named_all typedefs tags meant types count so h =
     (so.names ∙ ap (λ (x : List (Entry (Spelled × Stars))). names_in x) (take_all count typedefs h), record { each = so.each })

@@ -13,7 +13,7 @@ use Rattle.gt_scope.specs.declared.types.Spelled.TheVariants as spelled
 use Rattle.gt_drafts.specs.declared.types.BaseType.{BaseType}
 use Rattle.gt_drafts.specs.declared.types.BaseType.TheVariants.{Number, Float, Double, Sizeless, Structure, Undefined, Unknown}
 use Rattle.gt_drafts.specs.declared.types.Resolved.{Resolved}
-use Rattle.gt_scope.specs.declared.meaning.TypeName.{TypeName}
+use Rattle.gt_scope.specs.declared.meaning.TypedefMeaning.{TypedefMeaning}
 use Rattle.gt_scope.specs.declared.declaration.Declaration.{Declaration}
 use Rattle.gt_scope.specs.declared.declaration.What.{What}
 use Rattle.gt_scope.specs.declared.declaration.What.TheVariants as what
@@ -130,14 +130,14 @@ typedef_names names [] = names
 typedef_names names (d ∷ ds) = typedef_names (option_map_or (λ typedef. with_name names d.name.word) (as_typedef d.what) names) ds
 
 -- these are the names of typedefs, each with its meaning
-pub record AreTypeNames (ds : List Declaration) (types : List TypeName) : Type 0 where
+pub record AreTypeNames (ds : List Declaration) (types : List TypedefMeaning) : Type 0 where
   pub names : map (λ t. t.name) types ≡ typedef_names [] ds
   pub meanings : All (λ t. IsMeaning ds t.name t.means) types
 
 -- ---- types
 
 -- the meaning of a name, where it is one of a typedef
-abbrev pub meaning_in : List TypeName → List ℕ → Option Resolved
+abbrev pub meaning_in : List TypedefMeaning → List ℕ → Option Resolved
 meaning_in types word = option_map (λ t. t.means) (find (λ t. bytes_eq t.name word) types)
 
 -- stars after stars
@@ -155,7 +155,7 @@ abbrev pub with_stars : Resolved → Stars → Resolved
 with_stars m stars = record { base = m.base; stars = more_stars m.stars stars }
 
 -- a type with stars after it: a name is a typedef's, or else a tag
-unfoldable pub resolved_type : List Declaration → List TypeName → Spelled → Stars → Resolved
+unfoldable pub resolved_type : List Declaration → List TypedefMeaning → Spelled → Stars → Resolved
 resolved_type ds types (spelled.Named word) stars =
     option_map_or (λ m. with_stars m stars) (meaning_in types word) (record { base = plain_type ds (spelled.Named word); stars = stars })
 resolved_type ds types ty stars = record { base = plain_type ds ty; stars = stars }

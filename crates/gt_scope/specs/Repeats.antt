@@ -11,7 +11,7 @@ use Rattle.gt_scope.specs.declared.declaration.What.TheVariants as what
 use Rattle.gt_scope.specs.declared.kinds.Meant.{Meant}
 use Rattle.gt_scope.specs.declared.link.Link.{Link}
 use Rattle.gt_scope.specs.declared.link.Target.{Target}
-use Rattle.gt_scope.specs.declared.meaning.TypeName.{TypeName}
+use Rattle.gt_scope.specs.declared.meaning.TypedefMeaning.{TypedefMeaning}
 use Rattle.gt_scope.specs.Chains.{IsTarget}
 use Rattle.gt_scope.specs.Kinds.{IsMeant}
 use Rattle.gt_scope.specs.Meanings.{as_typedef, AreTypeNames}
@@ -54,15 +54,15 @@ pub record AreLinks (defined : List (Entry What)) (typedefs : List (Entry (Spell
       → (link.stars ≡ e.value.1) × IsTarget defined typedefs tags e.value.0 link.to
 
 -- each name has the type that has its meaning
-pub record AreNamed (tags : List (List ℕ)) (meant : List Meant) (types : List TypeName) : Type 0 where
-  pub each : (i : ℕ) (t : TypeName) (m : Meant) (r : Resolved) → slice_get types i ≡ Some t → slice_get meant i ≡ Some m → IsMeant tags m r → t.means ≡ r
+pub record AreNamed (tags : List (List ℕ)) (meant : List Meant) (types : List TypedefMeaning) : Type 0 where
+  pub each : (i : ℕ) (t : TypedefMeaning) (m : Meant) (r : Resolved) → slice_get types i ≡ Some t → slice_get meant i ≡ Some m → IsMeant tags m r → t.means ≡ r
 
 -- the types of names have their meanings
-pub record HaveMeanings (tags : List (List ℕ)) (meant : List Meant) (types : List TypeName) : Type 0 where
+pub record HaveMeanings (tags : List (List ℕ)) (meant : List Meant) (types : List TypedefMeaning) : Type 0 where
   pub counted : length meant ≡ length types
-  pub each : (i : ℕ) (t : TypeName) (m : Meant) → slice_get types i ≡ Some t → slice_get meant i ≡ Some m → IsMeant tags m t.means
+  pub each : (i : ℕ) (t : TypedefMeaning) (m : Meant) → slice_get types i ≡ Some t → slice_get meant i ≡ Some m → IsMeant tags m t.means
 
 -- names of typedefs have the types that they mean, by numbers and by names
-pub record AreAllMeant (ds : List Declaration) (tags : List (List ℕ)) (meant : List Meant) (types : List TypeName) : Type 0 where
+pub record AreAllMeant (ds : List Declaration) (tags : List (List ℕ)) (meant : List Meant) (types : List TypedefMeaning) : Type 0 where
   pub names : AreTypeNames ds types
   pub have : HaveMeanings tags meant types

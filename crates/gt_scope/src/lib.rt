@@ -17,7 +17,7 @@ mod typedefs;
 mod types;
 
 pub use declaration::{Declaration, What};
-pub use meaning::TypeName;
+pub use meaning::TypedefMeaning;
 pub use scope::{Scope, scope_of, with_stars};
 pub use spelling::spelled;
 pub use types::Spelled;

@@ -3,7 +3,7 @@ use gt_types::Word;
 
 /// What a name of a typedef means.
 #[derive(Debug, Drop)]
-pub struct TypeName {
+pub struct TypedefMeaning {
     pub name: Word,
     pub means: Resolved,
 }

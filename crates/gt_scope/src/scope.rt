@@ -21,7 +21,7 @@ use crate::declaration::{Declaration, What};
 use crate::declaring::declare_all;
 use crate::kinds::{Kind, Meant, meant_after, resolved_of, same_meant, unkept};
 use crate::link::Target;
-use crate::meaning::TypeName;
+use crate::meaning::TypedefMeaning;
 use crate::plain::plain;
 use crate::targets::{Leads, links, targets};
 use crate::typedefs::{item_at, meanings};
@@ -36,7 +36,7 @@ use std::alloc::{AllocError, Global};
 #[derive(Drop)]
 pub struct Scope {
     pub declarations: Vec<Declaration>,
-    pub types: Vec<TypeName>,
+    pub types: Vec<TypedefMeaning>,
     tags: Table<What>,
     constants: Table<i64>,
     typedefs: Table<(Spelled, Stars)>,
@@ -169,7 +169,7 @@ fn type_names(
     typedefs: &Table<(Spelled, Stars)>,
     tags: &Table<()>,
     meant: &[Meant],
-) -> Result<Vec<TypeName>, AllocError>
+) -> Result<Vec<TypedefMeaning>, AllocError>
     requires counted { length meant.now ≡ length typedefs.now }
     ensures names { IfOk result (λ types. map (λ t. t.name) types.items ≡ names_in typedefs.now) }
     ensures named { IfOk result (λ types. AreNamed (names_in tags.now) meant.now types.items) }
@@ -178,7 +178,7 @@ fn type_names(
     for (place, entry) in typedefs.entries().iter().enumerate() {
         let name = entry.name.copy(alloc)?;
         let means = resolved_of(alloc, tags, meant[place])?;
-        types.push(TypeName { name, means })?;
+        types.push(TypedefMeaning { name, means })?;
     }
     Ok(types)
 }
@@ -188,7 +188,7 @@ fn type_names(
 struct Meanings {
     targets: Leads,
     meant: Vec<Meant>,
-    types: Vec<TypeName>,
+    types: Vec<TypedefMeaning>,
 }
 
 fn meanings_of(

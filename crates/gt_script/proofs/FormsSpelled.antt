@@ -19,7 +19,7 @@ use Rattle.gt_script.specs.Texts.{◌>>=◌, following}
 use Rattle.gt_script.specs.Cutting.{is_blank, without_blanks, words_within, words_of}
 use Rattle.gt_script.specs.Values.{name_at, variable_at, type_at, integer_at, given_at, file_at}
 use Rattle.gt_script.specs.Paths.{path_at}
-use Rattle.gt_script.specs.Commands.{plain_new_at, sized_new_at, new_at, array_at, text_at, block_at, set_at, get_at, drop_at, print_at, put_at, find_at, collect_at, save_at, load_at, tables_at, heap_at, stats_at, variable_command_at, place_command_at, command_at, told_at, line_of}
+use Rattle.gt_script.specs.Commands.{plain_new_at, sized_new_at, new_at, array_at, text_at, block_at, set_at, get_at, drop_at, print_at, put_at, find_at, collect_at, save_at, load_at, tables_at, heap_at, stats_at, variable_command_at, place_command_at, command_at, form_at, line_of}
 use Rattle.gt_script.specs.Scanning.{spoken_at, said_at, line_at}
 use Rattle.gt_script.specs.Language.{IsNamed, IsVariable, IsTyped, AreWords, no_words, blank_first, word_first, is_plain, is_quoted, IsForm, is_new, is_new_sized, is_array, is_string, is_block, is_set, is_get, is_drop, is_print, is_put, is_find, is_collect, is_collect_force, is_save, is_load, is_tables, is_heap, is_stats, IsSpelled, is_comment_of, is_passed_over, IsLine, IsPassedOver, IsRefused}
 use Rattle.gt_script.proofs.Options.{bind_some, map_or_some, passed, chosen}
@@ -220,7 +220,7 @@ record LineTaken (words : List Piece) (line : Line) : Type 0 where
   form : IsForm verb after_it line.command
   words_are : words ≡ Plain (cond line.quiet (codes "@") [] ++ verb) ∷ after_it
 
-told_taken : (quiet : Bool) (words : List Piece) (word verb : List ℕ) (line : Line) → word ≡ cond quiet (codes "@") [] ++ verb → told_at quiet words verb ≡ Some line → LineTaken (Plain word ∷ words) line
+told_taken : (quiet : Bool) (words : List Piece) (word verb : List ℕ) (line : Line) → word ≡ cond quiet (codes "@") [] ++ verb → form_at quiet words verb ≡ Some line → LineTaken (Plain word ∷ words) line
 told_taken quiet words word verb line is e =
     let c = mapped_some (λ command. record { quiet = quiet; command = command }) (command_at verb words) line e in
     let here : LineTaken (Plain word ∷ words) (record { quiet = quiet; command = c.0 }) = record {
@@ -234,7 +234,7 @@ told_taken quiet words word verb line is e =
 line_taken : (words : List Piece) (line : Line) → line_of words ≡ Some line → LineTaken words line
 unfolding line_of
 line_taken (Plain word ∷ words) line e =
-    elim (map_or_some (following (codes "@") word) (told_at true words) (told_at false words word) line e) [
+    elim (map_or_some (following (codes "@") word) (form_at true words) (form_at false words word) line e) [
       | inl g ↦ told_taken true words word g.0 line (after_taken (codes "@") word g.0 g.1) g.2
       | inr g ↦ told_taken false words word word line refl g.1
     ]

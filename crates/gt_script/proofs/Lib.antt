@@ -14,6 +14,6 @@ mod NumbersSpelled
 mod PathsSpelled
 mod StepTexts
 mod FormsSpelled
-mod Settled
+pub mod Settled
 mod Splits
 mod TextBytes

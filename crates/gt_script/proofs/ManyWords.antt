@@ -10,7 +10,7 @@ use Rattle.gt_script.specs.declared.pieces.Piece.{Piece}
 use Rattle.gt_script.specs.declared.pieces.Piece.TheVariants.{Plain, Quoted}
 use Rattle.gt_script.specs.Texts.{◌>>=◌}
 use Rattle.gt_script.specs.Cutting.{word_at, words_of}
-use Rattle.gt_script.specs.Commands.{new_at, array_at, text_at, block_at, set_at, get_at, drop_at, print_at, put_at, find_at, collect_at, save_at, load_at, tables_at, heap_at, stats_at, variable_command_at, place_command_at, command_at, told_at, line_of}
+use Rattle.gt_script.specs.Commands.{new_at, array_at, text_at, block_at, set_at, get_at, drop_at, print_at, put_at, find_at, collect_at, save_at, load_at, tables_at, heap_at, stats_at, variable_command_at, place_command_at, command_at, form_at, line_of}
 use Rattle.gt_script.specs.Scanning.{few, few_of, spoken_at}
 use Rattle.gt_script.proofs.Options.{bind_some}
 use Rattle.gt_script.proofs.Cuts.{SoFar, others, with_words, words_of-step}
@@ -128,11 +128,11 @@ module _ (d : Piece) (rest : List Piece) where
       neither _ _ _ (no_collect a b c) (neither _ _ _ (no_save a b c) (neither _ _ _ (no_load a b c)
       (neither _ _ _ (no_tables a b c) (neither _ _ _ (no_heap a b c) (neither _ _ _ (no_stats a b c) (no_place_command verb a b c))))))
 
-  no_told : (quiet : Bool) (a b c : Piece) (verb : List ℕ) → told_at quiet (a ∷ b ∷ c ∷ d ∷ rest) verb ≡ None
+  no_told : (quiet : Bool) (a b c : Piece) (verb : List ℕ) → form_at quiet (a ∷ b ∷ c ∷ d ∷ rest) verb ≡ None
   no_told quiet a b c verb = ap (option_map (λ (command : Command). record { quiet = quiet; command = command })) (no_command verb a b c)
 
   neither_told : (o : Option (List ℕ)) (a b c : Piece) (word : List ℕ)
-      → option_map_or (told_at true (a ∷ b ∷ c ∷ d ∷ rest)) o (told_at false (a ∷ b ∷ c ∷ d ∷ rest) word) ≡ None
+      → option_map_or (form_at true (a ∷ b ∷ c ∷ d ∷ rest)) o (form_at false (a ∷ b ∷ c ∷ d ∷ rest) word) ≡ None
   neither_told (Some verb) a b c word = no_told true a b c verb
   neither_told None a b c word = no_told false a b c word
 

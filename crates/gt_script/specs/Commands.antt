@@ -171,10 +171,10 @@ command_at verb words =
     else place_command_at verb words
 
 -- the line of a command
-abbrev pub told_at : Bool → List Piece → List ℕ → Option Line
-told_at quiet words verb = option_map (λ command. record { quiet = quiet; command = command }) (command_at verb words)
+abbrev pub form_at : Bool → List Piece → List ℕ → Option Line
+form_at quiet words verb = option_map (λ command. record { quiet = quiet; command = command }) (command_at verb words)
 
 -- the line that words are: the first is plain, and is quiet where @ stands in front of it
 unfoldable pub line_of : List Piece → Option Line
-line_of (Plain word ∷ words) = option_map_or (told_at true words) (following (codes "@") word) (told_at false words word)
+line_of (Plain word ∷ words) = option_map_or (form_at true words) (following (codes "@") word) (form_at false words word)
 line_of _ = None

@@ -8,7 +8,7 @@ ghost use Rattle.gt_script.specs.declared.pieces.Piece.{Piece};
 ghost use Rattle.gt_script.specs.declared.statements.Known.TheVariants.{All};
 ghost use Rattle.gt_script.specs.Texts.{following};
 ghost use Rattle.gt_script.specs.Cutting.{is_blank};
-ghost use Rattle.gt_script.specs.Commands.{told_at, line_of};
+ghost use Rattle.gt_script.specs.Commands.{form_at, line_of};
 ghost use Rattle.gt_script.specs.Language.{is_comment_of, is_passed_over};
 ghost use Rattle.gt_script.specs.Scanning.{spoken_at, said_at, line_at};
 
@@ -167,7 +167,7 @@ fn line(source: &Source, words: &[Piece<'_>]) -> Result<Option<Line>, AllocError
 #[tactic(auto, unfolding(crate::specs::Texts::following))]
 #[inline(always)]
 fn verb_of(word: &[u8]) -> (bool, &[u8])
-    ensures { (words : List Piece) → told_at result.0 words result.1.now ≡ option_map_or (told_at true words) (following (codes "@") word.now) (told_at false words word.now) }
+    ensures { (words : List Piece) → form_at result.0 words result.1.now ≡ option_map_or (form_at true words) (following (codes "@") word.now) (form_at false words word.now) }
 {
     match word {
         [b'@', verb @ ..] => (true, verb),
@@ -182,7 +182,7 @@ fn read_form(
     verb: &[u8],
     words: &[Piece<'_>],
 ) -> Result<Option<Line>, AllocError>
-    ensures { IfOk result (λ found. found ≡ told_at quiet words.now verb.now) }
+    ensures { IfOk result (λ found. found ≡ form_at quiet words.now verb.now) }
 {
     let Some(command) = command(source, verb, words)? else {
         return Ok(None);

@@ -3,7 +3,7 @@ use Rattle.std.proofs.Common.{◌≡◌, ◌≢◌, ℕ, Bool, true, false, List
 use Rattle.std.specs.Prelude.{◌&&◌, not, if◌then◌else◌}
 use Rattle.std.proofs.lemmas.Bool.{false≢true}
 use Rattle.std.proofs.lemmas.List.{append-nil}
-use Rattle.gt_search.specs.declared.lexeme.Spot.{Spot}
+use Rattle.gt_search.specs.declared.lexeme.TokenText.{TokenText}
 use Rattle.gt_search.specs.declared.lexeme.Bracket.{Bracket}
 use Rattle.gt_search.specs.declared.lexeme.Bracket.TheVariants.{Round, Square, Brace}
 use Rattle.gt_search.specs.declared.lexeme.Lexeme.{Lexeme}
@@ -46,11 +46,11 @@ within b bs m c (lexeme.Open d s) ts plain = absurd (false≢true plain)
 within b bs m c (lexeme.Close d s) ts plain = absurd (false≢true plain)
 within b bs m c t ts plain = refl
 
-opens_within : (b d : Bracket) (bs : List Bracket) (m c : Bool) (s : Spot) (ts : List Lexeme) → item_end (begun (b ∷ bs) m c) (lexeme.Open d s ∷ ts) ≡ one_longer (item_end (begun (d ∷ b ∷ bs) m c) ts)
+opens_within : (b d : Bracket) (bs : List Bracket) (m c : Bool) (s : TokenText) (ts : List Lexeme) → item_end (begun (b ∷ bs) m c) (lexeme.Open d s ∷ ts) ≡ one_longer (item_end (begun (d ∷ b ∷ bs) m c) ts)
 unfolding item_end
 opens_within b d bs m c s ts = refl
 
-closes_within : (b d : Bracket) (bs : List Bracket) (m c : Bool) (s : Spot) (ts : List Lexeme) → item_end (begun (b ∷ d ∷ bs) m c) (lexeme.Close b s ∷ ts) ≡ one_longer (item_end (begun (d ∷ bs) m c) ts)
+closes_within : (b d : Bracket) (bs : List Bracket) (m c : Bool) (s : TokenText) (ts : List Lexeme) → item_end (begun (b ∷ d ∷ bs) m c) (lexeme.Close b s ∷ ts) ≡ one_longer (item_end (begun (d ∷ bs) m c) ts)
 unfolding item_end
 closes_within Round d bs m c s ts = refl
 closes_within Square d bs m c s ts = refl
@@ -64,22 +64,22 @@ outside m c (lexeme.Close d s) ts plain = absurd (false≢true plain)
 outside m c (lexeme.Semicolon s) ts plain = absurd (false≢true plain)
 outside m c t ts plain = refl
 
-opens_outside : (b : Bracket) (m c : Bool) (s : Spot) (ts : List Lexeme) → item_end (begun [] m c) (lexeme.Open b s ∷ ts) ≡ one_longer (item_end (begun (b ∷ []) false (called_after b m c)) ts)
+opens_outside : (b : Bracket) (m c : Bool) (s : TokenText) (ts : List Lexeme) → item_end (begun [] m c) (lexeme.Open b s ∷ ts) ≡ one_longer (item_end (begun (b ∷ []) false (called_after b m c)) ts)
 unfolding item_end
 opens_outside b m c s ts = refl
 
-closes_outside : (b : Bracket) (m c : Bool) (s : Spot) (ts : List Lexeme) → ends_body b c [] ≡ false → item_end (begun (b ∷ []) m c) (lexeme.Close b s ∷ ts) ≡ one_longer (item_end (begun [] m c) ts)
+closes_outside : (b : Bracket) (m c : Bool) (s : TokenText) (ts : List Lexeme) → ends_body b c [] ≡ false → item_end (begun (b ∷ []) m c) (lexeme.Close b s ∷ ts) ≡ one_longer (item_end (begun [] m c) ts)
 unfolding item_end
 closes_outside Round m c s ts e = refl
 closes_outside Square m c s ts e = refl
 closes_outside Brace m true s ts e = absurd (false≢true (sym e))
 closes_outside Brace m false s ts e = refl
 
-closes_body : (m : Bool) (s : Spot) (ts : List Lexeme) → item_end (begun (Brace ∷ []) m true) (lexeme.Close Brace s ∷ ts) ≡ Whole 1
+closes_body : (m : Bool) (s : TokenText) (ts : List Lexeme) → item_end (begun (Brace ∷ []) m true) (lexeme.Close Brace s ∷ ts) ≡ Whole 1
 unfolding item_end
 closes_body m s ts = refl
 
-semicolon_ends : (m c : Bool) (s : Spot) (ts : List Lexeme) → item_end (begun [] m c) (lexeme.Semicolon s ∷ ts) ≡ Whole 1
+semicolon_ends : (m c : Bool) (s : TokenText) (ts : List Lexeme) → item_end (begun [] m c) (lexeme.Semicolon s ∷ ts) ≡ Whole 1
 unfolding item_end
 semicolon_ends m c s ts = refl
 
@@ -95,7 +95,7 @@ other_bracket Square Brace ne = refl
 other_bracket Brace Round ne = refl
 other_bracket Brace Square ne = refl
 
-stops : (bs : List Bracket) (m c : Bool) (b : Bracket) (s : Spot) (ts : List Lexeme) → IsUnmatched b bs → item_end (begun bs m c) (lexeme.Close b s ∷ ts) ≡ Unmatched s.start
+stops : (bs : List Bracket) (m c : Bool) (b : Bracket) (s : TokenText) (ts : List Lexeme) → IsUnmatched b bs → item_end (begun bs m c) (lexeme.Close b s ∷ ts) ≡ Unmatched s.start
 stops [] m c b s ts unmatched = item_end-step (begun [] m c) (lexeme.Close b s) ts
 stops (a ∷ bs) m c b s ts unmatched =
     item_end-step (begun (a ∷ bs) m c) (lexeme.Close b s) ts
@@ -120,7 +120,7 @@ balanced (Balanced.group {inside = inside} {ts = ts} d o s inner more) b bs m c 
     ∙ sym (past-append inside (lexeme.Close d s ∷ ts) (item_end (begun (b ∷ bs) m c) rest)))
 
 -- a group in no brackets
-group_outside : {inside : List Lexeme} (b : Bracket) (m c : Bool) (o s : Spot) (ts rest : List Lexeme) → Balanced inside → ends_body b (called_after b m c) [] ≡ false
+group_outside : {inside : List Lexeme} (b : Bracket) (m c : Bool) (o s : TokenText) (ts rest : List Lexeme) → Balanced inside → ends_body b (called_after b m c) [] ≡ false
     → item_end (begun [] m c) ((lexeme.Open b o ∷ inside ++ lexeme.Close b s ∷ ts) ++ rest) ≡ past (lexeme.Open b o ∷ inside) (one_longer (item_end (begun [] false (called_after b m c)) (ts ++ rest)))
 group_outside {inside = inside} b m c o s ts rest inner e =
     opens_outside b m c o ((inside ++ lexeme.Close b s ∷ ts) ++ rest)
@@ -131,7 +131,7 @@ group_outside {inside = inside} b m c o s ts rest inner e =
 
 -- ---- whole items
 
-group_whole : {inside : List Lexeme} (b : Bracket) (m c : Bool) (o s : Spot) (ts rest : List Lexeme) → Balanced inside → ends_body b (called_after b m c) [] ≡ false
+group_whole : {inside : List Lexeme} (b : Bracket) (m c : Bool) (o s : TokenText) (ts rest : List Lexeme) → Balanced inside → ends_body b (called_after b m c) [] ≡ false
     → item_end (begun [] false (called_after b m c)) (ts ++ rest) ≡ Whole (length ts)
     → item_end (begun [] m c) ((lexeme.Open b o ∷ inside ++ lexeme.Close b s ∷ ts) ++ rest) ≡ Whole (length (lexeme.Open b o ∷ inside ++ lexeme.Close b s ∷ ts))
 group_whole {inside = inside} b m c o s ts rest inner e last =
@@ -174,7 +174,7 @@ pub record Reaches (m c : Bool) (ts : List Lexeme) (opened : List Bracket) : Typ
   pub called : Bool
   pub reaches : (rest : List Lexeme) → item_end (begun [] m c) (ts ++ rest) ≡ past ts (item_end (begun opened marks called) rest)
 
-group_reaches : {inside : List Lexeme} (b : Bracket) (m c : Bool) (o s : Spot) (ts : List Lexeme) (opened : List Bracket) → Balanced inside → ends_body b (called_after b m c) [] ≡ false
+group_reaches : {inside : List Lexeme} (b : Bracket) (m c : Bool) (o s : TokenText) (ts : List Lexeme) (opened : List Bracket) → Balanced inside → ends_body b (called_after b m c) [] ≡ false
     → Reaches false (called_after b m c) ts opened → Reaches m c (lexeme.Open b o ∷ inside ++ lexeme.Close b s ∷ ts) opened
 group_reaches {inside = inside} b m c o s ts opened inner e r = record {
   marks = r.marks;
@@ -204,7 +204,7 @@ unended {m = m} {c = c} {ts = ts} {opened = opened} begins =
     let r = reaches begins in
     ap (item_end (begun [] m c)) (sym (append-nil ts)) ∙ r.reaches [] ∙ ap (past ts) (item_end-nil (begun opened r.marks r.called)) ∙ past-unended ts
 
-pub unmatched : {m c : Bool} {front : List Lexeme} {opened : List Bracket} (b : Bracket) (s : Spot) (ts : List Lexeme) → BeginsItem m c front opened → IsUnmatched b opened
+pub unmatched : {m c : Bool} {front : List Lexeme} {opened : List Bracket} (b : Bracket) (s : TokenText) (ts : List Lexeme) → BeginsItem m c front opened → IsUnmatched b opened
     → item_end (begun [] m c) (front ++ lexeme.Close b s ∷ ts) ≡ Unmatched s.start
 unmatched {front = front} {opened = opened} b s ts begins none =
     let r = reaches begins in

@@ -4,7 +4,7 @@ use Rattle.std.specs.Prelude.{if◌then◌else◌}
 use Rattle.std.proofs.lemmas.Bool.{false≢true}
 use Rattle.std.proofs.lemmas.List.{length-append, take_at, drop_at}
 use Rattle.gt_search.specs.declared.faults.TheConstants.{UNCLOSED, UNEXPECTED}
-use Rattle.gt_search.specs.declared.lexeme.Spot.{Spot}
+use Rattle.gt_search.specs.declared.lexeme.TokenText.{TokenText}
 use Rattle.gt_search.specs.declared.lexeme.Bracket.{Bracket}
 use Rattle.gt_search.specs.declared.lexeme.Bracket.TheVariants.{Round, Square, Brace}
 use Rattle.gt_search.specs.declared.lexeme.Lexeme.{Lexeme}
@@ -141,18 +141,18 @@ turn_at-item : (ws : List ℕ) (one ts : List Lexeme) → begins_wrapper (one ++
 turn_at-item ws one ts none ends = item_first ws one ts (Whole (length one)) (EndsItem-first ends) none (whole ends ts)
 
 -- a closing bracket at the front that closes no wrapper
-turn_at-closing : (ws : List ℕ) (b : Bracket) (s : Spot) (ts : List Lexeme) → item_end none_begun (lexeme.Close b s ∷ ts) ≡ Unmatched s.start → (ClosesWrapper ws [] b → ⊥)
+turn_at-closing : (ws : List ℕ) (b : Bracket) (s : TokenText) (ts : List Lexeme) → item_end none_begun (lexeme.Close b s ∷ ts) ≡ Unmatched s.start → (ClosesWrapper ws [] b → ⊥)
     → plain_turn ws (lexeme.Close b s ∷ ts) ≡ Last (Fails UNEXPECTED s.start)
 turn_at-closing [] b s ts e stays = ap (item_turn [] (lexeme.Close b s)) e
 turn_at-closing (w ∷ ws) Round s ts e stays = ap (item_turn (w ∷ ws) (lexeme.Close Round s)) e
 turn_at-closing (w ∷ ws) Square s ts e stays = ap (item_turn (w ∷ ws) (lexeme.Close Square s)) e
 turn_at-closing (w ∷ ws) Brace s ts e stays = absurd (stays (refl, refl, λ none. cc))
 
-token_unmatched : (ws : List ℕ) (t : Lexeme) (front : List Lexeme) (b : Bracket) (s : Spot) (ts : List Lexeme) → is_close_brace t ≡ false → begins_wrapper ((t ∷ front) ++ lexeme.Close b s ∷ ts) ≡ false
+token_unmatched : (ws : List ℕ) (t : Lexeme) (front : List Lexeme) (b : Bracket) (s : TokenText) (ts : List Lexeme) → is_close_brace t ≡ false → begins_wrapper ((t ∷ front) ++ lexeme.Close b s ∷ ts) ≡ false
     → item_end none_begun ((t ∷ front) ++ lexeme.Close b s ∷ ts) ≡ Unmatched s.start → turn_at ws ((t ∷ front) ++ lexeme.Close b s ∷ ts) ≡ Last (Fails UNEXPECTED s.start)
 token_unmatched ws t front b s ts first none e = item_first ws (t ∷ front) (lexeme.Close b s ∷ ts) (Unmatched s.start) (first_of t front first) none e
 
-turn_at-unmatched : (ws : List ℕ) (front : List Lexeme) (opened : List Bracket) (b : Bracket) (s : Spot) (ts : List Lexeme) → begins_wrapper (front ++ lexeme.Close b s ∷ ts) ≡ false
+turn_at-unmatched : (ws : List ℕ) (front : List Lexeme) (opened : List Bracket) (b : Bracket) (s : TokenText) (ts : List Lexeme) → begins_wrapper (front ++ lexeme.Close b s ∷ ts) ≡ false
     → item_end none_begun (front ++ lexeme.Close b s ∷ ts) ≡ Unmatched s.start → (ClosesWrapper ws front b → ⊥) → BeginsItem false false front opened
     → turn_at ws (front ++ lexeme.Close b s ∷ ts) ≡ Last (Fails UNEXPECTED s.start)
 turn_at-unmatched ws [] opened b s ts none e stays begins = turn_at-plain ws (lexeme.Close b s ∷ ts) none ∙ turn_at-closing ws b s ts e stays
@@ -170,7 +170,7 @@ turn_at-unclosed_wrapper : (w : ℕ) (ws : List ℕ) → turn_at (w ∷ ws) [] �
 unfolding turn_at wrapper_at
 turn_at-unclosed_wrapper w ws = refl
 
-turn_at-closed_wrapper : (w : ℕ) (ws : List ℕ) (s : Spot) (ts : List Lexeme) → turn_at (w ∷ ws) (lexeme.Close Brace s ∷ ts) ≡ WrapperEnd
+turn_at-closed_wrapper : (w : ℕ) (ws : List ℕ) (s : TokenText) (ts : List Lexeme) → turn_at (w ∷ ws) (lexeme.Close Brace s ∷ ts) ≡ WrapperEnd
 unfolding turn_at wrapper_at
 turn_at-closed_wrapper w ws s ts = refl
 

@@ -2,7 +2,7 @@
 use Rattle.std.proofs.Common.{◌≡◌, ◌≢◌, ℕ, suc, ◌⊎◌, inl, inr, Bool, true, false, List, [], ◌∷◌, ◌++◌, length, refl, ap, subst, ◌∙◌, sym, append_assoc}
 use Rattle.std.specs.Prelude.{◌&&◌, not, if◌then◌else◌}
 use Rattle.std.proofs.lemmas.Bool.{false≢true}
-use Rattle.gt_search.specs.declared.lexeme.Spot.{Spot}
+use Rattle.gt_search.specs.declared.lexeme.TokenText.{TokenText}
 use Rattle.gt_search.specs.declared.lexeme.Bracket.{Bracket}
 use Rattle.gt_search.specs.declared.lexeme.Bracket.TheVariants.{Round, Square, Brace}
 use Rattle.gt_search.specs.declared.lexeme.Lexeme.{Lexeme}
@@ -20,7 +20,7 @@ use Rattle.gt_search.specs.Searching.{lowest, called_after, ends_body, closed_wi
 pub record Closed (b : Bracket) (P : List Lexeme → Type 0) (ts : List Lexeme) : Type 0 where
   pub inner : List Lexeme
   pub following : List Lexeme
-  pub spot : Spot
+  pub spot : TokenText
   pub closes : Balanced inner
   pub is : ts ≡ inner ++ lexeme.Close b spot ∷ following
   pub next : P following
@@ -70,7 +70,7 @@ token_closed t plain c = record { inner = t ∷ c.inner; following = c.following
 regroup : (o : Lexeme) (a : List Lexeme) (c : Lexeme) (a' : List Lexeme) (c' : Lexeme) (rest : List Lexeme) → o ∷ a ++ c ∷ (a' ++ c' ∷ rest) ≡ (o ∷ a ++ c ∷ a') ++ c' ∷ rest
 regroup o a c a' c' rest = ap (λ ts. o ∷ ts) (sym (append_assoc a (c ∷ a') (c' ∷ rest)))
 
-open_closed : {b d : Bracket} {P : List Lexeme → Type 0} {ts : List Lexeme} (o : Spot) → Closed b (Closed d P) ts → Closed d P (lexeme.Open b o ∷ ts)
+open_closed : {b d : Bracket} {P : List Lexeme → Type 0} {ts : List Lexeme} (o : TokenText) → Closed b (Closed d P) ts → Closed d P (lexeme.Open b o ∷ ts)
 open_closed {b = b} {d = d} o c = record {
   inner = lexeme.Open b o ∷ c.inner ++ lexeme.Close b c.spot ∷ c.next.inner;
   following = c.next.following;
@@ -81,7 +81,7 @@ open_closed {b = b} {d = d} o c = record {
 }
 
 -- a bracket that closes
-closed_here : {b : Bracket} {P : List Lexeme → Type 0} {ts : List Lexeme} (s : Spot) → P ts → Closed b P (lexeme.Close b s ∷ ts)
+closed_here : {b : Bracket} {P : List Lexeme → Type 0} {ts : List Lexeme} (s : TokenText) → P ts → Closed b P (lexeme.Close b s ∷ ts)
 closed_here {ts = ts} s p = record { inner = []; following = ts; spot = s; closes = Balanced.nothing; is = refl; next = p }
 
 -- the same of an item that does not end
@@ -90,7 +90,7 @@ token_open : (P : List Lexeme → List Bracket → Type 0) {bs : List Bracket} {
 token_open P t plain (inl s) = inl (record { more = s.more; stays = Inside.token t plain s.stays; is = s.is })
 token_open P t plain (inr c) = inr (token_closed t plain c)
 
-open_after : (P : List Lexeme → List Bracket → Type 0) {bs : List Bracket} {b d : Bracket} {ts : List Lexeme} {opened : List Bracket} (o : Spot)
+open_after : (P : List Lexeme → List Bracket → Type 0) {bs : List Bracket} {b d : Bracket} {ts : List Lexeme} {opened : List Bracket} (o : TokenText)
     (c : Closed b (λ following. OpenWithin P (d ∷ bs) following opened) ts) → OpenWithin P (d ∷ bs) c.following opened → OpenWithin P (d ∷ bs) (lexeme.Open b o ∷ ts) opened
 open_after P {b = b} o c (inl s) = inl (record {
   more = s.more;
@@ -100,7 +100,7 @@ open_after P {b = b} o c (inl s) = inl (record {
 open_after P {bs = bs} {d = d} {opened = opened} o c (inr n) =
     inr (open_closed {P = λ following. OpenWithin P bs following opened} o (record { inner = c.inner; following = c.following; spot = c.spot; closes = c.closes; is = c.is; next = n }))
 
-open_open : (P : List Lexeme → List Bracket → Type 0) {bs : List Bracket} {b d : Bracket} {ts : List Lexeme} {opened : List Bracket} (o : Spot)
+open_open : (P : List Lexeme → List Bracket → Type 0) {bs : List Bracket} {b d : Bracket} {ts : List Lexeme} {opened : List Bracket} (o : TokenText)
     → OpenWithin P (b ∷ d ∷ bs) ts opened → OpenWithin P (d ∷ bs) (lexeme.Open b o ∷ ts) opened
 open_open P {bs = bs} {b = b} {d = d} o (inl s) =
     inl (record { more = s.more ++ b ∷ []; stays = Inside.unclosed b o s.stays; is = s.is ∙ sym (append_assoc s.more (b ∷ []) (d ∷ bs)) })
@@ -108,14 +108,14 @@ open_open P o (inr c) = open_after P o c c.next
 
 -- ---- a bracket that opens where no other is open
 
-first_ends : (b : Bracket) (marks called : Bool) (o : Spot) {ts : List Lexeme} → Closed b (EndsAfter b false (called_after b marks called)) ts → EndsItem marks called (lexeme.Open b o ∷ ts)
+first_ends : (b : Bracket) (marks called : Bool) (o : TokenText) {ts : List Lexeme} → Closed b (EndsAfter b false (called_after b marks called)) ts → EndsItem marks called (lexeme.Open b o ∷ ts)
 first_ends Round marks called o c = subst (λ ts. EndsItem marks called (lexeme.Open Round o ∷ ts)) (sym c.is) (EndsItem.round o c.spot c.closes c.next)
 first_ends Square marks called o c = subst (λ ts. EndsItem marks called (lexeme.Open Square o ∷ ts)) (sym c.is) (EndsItem.square o c.spot c.closes c.next)
 first_ends Brace marks true o c =
     subst (λ ts. EndsItem marks true (lexeme.Open Brace o ∷ ts)) (sym (c.is ∙ ap (λ ts. c.inner ++ lexeme.Close Brace c.spot ∷ ts) c.next)) (EndsItem.body o c.spot c.closes)
 first_ends Brace marks false o c = subst (λ ts. EndsItem marks false (lexeme.Open Brace o ∷ ts)) (sym c.is) (EndsItem.braces o c.spot c.closes c.next)
 
-first_begins : (b : Bracket) (marks called : Bool) (o : Spot) {ts : List Lexeme} {opened : List Bracket}
+first_begins : (b : Bracket) (marks called : Bool) (o : TokenText) {ts : List Lexeme} {opened : List Bracket}
     → OpenWithin (BeginsAfter b false (called_after b marks called)) (b ∷ []) ts opened → BeginsItem marks called (lexeme.Open b o ∷ ts) opened
 first_begins b marks called o {ts = ts} (inl s) = subst (λ opened. BeginsItem marks called (lexeme.Open b o ∷ ts) opened) (sym s.is) (BeginsItem.unclosed b o s.stays)
 first_begins Round marks called o {opened = opened} (inr c) = subst (λ ts. BeginsItem marks called (lexeme.Open Round o ∷ ts) opened) (sym c.is) (BeginsItem.round o c.spot c.closes c.next)
@@ -136,7 +136,7 @@ pub record StopsSo (bs : List Bracket) (marks called : Bool) (ts : List Lexeme) 
   pub front : List Lexeme
   pub opened : List Bracket
   pub bracket : Bracket
-  pub spot : Spot
+  pub spot : TokenText
   pub following : List Lexeme
   pub is : ts ≡ front ++ lexeme.Close bracket spot ∷ following
   pub at_is : at ≡ spot.start
@@ -170,17 +170,17 @@ abbrev pub begun : List Bracket → (marks called : Bool) → Begun
 begun bs marks called = record { opened = bs; marks = marks; called = called }
 
 -- a closing bracket
-stops_here : (bs : List Bracket) (m c : Bool) (b : Bracket) (s : Spot) (ts : List Lexeme) → Going bs m c [] bs → IsUnmatched b bs → StopsSo bs m c (lexeme.Close b s ∷ ts) s.start
+stops_here : (bs : List Bracket) (m c : Bool) (b : Bracket) (s : TokenText) (ts : List Lexeme) → Going bs m c [] bs → IsUnmatched b bs → StopsSo bs m c (lexeme.Close b s ∷ ts) s.start
 stops_here bs m c b s ts going unmatched = record { front = []; opened = bs; bracket = b; spot = s; following = ts; is = refl; at_is = refl; begins = going; unmatched = unmatched }
 
 nothing_closed : (b : Bracket) (bs : List Bracket) (m c : Bool) → Going (b ∷ bs) m c [] (b ∷ bs)
 nothing_closed b bs m c = inl (record { more = []; stays = Inside.nothing; is = refl })
 
-close_deeper : (b d : Bracket) (bs : List Bracket) (m c : Bool) (s : Spot) (ts : List Lexeme) (end : ItemEnd) → Tells (d ∷ bs) m c ts end → Tells (b ∷ d ∷ bs) m c (lexeme.Close b s ∷ ts) (one_longer end)
+close_deeper : (b d : Bracket) (bs : List Bracket) (m c : Bool) (s : TokenText) (ts : List Lexeme) (end : ItemEnd) → Tells (d ∷ bs) m c ts end → Tells (b ∷ d ∷ bs) m c (lexeme.Close b s ∷ ts) (one_longer end)
 close_deeper b d bs m c s ts end e =
     tells_longer (b ∷ d ∷ bs) (d ∷ bs) m m c c (lexeme.Close b s) ts end (λ one ends. closed_here s ends) (λ front opened going. inr (closed_here s going)) e
 
-close_last : (b : Bracket) (m c : Bool) (s : Spot) (ts : List Lexeme) (end : ItemEnd) → ends_body b c [] ≡ false → Tells [] m c ts end → Tells (b ∷ []) m c (lexeme.Close b s ∷ ts) (one_longer end)
+close_last : (b : Bracket) (m c : Bool) (s : TokenText) (ts : List Lexeme) (end : ItemEnd) → ends_body b c [] ≡ false → Tells [] m c ts end → Tells (b ∷ []) m c (lexeme.Close b s ∷ ts) (one_longer end)
 close_last Round m c s ts end e tells =
     tells_longer (Round ∷ []) [] m m c c (lexeme.Close Round s) ts end (λ one ends. closed_here s ends) (λ front opened going. inr (closed_here s going)) tells
 close_last Square m c s ts end e tells =
@@ -189,11 +189,11 @@ close_last Brace m true s ts end e tells = absurd (false≢true (sym e))
 close_last Brace m false s ts end e tells =
     tells_longer (Brace ∷ []) [] m m false false (lexeme.Close Brace s) ts end (λ one ends. closed_here s ends) (λ front opened going. inr (closed_here s going)) tells
 
-close_body : (m : Bool) (s : Spot) (ts : List Lexeme) → Tells (Brace ∷ []) m true (lexeme.Close Brace s ∷ ts) (Whole 1)
+close_body : (m : Bool) (s : TokenText) (ts : List Lexeme) → Tells (Brace ∷ []) m true (lexeme.Close Brace s ∷ ts) (Whole 1)
 close_body m s ts = record { one = lexeme.Close Brace s ∷ []; following = ts; is = refl; len_is = refl; ends = closed_here s refl }
 
 -- a closing bracket of the kind that was opened last
-matched : (b : Bracket) (bs : List Bracket) (m c : Bool) (s : Spot) (ts : List Lexeme) → Tells bs m c ts (item_end (begun bs m c) ts)
+matched : (b : Bracket) (bs : List Bracket) (m c : Bool) (s : TokenText) (ts : List Lexeme) → Tells bs m c ts (item_end (begun bs m c) ts)
     → Tells (b ∷ bs) m c (lexeme.Close b s ∷ ts) (end_after (λ next. item_end next ts) (if ends_body b c bs then Ends else Goes (begun bs m c)))
 matched Round [] m c s ts e = close_last Round m c s ts (item_end (begun [] m c) ts) refl e
 matched Square [] m c s ts e = close_last Square m c s ts (item_end (begun [] m c) ts) refl e
@@ -203,10 +203,10 @@ matched Round (d ∷ bs) m c s ts e = close_deeper Round d bs m c s ts (item_end
 matched Square (d ∷ bs) m c s ts e = close_deeper Square d bs m c s ts (item_end (begun (d ∷ bs) m c) ts) e
 matched Brace (d ∷ bs) m c s ts e = close_deeper Brace d bs m c s ts (item_end (begun (d ∷ bs) m c) ts) e
 
-unmatched : (a b : Bracket) (bs : List Bracket) (m c : Bool) (s : Spot) (ts : List Lexeme) → b ≢ a → Tells (a ∷ bs) m c (lexeme.Close b s ∷ ts) (Unmatched s.start)
+unmatched : (a b : Bracket) (bs : List Bracket) (m c : Bool) (s : TokenText) (ts : List Lexeme) → b ≢ a → Tells (a ∷ bs) m c (lexeme.Close b s ∷ ts) (Unmatched s.start)
 unmatched a b bs m c s ts ne = stops_here (a ∷ bs) m c b s ts (nothing_closed a bs m c) ne
 
-closing : (a b : Bracket) (bs : List Bracket) (m c : Bool) (s : Spot) (ts : List Lexeme) → Tells bs m c ts (item_end (begun bs m c) ts)
+closing : (a b : Bracket) (bs : List Bracket) (m c : Bool) (s : TokenText) (ts : List Lexeme) → Tells bs m c ts (item_end (begun bs m c) ts)
     → Tells (a ∷ bs) m c (lexeme.Close b s ∷ ts) (end_after (λ next. item_end next ts) (closed_with (a ∷ bs) m c b s.start))
 closing Round Round bs m c s ts e = matched Round bs m c s ts e
 closing Round Square bs m c s ts e = unmatched Round Square bs m c s ts (λ e. cc)

@@ -5,7 +5,7 @@ use Rattle.std.specs.Str.{bytes_eq}
 use Rattle.std.proofs.lemmas.Bool.{false≢true}
 use Rattle.std.proofs.lemmas.List.{length-append, take_at, drop_at}
 use Rattle.gt_search.specs.declared.faults.TheConstants.{UNEXPECTED}
-use Rattle.gt_search.specs.declared.lexeme.Spot.{Spot}
+use Rattle.gt_search.specs.declared.lexeme.TokenText.{TokenText}
 use Rattle.gt_search.specs.declared.lexeme.Bracket.{Bracket}
 use Rattle.gt_search.specs.declared.lexeme.Bracket.TheVariants.{Brace}
 use Rattle.gt_search.specs.declared.lexeme.Lexeme.{Lexeme}
@@ -92,7 +92,7 @@ abbrev begins_close_brace : List Lexeme → Bool
 begins_close_brace [] = false
 begins_close_brace (t ∷ ts) = is_close_brace t
 
-close_brace_first : (t : Lexeme) (ts front : List Lexeme) (b : Bracket) (s : Spot) (following : List Lexeme) → t ∷ ts ≡ front ++ lexeme.Close b s ∷ following → front ≡ [] → b ≡ Brace → is_close_brace t ≡ true
+close_brace_first : (t : Lexeme) (ts front : List Lexeme) (b : Bracket) (s : TokenText) (following : List Lexeme) → t ∷ ts ≡ front ++ lexeme.Close b s ∷ following → front ≡ [] → b ≡ Brace → is_close_brace t ≡ true
 close_brace_first t ts front b s following is none brace =
     ap begins_close_brace (is ∙ ap (λ (f : List Lexeme). f ++ lexeme.Close b s ∷ following) none) ∙ ap (λ (b : Bracket). is_close_brace (lexeme.Close b s)) brace
 

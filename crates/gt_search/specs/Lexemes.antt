@@ -6,14 +6,14 @@ use Rattle.gt_lex.specs.declared.tokens.Kind.TheVariants as kind
 use Rattle.gt_lex.specs.declared.tokens.Token.{Token}
 use Rattle.gt_items.specs.declared.items.Keyword.TheVariants as keyword
 use Rattle.gt_items.specs.declared.items.Name.{Name}
-use Rattle.gt_search.specs.declared.lexeme.Spot.{Spot}
+use Rattle.gt_search.specs.declared.lexeme.TokenText.{TokenText}
 use Rattle.gt_search.specs.declared.lexeme.Bracket.TheVariants.{Round, Square, Brace}
 use Rattle.gt_search.specs.declared.lexeme.TypeWord.TheVariants as word
 use Rattle.gt_search.specs.declared.lexeme.Lexeme.{Lexeme}
 use Rattle.gt_search.specs.declared.lexeme.Lexeme.TheVariants as lexeme
 
 -- an identifier without another meaning is a word of a combination, or else a name
-unfoldable pub type_lexeme : Spot → Lexeme
+unfoldable pub type_lexeme : TokenText → Lexeme
 type_lexeme s =
     if bytes_eq s.word (codes "unsigned") then lexeme.Type word.Unsigned s
     else if bytes_eq s.word (codes "signed") then lexeme.Type word.Signed s
@@ -29,7 +29,7 @@ type_lexeme s =
     else lexeme.Name s
 
 -- an identifier is one of the words with a meaning of their own, or else a name
-unfoldable pub identifier_lexeme : Spot → Lexeme
+unfoldable pub identifier_lexeme : TokenText → Lexeme
 identifier_lexeme s =
     if bytes_eq s.word (codes "GTY") then lexeme.Gty s
     else if bytes_eq s.word (codes "struct") then lexeme.Tag keyword.Struct s
@@ -46,7 +46,7 @@ identifier_lexeme s =
     else type_lexeme s
 
 -- a character that is a token by itself
-unfoldable pub mark_lexeme : Spot → Lexeme
+unfoldable pub mark_lexeme : TokenText → Lexeme
 mark_lexeme s =
     if bytes_eq s.word (codes "(") then lexeme.Open Round s
     else if bytes_eq s.word (codes ")") then lexeme.Close Round s
@@ -64,7 +64,7 @@ mark_lexeme s =
     else lexeme.Other s
 
 -- a token of a kind
-abbrev pub lexeme_of : Kind → Spot → Lexeme
+abbrev pub lexeme_of : Kind → TokenText → Lexeme
 lexeme_of kind.Ident s = identifier_lexeme s
 lexeme_of kind.Number s = lexeme.Other s
 lexeme_of kind.Quoted s = lexeme.Quoted s
@@ -72,7 +72,7 @@ lexeme_of kind.CharLit s = lexeme.Other s
 lexeme_of kind.Punct s = mark_lexeme s
 
 -- where a token of a text stands, and its characters
-abbrev pub spot_in : List ℕ → Token → Spot
+abbrev pub spot_in : List ℕ → Token → TokenText
 spot_in text t = record { word = chars (slice_range text t.start t.end); start = t.start; end = t.end }
 
 -- the tokens of a text by what they may be
@@ -80,7 +80,7 @@ abbrev pub lexemes_of : List ℕ → List Token → List Lexeme
 lexemes_of text tokens = map (λ t. lexeme_of t.kind (spot_in text t)) tokens
 
 -- where a token stands, and its characters
-abbrev pub spot_of : Lexeme → Spot
+abbrev pub spot_of : Lexeme → TokenText
 spot_of (lexeme.Name s) = s
 spot_of (lexeme.Type w s) = s
 spot_of (lexeme.Tag k s) = s
@@ -116,7 +116,7 @@ is_identifier (lexeme.Reserved s) = true
 is_identifier t = false
 
 -- the name that a token is
-abbrev pub name_of : Spot → Name
+abbrev pub name_of : TokenText → Name
 name_of s = record { word = s.word; at = s.start }
 
 -- the texts of tokens after one that ends at an offset, with one space where something that is no token stood before one

@@ -2,7 +2,7 @@
 use Rattle.std.specs.Prelude.{◌≡◌, ◌≢◌, ℕ, Bool, true, false, ◌&&◌, ◌||◌, not, List, [], ◌∷◌, ◌++◌, codes}
 use Rattle.std.specs.Str.{bytes_eq}
 use Rattle.gt_search.specs.declared.faults.TheConstants.{UNCLOSED, UNEXPECTED}
-use Rattle.gt_search.specs.declared.lexeme.Spot.{Spot}
+use Rattle.gt_search.specs.declared.lexeme.TokenText.{TokenText}
 use Rattle.gt_search.specs.declared.lexeme.Bracket.{Bracket}
 use Rattle.gt_search.specs.declared.lexeme.Bracket.TheVariants.{Round, Square, Brace}
 use Rattle.gt_search.specs.declared.lexeme.Lexeme.{Lexeme}
@@ -33,45 +33,45 @@ is_equals t = false
 pub data Balanced : List Lexeme → Type 0 where
   nothing : Balanced []
   token : {ts : List Lexeme} (t : Lexeme) → is_no_bracket t ≡ true → Balanced ts → Balanced (t ∷ ts)
-  group : {inside ts : List Lexeme} (b : Bracket) (o c : Spot) → Balanced inside → Balanced ts
+  group : {inside ts : List Lexeme} (b : Bracket) (o c : TokenText) → Balanced inside → Balanced ts
       → Balanced (lexeme.Open b o ∷ inside ++ lexeme.Close b c ∷ ts)
 
 -- The tokens with which an item ends. It ends at the first semicolon that stands in no brackets, or with the body of a function: a
 -- brace opens one where a round bracket was closed before it in the item, which is in no other bracket and closes no marker, and no
 -- `=` stood after that. marks says whether GTY stands directly before these tokens, called whether such a bracket was closed.
 pub data EndsItem : (marks called : Bool) → List Lexeme → Type 0 where
-  semicolon : {marks called : Bool} (s : Spot) → EndsItem marks called (lexeme.Semicolon s ∷ [])
-  body : {marks : Bool} {inside : List Lexeme} (o c : Spot) → Balanced inside
+  semicolon : {marks called : Bool} (s : TokenText) → EndsItem marks called (lexeme.Semicolon s ∷ [])
+  body : {marks : Bool} {inside : List Lexeme} (o c : TokenText) → Balanced inside
       → EndsItem marks true (lexeme.Open Brace o ∷ inside ++ lexeme.Close Brace c ∷ [])
   token : {marks called : Bool} {ts : List Lexeme} (t : Lexeme) → is_plain t ≡ true → EndsItem (is_gty t) (called && not (is_equals t)) ts
       → EndsItem marks called (t ∷ ts)
-  round : {marks called : Bool} {inside ts : List Lexeme} (o c : Spot) → Balanced inside → EndsItem false (called || not marks) ts
+  round : {marks called : Bool} {inside ts : List Lexeme} (o c : TokenText) → Balanced inside → EndsItem false (called || not marks) ts
       → EndsItem marks called (lexeme.Open Round o ∷ inside ++ lexeme.Close Round c ∷ ts)
-  square : {marks called : Bool} {inside ts : List Lexeme} (o c : Spot) → Balanced inside → EndsItem false called ts
+  square : {marks called : Bool} {inside ts : List Lexeme} (o c : TokenText) → Balanced inside → EndsItem false called ts
       → EndsItem marks called (lexeme.Open Square o ∷ inside ++ lexeme.Close Square c ∷ ts)
-  braces : {marks : Bool} {inside ts : List Lexeme} (o c : Spot) → Balanced inside → EndsItem false false ts
+  braces : {marks : Bool} {inside ts : List Lexeme} (o c : TokenText) → Balanced inside → EndsItem false false ts
       → EndsItem marks false (lexeme.Open Brace o ∷ inside ++ lexeme.Close Brace c ∷ ts)
 
 -- tokens after an opening bracket that does not close, and the brackets that are open after them within it, the last one first
 pub data Inside : List Lexeme → List Bracket → Type 0 where
   nothing : Inside [] []
   token : {ts : List Lexeme} {opened : List Bracket} (t : Lexeme) → is_no_bracket t ≡ true → Inside ts opened → Inside (t ∷ ts) opened
-  group : {inside ts : List Lexeme} {opened : List Bracket} (b : Bracket) (o c : Spot) → Balanced inside → Inside ts opened
+  group : {inside ts : List Lexeme} {opened : List Bracket} (b : Bracket) (o c : TokenText) → Balanced inside → Inside ts opened
       → Inside (lexeme.Open b o ∷ inside ++ lexeme.Close b c ∷ ts) opened
-  unclosed : {ts : List Lexeme} {opened : List Bracket} (b : Bracket) (o : Spot) → Inside ts opened → Inside (lexeme.Open b o ∷ ts) (opened ++ b ∷ [])
+  unclosed : {ts : List Lexeme} {opened : List Bracket} (b : Bracket) (o : TokenText) → Inside ts opened → Inside (lexeme.Open b o ∷ ts) (opened ++ b ∷ [])
 
 -- tokens with which an item begins and does not end, and the brackets that are open after them, the last one first
 pub data BeginsItem : (marks called : Bool) → List Lexeme → List Bracket → Type 0 where
   nothing : {marks called : Bool} → BeginsItem marks called [] []
   token : {marks called : Bool} {ts : List Lexeme} {opened : List Bracket} (t : Lexeme) → is_plain t ≡ true
       → BeginsItem (is_gty t) (called && not (is_equals t)) ts opened → BeginsItem marks called (t ∷ ts) opened
-  round : {marks called : Bool} {inside ts : List Lexeme} {opened : List Bracket} (o c : Spot) → Balanced inside
+  round : {marks called : Bool} {inside ts : List Lexeme} {opened : List Bracket} (o c : TokenText) → Balanced inside
       → BeginsItem false (called || not marks) ts opened → BeginsItem marks called (lexeme.Open Round o ∷ inside ++ lexeme.Close Round c ∷ ts) opened
-  square : {marks called : Bool} {inside ts : List Lexeme} {opened : List Bracket} (o c : Spot) → Balanced inside
+  square : {marks called : Bool} {inside ts : List Lexeme} {opened : List Bracket} (o c : TokenText) → Balanced inside
       → BeginsItem false called ts opened → BeginsItem marks called (lexeme.Open Square o ∷ inside ++ lexeme.Close Square c ∷ ts) opened
-  braces : {marks : Bool} {inside ts : List Lexeme} {opened : List Bracket} (o c : Spot) → Balanced inside
+  braces : {marks : Bool} {inside ts : List Lexeme} {opened : List Bracket} (o c : TokenText) → Balanced inside
       → BeginsItem false false ts opened → BeginsItem marks false (lexeme.Open Brace o ∷ inside ++ lexeme.Close Brace c ∷ ts) opened
-  unclosed : {marks called : Bool} {ts : List Lexeme} {opened : List Bracket} (b : Bracket) (o : Spot) → Inside ts opened
+  unclosed : {marks called : Bool} {ts : List Lexeme} {opened : List Bracket} (b : Bracket) (o : TokenText) → Inside ts opened
       → BeginsItem marks called (lexeme.Open b o ∷ ts) (opened ++ b ∷ [])
 
 -- whether a wrapper stands at the front, which is passed over: `extern "C" {`, `namespace {` or `namespace NAME {`
@@ -83,9 +83,9 @@ begins_wrapper ts = false
 
 -- the tokens of a wrapper, and the place of its brace
 pub data IsWrapper : List Lexeme → ℕ → Type 0 where
-  extern_c : (e q b : Spot) → IsWrapper (lexeme.Extern e ∷ lexeme.Quoted q ∷ lexeme.Open Brace b ∷ []) b.start
-  namespace : (r b : Spot) → IsWrapper (lexeme.Reserved r ∷ lexeme.Open Brace b ∷ []) b.start
-  named_namespace : (r n b : Spot) → IsWrapper (lexeme.Reserved r ∷ lexeme.Name n ∷ lexeme.Open Brace b ∷ []) b.start
+  extern_c : (e q b : TokenText) → IsWrapper (lexeme.Extern e ∷ lexeme.Quoted q ∷ lexeme.Open Brace b ∷ []) b.start
+  namespace : (r b : TokenText) → IsWrapper (lexeme.Reserved r ∷ lexeme.Open Brace b ∷ []) b.start
+  named_namespace : (r n b : TokenText) → IsWrapper (lexeme.Reserved r ∷ lexeme.Name n ∷ lexeme.Open Brace b ∷ []) b.start
 
 -- a closing bracket that does not match the last one that is open, if one is
 abbrev pub IsUnmatched : Bracket → List Bracket → Type 0
@@ -114,13 +114,13 @@ pub data Searches : List ℕ → List Lexeme → List (List Lexeme) → End → 
   -- a wrapper is passed over, and so is its closing brace
   wrapper : {wrappers : List ℕ} {front ts : List Lexeme} {items : List (List Lexeme)} {end : End} (brace : ℕ)
       → IsWrapper front brace → begins_wrapper (front ++ ts) ≡ true → Searches (brace ∷ wrappers) ts items end → Searches wrappers (front ++ ts) items end
-  closed_wrapper : {wrappers : List ℕ} {ts : List Lexeme} {items : List (List Lexeme)} {end : End} (w : ℕ) (s : Spot)
+  closed_wrapper : {wrappers : List ℕ} {ts : List Lexeme} {items : List (List Lexeme)} {end : End} (w : ℕ) (s : TokenText)
       → Searches wrappers ts items end → Searches (w ∷ wrappers) (lexeme.Close Brace s ∷ ts) items end
   -- an item
   item : {wrappers : List ℕ} {one ts : List Lexeme} {items : List (List Lexeme)} {end : End}
       → begins_wrapper (one ++ ts) ≡ false → EndsItem false false one → Searches wrappers ts items end → Searches wrappers (one ++ ts) (one ∷ items) end
   -- 8: a closing bracket that does not match, at the bracket
-  unmatched : {wrappers : List ℕ} {front : List Lexeme} {opened : List Bracket} (b : Bracket) (s : Spot) (ts : List Lexeme)
+  unmatched : {wrappers : List ℕ} {front : List Lexeme} {opened : List Bracket} (b : Bracket) (s : TokenText) (ts : List Lexeme)
       → begins_wrapper (front ++ lexeme.Close b s ∷ ts) ≡ false → BeginsItem false false front opened → IsUnmatched b opened
       → (ClosesWrapper wrappers front b → ⊥) → Searches wrappers (front ++ lexeme.Close b s ∷ ts) [] (Fails UNEXPECTED s.start)
   -- 7: the text ends in an item, or in a wrapper

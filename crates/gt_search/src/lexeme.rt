@@ -4,7 +4,7 @@ use std::alloc::{AllocError, Global};
 
 /// Where a token stands, and its characters.
 #[derive(Debug, Drop)]
-pub struct Spot {
+pub struct TokenText {
     pub word: Word,
     pub start: u32,
     pub end: u32,
@@ -14,26 +14,26 @@ pub struct Spot {
 /// `volatile`.
 #[derive(Debug, Drop)]
 pub enum Lexeme {
-    Name(Spot),
-    Type(TypeWord, Spot),
-    Tag(Keyword, Spot),
-    Gty(Spot),
-    Typedef(Spot),
-    Static(Spot),
-    Extern(Spot),
-    Qualifier(Spot),
-    Reserved(Spot),
-    Quoted(Spot),
-    Open(Bracket, Spot),
-    Close(Bracket, Spot),
-    Semicolon(Spot),
-    Comma(Spot),
-    Colon(Spot),
-    Star(Spot),
-    Equals(Spot),
-    Less(Spot),
-    Greater(Spot),
-    Other(Spot),
+    Name(TokenText),
+    Type(TypeWord, TokenText),
+    Tag(Keyword, TokenText),
+    Gty(TokenText),
+    Typedef(TokenText),
+    Static(TokenText),
+    Extern(TokenText),
+    Qualifier(TokenText),
+    Reserved(TokenText),
+    Quoted(TokenText),
+    Open(Bracket, TokenText),
+    Close(Bracket, TokenText),
+    Semicolon(TokenText),
+    Comma(TokenText),
+    Colon(TokenText),
+    Star(TokenText),
+    Equals(TokenText),
+    Less(TokenText),
+    Greater(TokenText),
+    Other(TokenText),
 }
 
 /// A bracket.
@@ -59,7 +59,7 @@ pub enum TypeWord {
     Void,
 }
 
-impl Spot {
+impl TokenText {
     ghost use Rattle.std.specs.Prelude.{◌≡◌, IfOk};
     ghost use Rattle.gt_search.specs.Lexemes.{name_of};
 
@@ -79,7 +79,7 @@ impl Lexeme {
     ghost use Rattle.gt_search.specs.Lexemes.{spot_of, is_identifier};
 
     /// Where the token stands, and its characters.
-    pub fn spot(&self) -> &Spot
+    pub fn spot(&self) -> &TokenText
         ensures { result.now ≡ spot_of self.now }
     {
         match self {

@@ -3,9 +3,9 @@ ghost use Rattle.std.specs.Prelude.{◌≡◌, IfOk};
 ghost use Rattle.gt_lex.specs.Texts.{IsLexed};
 ghost use Rattle.gt_search.specs.Lexemes.{identifier_lexeme, type_lexeme, mark_lexeme, lexeme_of, lexemes_of};
 
-use crate::lexeme::{Bracket, Lexeme, Spot, TypeWord};
+use crate::lexeme::{Bracket, Lexeme, TokenText, TypeWord};
 use gt_items::Keyword;
-use gt_lex::{Kind, Lexed, Token, token_slices};
+use gt_lex::{Kind, Lexed, Token};
 use gt_types::Word;
 use std::alloc::{AllocError, Global};
 use std::rc::RcStr;
@@ -16,7 +16,6 @@ pub fn read_lexemes(alloc: Global, text: &[u8], lexed: &Lexed) -> Result<Vec<Lex
     requires { IsLexed text.now lexed.now.tokens lexed.now.defines }
     ensures { IfOk result (λ made. made.items ≡ lexemes_of text.now lexed.now.tokens) }
 {
-    token_slices();
     let Ok(text) = str::from_utf8(text) else {
         unreachable!()
     };
@@ -27,13 +26,13 @@ pub fn read_lexemes(alloc: Global, text: &[u8], lexed: &Lexed) -> Result<Vec<Lex
         let Some(word) = Word::part(shared.clone()?, start, end) else {
             unreachable!()
         };
-        made.push(lexeme(kind, Spot { word, start, end }))?;
+        made.push(lexeme(kind, TokenText { word, start, end }))?;
     }
     Ok(made)
 }
 
 // A token of a kind.
-fn lexeme(kind: Kind, spot: Spot) -> Lexeme
+fn lexeme(kind: Kind, spot: TokenText) -> Lexeme
     ensures { result ≡ lexeme_of kind spot }
 {
     match kind {
@@ -46,7 +45,7 @@ fn lexeme(kind: Kind, spot: Spot) -> Lexeme
 
 // An identifier is one of the words with a meaning of their own, or else a name.
 #[tactic(auto, unfolding(crate::specs::Lexemes::identifier_lexeme))]
-fn identifier_lexeme(spot: Spot) -> Lexeme
+fn identifier_lexeme(spot: TokenText) -> Lexeme
     ensures { result ≡ identifier_lexeme spot }
 {
     let word = &spot.word;
@@ -75,7 +74,7 @@ fn identifier_lexeme(spot: Spot) -> Lexeme
 
 // Any other identifier is a word of a combination, or else a name.
 #[tactic(auto, unfolding(crate::specs::Lexemes::type_lexeme))]
-fn type_lexeme(spot: Spot) -> Lexeme
+fn type_lexeme(spot: TokenText) -> Lexeme
     ensures { result ≡ type_lexeme spot }
 {
     let word = &spot.word;
@@ -106,7 +105,7 @@ fn type_lexeme(spot: Spot) -> Lexeme
 
 // A character that is a token by itself.
 #[tactic(auto, unfolding(crate::specs::Lexemes::mark_lexeme))]
-fn mark_lexeme(spot: Spot) -> Lexeme
+fn mark_lexeme(spot: TokenText) -> Lexeme
     ensures { result ≡ mark_lexeme spot }
 {
     let word = &spot.word;

@@ -12,6 +12,6 @@ mod stack;
 
 pub use faults::{BAD_MARKER_PLACE, UNCLOSED, UNEXPECTED, UNSUPPORTED};
 pub use laws::{one_search, some_search};
-pub use lexeme::{Bracket, Lexeme, Spot, TypeWord};
+pub use lexeme::{Bracket, Lexeme, TokenText, TypeWord};
 pub use lexemes::read_lexemes;
 pub use search::{End, find_items};

@@ -21,4 +21,4 @@ mod Members
 mod Structures
 mod Roots
 mod Sizes
-mod Whole
+pub mod Whole

@@ -28,7 +28,7 @@ use Rattle.gt_items.specs.declared.items.Stars.{Stars}
 use Rattle.gt_items.specs.declared.items.Stars.TheVariants.{Zero, One, Two, More}
 use Rattle.gt_layout.specs.declared.planes.Extent.{Extent}
 use Rattle.gt_layout.specs.declared.planes.Plane.{Plane}
-use Rattle.gt_layout.specs.declared.planes.Spot.{Spot}
+use Rattle.gt_layout.specs.declared.planes.FieldSpot.{FieldSpot}
 use Rattle.gt_layout.specs.declared.storages.Storage.{Storage}
 use Rattle.gt_layout.specs.declared.storages.Storage.TheVariants.{Bytes, Bits}
 use Rattle.gt_layout.specs.Storages.{bytes_of, extent, extent_at, extent_of, extent_of_plane, extent_step, storage_of, storages_of}
@@ -102,11 +102,11 @@ abbrev Takes : Storage → Type 0
 Takes (Bytes e) = 1 ≤ e.size
 Takes (Bits unit count) = 1 ≤ count
 
-end_some : (f : Storage) (s : Spot) (size : ℕ) → end_at f s ≤ 8 * size → Takes f → 1 ≤ size
+end_some : (f : Storage) (s : FieldSpot) (size : ℕ) → end_at f s ≤ 8 * size → Takes f → 1 ≤ size
 end_some (Bytes e) s size inside some = omega (arith, inside, some)
 end_some (Bits unit count) s size inside some = omega (arith, inside, some)
 
-plane_by : (union : Bool) (f : Storage) (fs : List Storage) (spots : List Spot) (size : ℕ) → Lie union (f ∷ fs) spots → All (λ end. end ≤ 8 * size) (ends (f ∷ fs) spots) → Takes f → 1 ≤ size
+plane_by : (union : Bool) (f : Storage) (fs : List Storage) (spots : List FieldSpot) (size : ℕ) → Lie union (f ∷ fs) spots → All (λ end. end ≤ 8 * size) (ends (f ∷ fs) spots) → Takes f → 1 ≤ size
 plane_by true f fs [] size lie inside some = absurd lie
 plane_by false f fs [] size lie inside some = absurd lie
 plane_by union f fs (s ∷ ss) size lie inside some = end_some f s size (All-head (λ (end : ℕ). end ≤ 8 * size) (end_at f s) (ends fs ss) inside) some

@@ -17,7 +17,7 @@ use Rattle.gt_drafts.specs.declared.types.BaseType.TheVariants as base
 use Rattle.gt_scope.specs.declared.declaration.Declaration.{Declaration}
 use Rattle.gt_scope.specs.declared.declaration.What.{What}
 use Rattle.gt_scope.specs.declared.declaration.What.TheVariants.{Structure, Typedef, Root, Cache}
-use Rattle.gt_scope.specs.declared.meaning.TypeName.{TypeName}
+use Rattle.gt_scope.specs.declared.meaning.TypedefMeaning.{TypedefMeaning}
 use Rattle.gt_drafts.specs.declared.draft.DraftWord.{DraftWord}
 use Rattle.gt_drafts.specs.Sameness.{same_bool}
 use Rattle.gt_resolve.specs.Faults.{is_tag, agree, clashes, redefinitions}
@@ -137,7 +137,7 @@ typedefs_named ds words = All-weaker Words (λ d. is_typedef d.what ≡ true →
 
 -- ---- declarations that do not clash
 
-module _ (all : List Declaration) (types : List TypeName) where
+module _ (all : List Declaration) (types : List TypedefMeaning) where
   -- a later declaration does not clash with an earlier one
   abbrev pub Apart : Declaration → Declaration → Type 0
   Apart earlier later = clashes all types later earlier ≡ false
@@ -282,7 +282,7 @@ kept_word : (P : List ℕ → Type 0) (name : List ℕ) (found : Option DraftWor
 kept_word P name None rest is h all = all
 kept_word P name (Some w) rest is h all = All-cons P w.name (map (λ x. x.name) rest) (subst P (sym is) h) all
 
-pub All-words : (P : List ℕ → Type 0) (types : List TypeName) → All P (map (λ t. t.name) types) → All P (map (λ w. w.name) (filter_map word_of types))
+pub All-words : (P : List ℕ → Type 0) (types : List TypedefMeaning) → All P (map (λ t. t.name) types) → All P (map (λ w. w.name) (filter_map word_of types))
 All-words P [] h = h
 All-words P (t ∷ types) h =
     kept_word P t.name (word_of t) (filter_map word_of types) (word_named t.name t.means.base t.means.stars)
@@ -294,7 +294,7 @@ distinct_word name None rest is h pairs = pairs
 distinct_word name (Some w) rest is h pairs =
     AllPairs-cons ◌≢◌ w.name (map (λ x. x.name) rest) (subst (λ n. All (λ other. n ≢ other) (map (λ x. x.name) rest)) (sym is) h) pairs
 
-pub distinct_words : (types : List TypeName) → AllPairs ◌≢◌ (map (λ t. t.name) types) → AllPairs ◌≢◌ (map (λ w. w.name) (filter_map word_of types))
+pub distinct_words : (types : List TypedefMeaning) → AllPairs ◌≢◌ (map (λ t. t.name) types) → AllPairs ◌≢◌ (map (λ w. w.name) (filter_map word_of types))
 distinct_words [] h = h
 distinct_words (t ∷ types) h =
     distinct_word t.name (word_of t) (filter_map word_of types) (word_named t.name t.means.base t.means.stars)

@@ -13,3 +13,4 @@ mod ReadFields
 mod ReadItems
 mod Tokens
 mod Headers
+pub mod Laws

@@ -12,7 +12,7 @@ use Rattle.gt_items.specs.declared.items.Items.{Items}
 use Rattle.gt_items.specs.declared.items.RawField.{RawField}
 use Rattle.gt_items.specs.declared.items.RawType.{RawType}
 use Rattle.gt_scope.specs.declared.declaration.Declaration.{Declaration}
-use Rattle.gt_scope.specs.declared.meaning.TypeName.{TypeName}
+use Rattle.gt_scope.specs.declared.meaning.TypedefMeaning.{TypedefMeaning}
 use Rattle.gt_drafts.specs.declared.draft.Draft.{Draft}
 use Rattle.gt_drafts.specs.declared.draft.DraftCache.{DraftCache}
 use Rattle.gt_drafts.specs.declared.draft.DraftField.{DraftField}
@@ -59,7 +59,7 @@ pub record IsMadeRoot (draft : Draft) (r : DraftRoot) : Type 0 where
 abbrev pub IsMadeCache : Draft → DraftCache → Type 0
 IsMadeCache draft c = IsName c.name.word × NamesStructure draft c.key.base × NamesStructure draft c.value.base
 
-module _ (draft : Draft) (ds : List Declaration) (types : List TypeName) (here : All (λ d. IsBelow (length draft.structures) d.what) ds) (mean : TypesMean draft types) where
+module _ (draft : Draft) (ds : List Declaration) (types : List TypedefMeaning) (here : All (λ d. IsBelow (length draft.structures) d.what) ds) (mean : TypesMean draft types) where
   no_bits : (is_function : Bool) (bits : Option (List ℕ)) → (is_function ≡ true → bits ≡ None) → is_function ≡ true → option_map (amount_in ds) bits ≡ None
   no_bits is_function bits plain h = ap (λ (o : Option (List ℕ)). option_map (amount_in ds) o) (plain h)
 

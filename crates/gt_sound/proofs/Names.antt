@@ -25,7 +25,7 @@ use Rattle.gt_scope.specs.declared.types.Spelled.TheVariants.{Number, Tagged}
 use Rattle.gt_scope.specs.declared.declaration.Declaration.{Declaration}
 use Rattle.gt_scope.specs.declared.declaration.What.{What}
 use Rattle.gt_scope.specs.declared.declaration.What.TheVariants.{Structure, Enum, Constant, Typedef, Root, Cache}
-use Rattle.gt_scope.specs.declared.meaning.TypeName.{TypeName}
+use Rattle.gt_scope.specs.declared.meaning.TypedefMeaning.{TypedefMeaning}
 use Rattle.gt_scope.specs.Spelling.{fixed_of}
 use Rattle.gt_scope.specs.Declarations.{Progress, define_of, defines_before, up_to, declare, is_in_range, with_constant, enumerate, next_count, value_at, enumerators, enum_tag, declare_enum, keyword_of, declare_alias, declare_aliases, declare_structure, meaning_type, declare_typedef, declare_item, declare_items, declare_file, declare_files, nothing_declared, declarations}
 use Rattle.gt_resolve.specs.Drafts.{structure_item, root_item, cache_item, items_from}
@@ -380,7 +380,7 @@ known-declarations files made =
 
 -- ---- the draft
 
-module _ (ds : List Declaration) (types : List TypeName) where
+module _ (ds : List Declaration) (types : List TypedefMeaning) where
   tags_in : (file : ℕ) (items : List Item) → map (λ s. s.tag.word) (filter_map (structure_item ds types file) items) ≡ names_in items tags
   tags_in file [] = refl
   tags_in file (item.Structure s ∷ items) = ap (λ words. s.tag.word ∷ words) (tags_in file items)

@@ -13,7 +13,7 @@ use Rattle.gt_items.specs.declared.items.Parameter.{Parameter}
 use Rattle.gt_items.specs.declared.items.RawOption.{RawOption}
 use Rattle.gt_items.specs.declared.items.RawType.{RawType}
 use Rattle.gt_items.specs.declared.items.Stars.{Stars}
-use Rattle.gt_marked.specs.declared.types.Place.{Place}
+use Rattle.gt_marked.specs.declared.types.Context.{Context}
 use Rattle.gt_marked.specs.MarkerGrammar.{Failure, Fault, Early, failed, IsParameter, Joins, AnOption, Options, MaybeOptions, Marker, MaybeMarker}
 use Rattle.gt_marked.specs.TypeGrammar.{Qualifiers, AreStars, MoreWords, BareType, AType}
 use Rattle.gt_sound.proofs.Expressions.{IsFormedParameter, absent_formed, text_formed, expression_formed}
@@ -127,7 +127,7 @@ words_read (MoreWords.host_wide s h1 h2 h3) named = (tt, qualifiers_read h3 name
 words_read (MoreWords.name_after s h1) named = (tt, named)
 words_read (MoreWords.no_word h1) named = (tt, named)
 
-pub bare_type_read : {place : Place} {ts : List Lexeme} {o : Outcome RawType} → BareType place ts o → AreNamed ts → Keeps IsAnyType o
+pub bare_type_read : {place : Context} {ts : List Lexeme} {o : Outcome RawType} → BareType place ts o → AreNamed ts → Keeps IsAnyType o
 bare_type_read (BareType.words w s h1) named = words_read h1 named
 bare_type_read (BareType.tagged k t s h1 h2 h3 h4) named = (tt, qualifiers_read h2 (qualifiers_read h1 named.1).1)
 bare_type_read (BareType.before_marker k t s g h1 h2 h3 h4 h5) named = (tt, qualifiers_read h3 (qualifiers_read h2 named.1).1)
@@ -144,5 +144,5 @@ bare_type_read (BareType.bitfield_no_name {rest = rest} s a h1 h2 h3 h4 h5) name
 bare_type_read (BareType.bitfield_not_closed {rest = rest} s a n h1 h2 h3 h4 h5) named = unexpected_keeps IsAnyType rest
 bare_type_read (BareType.no_type {ts = ts} h1) named = unexpected_keeps IsAnyType ts
 
-pub type_read : {place : Place} {ts : List Lexeme} {o : Outcome RawType} → AType place ts o → AreNamed ts → Keeps IsAnyType o
+pub type_read : {place : Context} {ts : List Lexeme} {o : Outcome RawType} → AType place ts o → AreNamed ts → Keeps IsAnyType o
 type_read (AType.type h1 h2) named = bare_type_read h2 (qualifiers_read h1 named)

@@ -12,7 +12,7 @@ use Rattle.gt_scope.specs.declared.types.Spelled.TheVariants as spelled
 use Rattle.gt_drafts.specs.declared.types.BaseType.{BaseType}
 use Rattle.gt_drafts.specs.declared.types.BaseType.TheVariants.{Number, Float, Double, Sizeless, Structure, Undefined}
 use Rattle.gt_drafts.specs.declared.types.Resolved.{Resolved}
-use Rattle.gt_scope.specs.declared.meaning.TypeName.{TypeName}
+use Rattle.gt_scope.specs.declared.meaning.TypedefMeaning.{TypedefMeaning}
 use Rattle.gt_scope.specs.declared.declaration.Declaration.{Declaration}
 use Rattle.gt_scope.specs.declared.declaration.What.{What}
 use Rattle.gt_scope.specs.declared.declaration.What.TheVariants as what
@@ -131,15 +131,15 @@ module _ (draft : Draft) where
   meaning_means ds word m here (inl found) = IfSome-at Means (follow ds found.0 word) m found.1 (follow_means ds found.0 word here)
   meaning_means ds word m here (inr none) = subst Means (sym none.1) tt
 
-  abbrev pub TypesMean : List TypeName → Type 0
+  abbrev pub TypesMean : List TypedefMeaning → Type 0
   TypesMean types = All (λ t. Means t.means) types
 
-  pub types_mean : (ds : List Declaration) (types : List TypeName) → AreHere ds → AreTypeNames ds types → TypesMean types
+  pub types_mean : (ds : List Declaration) (types : List TypedefMeaning) → AreHere ds → AreTypeNames ds types → TypesMean types
   types_mean ds types here are = All-weaker (λ t. IsMeaning ds t.name t.means) (λ t. Means t.means) (λ t h. meaning_means ds t.name t.means here h) types are.meanings
 
   -- ---- types
 
-  meaning_in_means : (types : List TypeName) (found : Option TypeName) → IfSome found (λ t. Means t.means) → IfSome (option_map (λ t. t.means) found) Means
+  meaning_in_means : (types : List TypedefMeaning) (found : Option TypedefMeaning) → IfSome found (λ t. Means t.means) → IfSome (option_map (λ t. t.means) found) Means
   meaning_in_means types None h = tt
   meaning_in_means types (Some t) h = h
 
@@ -147,7 +147,7 @@ module _ (draft : Draft) where
   starred_means None stars other h k = k
   starred_means (Some m) stars other h k = h
 
-  pub resolved_means : (ds : List Declaration) (types : List TypeName) (ty : Spelled) (stars : Stars) → AreHere ds → TypesMean types → Means (resolved_type ds types ty stars)
+  pub resolved_means : (ds : List Declaration) (types : List TypedefMeaning) (ty : Spelled) (stars : Stars) → AreHere ds → TypesMean types → Means (resolved_type ds types ty stars)
   unfolding resolved_type
   resolved_means ds types (spelled.Number scalar is_char) stars here mean = plain_here ds (spelled.Number scalar is_char) here
   resolved_means ds types spelled.Float stars here mean = plain_here ds spelled.Float here

@@ -18,7 +18,7 @@ use Rattle.gt_lex.specs.Texts.{IsLexed, Stands, ArePieces, fresh_after, token_at
 use Rattle.gt_items.specs.declared.items.Keyword.TheVariants as keyword
 use Rattle.gt_search.specs.declared.lexeme.Bracket.TheVariants.{Round, Square, Brace}
 use Rattle.gt_search.specs.declared.lexeme.TypeWord.TheVariants as word
-use Rattle.gt_search.specs.declared.lexeme.Spot.{Spot}
+use Rattle.gt_search.specs.declared.lexeme.TokenText.{TokenText}
 use Rattle.gt_search.specs.declared.lexeme.Lexeme.{Lexeme}
 use Rattle.gt_search.specs.declared.lexeme.Lexeme.TheVariants as lexeme
 use Rattle.gt_search.specs.declared.search.End.{End}
@@ -95,7 +95,7 @@ tokens_named text tokens defines is =
 -- ---- what tokens may be
 
 -- the token of the first word that a text is, or else another
-abbrev chosen : List (List ℕ × (Spot → Lexeme)) → Spot → Lexeme → Lexeme
+abbrev chosen : List (List ℕ × (TokenText → Lexeme)) → TokenText → Lexeme → Lexeme
 chosen [] s other = other
 chosen (word ∷ words) s other = if bytes_eq s.word word.0 then word.1 s else chosen words s other
 
@@ -103,16 +103,16 @@ either_named : (b : Bool) (x y : Lexeme) → Named x → Named y → Named (if b
 either_named true x y h k = h
 either_named false x y h k = k
 
-abbrev AreNoNames : List (List ℕ × (Spot → Lexeme)) → Spot → Type 0
+abbrev AreNoNames : List (List ℕ × (TokenText → Lexeme)) → TokenText → Type 0
 AreNoNames [] s = Unit {0}
 AreNoNames (word ∷ words) s = Named (word.1 s) × AreNoNames words s
 
-chosen_named : (words : List (List ℕ × (Spot → Lexeme))) (s : Spot) (other : Lexeme) → AreNoNames words s → Named other → Named (chosen words s other)
+chosen_named : (words : List (List ℕ × (TokenText → Lexeme))) (s : TokenText) (other : Lexeme) → AreNoNames words s → Named other → Named (chosen words s other)
 chosen_named [] s other none h = h
 chosen_named (word ∷ words) s other none h = either_named (bytes_eq s.word word.0) (word.1 s) (chosen words s other) none.0 (chosen_named words s other none.1 h)
 
 -- the words of combinations
-abbrev type_words : List (List ℕ × (Spot → Lexeme))
+abbrev type_words : List (List ℕ × (TokenText → Lexeme))
 type_words =
     (codes "unsigned", λ s. lexeme.Type word.Unsigned s) ∷
     (codes "signed", λ s. lexeme.Type word.Signed s) ∷
@@ -127,7 +127,7 @@ type_words =
     (codes "void", λ s. lexeme.Type word.Void s) ∷ []
 
 -- the words with a meaning of their own
-abbrev own_words : List (List ℕ × (Spot → Lexeme))
+abbrev own_words : List (List ℕ × (TokenText → Lexeme))
 own_words =
     (codes "GTY", λ s. lexeme.Gty s) ∷
     (codes "struct", λ s. lexeme.Tag keyword.Struct s) ∷
@@ -143,7 +143,7 @@ own_words =
     (codes "namespace", λ s. lexeme.Reserved s) ∷ []
 
 -- the characters that are tokens by themselves
-abbrev marks : List (List ℕ × (Spot → Lexeme))
+abbrev marks : List (List ℕ × (TokenText → Lexeme))
 marks =
     (codes "(", λ s. lexeme.Open Round s) ∷
     (codes ")", λ s. lexeme.Close Round s) ∷
@@ -159,19 +159,19 @@ marks =
     (codes "<", λ s. lexeme.Less s) ∷
     (codes ">", λ s. lexeme.Greater s) ∷ []
 
-type_named : (s : Spot) → IsName s.word → Named (type_lexeme s)
+type_named : (s : TokenText) → IsName s.word → Named (type_lexeme s)
 unfolding type_lexeme
 type_named s h = chosen_named type_words s (lexeme.Name s) (tt, (tt, (tt, (tt, (tt, (tt, (tt, (tt, (tt, (tt, (tt, tt))))))))))) h
 
-identifier_named : (s : Spot) → IsName s.word → Named (identifier_lexeme s)
+identifier_named : (s : TokenText) → IsName s.word → Named (identifier_lexeme s)
 unfolding identifier_lexeme
 identifier_named s h = chosen_named own_words s (type_lexeme s) (tt, (tt, (tt, (tt, (tt, (tt, (tt, (tt, (tt, (tt, (tt, (tt, tt)))))))))))) (type_named s h)
 
-mark_named : (s : Spot) → Named (mark_lexeme s)
+mark_named : (s : TokenText) → Named (mark_lexeme s)
 unfolding mark_lexeme
 mark_named s = chosen_named marks s (lexeme.Other s) (tt, (tt, (tt, (tt, (tt, (tt, (tt, (tt, (tt, (tt, (tt, (tt, (tt, tt))))))))))))) tt
 
-kind_named : (k : Kind) (s : Spot) → (k ≡ kind.Ident → IsName s.word) → Named (lexeme_of k s)
+kind_named : (k : Kind) (s : TokenText) → (k ≡ kind.Ident → IsName s.word) → Named (lexeme_of k s)
 kind_named kind.Ident s h = identifier_named s (h refl)
 kind_named kind.Number s h = tt
 kind_named kind.Quoted s h = tt

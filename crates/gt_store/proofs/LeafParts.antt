@@ -7,7 +7,7 @@ use Rattle.gt_types.specs.declared.types.Ty.{Ty}
 use Rattle.gt_types.specs.declared.program.Program.{Program}
 use Rattle.gt_types.specs.Settled.{Settled}
 use Rattle.gt_layout.specs.declared.planes.Plane.{Plane}
-use Rattle.gt_layout.specs.declared.planes.Spot.{Spot}
+use Rattle.gt_layout.specs.declared.planes.FieldSpot.{FieldSpot}
 use Rattle.gt_layout.specs.Places.{begin_at}
 use Rattle.gt_layout.specs.Planes.{AreLaidOut}
 use Rattle.gt_tree.specs.Trees.{Tree, Trees, End, And, count, tree_at, with_part, with_part_of}
@@ -37,12 +37,12 @@ among all before inner after b x c is there = is ∙ ap (λ ls. before ++ (ls ++
 
 -- ---- fields
 
-laid-more : {program : Program} {planes : List Plane} {capacity : ℕ} (from end : ℕ) (type : Ty) (types : List Ty) (s : Spot) (spots : List Spot)
+laid-more : {program : Program} {planes : List Plane} {capacity : ℕ} (from end : ℕ) (type : Ty) (types : List Ty) (s : FieldSpot) (spots : List FieldSpot)
     → Laid program planes capacity from (type ∷ types) (s ∷ spots) end → (w : ℕ) × (from ≤ begin_at s) × Room program planes capacity type w × Laid program planes capacity (begin_at s + w) types spots end
 laid-more from end type types s spots (Laid.more {width = w} le room rest) = (w, le, room, rest)
 
 -- the leaves of the value of one field among those of all
-pub record FieldAt (program : Program) (planes : List Plane) (blocks : Blocks) (capacity : ℕ) (scope : Scope) (at from end : ℕ) (types : List Ty) (spots : List Spot) (trees : Trees) (leaves : List Leaf) (i : ℕ) (type : Ty) (spot : Spot) (tree : Tree) : Type 0 where
+pub record FieldAt (program : Program) (planes : List Plane) (blocks : Blocks) (capacity : ℕ) (scope : Scope) (at from end : ℕ) (types : List Ty) (spots : List FieldSpot) (trees : Trees) (leaves : List Leaf) (i : ℕ) (type : Ty) (spot : FieldSpot) (tree : Tree) : Type 0 where
   pub before : List Leaf
   pub inner : List Leaf
   pub after : List Leaf
@@ -90,7 +90,7 @@ module _ {program : Program} {blocks : Blocks} {capacity : ℕ} {scope : Scope} 
   each-fit-at (And x xs) (suc i) path leaf type tree f fit = each-fit-at xs i path leaf type tree f (fits-one type x (with_part_of xs i path leaf) fit).1
 
 module _ (program : Program) (planes : List Plane) (blocks : Blocks) (capacity : ℕ) (settled : Settled program) (laid : AreLaidOut program planes) where
-  field-first : (scope : Scope) (at from end : ℕ) (type : Ty) (types : List Ty) (s : Spot) (spots : List Spot) (tree : Tree) (trees : Trees) (first rest : List Leaf)
+  field-first : (scope : Scope) (at from end : ℕ) (type : Ty) (types : List Ty) (s : FieldSpot) (spots : List FieldSpot) (tree : Tree) (trees : Trees) (first rest : List Leaf)
       → HasLeaves program planes (at + begin_at s) type tree first → FieldsHaveLeaves program planes at types spots trees rest
       → AllFit program blocks capacity scope (type ∷ types) (And tree trees) → Laid program planes capacity from (type ∷ types) (s ∷ spots) end
       → FieldAt program planes blocks capacity scope at from end (type ∷ types) (s ∷ spots) (And tree trees) (first ++ rest) zero type s tree
@@ -113,7 +113,7 @@ module _ (program : Program) (planes : List Plane) (blocks : Blocks) (capacity :
         back = λ path leaf other h. FieldsHaveLeaves.more h have;
       }
 
-  field-later : (scope : Scope) (at from end : ℕ) (type : Ty) (types : List Ty) (s : Spot) (spots : List Spot) (tree : Tree) (trees : Trees) (first rest : List Leaf) (w : ℕ) (i : ℕ) (t : Ty) (p : Spot) (x : Tree)
+  field-later : (scope : Scope) (at from end : ℕ) (type : Ty) (types : List Ty) (s : FieldSpot) (spots : List FieldSpot) (tree : Tree) (trees : Trees) (first rest : List Leaf) (w : ℕ) (i : ℕ) (t : Ty) (p : FieldSpot) (x : Tree)
       → HasLeaves program planes (at + begin_at s) type tree first → Fits program blocks capacity scope type tree → from ≤ begin_at s → Room program planes capacity type w
       → FieldAt program planes blocks capacity scope at (begin_at s + w) end types spots trees rest i t p x
       → FieldAt program planes blocks capacity scope at from end (type ∷ types) (s ∷ spots) (And tree trees) (first ++ rest) (suc i) t p x
@@ -138,8 +138,8 @@ module _ (program : Program) (planes : List Plane) (blocks : Blocks) (capacity :
             (FieldsHaveLeaves.more has (q.back path leaf other h));
       }
 
-  pub field-at : {at : ℕ} {types : List Ty} {spots : List Spot} {trees : Trees} {leaves : List Leaf} → FieldsHaveLeaves program planes at types spots trees leaves
-      → (scope : Scope) (from end i : ℕ) (type : Ty) (spot : Spot) (tree : Tree) → slice_get types i ≡ Some type → slice_get spots i ≡ Some spot → tree_at trees i ≡ Some tree
+  pub field-at : {at : ℕ} {types : List Ty} {spots : List FieldSpot} {trees : Trees} {leaves : List Leaf} → FieldsHaveLeaves program planes at types spots trees leaves
+      → (scope : Scope) (from end i : ℕ) (type : Ty) (spot : FieldSpot) (tree : Tree) → slice_get types i ≡ Some type → slice_get spots i ≡ Some spot → tree_at trees i ≡ Some tree
       → AllFit program blocks capacity scope types trees → Laid program planes capacity from types spots end
       → FieldAt program planes blocks capacity scope at from end types spots trees leaves i type spot tree
   field-at FieldsHaveLeaves.none scope from end i type spot tree e f g fit lies = absurd (cc)

@@ -15,7 +15,7 @@ use Rattle.gt_types.specs.Contains.{HasStructure}
 use Rattle.gt_types.specs.Unions.{IsCommon}
 use Rattle.gt_types.specs.Settled.{Settled}
 use Rattle.gt_layout.specs.declared.planes.Plane.{Plane}
-use Rattle.gt_layout.specs.declared.planes.Spot.{Spot}
+use Rattle.gt_layout.specs.declared.planes.FieldSpot.{FieldSpot}
 use Rattle.gt_layout.specs.Storages.{extent_of}
 use Rattle.gt_layout.specs.Places.{begin_at}
 use Rattle.gt_layout.specs.Planes.{AreLaidOut}
@@ -187,7 +187,7 @@ types-at (g ∷ fs) (suc i) f e = types-at fs i f e
 -- ---- the whole path
 
 module _ (program : Program) (planes : List Plane) (blocks : Blocks) (capacity : ℕ) (settled : Settled program) (laid : AreLaidOut program planes) where
-  at-field : (at b i : ℕ) (node : TypeId) (desc : Option Expr) (s : Structure) (plane : Plane) (f : Field) (spot : Spot) (trees : Trees) (tree : Tree) (path : List ℕ) (p : Part) (leaves : List Leaf) (scope : Scope)
+  at-field : (at b i : ℕ) (node : TypeId) (desc : Option Expr) (s : Structure) (plane : Plane) (f : Field) (spot : FieldSpot) (trees : Trees) (tree : Tree) (path : List ℕ) (p : Part) (leaves : List Leaf) (scope : Scope)
       → HasStructure program node s → s.is_union ≡ false → slice_get planes node.0 ≡ Some plane
       → (q : FieldAt program planes blocks capacity scope at 0 b (types_of s.fields) plane.fields trees leaves i f.ty spot tree) → slice_get (types_of s.fields) i ≡ Some f.ty → tree_at trees i ≡ Some tree
       → PartAt program planes blocks capacity (at + begin_at spot) q.width f.ty tree path p q.inner → PartAt program planes blocks capacity at b (ty.Node node desc) (Rec trees) (i ∷ path) p leaves

@@ -8,7 +8,7 @@ use Rattle.gt_types.specs.declared.types.Ty.{Ty}
 use Rattle.gt_types.specs.declared.program.Root.{Root}
 use Rattle.gt_types.specs.declared.program.Program.{Program}
 use Rattle.gt_types.specs.Settled.{Settled, IsRoot}
-use Rattle.gt_layout.specs.declared.planes.Spot.{Spot}
+use Rattle.gt_layout.specs.declared.planes.FieldSpot.{FieldSpot}
 use Rattle.gt_layout.specs.declared.planes.Layouts.{Layouts}
 use Rattle.gt_layout.specs.Storages.{storage_of}
 use Rattle.gt_layout.specs.Places.{begin_at}
@@ -232,7 +232,7 @@ module _ (program : Program) (layouts : Layouts) (settled : Settled program) (la
   rec-same a b e = cc
 
   -- the part that is written lies in the value of one root
-  module _ (blocks : Blocks) (old new : Range) (values : Trees) (i : ℕ) (rest : List ℕ) (leaf : Tree) (p : Part) (place : Place) (is : LeafContent) (type : Ty) (spot : Spot) (tree : Tree)
+  module _ (blocks : Blocks) (old new : Range) (values : Trees) (i : ℕ) (rest : List ℕ) (leaf : Tree) (p : Part) (place : Place) (is : LeafContent) (type : Ty) (spot : FieldSpot) (tree : Tree)
       (inside : IsInside old old.start layouts.statics.size) (are : AreStaticsOf program layouts blocks itself (bytes_at old old.start layouts.statics.size) values)
       (at : IsPlaceOfPart program old old.start p place) (fresh : IsNewLeaf p place is leaf) (fits : StaticsFit program blocks (with_part_of values i rest leaf)) (written : IsLeafWritten place is old new)
       (f : FieldAt program layouts.structures blocks 0 (outside values) 0 0 (8 * layouts.statics.size) (root_types program) layouts.statics.fields values are.leaves i type spot tree)

@@ -10,7 +10,7 @@ use Rattle.std.proofs.Math.Nat.{min-eq_left}
 use Rattle.gt_types.specs.declared.limits.TheConstants.{TOO_LARGE}
 use Rattle.gt_layout.specs.declared.planes.TheConstants.{MAX_SIZE}
 use Rattle.gt_layout.specs.declared.planes.Plane.{Plane}
-use Rattle.gt_layout.specs.declared.planes.Spot.{Spot}
+use Rattle.gt_layout.specs.declared.planes.FieldSpot.{FieldSpot}
 use Rattle.gt_layout.specs.Places.{begin_at}
 use Rattle.gt_space.specs.Range.{Range, KeepsAddresses}
 use Rattle.gt_tree.specs.Trees.{Trees, End, And}
@@ -58,12 +58,12 @@ types-at (g ∷ fs) (suc i) f e = types-at fs i f e
 -- ---- fields
 
 -- what holds when the values of so many fields are written
-pub record FieldsLoop (program : Program) (planes : List Plane) (at : ℕ) (types : List Ty) (spots : List Spot) (values : List Value) (i : ℕ) (old now : Range) : Type 0 where
+pub record FieldsLoop (program : Program) (planes : List Plane) (at : ℕ) (types : List Ty) (spots : List FieldSpot) (values : List Value) (i : ℕ) (old now : Range) : Type 0 where
   pub keeps : KeepsAddresses old now
   pub can : CanFields program planes now at (drop i types) (drop i spots) (rest_of values i)
   pub done : (new : Range) → FieldsWritten program planes at (drop i types) (drop i spots) (rest_of values i) now new → FieldsWritten program planes at types spots (trees (map tree_of values)) old new
 
-module _ (program : Program) (planes : List Plane) (at : ℕ) (types : List Ty) (spots : List Spot) (values : List Value) where
+module _ (program : Program) (planes : List Plane) (at : ℕ) (types : List Ty) (spots : List FieldSpot) (values : List Value) where
   pub fields-init : (range : Range) → CanFields program planes range at types spots (trees (map tree_of values)) → FieldsLoop program planes at types spots values 0 range range
   fields-init range can = record { keeps = record { start = refl; len = refl }; can = can; done = λ new w. w }
 
@@ -80,7 +80,7 @@ module _ (program : Program) (planes : List Plane) (at : ℕ) (types : List Ty) 
         let some = fields-cons at (drop i types) (drop i spots) (tree_of v) (rest_of values (i + 1)) here.leaves here.have in
         (omega (arith, some.0, length-drop i types), omega (arith, some.1, length-drop i spots))
 
-    module _ (type : Ty) (s : Spot) (typed : slice_get types i ≡ Some type) (placed : slice_get spots i ≡ Some s) where
+    module _ (type : Ty) (s : FieldSpot) (typed : slice_get types i ≡ Some type) (placed : slice_get spots i ≡ Some s) where
       both : CanFields program planes now at (type ∷ drop (i + 1) types) (s ∷ drop (i + 1) spots) (And (tree_of v) (rest_of values (i + 1)))
       both =
           subst (λ ss. CanFields program planes now at (type ∷ drop (i + 1) types) ss (And (tree_of v) (rest_of values (i + 1)))) (drop-slice spots i s placed)

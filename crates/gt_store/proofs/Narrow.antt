@@ -27,7 +27,7 @@ use Rattle.gt_types.specs.Contains.{HasStructure}
 use Rattle.gt_types.specs.Tails.{elements_of, elements_at, tail_of, only_last_is_tail, no_tails}
 use Rattle.gt_types.specs.Settled.{Settled, IsField, IsStruct, IsUnion, IsOfItsKind, IsRoot}
 use Rattle.gt_layout.specs.declared.planes.Plane.{Plane}
-use Rattle.gt_layout.specs.declared.planes.Spot.{Spot}
+use Rattle.gt_layout.specs.declared.planes.FieldSpot.{FieldSpot}
 use Rattle.gt_layout.specs.declared.planes.Layouts.{Layouts}
 use Rattle.gt_layout.specs.declared.planes.TheConstants.{MAX_SIZE}
 use Rattle.gt_layout.specs.declared.storages.Storage.{Storage}
@@ -44,7 +44,7 @@ use Rattle.gt_tree.proofs.FixedTypes.{element-no_tail, tail_element-no_tail}
 
 -- ---- what ends inside
 
-inside-follow : (from : ℕ) (fs : List Storage) (ss : List Spot) (i : ℕ) (f : Storage) (b : ℕ) → Follow from fs ss → All (λ e. e ≤ b) (ends fs ss) → slice_get fs i ≡ Some f → (s : Spot) × (end_at f s ≤ b)
+inside-follow : (from : ℕ) (fs : List Storage) (ss : List FieldSpot) (i : ℕ) (f : Storage) (b : ℕ) → Follow from fs ss → All (λ e. e ≤ b) (ends fs ss) → slice_get fs i ≡ Some f → (s : FieldSpot) × (end_at f s ≤ b)
 inside-follow from [] ss i f b l a got = absurd (cc)
 inside-follow from (g ∷ fs) [] i f b l a got = absurd l
 inside-follow from (g ∷ fs) (s ∷ ss) zero f b l a got =
@@ -52,7 +52,7 @@ inside-follow from (g ∷ fs) (s ∷ ss) zero f b l a got =
     (s, subst (λ h. end_at h s ≤ b) same (All-head (λ e. e ≤ b) (end_at g s) (ends fs ss) a))
 inside-follow from (g ∷ fs) (s ∷ ss) (suc i) f b l a got = inside-follow (end_at g s) fs ss i f b l.2 (All-tail (λ e. e ≤ b) (end_at g s) (ends fs ss) a) got
 
-inside-overlap : (fs : List Storage) (ss : List Spot) (i : ℕ) (f : Storage) (b : ℕ) → Overlap fs ss → All (λ e. e ≤ b) (ends fs ss) → slice_get fs i ≡ Some f → (s : Spot) × (end_at f s ≤ b)
+inside-overlap : (fs : List Storage) (ss : List FieldSpot) (i : ℕ) (f : Storage) (b : ℕ) → Overlap fs ss → All (λ e. e ≤ b) (ends fs ss) → slice_get fs i ≡ Some f → (s : FieldSpot) × (end_at f s ≤ b)
 inside-overlap [] ss i f b l a got = absurd (cc)
 inside-overlap (g ∷ fs) [] i f b l a got = absurd l
 inside-overlap (g ∷ fs) (s ∷ ss) zero f b l a got =
@@ -60,7 +60,7 @@ inside-overlap (g ∷ fs) (s ∷ ss) zero f b l a got =
     (s, subst (λ h. end_at h s ≤ b) same (All-head (λ e. e ≤ b) (end_at g s) (ends fs ss) a))
 inside-overlap (g ∷ fs) (s ∷ ss) (suc i) f b l a got = inside-overlap fs ss i f b l.1 (All-tail (λ e. e ≤ b) (end_at g s) (ends fs ss) a) got
 
-inside-lie : (u : Bool) (fs : List Storage) (ss : List Spot) (i : ℕ) (f : Storage) (b : ℕ) → Lie u fs ss → All (λ e. e ≤ b) (ends fs ss) → slice_get fs i ≡ Some f → (s : Spot) × (end_at f s ≤ b)
+inside-lie : (u : Bool) (fs : List Storage) (ss : List FieldSpot) (i : ℕ) (f : Storage) (b : ℕ) → Lie u fs ss → All (λ e. e ≤ b) (ends fs ss) → slice_get fs i ≡ Some f → (s : FieldSpot) × (end_at f s ≤ b)
 inside-lie true fs ss i f b l a got = inside-overlap fs ss i f b l a got
 inside-lie false fs ss i f b l a got = inside-follow 0 fs ss i f b l a got
 

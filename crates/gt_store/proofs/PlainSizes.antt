@@ -13,7 +13,7 @@ use Rattle.gt_types.specs.Settled.{Settled}
 use Rattle.gt_types.specs.Tails.{tail_of}
 use Rattle.gt_layout.specs.declared.planes.Layouts.{Layouts}
 use Rattle.gt_layout.specs.declared.planes.Plane.{Plane}
-use Rattle.gt_layout.specs.declared.planes.Spot.{Spot}
+use Rattle.gt_layout.specs.declared.planes.FieldSpot.{FieldSpot}
 use Rattle.gt_layout.specs.declared.storages.Storage.TheVariants.{Bytes}
 use Rattle.gt_layout.specs.Storages.{extent_at, extent_of, extent_of_plane, storage_of, storages_of}
 use Rattle.gt_layout.specs.Places.{Follow, Lie, Overlap, end_at, end_of, ends, last_offset}
@@ -50,7 +50,7 @@ tail-sized planes fs plane elem n size t follow whole sized =
     (λ bound h. let le = last.least bound h in All-cons (λ end. end ≤ bound) one [] (omega (arith, le)) (All-nil (λ end. end ≤ bound)))
     sized whole
 
-other-begin : (planes : List Plane) (type : Ty) (s : Spot) → s ≡ record { offset = 0; bit = 0 } → end_at (storage_of planes type) s ≡ end_of (storage_of planes type) 0
+other-begin : (planes : List Plane) (type : Ty) (s : FieldSpot) → s ≡ record { offset = 0; bit = 0 } → end_at (storage_of planes type) s ≡ end_of (storage_of planes type) 0
 other-begin planes type s e = ap (λ x. end_at (storage_of planes type) x) e
 
 module _ (program : Program) (planes : List Plane) (laid : AreLaidOut program planes) where
@@ -67,7 +67,7 @@ module _ (program : Program) (planes : List Plane) (laid : AreLaidOut program pl
         let same = member-ends s.fields own plane.fields members overlap in
         same-size plane.align own own size plane.size (λ n h. h) (λ n h. h) sized (subst (λ es. IsSize plane.align es plane.size) (sym same) its.size) ∙ ap (λ o. (extent_of_plane o).size) (sym got)
 
-    member-ends : (fs : List Field) (own : List ℕ) (spots : List Spot) → MemberEnds program planes 0 fs own → Overlap (storages_of planes fs) spots → own ≡ ends (storages_of planes fs) spots
+    member-ends : (fs : List Field) (own : List ℕ) (spots : List FieldSpot) → MemberEnds program planes 0 fs own → Overlap (storages_of planes fs) spots → own ≡ ends (storages_of planes fs) spots
     member-ends [] own [] MemberEnds.none h = refl
     member-ends [] own (s ∷ ss) MemberEnds.none h = absurd h
     member-ends (f ∷ fs) own [] m h = absurd h

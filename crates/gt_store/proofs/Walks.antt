@@ -7,7 +7,7 @@ use Rattle.gt_types.specs.declared.types.Ty.{Ty}
 use Rattle.gt_types.specs.declared.types.Ty.TheVariants as ty
 use Rattle.gt_types.specs.declared.program.Program.{Program}
 use Rattle.gt_layout.specs.declared.planes.Plane.{Plane}
-use Rattle.gt_layout.specs.declared.planes.Spot.{Spot}
+use Rattle.gt_layout.specs.declared.planes.FieldSpot.{FieldSpot}
 use Rattle.gt_layout.specs.declared.storages.Storage.{Storage}
 use Rattle.gt_layout.specs.Storages.{bytes_of, storage_of, extent_of}
 use Rattle.gt_layout.specs.Places.{begin_at, end_at, spot_of, Follow}
@@ -58,7 +58,7 @@ module _ {program : Program} {planes : List Plane} where
     after (HasLeaves.array e each) = after_each each
     after (HasLeaves.tail e each) = after_each each
 
-    after_fields : {at : ℕ} {types : List Ty} {spots : List Spot} {trees : Trees} {ls : List Leaf} → FieldsHaveLeaves program planes at types spots trees ls → All (From at) ls
+    after_fields : {at : ℕ} {types : List Ty} {spots : List FieldSpot} {trees : Trees} {ls : List Leaf} → FieldsHaveLeaves program planes at types spots trees ls → All (From at) ls
     after_fields (FieldsHaveLeaves.none {at}) = All-nil (From at)
     after_fields (FieldsHaveLeaves.more {at} {s} {first} {rest} inner others) = All-append (From at) first rest (from-more at (begin_at s) first (after inner)) (after_fields others)
 
@@ -142,12 +142,12 @@ module _ {program : Program} {planes : List Plane} where
 -- ---- fields
 
 -- each type stands at its spot
-abbrev pub StandAll : ℕ → List Ty → List Spot → Type 0
+abbrev pub StandAll : ℕ → List Ty → List FieldSpot → Type 0
 StandAll at (t ∷ ts) (s ∷ ss) = StandsAt t (at + begin_at s) × StandAll at ts ss
 StandAll at _ _ = Unit {0}
 
 -- values of fields fit, and have their leaves in a space at their places
-pub record CanFields (program : Program) (planes : List Plane) (range : Range) (at : ℕ) (types : List Ty) (spots : List Spot) (values : Trees) : Type 0 where
+pub record CanFields (program : Program) (planes : List Plane) (range : Range) (at : ℕ) (types : List Ty) (spots : List FieldSpot) (values : Trees) : Type 0 where
   pub blocks : Blocks
   pub capacity : ℕ
   pub scope : Scope
@@ -159,28 +159,28 @@ pub record CanFields (program : Program) (planes : List Plane) (range : Range) (
   pub stand : StandAll at types spots
   pub near : IsNear range at
 
-abbrev pub FieldsWritten : Program → List Plane → ℕ → List Ty → List Spot → Trees → Range → Range → Type 0
+abbrev pub FieldsWritten : Program → List Plane → ℕ → List Ty → List FieldSpot → Trees → Range → Range → Type 0
 FieldsWritten program planes at types spots values old new = (leaves : List Leaf) → FieldsHaveLeaves program planes at types spots values leaves → LieIn old leaves → Overlays (written leaves) old new
 
 module _ {program : Program} {planes : List Plane} where
-  pub fields-none : (at : ℕ) (types : List Ty) (spots : List Spot) (range : Range) → FieldsWritten program planes at types spots End range range
+  pub fields-none : (at : ℕ) (types : List Ty) (spots : List FieldSpot) (range : Range) → FieldsWritten program planes at types spots End range range
   fields-none at types spots range leaves FieldsHaveLeaves.none lie = overlays-none range
 
-  pub fields-step : (at : ℕ) (type : Ty) (types : List Ty) (s : Spot) (spots : List Spot) (tree : Tree) (rest : Trees) (a b c : Range) → KeepsAddresses a b → IsWritten program planes (at + begin_at s) type tree a b
+  pub fields-step : (at : ℕ) (type : Ty) (types : List Ty) (s : FieldSpot) (spots : List FieldSpot) (tree : Tree) (rest : Trees) (a b c : Range) → KeepsAddresses a b → IsWritten program planes (at + begin_at s) type tree a b
       → FieldsWritten program planes at types spots rest b c → FieldsWritten program planes at (type ∷ types) (s ∷ spots) (And tree rest) a c
   fields-step at type types s spots tree rest a b c keeps w v leaves (FieldsHaveLeaves.more {first} {rest = more} has have) lie =
       let lies = lie-both a first more lie in
       written-both a b c first more lie (w first has lies.0) (v more have (lie-same a b more keeps lies.1))
 
-  pub fields-cons : (at : ℕ) (types : List Ty) (spots : List Spot) (tree : Tree) (rest : Trees) (leaves : List Leaf) → FieldsHaveLeaves program planes at types spots (And tree rest) leaves
+  pub fields-cons : (at : ℕ) (types : List Ty) (spots : List FieldSpot) (tree : Tree) (rest : Trees) (leaves : List Leaf) → FieldsHaveLeaves program planes at types spots (And tree rest) leaves
       → (1 ≤ length types) × (1 ≤ length spots)
   fields-cons at types spots tree rest leaves (FieldsHaveLeaves.more has have) = (omega arith, omega arith)
 
-  fields-split : (at : ℕ) (type : Ty) (types : List Ty) (s : Spot) (spots : List Spot) (tree : Tree) (rest : Trees) (leaves : List Leaf) → FieldsHaveLeaves program planes at (type ∷ types) (s ∷ spots) (And tree rest) leaves
+  fields-split : (at : ℕ) (type : Ty) (types : List Ty) (s : FieldSpot) (spots : List FieldSpot) (tree : Tree) (rest : Trees) (leaves : List Leaf) → FieldsHaveLeaves program planes at (type ∷ types) (s ∷ spots) (And tree rest) leaves
       → (first : List Leaf) × (more : List Leaf) × (leaves ≡ first ++ more) × HasLeaves program planes (at + begin_at s) type tree first × FieldsHaveLeaves program planes at types spots rest more
   fields-split at type types s spots tree rest leaves (FieldsHaveLeaves.more {first} {rest = more} has have) = (first, more, refl, has, have)
 
-  pub fields-first : (range : Range) (at : ℕ) (type : Ty) (types : List Ty) (s : Spot) (spots : List Spot) (tree : Tree) (rest : Trees)
+  pub fields-first : (range : Range) (at : ℕ) (type : Ty) (types : List Ty) (s : FieldSpot) (spots : List FieldSpot) (tree : Tree) (rest : Trees)
       → CanFields program planes range at (type ∷ types) (s ∷ spots) (And tree rest) → CanStorePart program planes range at type s tree
   fields-first range at type types s spots tree rest can =
       let parts = fields-split at type types s spots tree rest can.leaves can.have in
@@ -199,7 +199,7 @@ module _ {program : Program} {planes : List Plane} where
         near = can.near;
       }
 
-  pub fields-rest : (a b : Range) (at : ℕ) (type : Ty) (types : List Ty) (s : Spot) (spots : List Spot) (tree : Tree) (rest : Trees) → KeepsAddresses a b
+  pub fields-rest : (a b : Range) (at : ℕ) (type : Ty) (types : List Ty) (s : FieldSpot) (spots : List FieldSpot) (tree : Tree) (rest : Trees) → KeepsAddresses a b
       → CanFields program planes a at (type ∷ types) (s ∷ spots) (And tree rest) → CanFields program planes b at types spots rest
   fields-rest a b at type types s spots tree rest keeps can =
       let parts = fields-split at type types s spots tree rest can.leaves can.have in
@@ -220,10 +220,10 @@ module _ {program : Program} {planes : List Plane} where
 
 -- ---- where fields stand
 
-bytes-stand : (at : ℕ) (s : Spot) (e : _) → at % 8 ≡ 0 → s ≡ spot_of (Rattle.gt_layout.specs.declared.storages.Storage.TheVariants.Bytes e) (begin_at s) → (at + begin_at s) % 8 ≡ 0
+bytes-stand : (at : ℕ) (s : FieldSpot) (e : _) → at % 8 ≡ 0 → s ≡ spot_of (Rattle.gt_layout.specs.declared.storages.Storage.TheVariants.Bytes e) (begin_at s) → (at + begin_at s) % 8 ≡ 0
 bytes-stand at s e whole is = let b = ap (λ x. x.bit) is in omega (arith, whole, b)
 
-field-stands : (planes : List Plane) (at : ℕ) (s : Spot) (type : Ty) → at % 8 ≡ 0 → s ≡ spot_of (storage_of planes type) (begin_at s) → StandsAt type (at + begin_at s)
+field-stands : (planes : List Plane) (at : ℕ) (s : FieldSpot) (type : Ty) → at % 8 ≡ 0 → s ≡ spot_of (storage_of planes type) (begin_at s) → StandsAt type (at + begin_at s)
 field-stands planes at s (ty.Bits unit count) whole is = tt
 field-stands planes at s (ty.Num scalar) whole is = bytes-stand at s (extent_of planes (ty.Num scalar)) whole is
 field-stands planes at s (ty.Opaque size align) whole is = bytes-stand at s (extent_of planes (ty.Opaque size align)) whole is
@@ -233,7 +233,7 @@ field-stands planes at s (ty.Node node desc) whole is = bytes-stand at s (extent
 field-stands planes at s (ty.Arr' n shape elem) whole is = bytes-stand at s (extent_of planes (ty.Arr' n shape elem)) whole is
 field-stands planes at s (ty.Tail' count shape elem) whole is = bytes-stand at s (extent_of planes (ty.Tail' count shape elem)) whole is
 
-pub follow-stand : {X : Type 0} (type_of : X → Ty) (planes : List Plane) (at from : ℕ) (xs : List X) (spots : List Spot) → at % 8 ≡ 0 → Follow from (map (λ x. storage_of planes (type_of x)) xs) spots
+pub follow-stand : {X : Type 0} (type_of : X → Ty) (planes : List Plane) (at from : ℕ) (xs : List X) (spots : List FieldSpot) → at % 8 ≡ 0 → Follow from (map (λ x. storage_of planes (type_of x)) xs) spots
     → StandAll at (map type_of xs) spots
 follow-stand type_of planes at from [] [] whole f = tt
 follow-stand type_of planes at from [] (s ∷ ss) whole f = absurd f
@@ -279,7 +279,7 @@ module _ {program : Program} {planes : List Plane} where
     plain (HasLeaves.array {trees = parts} o each) e = plain_each each (let same : all_without_pointers parts ≡ parts = cc in same)
     plain (HasLeaves.tail {trees = parts} o each) e = plain_each each (let same : all_without_pointers parts ≡ parts = cc in same)
 
-    plain_fields : {at : ℕ} {types : List Ty} {spots : List Spot} {parts : Trees} {ls : List Leaf} → FieldsHaveLeaves program planes at types spots parts ls → all_without_pointers parts ≡ parts → All Plain ls
+    plain_fields : {at : ℕ} {types : List Ty} {spots : List FieldSpot} {parts : Trees} {ls : List Leaf} → FieldsHaveLeaves program planes at types spots parts ls → all_without_pointers parts ≡ parts → All Plain ls
     plain_fields FieldsHaveLeaves.none e = All-nil Plain
     plain_fields (FieldsHaveLeaves.more {tree} {trees = parts} {first} {rest} inner others) e =
         All-append Plain first rest (plain inner (let same : without_pointers tree ≡ tree = cc in same)) (plain_fields others (let same : all_without_pointers parts ≡ parts = cc in same))

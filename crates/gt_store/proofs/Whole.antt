@@ -9,7 +9,7 @@ use Rattle.gt_types.specs.declared.types.Ty.{Ty}
 use Rattle.gt_types.specs.declared.types.Ty.TheVariants as ty
 use Rattle.gt_types.specs.declared.program.Program.{Program}
 use Rattle.gt_layout.specs.declared.planes.Plane.{Plane}
-use Rattle.gt_layout.specs.declared.planes.Spot.{Spot}
+use Rattle.gt_layout.specs.declared.planes.FieldSpot.{FieldSpot}
 use Rattle.gt_layout.specs.Places.{begin_at}
 use Rattle.gt_space.specs.Range.{Range, IsInside, with_bytes}
 use Rattle.gt_space.proofs.RangeLemmas.{length-with_bytes}
@@ -64,7 +64,7 @@ module _ {program : Program} {planes : List Plane} (d : ℕ) where
     has-shifted (HasLeaves.array e each) = HasLeaves.array e (each-shifted each)
     has-shifted (HasLeaves.tail e each) = HasLeaves.tail e (each-shifted each)
 
-    fields-shifted : {at : ℕ} {types : List Ty} {spots : List Spot} {trees : Trees} {ls : List Leaf} → FieldsHaveLeaves program planes at types spots trees ls
+    fields-shifted : {at : ℕ} {types : List Ty} {spots : List FieldSpot} {trees : Trees} {ls : List Leaf} → FieldsHaveLeaves program planes at types spots trees ls
         → FieldsHaveLeaves program planes (at + d) types spots trees (shifted d ls)
     fields-shifted FieldsHaveLeaves.none = FieldsHaveLeaves.none
     fields-shifted (FieldsHaveLeaves.more {at} {type} {types} {s} {spots} {tree} {trees} {first} {rest} inner others) =

@@ -9,7 +9,7 @@ use Rattle.gt_types.specs.declared.program.Program.{Program}
 use Rattle.gt_types.specs.Shapes.{is_structure}
 use Rattle.gt_layout.specs.declared.planes.Plane.{Plane}
 use Rattle.gt_layout.specs.declared.planes.TheConstants.{MAX_SIZE}
-use Rattle.gt_layout.specs.declared.planes.Spot.{Spot}
+use Rattle.gt_layout.specs.declared.planes.FieldSpot.{FieldSpot}
 use Rattle.gt_layout.specs.Places.{begin_at}
 use Rattle.gt_space.specs.Range.{Range, KeepsAddresses}
 use Rattle.gt_tree.specs.Trees.{Tree, Trees}
@@ -81,7 +81,7 @@ pub record CanStore (program : Program) (planes : List Plane) (range : Range) (a
   pub near : IsNear range at
 
 -- so for a field at its place, which may be too far where it has no leaves
-pub record CanStorePart (program : Program) (planes : List Plane) (range : Range) (at : ℕ) (type : Ty) (spot : Spot) (tree : Tree) : Type 0 where
+pub record CanStorePart (program : Program) (planes : List Plane) (range : Range) (at : ℕ) (type : Ty) (spot : FieldSpot) (tree : Tree) : Type 0 where
   pub blocks : Blocks
   pub capacity : ℕ
   pub scope : Scope

@@ -23,7 +23,7 @@ use Rattle.gt_types.specs.Paths.{Leads, last_step, next_step, by_place, LeadsToO
 use Rattle.gt_types.specs.Settled.{Settled}
 use Rattle.gt_layout.specs.declared.planes.TheConstants.{MAX_SIZE}
 use Rattle.gt_layout.specs.declared.planes.Plane.{Plane}
-use Rattle.gt_layout.specs.declared.planes.Spot.{Spot}
+use Rattle.gt_layout.specs.declared.planes.FieldSpot.{FieldSpot}
 use Rattle.gt_layout.specs.declared.planes.Layouts.{Layouts}
 use Rattle.gt_layout.specs.declared.storages.Storage.{Storage}
 use Rattle.gt_layout.specs.declared.storages.Storage.TheVariants.{Bytes, Bits}
@@ -40,18 +40,18 @@ use Rattle.gt_tables.specs.Chains.{field_type, field_offset, LeadsByPlace}
 
 -- ---- a field lies inside its structure
 
-overlap-long : (fields : List Storage) (spots : List Spot) → Overlap fields spots → length fields ≡ length spots
+overlap-long : (fields : List Storage) (spots : List FieldSpot) → Overlap fields spots → length fields ≡ length spots
 overlap-long [] [] h = refl
 overlap-long [] (s ∷ ss) h = absurd h
 overlap-long (f ∷ fs) [] h = absurd h
 overlap-long (f ∷ fs) (s ∷ ss) h = ap suc (overlap-long fs ss h.1)
 
-pub lie-long : (u : Bool) (fields : List Storage) (spots : List Spot) → Lie u fields spots → length fields ≡ length spots
+pub lie-long : (u : Bool) (fields : List Storage) (spots : List FieldSpot) → Lie u fields spots → length fields ≡ length spots
 lie-long true fields spots h = overlap-long fields spots h
 lie-long false fields spots h = follow-long 0 fields spots h
 
-pub spot-inside : (fields : List Storage) (spots : List Spot) (end : ℕ) → length fields ≡ length spots → All (λ e. e ≤ end) (ends fields spots) → (i : ℕ) (f : Storage) → slice_get fields i ≡ Some f
-    → (s : Spot) × (slice_get spots i ≡ Some s) × (end_at f s ≤ end)
+pub spot-inside : (fields : List Storage) (spots : List FieldSpot) (end : ℕ) → length fields ≡ length spots → All (λ e. e ≤ end) (ends fields spots) → (i : ℕ) (f : Storage) → slice_get fields i ≡ Some f
+    → (s : FieldSpot) × (slice_get spots i ≡ Some s) × (end_at f s ≤ end)
 spot-inside [] spots end long all i f get = absurd (cc)
 spot-inside (g ∷ fs) [] end long all i f get = absurd (omega arith)
 spot-inside (g ∷ fs) (s ∷ ss) end long all zero f get =
@@ -70,7 +70,7 @@ module _ (program : Program) (layouts : Layouts) (laid : IsLaidOut program layou
   -- a field of a structure, with its place
   record Lies (node : TypeId) (f : Field) (place : ℕ) : Type 0 where
     plane : Plane
-    spot : Spot
+    spot : FieldSpot
     got : slice_get planes node.0 ≡ Some plane
     at : slice_get plane.fields place ≡ Some spot
     inside : end_at (storage_of planes f.ty) spot ≤ 8 * plane.size
@@ -104,7 +104,7 @@ module _ (program : Program) (layouts : Layouts) (laid : IsLaidOut program layou
     is : offset_to program planes (ty.Node node None) places ≡ Some offset
     inside : offset ≤ plane.size
 
-  node-end : (node : TypeId) (desc : Option Expr) (plane : Plane) (s : Spot) → slice_get planes node.0 ≡ Some plane → end_at (storage_of planes (ty.Node node desc)) s ≡ begin_at s + 8 * plane.size
+  node-end : (node : TypeId) (desc : Option Expr) (plane : Plane) (s : FieldSpot) → slice_get planes node.0 ≡ Some plane → end_at (storage_of planes (ty.Node node desc)) s ≡ begin_at s + 8 * plane.size
   node-end node desc plane s got =
       ap (λ e. begin_at s + 8 * e.size) (extent-node planes node desc ∙ ap Rattle.gt_layout.specs.Storages.extent_of_plane got)
 
@@ -158,11 +158,11 @@ module _ (program : Program) (layouts : Layouts) (laid : IsLaidOut program layou
       of-field None is e = absurd (cc)
       of-field (Some f) is e = (s, f, refl, is, same_Some f.ty t e)
 
-  offset-parts : (place : ℕ) (o : Option Plane) (n : ℕ) → (o then λ p. slice_get p.fields place then λ s. Some s.offset) ≡ Some n → (p : Plane) × (s : Spot) × (o ≡ Some p) × (slice_get p.fields place ≡ Some s) × (s.offset ≡ n)
+  offset-parts : (place : ℕ) (o : Option Plane) (n : ℕ) → (o then λ p. slice_get p.fields place then λ s. Some s.offset) ≡ Some n → (p : Plane) × (s : FieldSpot) × (o ≡ Some p) × (slice_get p.fields place ≡ Some s) × (s.offset ≡ n)
   offset-parts place None n e = absurd (cc)
   offset-parts place (Some p) n e = of-spot (slice_get p.fields place) refl e
     where
-      of-spot : (o : Option Spot) → slice_get p.fields place ≡ o → (o then λ s. Some s.offset) ≡ Some n → (q : Plane) × (s : Spot) × (Some p ≡ Some q) × (slice_get q.fields place ≡ Some s) × (s.offset ≡ n)
+      of-spot : (o : Option FieldSpot) → slice_get p.fields place ≡ o → (o then λ s. Some s.offset) ≡ Some n → (q : Plane) × (s : FieldSpot) × (Some p ≡ Some q) × (slice_get q.fields place ≡ Some s) × (s.offset ≡ n)
       of-spot None is e = absurd (cc)
       of-spot (Some s) is e = (p, s, refl, is, same_Some s.offset n e)
 

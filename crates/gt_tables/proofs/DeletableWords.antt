@@ -14,7 +14,7 @@ use Rattle.gt_types.specs.declared.program.Program.{Program}
 use Rattle.gt_types.specs.Shapes.{is_root_type, root_type_at}
 use Rattle.gt_types.specs.Settled.{Settled, IsRoot}
 use Rattle.gt_layout.specs.declared.planes.Plane.{Plane}
-use Rattle.gt_layout.specs.declared.planes.Spot.{Spot}
+use Rattle.gt_layout.specs.declared.planes.FieldSpot.{FieldSpot}
 use Rattle.gt_layout.specs.declared.planes.Layouts.{Layouts}
 use Rattle.gt_layout.specs.declared.storages.Storage.TheVariants.{Bytes}
 use Rattle.gt_layout.specs.Storages.{extent_of, storage_of}
@@ -36,7 +36,7 @@ word-more address n old now more before is =
 
 -- ---- one more root
 
-roots-more : (planes : List Plane) (start : ℕ) (roots : List Root) (spots : List Spot) (place : ℕ) (r : Root) (s : Spot) → slice_get roots place ≡ Some r → slice_get spots place ≡ Some s
+roots-more : (planes : List Plane) (start : ℕ) (roots : List Root) (spots : List FieldSpot) (place : ℕ) (r : Root) (s : FieldSpot) → slice_get roots place ≡ Some r → slice_get spots place ≡ Some s
     → deletable_words planes start (take (suc place) roots) spots ≡ deletable_words planes start (take place roots) spots ++ words_of planes start r s
 roots-more planes start [] spots place r s get at = absurd (cc)
 roots-more planes start (q ∷ roots) [] place r s get at = absurd (cc)
@@ -48,7 +48,7 @@ roots-more planes start (q ∷ roots) (t ∷ spots) (suc place) r s get at =
     ap (λ ws. words_of planes start q t ++ ws) (roots-more planes start roots spots place r s get at)
     ∙ sym (append-assoc (words_of planes start q t) (deletable_words planes start (take place roots) spots) (words_of planes start r s))
 
-pub root-more : (planes : List Plane) (start : ℕ) (roots : List Root) (spots : List Spot) (place : ℕ) (r : Root) (s : Spot) (old new : List ℕ) → slice_get roots place ≡ Some r → slice_get spots place ≡ Some s
+pub root-more : (planes : List Plane) (start : ℕ) (roots : List Root) (spots : List FieldSpot) (place : ℕ) (r : Root) (s : FieldSpot) (old new : List ℕ) → slice_get roots place ≡ Some r → slice_get spots place ≡ Some s
     → old ≡ deletable_words planes start (take place roots) spots → new ≡ old ++ words_of planes start r s → new ≡ deletable_words planes start (take (place + 1) roots) spots
 root-more planes start roots spots place r s old new get at before is =
     let next : suc place ≡ place + 1 = omega arith in
@@ -67,7 +67,7 @@ module _ (program : Program) (layouts : Layouts) (settled : Settled program) (la
   pub root-type : IsTypeIn program r.ty
   root-type = IsTypeIn.of_root r root-in
 
-  pub root-spot : (s : Spot) × (slice_get layouts.statics.fields place ≡ Some s) × (s.offset + (extent_of layouts.structures r.ty).size ≤ layouts.statics.size)
+  pub root-spot : (s : FieldSpot) × (slice_get layouts.statics.fields place ≡ Some s) × (s.offset + (extent_of layouts.structures r.ty).size ≤ layouts.statics.size)
   root-spot =
       let planes = layouts.structures in
       let storages = root_storages planes program.roots in
@@ -78,21 +78,21 @@ module _ (program : Program) (layouts : Layouts) (settled : Settled program) (la
       (found.0, found.1, omega (arith, bytes, found.2))
 
   -- the addresses of its pointers are numbers of 32 bits
-  pub root-small : (s : Spot) (start : ℕ) → slice_get layouts.statics.fields place ≡ Some s → start ≡ statics_start layouts.statics.size → start + s.offset + 8 * ((extent_of layouts.structures r.ty).size / 8) < 2 ^ 32
+  pub root-small : (s : FieldSpot) (start : ℕ) → slice_get layouts.statics.fields place ≡ Some s → start ≡ statics_start layouts.statics.size → start + s.offset + 8 * ((extent_of layouts.structures r.ty).size / 8) < 2 ^ 32
   root-small s start at is =
       let same : root-spot.0 ≡ s = same_Some root-spot.0 s (sym root-spot.1 ∙ at) in
-      let offset = ap (λ (t : Spot). t.offset) same in
+      let offset = ap (λ (t : FieldSpot). t.offset) same in
       let le = root-spot.2 in
       omega (arith, offset, le, within.statics)
 
-  pub root-at : (s : Spot) (start address : ℕ) (spots : List Spot) → spots ≡ layouts.statics.fields → slice_get layouts.statics.fields place ≡ Some s → start ≡ statics_start layouts.statics.size
+  pub root-at : (s : FieldSpot) (start address : ℕ) (spots : List FieldSpot) → spots ≡ layouts.statics.fields → slice_get layouts.statics.fields place ≡ Some s → start ≡ statics_start layouts.statics.size
       → IfSome (slice_get spots place) (λ spot. start + spot.offset < 2 ^ 32 → address ≡ start + spot.offset) → address ≡ start + s.offset
   root-at s start address spots are at is holds =
       let small = root-small s start at is in
       subst (λ o. IfSome o (λ spot. start + spot.offset < 2 ^ 32 → address ≡ start + spot.offset)) (ap (λ ss. slice_get ss place) are ∙ at) holds (omega (arith, small))
 
 -- the words of a root that is deletable
-pub root-words : (planes : List Plane) (start address size : ℕ) (r : Root) (s : Spot) → r.deletable ≡ true → address ≡ start + s.offset → size ≡ (extent_of planes r.ty).size
+pub root-words : (planes : List Plane) (start address size : ℕ) (r : Root) (s : FieldSpot) → r.deletable ≡ true → address ≡ start + s.offset → size ≡ (extent_of planes r.ty).size
     → words_from address (size / 8) ≡ words_of planes start r s
 root-words planes start address size r s deletable at is =
     ap (λ a. words_from a (size / 8)) at ∙ ap (λ n. words_from (start + s.offset) (n / 8)) is ∙ ap (λ b. words_if b (start + s.offset) ((extent_of planes r.ty).size / 8)) (sym deletable)
@@ -100,7 +100,7 @@ root-words planes start address size r s deletable at is =
 -- ---- answers
 
 module _ (program : Program) (layouts : Layouts) (settled : Settled program) (laid : IsLaidOut program layouts) (within : IsWithin program layouts) (place : ℕ) (r : Root) (there : slice_get program.roots place ≡ Some r)
-    (start address size : ℕ) (spots : List Spot) (are : spots ≡ layouts.statics.fields) (starts : start ≡ statics_start layouts.statics.size)
+    (start address size : ℕ) (spots : List FieldSpot) (are : spots ≡ layouts.statics.fields) (starts : start ≡ statics_start layouts.statics.size)
     (lies : IfSome (slice_get spots place) (λ spot. start + spot.offset < 2 ^ 32 → address ≡ start + spot.offset)) (is : size ≡ (extent_of layouts.structures r.ty).size) where
   pub few-words : address + 8 * (size / 8) < 2 ^ 32
   few-words =
@@ -110,7 +110,7 @@ module _ (program : Program) (layouts : Layouts) (settled : Settled program) (la
       let same : size / 8 ≡ (extent_of layouts.structures r.ty).size / 8 = ap (λ n. n / 8) is in
       subst (λ n. address + 8 * n < 2 ^ 32) (sym same) (subst (λ a. a + 8 * ((extent_of layouts.structures r.ty).size / 8) < 2 ^ 32) (sym at) small)
 
-  pub words-added : r.deletable ≡ true → (old new : List ℕ) → new ≡ old ++ words_from address (size / 8) → (q : Root) (s : Spot) → slice_get program.roots place ≡ Some q → slice_get layouts.statics.fields place ≡ Some s
+  pub words-added : r.deletable ≡ true → (old new : List ℕ) → new ≡ old ++ words_from address (size / 8) → (q : Root) (s : FieldSpot) → slice_get program.roots place ≡ Some q → slice_get layouts.statics.fields place ≡ Some s
       → new ≡ old ++ words_of layouts.structures start q s
   words-added deletable old new added q s get at =
       let same : r ≡ q = same_Some r q (sym there ∙ get) in
@@ -125,7 +125,7 @@ item-at (x ∷ xs) (suc i) h = item-at xs i (omega arith)
 -- the words of the root at a place come after those of the roots before it
 pub next-words : (program : Program) (layouts : Layouts) → Settled program → IsLaidOut program layouts → IsWithin program layouts → (place start : ℕ) (old new : List ℕ) → place < length program.roots
     → old ≡ deletable_words layouts.structures start (take place program.roots) layouts.statics.fields
-    → ((r : Root) (s : Spot) → slice_get program.roots place ≡ Some r → slice_get layouts.statics.fields place ≡ Some s → new ≡ old ++ words_of layouts.structures start r s)
+    → ((r : Root) (s : FieldSpot) → slice_get program.roots place ≡ Some r → slice_get layouts.statics.fields place ≡ Some s → new ≡ old ++ words_of layouts.structures start r s)
     → new ≡ deletable_words layouts.structures start (take (place + 1) program.roots) layouts.statics.fields
 next-words program layouts settled laid within place start old new there before added =
     let r = item-at program.roots place there in

@@ -11,7 +11,7 @@ use Rattle.gt_types.specs.declared.program.Field.{Field}
 use Rattle.gt_types.specs.declared.program.Program.{Program}
 use Rattle.gt_layout.specs.declared.planes.Plane.{Plane}
 use Rattle.gt_layout.specs.declared.planes.Layouts.{Layouts}
-use Rattle.gt_layout.specs.declared.planes.Spot.{Spot}
+use Rattle.gt_layout.specs.declared.planes.FieldSpot.{FieldSpot}
 use Rattle.gt_layout.specs.Storages.{extent_of}
 use Rattle.gt_walk.specs.declared.rows.RowExpr.{RowExpr}
 use Rattle.gt_walk.specs.declared.rows.Arm.{Arm, out-Arm}
@@ -67,7 +67,7 @@ module _ {program : Program} {layouts : Layouts} where
     row-plain (IsRowOf.array {elem = elem} {n = n} {offset = offset} {r = r} e is) = rep-some offset n (extent_of layouts.structures elem).size r (row-plain is)
     row-plain (IsRowOf.tail {elem = elem} {e = len} {offset = offset} {r = r} e value is) = tail-some offset len (extent_of layouts.structures elem).size r (row-plain is)
 
-    fields-plain : {around : Around} {types : List Ty} {spots : List Spot} {rows : List WalkRow} → AreFieldRows program layouts tables around types spots rows → All IsPlain rows
+    fields-plain : {around : Around} {types : List Ty} {spots : List FieldSpot} {rows : List WalkRow} → AreFieldRows program layouts tables around types spots rows → All IsPlain rows
     fields-plain AreFieldRows.none = All-nil IsPlain
     fields-plain (AreFieldRows.more {r = r} {rows = rows} is rest) = All-append IsPlain (option_to_list r) rows (option-plain r (row-plain is)) (fields-plain rest)
 

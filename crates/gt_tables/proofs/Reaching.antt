@@ -17,7 +17,7 @@ use Rattle.gt_types.specs.declared.program.Program.{Program}
 use Rattle.gt_types.specs.Contains.{HasStructure, itself}
 use Rattle.gt_types.specs.Settled.{Settled}
 use Rattle.gt_layout.specs.declared.planes.TheConstants.{MAX_SIZE}
-use Rattle.gt_layout.specs.declared.planes.Spot.{Spot}
+use Rattle.gt_layout.specs.declared.planes.FieldSpot.{FieldSpot}
 use Rattle.gt_layout.specs.declared.planes.Plane.{Plane}
 use Rattle.gt_layout.specs.declared.planes.Layouts.{Layouts}
 use Rattle.gt_layout.specs.Storages.{extent_at, extent_of_plane, storage_of, storages_of}
@@ -49,11 +49,11 @@ named-is program planes node name s plane i has laid found =
     ∙ ap (λ o. o then λ p. position_from (λ f. bytes_eq f.name name) 0 s.fields then λ k. slice_get s.fields k then λ f. slice_get p.fields k then λ spot. Some (place f.ty (begin_at spot))) laid
     ∙ ap (λ o. o then λ k. slice_get s.fields k then λ f. slice_get plane.fields k then λ spot. Some (place f.ty (begin_at spot))) found
 
-pub spot-none : (fields : List Field) (spots : List Spot) (i : ℕ) (f : Field) → slice_get fields i ≡ Some f → slice_get spots i ≡ None → (slice_get fields i then λ f. slice_get spots i then λ spot. Some (place f.ty (begin_at spot))) ≡ None
+pub spot-none : (fields : List Field) (spots : List FieldSpot) (i : ℕ) (f : Field) → slice_get fields i ≡ Some f → slice_get spots i ≡ None → (slice_get fields i then λ f. slice_get spots i then λ spot. Some (place f.ty (begin_at spot))) ≡ None
 spot-none fields spots i f has none =
     ap (λ o. o then λ f. slice_get spots i then λ spot. Some (place f.ty (begin_at spot))) has ∙ ap (λ o. o then λ spot. Some (place f.ty (begin_at spot))) none
 
-pub spot-some : (fields : List Field) (spots : List Spot) (i : ℕ) (f : Field) (spot : Spot) → slice_get fields i ≡ Some f → slice_get spots i ≡ Some spot
+pub spot-some : (fields : List Field) (spots : List FieldSpot) (i : ℕ) (f : Field) (spot : FieldSpot) → slice_get fields i ≡ Some f → slice_get spots i ≡ Some spot
     → (slice_get fields i then λ f. slice_get spots i then λ spot. Some (place f.ty (begin_at spot))) ≡ Some (place f.ty (begin_at spot))
 spot-some fields spots i f spot has got =
     ap (λ o. o then λ f. slice_get spots i then λ spot. Some (place f.ty (begin_at spot))) has ∙ ap (λ o. o then λ spot. Some (place f.ty (begin_at spot))) got
@@ -76,7 +76,7 @@ bits_of planes None = 0
 abbrev pub EndsBy : List Plane → ℕ → Place → Type 0
 EndsBy planes limit p = p.at + bits_of planes (itself p.type) ≤ limit
 
-ends-storage : (planes : List Plane) (type : Ty) (spot : Spot) → begin_at spot + bits_of planes (itself type) ≤ end_at (storage_of planes type) spot
+ends-storage : (planes : List Plane) (type : Ty) (spot : FieldSpot) → begin_at spot + bits_of planes (itself type) ≤ end_at (storage_of planes type) spot
 ends-storage planes (ty.Node node desc) spot = let e = extent-node planes node desc in omega (arith, ap (λ x. x.size) e)
 ends-storage planes (ty.Bits unit width) spot = omega arith
 ends-storage planes type spot = omega arith
@@ -91,7 +91,7 @@ record IsNamed (program : Program) (planes : List Plane) (node : TypeId) (p : Pl
   plane : Plane
   i : ℕ
   f : Field
-  spot : Spot
+  spot : FieldSpot
   has : HasStructure program node s
   laid : slice_get planes node.0 ≡ Some plane
   there : slice_get s.fields i ≡ Some f
@@ -143,7 +143,7 @@ ends-on planes limit p next node ends is inside =
     omega (arith, room, inside)
 
 -- a root begins inside the static record
-pub root-inside : (program : Program) (layouts : Layouts) → Settled program → IsLaidOut program layouts → IsWithin program layouts → (i : ℕ) (r : Root) (spot : Spot) → slice_get program.roots i ≡ Some r
+pub root-inside : (program : Program) (layouts : Layouts) → Settled program → IsLaidOut program layouts → IsWithin program layouts → (i : ℕ) (r : Root) (spot : FieldSpot) → slice_get program.roots i ≡ Some r
     → slice_get layouts.statics.fields i ≡ Some spot → begin_at spot ≤ 8 * MAX_SIZE
 root-inside program layouts settled laid within i r spot there at =
     let planes = layouts.structures in

@@ -17,7 +17,7 @@ use Rattle.gt_types.specs.declared.program.Program.{Program}
 use Rattle.gt_types.specs.Shapes.{innermost}
 use Rattle.gt_types.specs.Contains.{HasStructure}
 use Rattle.gt_layout.specs.declared.planes.Plane.{Plane}
-use Rattle.gt_layout.specs.declared.planes.Spot.{Spot}
+use Rattle.gt_layout.specs.declared.planes.FieldSpot.{FieldSpot}
 use Rattle.gt_layout.specs.Storages.{extent_of}
 use Rattle.gt_tree.specs.Fits.{types_of}
 use Rattle.gt_walk.specs.declared.rows.RowExpr.{RowExpr}
@@ -143,17 +143,17 @@ module _ (source : Source) (walks : List (List WalkRow)) (a : CodeAround) where
 -- ---- rows of fields
 
 -- of so many fields the rows were added
-pub record FieldsSoFar (source : Source) (walks : List (List WalkRow)) (inner : CodeAround) (fields : List Field) (spots : List Spot) (i : ℕ) (old new : List WalkRow) : Type 0 where
+pub record FieldsSoFar (source : Source) (walks : List (List WalkRow)) (inner : CodeAround) (fields : List Field) (spots : List FieldSpot) (i : ℕ) (old new : List WalkRow) : Type 0 where
   pub more : List WalkRow
   pub is : new ≡ old ++ more
   pub are : (tables : Tables) → HaveWalks (first_part source.program.now) walks tables → (rest : List WalkRow)
       → AreFieldRows source.program.now source.layouts.now tables (around_of inner) (types_of (drop i fields)) (drop i spots) rest
       → AreFieldRows source.program.now source.layouts.now tables (around_of inner) (types_of fields) spots (more ++ rest)
 
-pub fields-begin : (source : Source) (walks : List (List WalkRow)) (inner : CodeAround) (fields : List Field) (spots : List Spot) (old : List WalkRow) → FieldsSoFar source walks inner fields spots 0 old old
+pub fields-begin : (source : Source) (walks : List (List WalkRow)) (inner : CodeAround) (fields : List Field) (spots : List FieldSpot) (old : List WalkRow) → FieldsSoFar source walks inner fields spots 0 old old
 fields-begin source walks inner fields spots old = record { more = []; is = sym (append-nil old); are = λ tables h rest are. are }
 
-pub fields-step : (source : Source) (a b : Parts) → Grows source.program.now a b → (inner : CodeAround) (fields : List Field) (spots : List Spot) (i : ℕ) (old mid new : List WalkRow) (f : Field) (other : Spot) (r : Option WalkRow)
+pub fields-step : (source : Source) (a b : Parts) → Grows source.program.now a b → (inner : CodeAround) (fields : List Field) (spots : List FieldSpot) (i : ℕ) (old mid new : List WalkRow) (f : Field) (other : FieldSpot) (r : Option WalkRow)
     → FieldsSoFar source a.walks.items inner fields spots i old mid → i < length fields → i < length spots → f ≡ get_or fields i f
     → ServesType source b.walks.items inner f.ty (get_or spots i other).offset r → new ≡ mid ++ option_to_list r → FieldsSoFar source b.walks.items inner fields spots (i + 1) old new
 fields-step source a b grows inner fields spots i old mid new f other r so within room at serves is =
@@ -170,7 +170,7 @@ fields-step source a b grows inner fields spots i old mid new f other r so withi
           (subst (λ ss. Are (types_of (f ∷ drop (i + 1) fields)) ss (option_to_list r ++ rest)) (sym two) (more (serves tables h) are))));
     }
 
-pub fields-end : (source : Source) (walks : List (List WalkRow)) (inner : CodeAround) (fields : List Field) (spots : List Spot) (i : ℕ) (old new : List WalkRow)
+pub fields-end : (source : Source) (walks : List (List WalkRow)) (inner : CodeAround) (fields : List Field) (spots : List FieldSpot) (i : ℕ) (old new : List WalkRow)
     → FieldsSoFar source walks inner fields spots i old new → length fields ≤ i → length spots ≡ length fields → AddsFields source walks inner fields spots old new
 fields-end source walks inner fields spots i old new so all long =
     let none-left = drop_all i fields all in
@@ -211,7 +211,7 @@ arms-end source walks inner fields i arms so all tables h =
 
 -- ---- rows of structures
 
-pub struct-serves : (source : Source) (walks : List (List WalkRow)) (inner : CodeAround) (node : TypeId) (desc : Option Expr) (chain : Option ℕ) (s : Structure) (plane : Plane) (fields : List Field) (spots : List Spot)
+pub struct-serves : (source : Source) (walks : List (List WalkRow)) (inner : CodeAround) (node : TypeId) (desc : Option Expr) (chain : Option ℕ) (s : Structure) (plane : Plane) (fields : List Field) (spots : List FieldSpot)
     (notes rows : List WalkRow) → HasStructure source.program.now node s → s.is_union ≡ false → slice_get source.layouts.now.structures node.0 ≡ Some plane → fields ≡ s.fields → spots ≡ plane.fields
     → notes ≡ row.Note plane.size chain ∷ [] → AddsFields source walks inner fields spots notes rows → ServesStructure source walks inner node desc chain rows
 struct-serves source walks inner node desc chain s plane fields spots notes rows has plain got fields-are spots-are notes-are adds = record {

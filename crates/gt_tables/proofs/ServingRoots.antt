@@ -6,7 +6,7 @@ use Rattle.std.proofs.lemmas.Bool.{cases_lt}
 use Rattle.std.proofs.lemmas.List.Elements.{All-head, All-tail}
 use Rattle.std.proofs.lemmas.Option.{slice_get_within}
 use Rattle.gt_types.specs.declared.program.Root.{Root}
-use Rattle.gt_layout.specs.declared.planes.Spot.{Spot}
+use Rattle.gt_layout.specs.declared.planes.FieldSpot.{FieldSpot}
 use Rattle.gt_layout.specs.declared.storages.Storage.{Storage}
 use Rattle.gt_layout.specs.declared.storages.Storage.TheVariants.{Bytes, Bits}
 use Rattle.gt_layout.specs.Places.{end_of, begin_at, Follow, ends}
@@ -71,18 +71,18 @@ end-after : (f : Storage) (begin : ℕ) → begin ≤ end_of f begin
 end-after (Bytes e) begin = omega arith
 end-after (Bits unit count) begin = omega arith
 
-spot-inside : (bound from : ℕ) (fs : List Storage) (ss : List Spot) → Follow from fs ss → All (λ end. end ≤ bound) (ends fs ss) → (i : ℕ) (spot : Spot) → slice_get ss i ≡ Some spot → begin_at spot ≤ bound
+spot-inside : (bound from : ℕ) (fs : List Storage) (ss : List FieldSpot) → Follow from fs ss → All (λ end. end ≤ bound) (ends fs ss) → (i : ℕ) (spot : FieldSpot) → slice_get ss i ≡ Some spot → begin_at spot ≤ bound
 spot-inside bound from fs [] follow inside i spot got = absurd (cc)
 spot-inside bound from [] (s ∷ ss) follow inside i spot got = absurd follow
 spot-inside bound from (f ∷ fs) (s ∷ ss) follow inside zero spot got =
     let same : s ≡ spot = cc in
     let end = All-head (λ (e : ℕ). e ≤ bound) (end_of f (begin_at s)) (ends fs ss) inside in
-    subst (λ (x : Spot). begin_at x ≤ bound) same (omega (arith, end, end-after f (begin_at s)))
+    subst (λ (x : FieldSpot). begin_at x ≤ bound) same (omega (arith, end, end-after f (begin_at s)))
 spot-inside bound from (f ∷ fs) (s ∷ ss) follow inside (suc i) spot got =
     spot-inside bound (end_of f (begin_at s)) fs ss follow.2 (All-tail (λ (e : ℕ). e ≤ bound) (end_of f (begin_at s)) (ends fs ss) inside) i spot got
 
 -- a root lies below 2^32
-pub root-below : (source : Source) → IsSource source → (i : ℕ) (spot : Spot) → slice_get source.layouts.now.statics.fields i ≡ Some spot → source.start + spot.offset < 2 ^ 32
+pub root-below : (source : Source) → IsSource source → (i : ℕ) (spot : FieldSpot) → slice_get source.layouts.now.statics.fields i ≡ Some spot → source.start + spot.offset < 2 ^ 32
 root-below source is i spot got =
     let statics = source.layouts.now.statics in
     let begin = spot-inside (8 * statics.size) 0 (root_storages source.layouts.now.structures source.program.now.roots) statics.fields is.laid.statics.places is.laid.statics.size.room.inside i spot got in
@@ -130,7 +130,7 @@ module _ (source : Source) (source-is : IsSource source) (a b : Parts) (grows : 
       let s = serves is in
       ap (λ ws. slice_get ws k) s.1 ∙ get-front old (s.0 ∷ []) k lt
 
-  last : (place walk : ℕ) (q : Root) (spot : Spot) → place ≡ i → slice_get source.program.now.roots place ≡ Some q → q.deletable ≡ false
+  last : (place walk : ℕ) (q : Root) (spot : FieldSpot) → place ≡ i → slice_get source.program.now.roots place ≡ Some q → q.deletable ≡ false
       → slice_get new (length (filter has_walk (take place source.program.now.roots))) ≡ Some walk → slice_get source.layouts.now.statics.fields place ≡ Some spot
       → IsWalkOfRoot source b.walks.items q (source.start + spot.offset) walk
   last place walk q spot same got plain found where_is =
@@ -140,7 +140,7 @@ module _ (source : Source) (source-is : IsSource source) (a b : Parts) (grows : 
       let s = serves (ap (λ (x : Root). x.deletable) root-is ∙ plain) in
       let place-is : slice_get source.layouts.now.statics.fields i ≡ Some spot = ap (slice_get source.layouts.now.statics.fields) (sym same) ∙ where_is in
       let address-is : address ≡ source.start + spot.offset =
-      subst (λ o. IfSome o (λ (x : Spot). source.start + x.offset < 2 ^ 32 → address ≡ source.start + x.offset)) place-is at (root-below source source-is i spot place-is) in
+      subst (λ o. IfSome o (λ (x : FieldSpot). source.start + x.offset < 2 ^ 32 → address ≡ source.start + x.offset)) place-is at (root-below source source-is i spot place-is) in
       let number : length (filter has_walk (take place roots)) ≡ length old = ap (λ n. length (filter has_walk (take n roots))) same ∙ sym long in
       let there : slice_get (old ++ s.0 ∷ []) (length old) ≡ Some walk = ap (λ ws. slice_get ws (length old)) (sym s.1) ∙ ap (slice_get new) (sym number) ∙ found in
       let walk-is : s.0 ≡ walk = elim (get-cases old s.0 walk (length old) there) [

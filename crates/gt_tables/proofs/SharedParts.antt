@@ -21,7 +21,7 @@ use Rattle.gt_types.specs.Contains.{HasStructure, itself}
 use Rattle.gt_types.specs.Paths.{IsInner, NamesOuter, own_expressions}
 use Rattle.gt_types.specs.Settled.{Settled}
 use Rattle.gt_layout.specs.declared.planes.Layouts.{Layouts}
-use Rattle.gt_layout.specs.declared.planes.Spot.{Spot}
+use Rattle.gt_layout.specs.declared.planes.FieldSpot.{FieldSpot}
 use Rattle.gt_tree.specs.Fits.{types_of}
 use Rattle.gt_tree.specs.LeafLaws.{IsTypeIn}
 use Rattle.gt_tree.proofs.Types.{innermost-node}
@@ -157,7 +157,7 @@ module _ (program : Program) (layouts : Layouts) (tables : Tables) (settled : Se
         AreRowsOf.union arms has kind (arms-same each b (fields-alike around b node s has alike)) some (desc-same around b desc e given value)
     rows-same (AreRowsOf.bare {around} {node} {desc} {s} has kind each none) b alike given = AreRowsOf.bare has kind (arms-same each b (fields-alike around b node s has alike)) none
 
-    fields-same : {a : Around} {types : List Ty} {spots : List Spot} {rows : List WalkRow} → AreFieldRows program layouts tables a types spots rows → (b : Around) → All (AreAlikeAt program a b) types
+    fields-same : {a : Around} {types : List Ty} {spots : List FieldSpot} {rows : List WalkRow} → AreFieldRows program layouts tables a types spots rows → (b : Around) → All (AreAlikeAt program a b) types
         → AreFieldRows program layouts tables b types spots rows
     fields-same AreFieldRows.none b all = AreFieldRows.none
     fields-same (AreFieldRows.more {around} {type} {types} row rest) b all =

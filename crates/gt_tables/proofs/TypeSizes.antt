@@ -28,7 +28,7 @@ use Rattle.gt_types.specs.Settled.{Settled, IsField, IsStruct, IsUnion, IsOfItsK
 use Rattle.gt_layout.specs.declared.planes.TheConstants.{MAX_SIZE}
 use Rattle.gt_layout.specs.declared.planes.Extent.{Extent}
 use Rattle.gt_layout.specs.declared.planes.Plane.{Plane}
-use Rattle.gt_layout.specs.declared.planes.Spot.{Spot}
+use Rattle.gt_layout.specs.declared.planes.FieldSpot.{FieldSpot}
 use Rattle.gt_layout.specs.declared.planes.Layouts.{Layouts}
 use Rattle.gt_layout.specs.declared.storages.Storage.{Storage}
 use Rattle.gt_layout.specs.Storages.{bytes_of, extent_of, extent_of_plane, extent_step, storage_of, storages_of, held_extent}
@@ -46,13 +46,13 @@ use Rattle.gt_tables.proofs.Reaching.{at-most}
 
 -- ---- places of fields
 
-overlap-long : (fields : List Storage) (spots : List Spot) → Overlap fields spots → length fields ≡ length spots
+overlap-long : (fields : List Storage) (spots : List FieldSpot) → Overlap fields spots → length fields ≡ length spots
 overlap-long [] [] lie = refl
 overlap-long [] (s ∷ ss) lie = absurd lie
 overlap-long (f ∷ fs) [] lie = absurd lie
 overlap-long (f ∷ fs) (s ∷ ss) lie = let rest = overlap-long fs ss lie.1 in omega (arith, rest)
 
-lie-long : (union : Bool) (fields : List Storage) (spots : List Spot) → Lie union fields spots → length fields ≡ length spots
+lie-long : (union : Bool) (fields : List Storage) (spots : List FieldSpot) → Lie union fields spots → length fields ≡ length spots
 lie-long true fields spots lie = overlap-long fields spots lie
 lie-long false fields spots lie = follow-long 0 fields spots lie
 
@@ -72,7 +72,7 @@ extent-bits : (planes : List Plane) (unit : Scalar) (width : ℕ) → (extent_of
 extent-bits planes unit width =
     ap (λ e. e.size) (fold_out-Ty Extent (extent_step planes) (ty.Bits unit width) ∙ ap (λ y. extent_step planes (map-Ty Ty Extent (extent_of planes) y)) (outs-Bits unit width))
 
-size-inside : (planes : List Plane) (type : Ty) (spot : Spot) (size : ℕ) → size ≤ MAX_SIZE → end_at (storage_of planes type) spot ≤ 8 * size → (extent_of planes type).size ≤ MAX_SIZE
+size-inside : (planes : List Plane) (type : Ty) (spot : FieldSpot) (size : ℕ) → size ≤ MAX_SIZE → end_at (storage_of planes type) spot ≤ 8 * size → (extent_of planes type).size ≤ MAX_SIZE
 size-inside planes (ty.Bits unit width) spot size small inside = omega (arith, extent-bits planes unit width, bytes-few unit)
 size-inside planes type spot size small inside = omega arith
 

@@ -27,7 +27,7 @@ use Rattle.gt_types.specs.Shapes.{innermost}
 use Rattle.gt_types.specs.Contains.{HasStructure}
 use Rattle.gt_types.specs.Paths.{IsInner, MayStand}
 use Rattle.gt_layout.specs.declared.planes.Plane.{Plane}
-use Rattle.gt_layout.specs.declared.planes.Spot.{Spot}
+use Rattle.gt_layout.specs.declared.planes.FieldSpot.{FieldSpot}
 use Rattle.gt_tree.specs.Fits.{types_of}
 use Rattle.gt_edges.specs.Edges.{has_walk}
 use Rattle.gt_edges.specs.Walks.{Around, outside, first_of as first_node, IsRowOf, IsPartOf, AreRowsOf, AreFieldRows, AreArmsOf}
@@ -296,7 +296,7 @@ pub record ServesStructure (source : Source) (walks : List (List WalkRow)) (inne
   pub are : (tables : Tables) → HaveWalks (first_part source.program.now) walks tables → AreRowsOf source.program.now source.layouts.now tables (around_of inner) node desc rest
 
 -- rows of fields were added
-pub record AddsFields (source : Source) (walks : List (List WalkRow)) (inner : CodeAround) (fields : List Field) (spots : List Spot) (old new : List WalkRow) : Type 0 where
+pub record AddsFields (source : Source) (walks : List (List WalkRow)) (inner : CodeAround) (fields : List Field) (spots : List FieldSpot) (old new : List WalkRow) : Type 0 where
   pub more : List WalkRow
   pub is : new ≡ old ++ more
   pub are : (tables : Tables) → HaveWalks (first_part source.program.now) walks tables → AreFieldRows source.program.now source.layouts.now tables (around_of inner) (types_of fields) spots more
@@ -379,6 +379,6 @@ ServesPointers program first walks = (node : TypeId) (rows : List WalkRow) → n
 
 -- The walks of the roots before a place that are not deletable stand in order, and serve them.
 pub record ServesRoots (source : Source) (walks : List (List WalkRow)) (before : ℕ) (roots : List ℕ) : Type 0 where
-  pub serves : (place walk : ℕ) (r : Root) (spot : Spot) → place < before → slice_get source.program.now.roots place ≡ Some r → r.deletable ≡ false
+  pub serves : (place walk : ℕ) (r : Root) (spot : FieldSpot) → place < before → slice_get source.program.now.roots place ≡ Some r → r.deletable ≡ false
       → slice_get roots (length (filter has_walk (take place source.program.now.roots))) ≡ Some walk → slice_get source.layouts.now.statics.fields place ≡ Some spot
       → IsWalkOfRoot source walks r (source.start + spot.offset) walk

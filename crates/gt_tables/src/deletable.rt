@@ -4,7 +4,7 @@ ghost use Rattle.gt_types.specs.Settled.{Settled};
 ghost use Rattle.gt_types.specs.declared.program.Root.{Root};
 ghost use Rattle.gt_layout.specs.Planes.{IsLaidOut};
 ghost use Rattle.gt_layout.specs.Excess.{IsWithin};
-ghost use Rattle.gt_layout.specs.declared.planes.Spot.{Spot};
+ghost use Rattle.gt_layout.specs.declared.planes.FieldSpot.{FieldSpot};
 ghost use Rattle.gt_space.specs.Range.{statics_start};
 ghost use Rattle.gt_edges.specs.Deletable.{deletable_words, words_from};
 ghost use Rattle.gt_tables.specs.RootWords.{words_of};
@@ -38,7 +38,7 @@ fn add_deletable(
     requires within { IsWithin program.now layouts.now }
     requires start { start ≡ statics_start layouts.now.statics.size }
     requires there { place < length program.now.roots }
-    ensures added { IfOk result (λ _. (r : Root) → (s : Spot) → slice_get program.now.roots place ≡ Some r → slice_get layouts.now.statics.fields place ≡ Some s → words.new.items ≡ words.old.items ++ words_of layouts.now.structures start r s) }
+    ensures added { IfOk result (λ _. (r : Root) → (s : FieldSpot) → slice_get program.now.roots place ≡ Some r → slice_get layouts.now.statics.fields place ≡ Some s → words.new.items ≡ words.old.items ++ words_of layouts.now.structures start r s) }
 {
     let root = &program.roots.as_slice()[place];
     if !root.deletable {

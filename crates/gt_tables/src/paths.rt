@@ -11,7 +11,7 @@ ghost use Rattle.gt_edges.specs.Walks.{node_at, field_named, place_named, leaf_a
 ghost use Rattle.gt_tables.specs.Building.{IsSource, around_of};
 
 use crate::sources::{Around, Source};
-use gt_layout::Spot;
+use gt_layout::FieldSpot;
 use gt_types::{Base, Field, Scalar, Ty, TypeId, Width, Word};
 use gt_walk::{Origin, RowLeaf};
 
@@ -84,7 +84,7 @@ fn shape_of(ty: &Ty) -> Option<Shape>
 }
 
 // The first bit of a field, from the begin of its structure.
-fn begin_at(spot: &Spot) -> u64
+fn begin_at(spot: &FieldSpot) -> u64
     ensures begin { result ≡ begin_at spot.now }
     ensures small { result < 2 ^ 36 }
 {

@@ -16,7 +16,7 @@ use crate::parts::Parts;
 use crate::pointers::{pointer_row, string_row};
 use crate::sizes::size_of;
 use crate::sources::{Around, Lies, Source};
-use gt_layout::Spot;
+use gt_layout::FieldSpot;
 use gt_types::{Expr, Field, Ty, TypeId};
 use gt_walk::{Arm, WalkRow};
 use std::alloc::AllocError;
@@ -147,7 +147,7 @@ fn add_fields(
     inner: Around,
     id: TypeId,
     fields: &[Field],
-    spots: &[Spot],
+    spots: &[FieldSpot],
     rows: &mut Vec<WalkRow>,
     depth: usize,
 ) -> Result<(), AllocError>

@@ -7,7 +7,7 @@ ghost use Rattle.gt_layout.specs.Excess.{IsWithin};
 ghost use Rattle.gt_layout.specs.Storages.{extent_of};
 ghost use Rattle.gt_tree.specs.LeafLaws.{IsTypeIn};
 
-use gt_layout::{Layouts, Spot, extent};
+use gt_layout::{Layouts, FieldSpot, extent};
 use gt_types::Ty;
 
 // The bytes of a type.
@@ -18,7 +18,7 @@ pub fn size_of(ty: &Ty, layouts: &Layouts) -> u32
 }
 
 // The address of the root at a place, where the static record begins at an address.
-pub fn root_address(start: u32, spots: &[Spot], place: usize) -> u32
+pub fn root_address(start: u32, spots: &[FieldSpot], place: usize) -> u32
     ensures address { IfSome (slice_get spots.now place) (λ spot. start + spot.offset < 2 ^ 32 → result ≡ start + spot.offset) }
 {
     match spots.get(place) {

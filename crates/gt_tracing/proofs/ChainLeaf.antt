@@ -12,7 +12,7 @@ use Rattle.gt_types.specs.declared.program.Structure.{Structure}
 use Rattle.gt_types.specs.declared.program.Program.{Program}
 use Rattle.gt_types.specs.Contains.{HasStructure}
 use Rattle.gt_layout.specs.declared.planes.Plane.{Plane}
-use Rattle.gt_layout.specs.declared.planes.Spot.{Spot}
+use Rattle.gt_layout.specs.declared.planes.FieldSpot.{FieldSpot}
 use Rattle.gt_layout.specs.declared.storages.Storage.TheVariants.{Bytes}
 use Rattle.gt_layout.specs.Places.{Follow, Lie, Overlap, begin_at}
 use Rattle.gt_layout.specs.Planes.{AreLaidOut}
@@ -66,7 +66,7 @@ same_offset program planes [] node desc other = refl
 same_offset program planes (place ∷ places) node desc other = refl
 
 -- the offset of a path, by that of its first field and the rest
-offset_step : (program : Program) (planes : List Plane) (node : TypeId) (desc : Option Expr) (s : Structure) (plane : Plane) (place : ℕ) (places : List ℕ) (f : Field) (spot : Spot) (rest : ℕ) → HasStructure program node s
+offset_step : (program : Program) (planes : List Plane) (node : TypeId) (desc : Option Expr) (s : Structure) (plane : Plane) (place : ℕ) (places : List ℕ) (f : Field) (spot : FieldSpot) (rest : ℕ) → HasStructure program node s
     → slice_get planes node.0 ≡ Some plane → slice_get s.fields place ≡ Some f → slice_get plane.fields place ≡ Some spot → offset_to program planes f.ty places ≡ Some rest
     → offset_to program planes (ty.Node node desc) (place ∷ places) ≡ Some (spot.offset + rest)
 offset_step program planes node desc s plane place places f spot rest has got at there leads = rw (has, got, at, there, leads) refl

@@ -13,7 +13,7 @@ use Rattle.gt_types.specs.declared.program.Program.{Program}
 use Rattle.gt_types.specs.Shapes.{bits_of}
 use Rattle.gt_types.specs.Settled.{Settled}
 use Rattle.gt_layout.specs.declared.planes.Plane.{Plane}
-use Rattle.gt_layout.specs.declared.planes.Spot.{Spot}
+use Rattle.gt_layout.specs.declared.planes.FieldSpot.{FieldSpot}
 use Rattle.gt_layout.specs.declared.planes.Layouts.{Layouts}
 use Rattle.gt_layout.specs.Storages.{bytes_of}
 use Rattle.gt_tree.specs.Trees.{Tree, Num, Raw, Rec, Alt, Trees}
@@ -85,7 +85,7 @@ module _ (program : Program) (planes : List Plane) (blocks : Blocks) (capacity :
     rooms (HasLeaves.array {at} {type} {elem} {n} {trees} {leaves} e each) scope fits = rooms_each each scope (fits-array type elem n trees e fits).1
     rooms (HasLeaves.tail {at} {type} {elem} {length} {trees} {leaves} e each) scope fits = rooms_each each scope (fits-tail type elem length trees e fits).1
 
-    rooms_fields : {at : ℕ} {types : List Ty} {spots : List Spot} {trees : Trees} {leaves : List Leaf} → FieldsHaveLeaves program planes at types spots trees leaves
+    rooms_fields : {at : ℕ} {types : List Ty} {spots : List FieldSpot} {trees : Trees} {leaves : List Leaf} → FieldsHaveLeaves program planes at types spots trees leaves
         → (scope : Scope) → AllFit program blocks capacity scope types trees → All (HasItsRoom address) leaves
     rooms_fields FieldsHaveLeaves.none scope fits = All-nil (HasItsRoom address)
     rooms_fields (FieldsHaveLeaves.more {at} {type} {types} {s} {spots} {tree} {trees} {first} {rest} part parts) scope fits =

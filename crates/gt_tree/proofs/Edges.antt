@@ -8,7 +8,7 @@ use Rattle.gt_types.specs.declared.types.Ty.{Ty}
 use Rattle.gt_types.specs.declared.types.Ty.TheVariants as ty
 use Rattle.gt_types.specs.declared.program.Program.{Program}
 use Rattle.gt_layout.specs.declared.planes.Plane.{Plane}
-use Rattle.gt_layout.specs.declared.planes.Spot.{Spot}
+use Rattle.gt_layout.specs.declared.planes.FieldSpot.{FieldSpot}
 use Rattle.gt_layout.specs.declared.planes.Layouts.{Layouts}
 use Rattle.gt_tree.specs.Trees.{Tree, Num, Null, To, Raw, Rec, Alt, Row, Trees, End, And, edges, all_edges, without_pointers, all_without_pointers}
 use Rattle.gt_tree.specs.Blocks.{Blocks}
@@ -70,7 +70,7 @@ module _ (program : Program) (planes : List Plane) (blocks : Blocks) (capacity :
     names (HasLeaves.array {at} {type} {elem} {n} {trees} {leaves} e each) scope fits = names_each each scope (fits-array type elem n trees e fits).1
     names (HasLeaves.tail {at} {type} {elem} {length} {trees} {leaves} e each) scope fits = names_each each scope (fits-tail type elem length trees e fits).1
 
-    names_fields : {at : ℕ} {types : List Ty} {spots : List Spot} {trees : Trees} {leaves : List Leaf} → FieldsHaveLeaves program planes at types spots trees leaves
+    names_fields : {at : ℕ} {types : List Ty} {spots : List FieldSpot} {trees : Trees} {leaves : List Leaf} → FieldsHaveLeaves program planes at types spots trees leaves
         → (scope : Scope) → AllFit program blocks capacity scope types trees → all_edges trees ≡ targets leaves
     names_fields FieldsHaveLeaves.none scope fits = refl
     names_fields (FieldsHaveLeaves.more {at} {type} {types} {s} {spots} {tree} {trees} {first} {rest} part parts) scope fits =

@@ -10,7 +10,7 @@ use Rattle.gt_types.specs.declared.program.Program.{Program}
 use Rattle.gt_types.specs.Shapes.{is_pointer}
 use Rattle.gt_types.specs.Contains.{HasStructure}
 use Rattle.gt_layout.specs.declared.planes.Plane.{Plane}
-use Rattle.gt_layout.specs.declared.planes.Spot.{Spot}
+use Rattle.gt_layout.specs.declared.planes.FieldSpot.{FieldSpot}
 use Rattle.gt_layout.specs.declared.storages.Storage.{Storage}
 use Rattle.gt_layout.specs.Storages.{extent_of, storage_of, storages_of}
 use Rattle.gt_layout.specs.Places.{begin_at, Follow, Lie, end_at}
@@ -29,7 +29,7 @@ may-pointer blocks value (ty.Ptr target kind reorder) id h = refl
 may-pointer blocks value type id h = absurd h
 
 -- there are as many places as fields
-pub follow-long : (from : ℕ) (fields : List Storage) (spots : List Spot) → Follow from fields spots → length fields ≡ length spots
+pub follow-long : (from : ℕ) (fields : List Storage) (spots : List FieldSpot) → Follow from fields spots → length fields ≡ length spots
 follow-long from [] [] h = refl
 follow-long from [] (s ∷ ss) h = absurd h
 follow-long from (f ∷ fs) [] h = absurd h
@@ -62,7 +62,7 @@ module _ (program : Program) (planes : List Plane) (laid : AreLaidOut program pl
     exists (Fits.array {elem = elem} e count each) at = let found = exists_each each (8 * (extent_of planes elem).size) at in (found.0, HasLeaves.array e found.1)
     exists (Fits.tail {elem = elem} e value le count each) at = let found = exists_each each (8 * (extent_of planes elem).size) at in (found.0, HasLeaves.tail e found.1)
 
-    pub exists_fields : {scope : Scope} {types : List Ty} {trees : Trees} → AllFit program blocks capacity scope types trees → (at : ℕ) (spots : List Spot) → length types ≡ length spots
+    pub exists_fields : {scope : Scope} {types : List Ty} {trees : Trees} → AllFit program blocks capacity scope types trees → (at : ℕ) (spots : List FieldSpot) → length types ≡ length spots
         → (leaves : List Leaf) × FieldsHaveLeaves program planes at types spots trees leaves
     exists_fields AllFit.none at [] long = ([], FieldsHaveLeaves.none)
     exists_fields AllFit.none at (s ∷ ss) long = absurd (omega arith)

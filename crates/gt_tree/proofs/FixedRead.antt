@@ -16,7 +16,7 @@ use Rattle.gt_types.specs.Contains.{HasStructure}
 use Rattle.gt_types.specs.Unions.{IsCommon}
 use Rattle.gt_types.specs.Settled.{Settled}
 use Rattle.gt_layout.specs.declared.planes.Plane.{Plane}
-use Rattle.gt_layout.specs.declared.planes.Spot.{Spot}
+use Rattle.gt_layout.specs.declared.planes.FieldSpot.{FieldSpot}
 use Rattle.gt_layout.specs.Storages.{bytes_of, extent_of}
 use Rattle.gt_layout.specs.Places.{begin_at}
 use Rattle.gt_tree.specs.Trees.{Tree, Num, Null, To, Raw, Rec, Alt, Row, Trees, And}
@@ -28,7 +28,7 @@ use Rattle.gt_tree.proofs.Commons.{one-common}
 abbrev pub IsRead : Program → List Plane → (Leaf → Type 0) → ℕ → Ty → Tree → Type 0
 IsRead program planes held at type tree = (leaves : List Leaf) × HasLeaves program planes at type tree leaves × All held leaves
 
-abbrev pub FieldsRead : Program → List Plane → (Leaf → Type 0) → ℕ → List Ty → List Spot → Trees → Type 0
+abbrev pub FieldsRead : Program → List Plane → (Leaf → Type 0) → ℕ → List Ty → List FieldSpot → Trees → Type 0
 FieldsRead program planes held at types spots trees = (leaves : List Leaf) × FieldsHaveLeaves program planes at types spots trees leaves × All held leaves
 
 abbrev pub EachRead : Program → List Plane → (Leaf → Type 0) → ℕ → ℕ → Ty → Trees → Type 0
@@ -105,7 +105,7 @@ module _ {program : Program} {planes : List Plane} (held : Leaf → Type 0) {at 
       let same : other ≡ elem = cc in
       (ls, subst (λ t. EachHasLeaves program planes (8 * (extent_of planes t).size) at t trees ls) same each, all)
 
-  pub read-more : (type : Ty) (types : List Ty) (s : Spot) (spots : List Spot) (tree : Tree) (trees : Trees) (ls : List Leaf) → FieldsHaveLeaves program planes at (type ∷ types) (s ∷ spots) (And tree trees) ls
+  pub read-more : (type : Ty) (types : List Ty) (s : FieldSpot) (spots : List FieldSpot) (tree : Tree) (trees : Trees) (ls : List Leaf) → FieldsHaveLeaves program planes at (type ∷ types) (s ∷ spots) (And tree trees) ls
       → All held ls → IsRead program planes held (at + begin_at s) type tree × FieldsRead program planes held at types spots trees
   read-more type types s spots tree trees ls (FieldsHaveLeaves.more {first} {rest} part parts) all = ((first, part, All-left held first rest all), (rest, parts, All-right held first rest all))
 

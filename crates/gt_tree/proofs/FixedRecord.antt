@@ -13,7 +13,7 @@ use Rattle.gt_types.specs.Shapes.{is_number, root_type_at, is_root_type}
 use Rattle.gt_types.specs.Paths.{IsScalarRoot}
 use Rattle.gt_types.specs.Settled.{Settled, IsRoot}
 use Rattle.gt_layout.specs.declared.planes.Layouts.{Layouts}
-use Rattle.gt_layout.specs.declared.planes.Spot.{Spot}
+use Rattle.gt_layout.specs.declared.planes.FieldSpot.{FieldSpot}
 use Rattle.gt_layout.specs.Planes.{IsLaidOut}
 use Rattle.gt_layout.specs.Places.{begin_at}
 use Rattle.gt_tree.specs.Trees.{Tree, Trees, And, tree_at}
@@ -46,7 +46,7 @@ module _ (g : Given) where
       let theirs = subst (λ y. IsRead g.program g.planes (Got g.address g.bits true) at y w) e other_read in
       found.1 ∙ same-num g number found.0 w true at found.2 (subst (λ y. Fits g.program g.blocks g.capacity t y w) e other) mine theirs
 
-  same-at : {s : Scope} {types : List Ty} {vs : Trees} → AllFit g.program g.blocks g.capacity s types vs → (t : Scope) (ws : Trees) (at : ℕ) (spots : List Spot) (i : ℕ) (number : Scalar)
+  same-at : {s : Scope} {types : List Ty} {vs : Trees} → AllFit g.program g.blocks g.capacity s types vs → (t : Scope) (ws : Trees) (at : ℕ) (spots : List FieldSpot) (i : ℕ) (number : Scalar)
       → slice_get types i ≡ Some (ty.Num number) → AllFit g.program g.blocks g.capacity t types ws → FieldsRead g.program g.planes (Got g.address g.bits true) at types spots vs
       → FieldsRead g.program g.planes (Got g.address g.bits true) at types spots ws → tree_at vs i ≡ tree_at ws i
   same-at AllFit.none t ws at spots i number e other read other_read = absurd (cc)

@@ -11,7 +11,7 @@ use Rattle.gt_types.specs.declared.types.Ty.{Ty}
 use Rattle.gt_types.specs.declared.program.Program.{Program}
 use Rattle.gt_types.specs.Shapes.{bits_of}
 use Rattle.gt_layout.specs.declared.planes.Plane.{Plane}
-use Rattle.gt_layout.specs.declared.planes.Spot.{Spot}
+use Rattle.gt_layout.specs.declared.planes.FieldSpot.{FieldSpot}
 use Rattle.gt_layout.specs.Storages.{bytes_of}
 use Rattle.gt_tree.specs.Trees.{Tree, Trees, without_pointers, all_without_pointers}
 use Rattle.gt_tree.specs.Numbers.{is_signed, has_room, two's_complement}
@@ -66,7 +66,7 @@ module _ {program : Program} {planes : List Plane} where
     nulls (HasLeaves.array o each) e = nulls_each each (cc)
     nulls (HasLeaves.tail o each) e = nulls_each each (cc)
 
-    nulls_fields : {at : ℕ} {types : List Ty} {spots : List Spot} {trees : Trees} {ls : List Leaf} → FieldsHaveLeaves program planes at types spots trees ls → all_without_pointers trees ≡ trees → All NullOnly ls
+    nulls_fields : {at : ℕ} {types : List Ty} {spots : List FieldSpot} {trees : Trees} {ls : List Leaf} → FieldsHaveLeaves program planes at types spots trees ls → all_without_pointers trees ≡ trees → All NullOnly ls
     nulls_fields FieldsHaveLeaves.none e = All-nil NullOnly
     nulls_fields (FieldsHaveLeaves.more {first} {rest} part parts) e = All-append NullOnly first rest (nulls part (cc)) (nulls_fields parts (cc))
 

@@ -18,7 +18,7 @@ use Rattle.gt_types.specs.Contains.{HasStructure}
 use Rattle.gt_types.specs.Unions.{IsCommon}
 use Rattle.gt_types.specs.Settled.{Settled}
 use Rattle.gt_layout.specs.declared.planes.Plane.{Plane}
-use Rattle.gt_layout.specs.declared.planes.Spot.{Spot}
+use Rattle.gt_layout.specs.declared.planes.FieldSpot.{FieldSpot}
 use Rattle.gt_layout.specs.Storages.{extent_of}
 use Rattle.gt_layout.specs.Places.{begin_at}
 use Rattle.gt_tree.specs.Trees.{Tree, Num, Null, To, Raw, Rec, Alt, Row, Trees, End, And, count, without_pointers}
@@ -170,7 +170,7 @@ module _ (g : Given) (Start : Scope → Scope → Ty → Type 0) (h : Assumed g 
   -- the other value of a struct, with all that its fields need
   record StructCase (s t : Scope) (node : TypeId) (x : Structure) (vs : Trees) (w : Tree) (whole : Bool) (at : ℕ) : Type 0 where
     trees : Trees
-    spots : List Spot
+    spots : List FieldSpot
     is : w ≡ Rec trees
     alike : All (λ type. Alike g Start (inside s node (Rec vs)) (inside t node (Rec trees)) type) (types_of x.fields)
     fit : AllFit g.program g.blocks g.capacity (inside t node (Rec trees)) (types_of x.fields) trees
@@ -343,7 +343,7 @@ module _ (g : Given) (Start : Scope → Scope → Ty → Type 0) (h : Assumed g 
         let c = tail-case type elem length trees w whole at e a (value ∙ ap (λ k. Some (pos k)) (sym many)) other read other_read in
         ap Row (fixed_each each t c.trees whole (8 * (extent_of g.planes elem).size) at (Alike.in_tail a e) c.as_many c.fit c.read c.other_read) ∙ sym c.is
 
-    pub fixed_fields : {s : Scope} {types : List Ty} {vs : Trees} → AllFit g.program g.blocks g.capacity s types vs → (t : Scope) (ws : Trees) (whole : Bool) (at : ℕ) (spots : List Spot)
+    pub fixed_fields : {s : Scope} {types : List Ty} {vs : Trees} → AllFit g.program g.blocks g.capacity s types vs → (t : Scope) (ws : Trees) (whole : Bool) (at : ℕ) (spots : List FieldSpot)
         → All (λ type. Alike g Start s t type) types → AllFit g.program g.blocks g.capacity t types ws → FieldsRead g.program g.planes (held whole) at types spots vs
         → FieldsRead g.program g.planes (held whole) at types spots ws → vs ≡ ws
     fixed_fields AllFit.none t ws whole at spots a other read other_read = sym (is-none ws other)

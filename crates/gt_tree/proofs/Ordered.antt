@@ -4,7 +4,7 @@ use Rattle.gt_types.specs.declared.types.Ty.{Ty}
 use Rattle.gt_types.specs.declared.program.Program.{Program}
 use Rattle.gt_types.specs.Settled.{Settled}
 use Rattle.gt_layout.specs.declared.planes.Plane.{Plane}
-use Rattle.gt_layout.specs.declared.planes.Spot.{Spot}
+use Rattle.gt_layout.specs.declared.planes.FieldSpot.{FieldSpot}
 use Rattle.gt_layout.specs.Storages.{extent_of}
 use Rattle.gt_layout.specs.Places.{begin_at}
 use Rattle.gt_layout.specs.Planes.{AreLaidOut}
@@ -18,7 +18,7 @@ use Rattle.gt_tree.proofs.Rooms.{Room, Laid, room-number, room-bits, room-opaque
 use Rattle.gt_tree.proofs.Structures.{Laid-struct, has_room-member, has_room-common}
 use Rattle.gt_tree.proofs.Fitting.{fits-opaque, fits-struct, fits-member, fits-common, fits-array, fits-tail, fits-more, fits-one}
 
-laid-more : {program : Program} {planes : List Plane} {capacity : ℕ} (from end : ℕ) (type : Ty) (types : List Ty) (s : Spot) (spots : List Spot)
+laid-more : {program : Program} {planes : List Plane} {capacity : ℕ} (from end : ℕ) (type : Ty) (types : List Ty) (s : FieldSpot) (spots : List FieldSpot)
     → Laid program planes capacity from (type ∷ types) (s ∷ spots) end → (w : ℕ) × (from ≤ begin_at s) × Room program planes capacity type w × Laid program planes capacity (begin_at s + w) types spots end
 laid-more from end type types s spots (Laid.more {width = w} le room rest) = (w, le, room, rest)
 
@@ -67,7 +67,7 @@ module _ (program : Program) (planes : List Plane) (blocks : Blocks) (capacity :
         Chain-end at leaves (at + count trees * stride) (at + b) (omega (arith, le, found.1))
         (chain_each each scope stride fit.1 (Room.plain found.0) (omega arith))
 
-    pub chain_fields : {at : ℕ} {types : List Ty} {spots : List Spot} {trees : Trees} {leaves : List Leaf} → FieldsHaveLeaves program planes at types spots trees leaves
+    pub chain_fields : {at : ℕ} {types : List Ty} {spots : List FieldSpot} {trees : Trees} {leaves : List Leaf} → FieldsHaveLeaves program planes at types spots trees leaves
         → (scope : Scope) (from end : ℕ) → AllFit program blocks capacity scope types trees → Laid program planes capacity from types spots end → Chain (at + from) leaves (at + end)
     chain_fields (FieldsHaveLeaves.none {at}) scope from end fits lies = let le = laid-none from end lies in omega (arith, le)
     chain_fields (FieldsHaveLeaves.more {at} {type} {types} {s} {spots} {tree} {trees} {first} {rest} part parts) scope from end fits lies =

@@ -13,7 +13,7 @@ use Rattle.gt_types.specs.declared.program.Program.{Program}
 use Rattle.gt_types.specs.Contains.{HasStructure}
 use Rattle.gt_types.specs.Unions.{BeginsWith, is_it, by_first}
 use Rattle.gt_layout.specs.declared.planes.Plane.{Plane}
-use Rattle.gt_layout.specs.declared.planes.Spot.{Spot}
+use Rattle.gt_layout.specs.declared.planes.FieldSpot.{FieldSpot}
 use Rattle.gt_layout.specs.declared.storages.Storage.{Storage}
 use Rattle.gt_layout.specs.declared.storages.Storage.TheVariants.{Bytes}
 use Rattle.gt_layout.specs.Storages.{extent_of, storage_of, storages_of}
@@ -84,7 +84,7 @@ begins-bytes : (program : Program) (planes : List Plane) (type : Ty) (node : Typ
 begins-bytes program planes type node (is_it) = refl
 begins-bytes program planes type node (by_first has struct e rest) = refl
 
-first-zero : (storage : Storage) (storages : List Storage) (spots : List Spot) (spot : Spot) (e : _) → storage ≡ Bytes e → Follow 0 (storage ∷ storages) spots → slice_get spots 0 ≡ Some spot → begin_at spot ≡ 0
+first-zero : (storage : Storage) (storages : List Storage) (spots : List FieldSpot) (spot : FieldSpot) (e : _) → storage ≡ Bytes e → Follow 0 (storage ∷ storages) spots → slice_get spots 0 ≡ Some spot → begin_at spot ≡ 0
 first-zero storage storages [] spot e is follow got = absurd follow
 first-zero storage storages (s ∷ ss) spot e is follow got =
     let same : s ≡ spot = cc in
@@ -93,7 +93,7 @@ first-zero storage storages (s ∷ ss) spot e is follow got =
     subst (λ x. begin_at x ≡ 0) same (omega (arith, le))
 
 module _ (program : Program) (planes : List Plane) (laid : AreLaidOut program planes) where
-  field-zero : (outer : TypeId) (s : Structure) (f : Field) (fs : List Field) (plane : Plane) (spot : Spot) (node : TypeId) → HasStructure program outer s → s.is_union ≡ false → s.fields ≡ f ∷ fs → BeginsWith program f.ty node
+  field-zero : (outer : TypeId) (s : Structure) (f : Field) (fs : List Field) (plane : Plane) (spot : FieldSpot) (node : TypeId) → HasStructure program outer s → s.is_union ≡ false → s.fields ≡ f ∷ fs → BeginsWith program f.ty node
       → slice_get planes outer.0 ≡ Some plane → slice_get plane.fields 0 ≡ Some spot → begin_at spot ≡ 0
   field-zero outer s f fs plane spot node has struct e begins got at =
       let follow : Follow 0 (storages_of planes s.fields) plane.fields = subst (λ u. Lie u (storages_of planes s.fields) plane.fields) struct (laid.each outer.0 s plane has got).places in

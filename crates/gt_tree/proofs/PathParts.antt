@@ -13,7 +13,7 @@ use Rattle.gt_types.specs.declared.program.Structure.{Structure}
 use Rattle.gt_types.specs.declared.program.Program.{Program}
 use Rattle.gt_types.specs.Contains.{HasStructure}
 use Rattle.gt_layout.specs.declared.planes.Plane.{Plane}
-use Rattle.gt_layout.specs.declared.planes.Spot.{Spot}
+use Rattle.gt_layout.specs.declared.planes.FieldSpot.{FieldSpot}
 use Rattle.gt_layout.specs.Places.{begin_at}
 use Rattle.gt_tree.specs.Trees.{Tree, Rec, Trees, tree_at}
 use Rattle.gt_tree.specs.Blocks.{Blocks}
@@ -74,7 +74,7 @@ All-at P xs i x h all = subst P (get_or_from_slice_get xs i x x h) (all i x (sli
 pub record FieldPart (program : Program) (planes : List Plane) (node : TypeId) (place : ℕ) (type : Ty) (value : Tree) (at : ℕ) (leaves : List Leaf) : Type 0 where
   pub trees : Trees
   pub plane : Plane
-  pub spot : Spot
+  pub spot : FieldSpot
   pub part : Tree
   pub first : List Leaf
   pub blocks : Blocks
@@ -89,9 +89,9 @@ pub record FieldPart (program : Program) (planes : List Plane) (node : TypeId) (
   pub numbers : NumbersIn first leaves
 
 module _ {program : Program} {planes : List Plane} {blocks : Blocks} {capacity : ℕ} {scope : Scope} {at : ℕ} where
-  fields-part : (types : List Ty) (place : ℕ) (type : Ty) {spots : List Spot} {trees : Trees} {leaves : List Leaf} → FieldsHaveLeaves program planes at types spots trees leaves
+  fields-part : (types : List Ty) (place : ℕ) (type : Ty) {spots : List FieldSpot} {trees : Trees} {leaves : List Leaf} → FieldsHaveLeaves program planes at types spots trees leaves
       → AllFit program blocks capacity scope types trees → slice_get types place ≡ Some type
-      → (spot : Spot) × (part : Tree) × (first : List Leaf) × (slice_get spots place ≡ Some spot) × (tree_at trees place ≡ Some part) × Fits program blocks capacity scope type part
+      → (spot : FieldSpot) × (part : Tree) × (first : List Leaf) × (slice_get spots place ≡ Some spot) × (tree_at trees place ≡ Some part) × Fits program blocks capacity scope type part
       × HasLeaves program planes (at + begin_at spot) type part first × NumbersIn first leaves
   fields-part types place type FieldsHaveLeaves.none fits got = absurd (cc)
   fields-part types zero type (FieldsHaveLeaves.more {type = here} {types = others} {s} {spots} {tree} {trees} {first} {rest} has others_have) fits got =

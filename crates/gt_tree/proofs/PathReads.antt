@@ -21,7 +21,7 @@ use Rattle.gt_types.specs.Values.{within_i64}
 use Rattle.gt_types.specs.Settled.{Settled}
 use Rattle.gt_layout.specs.declared.planes.Plane.{Plane}
 use Rattle.gt_layout.specs.declared.planes.Layouts.{Layouts}
-use Rattle.gt_layout.specs.declared.planes.Spot.{Spot}
+use Rattle.gt_layout.specs.declared.planes.FieldSpot.{FieldSpot}
 use Rattle.gt_layout.specs.declared.storages.Storage.{Storage}
 use Rattle.gt_layout.specs.Storages.{storages_of}
 use Rattle.gt_layout.specs.Places.{begin_at, Overlap, Lie}
@@ -87,7 +87,7 @@ pub record NodeStep (program : Program) (planes : List Plane) (node next : TypeI
   pub fits : FitsWith program planes next part (at + bit) first
   pub numbers : NumbersIn first leaves
 
-overlap-get : (fields : List Storage) (spots : List Spot) (place : ℕ) (x : Storage) → Overlap fields spots → slice_get fields place ≡ Some x → (spot : Spot) × (slice_get spots place ≡ Some spot) × (begin_at spot ≡ 0)
+overlap-get : (fields : List Storage) (spots : List FieldSpot) (place : ℕ) (x : Storage) → Overlap fields spots → slice_get fields place ≡ Some x → (spot : FieldSpot) × (slice_get spots place ≡ Some spot) × (begin_at spot ≡ 0)
 overlap-get [] spots place x o got = absurd (cc)
 overlap-get (f ∷ fs) [] place x o got = absurd o
 overlap-get (f ∷ fs) (s ∷ ss) zero x o got = (s, refl, ap begin_at o.0)

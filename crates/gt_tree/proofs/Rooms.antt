@@ -16,7 +16,7 @@ use Rattle.gt_types.specs.Shapes.{is_pointer, is_tail, is_field_type}
 use Rattle.gt_types.specs.Contains.{held_by}
 use Rattle.gt_types.specs.Tails.{IsTailType, elements_at, elements_of, tail_of, only_last_is_tail, no_tails}
 use Rattle.gt_layout.specs.declared.planes.Plane.{Plane}
-use Rattle.gt_layout.specs.declared.planes.Spot.{Spot}
+use Rattle.gt_layout.specs.declared.planes.FieldSpot.{FieldSpot}
 use Rattle.gt_layout.specs.declared.storages.Storage.{Storage}
 use Rattle.gt_layout.specs.declared.storages.Storage.TheVariants.{Bytes}
 use Rattle.gt_layout.specs.Storages.{bytes_of, extent_of, storage_of, storages_of}
@@ -35,9 +35,9 @@ pub data Room (program : Program) (planes : List Plane) (capacity : ℕ) : Ty �
   tail : {type elem : Ty} {length : Expr} → out-Ty type ≡ part.Tail length elem → Plain program elem → Room program planes capacity type (8 * (capacity * (extent_of planes elem).size))
 
 -- values of these types at these places have such room, one after another
-pub data Laid (program : Program) (planes : List Plane) (capacity : ℕ) : ℕ → List Ty → List Spot → ℕ → Type 0 where
+pub data Laid (program : Program) (planes : List Plane) (capacity : ℕ) : ℕ → List Ty → List FieldSpot → ℕ → Type 0 where
   none : {from end : ℕ} → from ≤ end → Laid program planes capacity from [] [] end
-  more : {from end width : ℕ} {type : Ty} {types : List Ty} {s : Spot} {spots : List Spot} → from ≤ begin_at s → Room program planes capacity type width
+  more : {from end width : ℕ} {type : Ty} {types : List Ty} {s : FieldSpot} {spots : List FieldSpot} → from ≤ begin_at s → Room program planes capacity type width
       → Laid program planes capacity (begin_at s + width) types spots end → Laid program planes capacity from (type ∷ types) (s ∷ spots) end
 
 -- what a program says of the type of a field, by its shape and by what it holds
@@ -59,7 +59,7 @@ storage-tail : (planes : List Plane) (type elem : Ty) (length : Expr) → out-Ty
 storage-tail planes (ty.Bits unit width) elem length e = let o = outs-Bits unit width in absurd (cc)
 storage-tail planes type elem length e = refl
 
-no_bit : (storage : Storage) (s : Spot) (e : _) → storage ≡ Bytes e → s ≡ Rattle.gt_layout.specs.Places.spot_of storage (begin_at s) → s.bit ≡ 0
+no_bit : (storage : Storage) (s : FieldSpot) (e : _) → storage ≡ Bytes e → s ≡ Rattle.gt_layout.specs.Places.spot_of storage (begin_at s) → s.bit ≡ 0
 no_bit storage s e b h = ap (λ x. x.bit) (h ∙ ap (λ x. Rattle.gt_layout.specs.Places.spot_of x (begin_at s)) b)
 
 not-false : (b : Bool) (c : Bool) → IsTrue (not b && c) → (b ≡ false) × IsTrue c
@@ -136,7 +136,7 @@ module _ {program : Program} {planes : List Plane} {capacity : ℕ} where
   room-field (ty.Bits unit width) sound t = bits
   room-field type sound t = plain (Plain-field program type sound.shape refl t sound.whole)
 
-  pub Laid-follow : {X : Type 0} (type_of : X → Ty) (xs : List X) (spots : List Spot) (from end : ℕ) → Follow from (map (λ x. storage_of planes (type_of x)) xs) spots
+  pub Laid-follow : {X : Type 0} (type_of : X → Ty) (xs : List X) (spots : List FieldSpot) (from end : ℕ) → Follow from (map (λ x. storage_of planes (type_of x)) xs) spots
       → All (λ e. e ≤ end) (ends_at (map (λ x. storage_of planes (type_of x)) xs) spots) → from ≤ end → All (λ x. Room program planes capacity (type_of x) (bits_in (storage_of planes (type_of x)))) xs
       → Laid program planes capacity from (map (λ x. type_of x) xs) spots end
   Laid-follow type_of [] [] from end h a le each = none le
@@ -150,7 +150,7 @@ module _ {program : Program} {planes : List Plane} {capacity : ℕ} where
       (Laid-follow type_of xs ss (end_at st s) end h.2 (All-tail (λ e. e ≤ end) (end_at st s) (ends_at fields ss) a) (All-head (λ e. e ≤ end) (end_at st s) (ends_at fields ss) a)
       (All-tail (λ y. Room program planes capacity (type_of y) (bits_in (storage_of planes (type_of y)))) x xs each)))
 
-  pub Laid-tail : (fields : List Field) (spots : List Spot) (from end : ℕ) (elem : Ty) → Follow from (storages_of planes fields) spots → tail_of fields ≡ Some elem
+  pub Laid-tail : (fields : List Field) (spots : List FieldSpot) (from end : ℕ) (elem : Ty) → Follow from (storages_of planes fields) spots → tail_of fields ≡ Some elem
       → IsTrue (only_last_is_tail fields) → 8 * (last_offset spots + capacity * (extent_of planes elem).size) ≤ end → All (λ f. Sound program f.ty) fields
       → Laid program planes capacity from (types_of fields) spots end
   Laid-tail [] spots from end elem h t last le each = absurd (cc)

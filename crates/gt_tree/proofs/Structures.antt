@@ -17,7 +17,7 @@ use Rattle.gt_types.specs.Tails.{IsTailType, ends as ends_so, has_member, tail_o
 use Rattle.gt_types.specs.Unions.{IsCommon}
 use Rattle.gt_types.specs.Settled.{Settled, IsField, IsStruct, IsUnion, IsOfItsKind}
 use Rattle.gt_layout.specs.declared.planes.Plane.{Plane}
-use Rattle.gt_layout.specs.declared.planes.Spot.{Spot}
+use Rattle.gt_layout.specs.declared.planes.FieldSpot.{FieldSpot}
 use Rattle.gt_layout.specs.Storages.{extent_of, extent_of_plane, storage_of, storages_of}
 use Rattle.gt_layout.specs.Places.{begin_at, end_at, Follow, Overlap, Lie, last_offset}
 use Rattle.gt_layout.specs.Places.{ends as ends_at}
@@ -60,7 +60,7 @@ option-none None h = refl
 option-none (Some x) h = absurd (h refl)
 
 -- the end of a member of a union
-member-end : (planes : List Plane) (fields : List Field) (spots : List Spot) (place : ℕ) (f : Field) (end : ℕ) → Overlap (storages_of planes fields) spots
+member-end : (planes : List Plane) (fields : List Field) (spots : List FieldSpot) (place : ℕ) (f : Field) (end : ℕ) → Overlap (storages_of planes fields) spots
     → All (λ e. e ≤ end) (ends_at (storages_of planes fields) spots) → slice_get fields place ≡ Some f → bits_in (storage_of planes f.ty) ≤ end
 member-end planes [] spots place f end o a h = absurd (cc)
 member-end planes (g ∷ fs) [] place f end o a h = absurd o

@@ -15,7 +15,7 @@ use Rattle.gt_types.specs.Contains.{HasStructure}
 use Rattle.gt_types.specs.Unions.{IsCommon}
 use Rattle.gt_types.specs.Settled.{Settled}
 use Rattle.gt_layout.specs.declared.planes.Plane.{Plane}
-use Rattle.gt_layout.specs.declared.planes.Spot.{Spot}
+use Rattle.gt_layout.specs.declared.planes.FieldSpot.{FieldSpot}
 use Rattle.gt_layout.specs.Storages.{bytes_of, extent_of}
 use Rattle.gt_layout.specs.Places.{begin_at}
 use Rattle.gt_tree.specs.Trees.{Tree, Num, Null, To, Raw, Rec, Alt, Row, Trees, End, And}
@@ -89,7 +89,7 @@ module _ {program : Program} {planes : List Plane} {at : ℕ} where
   inv-none : (other : List Leaf) → FieldsHaveLeaves program planes at [] [] End other → other ≡ []
   inv-none other FieldsHaveLeaves.none = refl
 
-  inv-more : (type : Ty) (types : List Ty) (s : Spot) (spots : List Spot) (tree : Tree) (trees : Trees) (other : List Leaf) → FieldsHaveLeaves program planes at (type ∷ types) (s ∷ spots) (And tree trees) other
+  inv-more : (type : Ty) (types : List Ty) (s : FieldSpot) (spots : List FieldSpot) (tree : Tree) (trees : Trees) (other : List Leaf) → FieldsHaveLeaves program planes at (type ∷ types) (s ∷ spots) (And tree trees) other
       → (first rest : List Leaf) × HasLeaves program planes (at + begin_at s) type tree first × FieldsHaveLeaves program planes at types spots trees rest × (other ≡ first ++ rest)
   inv-more type types s spots tree trees other (FieldsHaveLeaves.more {first} {rest} part parts) = (first, rest, part, parts, refl)
 
@@ -121,7 +121,7 @@ module _ (program : Program) (planes : List Plane) (settled : Settled program) w
     unique (HasLeaves.array {at} {type} {elem} {n} {trees} {leaves} e each) other o = unique_each each other (inv-array type elem n trees other e o)
     unique (HasLeaves.tail {at} {type} {elem} {length} {trees} {leaves} e each) other o = unique_each each other (inv-tail type elem length trees other e o)
 
-    pub unique_fields : {at : ℕ} {types : List Ty} {spots : List Spot} {trees : Trees} {leaves : List Leaf} → FieldsHaveLeaves program planes at types spots trees leaves
+    pub unique_fields : {at : ℕ} {types : List Ty} {spots : List FieldSpot} {trees : Trees} {leaves : List Leaf} → FieldsHaveLeaves program planes at types spots trees leaves
         → (other : List Leaf) → FieldsHaveLeaves program planes at types spots trees other → other ≡ leaves
     unique_fields FieldsHaveLeaves.none other o = inv-none other o
     unique_fields (FieldsHaveLeaves.more {at} {type} {types} {s} {spots} {tree} {trees} {first} {rest} part parts) other o =

@@ -7,7 +7,7 @@ use Rattle.std.proofs.lemmas.Nat.Bits.{bit_at-zero}
 use Rattle.gt_types.specs.declared.types.Ty.{Ty}
 use Rattle.gt_types.specs.declared.program.Program.{Program}
 use Rattle.gt_layout.specs.declared.planes.Plane.{Plane}
-use Rattle.gt_layout.specs.declared.planes.Spot.{Spot}
+use Rattle.gt_layout.specs.declared.planes.FieldSpot.{FieldSpot}
 use Rattle.gt_layout.specs.Storages.{bytes_of}
 use Rattle.gt_tree.specs.Trees.{Tree, Trees, IsZero, AreZero}
 use Rattle.gt_tree.specs.Blocks.{Blocks}
@@ -92,7 +92,7 @@ module _ {program : Program} {planes : List Plane} where
     noughts (HasLeaves.array o each) z = noughts_each each z
     noughts (HasLeaves.tail o each) z = noughts_each each z
 
-    pub noughts_fields : {at : ℕ} {types : List Ty} {spots : List Spot} {trees : Trees} {ls : List Leaf} → FieldsHaveLeaves program planes at types spots trees ls → AreZero trees → All HoldsNought ls
+    pub noughts_fields : {at : ℕ} {types : List Ty} {spots : List FieldSpot} {trees : Trees} {ls : List Leaf} → FieldsHaveLeaves program planes at types spots trees ls → AreZero trees → All HoldsNought ls
     noughts_fields FieldsHaveLeaves.none z = All-nil HoldsNought
     noughts_fields (FieldsHaveLeaves.more {first} {rest} part parts) z = All-append HoldsNought first rest (noughts part z.0) (noughts_fields parts z.1)
 

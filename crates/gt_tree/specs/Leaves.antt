@@ -14,7 +14,7 @@ use Rattle.gt_types.specs.Shapes.{is_pointer}
 use Rattle.gt_types.specs.Contains.{HasStructure}
 use Rattle.gt_types.specs.Unions.{IsCommon}
 use Rattle.gt_layout.specs.declared.planes.Plane.{Plane}
-use Rattle.gt_layout.specs.declared.planes.Spot.{Spot}
+use Rattle.gt_layout.specs.declared.planes.FieldSpot.{FieldSpot}
 use Rattle.gt_layout.specs.Storages.{bytes_of, extent_of}
 use Rattle.gt_layout.specs.Places.{begin_at}
 use Rattle.gt_tree.specs.Trees.{Tree, Num, Null, To, Raw, Rec, Alt, Row, Trees, End, And}
@@ -70,9 +70,9 @@ mutual
         → EachHasLeaves program planes (8 * (extent_of planes elem).size) at elem trees leaves → HasLeaves program planes at type (Row trees) leaves
 
   -- the leaves of fields at their places in a structure that begins at a bit
-  pub data FieldsHaveLeaves (program : Program) (planes : List Plane) : ℕ → List Ty → List Spot → Trees → List Leaf → Type 0 where
+  pub data FieldsHaveLeaves (program : Program) (planes : List Plane) : ℕ → List Ty → List FieldSpot → Trees → List Leaf → Type 0 where
     none : {at : ℕ} → FieldsHaveLeaves program planes at [] [] End []
-    more : {at : ℕ} {type : Ty} {types : List Ty} {s : Spot} {spots : List Spot} {tree : Tree} {trees : Trees} {first rest : List Leaf}
+    more : {at : ℕ} {type : Ty} {types : List Ty} {s : FieldSpot} {spots : List FieldSpot} {tree : Tree} {trees : Trees} {first rest : List Leaf}
         → HasLeaves program planes (at + begin_at s) type tree first → FieldsHaveLeaves program planes at types spots trees rest
         → FieldsHaveLeaves program planes at (type ∷ types) (s ∷ spots) (And tree trees) (first ++ rest)
 

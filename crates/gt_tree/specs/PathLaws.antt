@@ -13,7 +13,7 @@ use Rattle.gt_types.specs.Paths.{Way, paths_of, LeadsToNumber}
 use Rattle.gt_types.specs.Values.{within_i64}
 use Rattle.gt_layout.specs.declared.planes.Plane.{Plane}
 use Rattle.gt_layout.specs.declared.planes.Layouts.{Layouts}
-use Rattle.gt_layout.specs.declared.planes.Spot.{Spot}
+use Rattle.gt_layout.specs.declared.planes.FieldSpot.{FieldSpot}
 use Rattle.gt_layout.specs.Storages.{bytes_of}
 use Rattle.gt_layout.specs.Places.{begin_at}
 use Rattle.gt_tree.specs.Trees.{Tree}
@@ -31,7 +31,7 @@ pub record StepBit (program : Program) (planes : List Plane) (node : TypeId) (na
   pub f : Field
   pub place : ℕ
   pub plane : Plane
-  pub spot : Spot
+  pub spot : FieldSpot
   pub has : HasStructure program node s
   pub field : slice_get s.fields place ≡ Some f
   pub named : f.name ≡ name

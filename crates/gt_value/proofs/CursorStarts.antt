@@ -7,7 +7,7 @@ use Rattle.gt_types.specs.declared.types.Ty.{Ty}
 use Rattle.gt_types.specs.Settled.{Settled}
 use Rattle.gt_layout.specs.declared.planes.Layouts.{Layouts}
 use Rattle.gt_space.specs.Range.{Range, IsInside}
-use Rattle.gt_layout.specs.declared.planes.Spot.{Spot}
+use Rattle.gt_layout.specs.declared.planes.FieldSpot.{FieldSpot}
 use Rattle.gt_layout.specs.Places.{begin_at}
 use Rattle.gt_layout.specs.Planes.{IsLaidOut}
 use Rattle.gt_tree.specs.Trees.{Tree, Rec, Trees, tree_at}
@@ -58,7 +58,7 @@ module _ (source : Source) (program : Program) (layouts : Layouts) (range : Rang
       absurd (cc)
 
   -- the value of a root stands at its place
-  pub root-at : (spot : Spot) → slice_get layouts.statics.fields i ≡ Some spot → (tree : Tree) × (tree_at values i ≡ Some tree) × StandsIn source outside_all (outside values) r.ty (begin_at spot) tree
+  pub root-at : (spot : FieldSpot) → slice_get layouts.statics.fields i ≡ Some spot → (tree : Tree) × (tree_at values i ≡ Some tree) × StandsIn source outside_all (outside values) r.ty (begin_at spot) tree
   root-at spot spot_of =
       let here = subst (λ x. slice_get x.statics.fields i ≡ Some spot) (sym l) spot_of in
       let f = field in

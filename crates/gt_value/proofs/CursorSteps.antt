@@ -14,7 +14,7 @@ use Rattle.gt_types.specs.Values.{value_of}
 use Rattle.gt_types.specs.Contains.{HasStructure}
 use Rattle.gt_types.specs.Unions.{IsCommon}
 use Rattle.gt_layout.specs.declared.planes.Plane.{Plane}
-use Rattle.gt_layout.specs.declared.planes.Spot.{Spot}
+use Rattle.gt_layout.specs.declared.planes.FieldSpot.{FieldSpot}
 use Rattle.gt_layout.specs.Storages.{extent_of}
 use Rattle.gt_layout.specs.Places.{begin_at}
 use Rattle.gt_tree.specs.Trees.{Tree, Rec, Alt, Row, Trees, End, tree_at, part_at, is_word}
@@ -82,7 +82,7 @@ module _ (source : Source) (from : Site) (node : TypeId) (desc : Option Expr) (a
   abbrev inner : Around
   inner = entered from.around node at
 
-  pub struct-step : (plane : Plane) (i : ℕ) (f : Field) (spot : Spot) (next : Cursor) → y.is_union ≡ false → slice_get source.layouts.now.structures node.0 ≡ Some plane → slice_get y.fields i ≡ Some f → slice_get plane.fields i ≡ Some spot
+  pub struct-step : (plane : Plane) (i : ℕ) (f : Field) (spot : FieldSpot) (next : Cursor) → y.is_union ≡ false → slice_get source.layouts.now.structures node.0 ≡ Some plane → slice_get y.fields i ≡ Some f → slice_get plane.fields i ≡ Some spot
       → IsMoved next source (site inner (lies_in.Field node i)) f.ty (at + begin_at spot) → (scope : Scope) (value : Tree) → StandsIn source around scope (ty.Node node desc) at value → IsStep source from scope (ty.Node node desc) at value i next
   struct-step plane i f spot next struct laid got spot_of moved scope value s =
       let parts = struct-in source around node desc at y has scope plane value struct laid s in
@@ -96,7 +96,7 @@ module _ (source : Source) (from : Site) (node : TypeId) (desc : Option Expr) (a
       (PartLies.field has struct laid got spot_of found.there PartLies.whole))
 
   -- the field stands where the code looks for it
-  pub struct-field : (plane : Plane) (i : ℕ) (f : Field) (spot : Spot) → y.is_union ≡ false → slice_get source.layouts.now.structures node.0 ≡ Some plane → slice_get y.fields i ≡ Some f → slice_get plane.fields i ≡ Some spot
+  pub struct-field : (plane : Plane) (i : ℕ) (f : Field) (spot : FieldSpot) → y.is_union ≡ false → slice_get source.layouts.now.structures node.0 ≡ Some plane → slice_get y.fields i ≡ Some f → slice_get plane.fields i ≡ Some spot
       → (value : Tree) → Stands source around (ty.Node node desc) at value → (tree : Tree) × Stands source inner f.ty (at + begin_at spot) tree
   struct-field plane i f spot struct laid got spot_of value s =
       let parts = struct-stands source around node desc at y has plane value struct laid s in

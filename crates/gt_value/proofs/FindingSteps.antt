@@ -9,7 +9,7 @@ use Rattle.gt_types.specs.declared.types.Ty.TheVariants.{outs-Node, outs-Arr', o
 use Rattle.gt_types.specs.declared.program.Structure.{Structure}
 use Rattle.gt_types.specs.declared.program.Program.{Program}
 use Rattle.gt_types.specs.Contains.{HasStructure}
-use Rattle.gt_layout.specs.declared.planes.Spot.{Spot}
+use Rattle.gt_layout.specs.declared.planes.FieldSpot.{FieldSpot}
 use Rattle.gt_layout.specs.Storages.{extent_of}
 use Rattle.gt_layout.specs.Places.{begin_at}
 use Rattle.gt_tree.specs.Trees.{Tree, Trees, End, And, tree_at, part_at, part_of, is_word}
@@ -40,14 +40,14 @@ part-none (And t ts) (suc i) path e = part-none ts i path e
 
 -- ---- fields
 
-pub record FieldAt (source : Source) (around : Around) (scope : Scope) (type : Ty) (spots : List Spot) (at : ℕ) (trees : Trees) (i : ℕ) : Type 0 where
-  pub spot : Spot
+pub record FieldAt (source : Source) (around : Around) (scope : Scope) (type : Ty) (spots : List FieldSpot) (at : ℕ) (trees : Trees) (i : ℕ) : Type 0 where
+  pub spot : FieldSpot
   pub tree : Tree
   pub spot_of : slice_get spots i ≡ Some spot
   pub there : tree_at trees i ≡ Some tree
   pub stands : StandsIn source around scope type (at + begin_at spot) tree
 
-pub field-at : (source : Source) (around : Around) (scope : Scope) (types : List Ty) (spots : List Spot) (at : ℕ) (trees : Trees) (i : ℕ) (type : Ty) → slice_get types i ≡ Some type → FieldsStandIn source around scope types spots at trees
+pub field-at : (source : Source) (around : Around) (scope : Scope) (types : List Ty) (spots : List FieldSpot) (at : ℕ) (trees : Trees) (i : ℕ) (type : Ty) → slice_get types i ≡ Some type → FieldsStandIn source around scope types spots at trees
     → FieldAt source around scope type spots at trees i
 field-at source around scope [] spots at trees i type e s = absurd (cc)
 field-at source around scope (t ∷ ts) [] at trees i type e s = let some = some-spots source around t ts [] at trees s.0 in absurd (omega (arith, some))
@@ -60,7 +60,7 @@ field-at source around scope (t ∷ ts) (p ∷ ps) at trees (suc i) type e s =
     let found = field-at source around scope ts ps at step.rest i type e (step.others, fields-others source around t ts p ps at trees s.0 ∙ s.1) in
     record { spot = found.spot; tree = found.tree; spot_of = found.spot_of; there = ap (λ x. tree_at x (suc i)) step.is ∙ found.there; stands = found.stands }
 
-pub no-field : (source : Source) (around : Around) (types : List Ty) (spots : List Spot) (at : ℕ) (trees : Trees) (i : ℕ) → slice_get types i ≡ None → FieldsStand source around types spots at trees → tree_at trees i ≡ None
+pub no-field : (source : Source) (around : Around) (types : List Ty) (spots : List FieldSpot) (at : ℕ) (trees : Trees) (i : ℕ) → slice_get types i ≡ None → FieldsStand source around types spots at trees → tree_at trees i ≡ None
 no-field source around [] spots at trees i e s = ap (λ x. tree_at x i) (is-none trees s.fit)
 no-field source around (t ∷ ts) [] at trees i e s = let some = some-spots source around t ts [] at trees s in absurd (omega (arith, some))
 no-field source around (t ∷ ts) (p ∷ ps) at trees zero e s = absurd (cc)

@@ -13,7 +13,7 @@ use Rattle.gt_types.specs.Contains.{HasStructure}
 use Rattle.gt_types.specs.Values.{value_of}
 use Rattle.gt_types.specs.Unions.{IsCommon}
 use Rattle.gt_layout.specs.declared.planes.Plane.{Plane}
-use Rattle.gt_layout.specs.declared.planes.Spot.{Spot}
+use Rattle.gt_layout.specs.declared.planes.FieldSpot.{FieldSpot}
 use Rattle.gt_layout.specs.Storages.{extent_of}
 use Rattle.gt_tree.specs.Trees.{Tree, Rec, Alt, Row, Trees, End, count}
 use Rattle.gt_tree.specs.Scopes.{Held, Scope, inside, first_of}
@@ -312,7 +312,7 @@ module _ (source : Source) (around : Around) (type elem : Ty) (at : ℕ) where
 -- ---- as the code has them
 
 -- the same fields, by other names
-pub fields-as : (source : Source) (around inner : Around) (fields others : List Field) (spots places : List Spot) (at : ℕ) (trees : Trees) → around ≡ inner → fields ≡ others → spots ≡ places
+pub fields-as : (source : Source) (around inner : Around) (fields others : List Field) (spots places : List FieldSpot) (at : ℕ) (trees : Trees) → around ≡ inner → fields ≡ others → spots ≡ places
     → FieldsStand source inner (types_of others) places at trees → FieldsStand source around (types_of fields) spots at trees
 fields-as source around inner fields others spots places at trees a f s h =
     subst (λ x. FieldsStand source x (types_of fields) spots at trees) (sym a)

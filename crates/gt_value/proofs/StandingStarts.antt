@@ -15,7 +15,7 @@ use Rattle.gt_types.specs.Values.{within_i64}
 use Rattle.gt_types.specs.Paths.{IsScalarRoot}
 use Rattle.gt_types.specs.Settled.{Settled, IsRoot}
 use Rattle.gt_layout.specs.declared.planes.Layouts.{Layouts}
-use Rattle.gt_layout.specs.declared.planes.Spot.{Spot}
+use Rattle.gt_layout.specs.declared.planes.FieldSpot.{FieldSpot}
 use Rattle.gt_layout.specs.Storages.{bytes_of, storage_of}
 use Rattle.gt_layout.specs.Places.{begin_at}
 use Rattle.gt_layout.specs.Planes.{IsLaidOut}
@@ -143,15 +143,15 @@ module _ (source : Source) (settled : Settled source.program.now) (laid : IsLaid
 
   -- ---- the static record
 
-  record RootNumber (number : Scalar) (values : Trees) (spots : List Spot) (i at : ℕ) (held : Leaf → Type 0) : Type 0 where
+  record RootNumber (number : Scalar) (values : Trees) (spots : List FieldSpot) (i at : ℕ) (held : Leaf → Type 0) : Type 0 where
     n : ℤ
-    spot : Spot
+    spot : FieldSpot
     there : tree_at values i ≡ Some (Num n)
     room : IsTrue (has_room (is_signed number) (bits_of number) n)
     spot_of : slice_get spots i ≡ Some spot
     got : held (leaf (at + begin_at spot) (8 * bytes_of number) (Number n))
 
-  root-number : {blocks : Blocks} {scope : Scope} {types : List Ty} {values : Trees} → AllFit source.program.now blocks 0 scope types values → (held : Leaf → Type 0) (spots : List Spot) (i at : ℕ) (number : Scalar)
+  root-number : {blocks : Blocks} {scope : Scope} {types : List Ty} {values : Trees} → AllFit source.program.now blocks 0 scope types values → (held : Leaf → Type 0) (spots : List FieldSpot) (i at : ℕ) (number : Scalar)
       → slice_get types i ≡ Some (ty.Num number) → FieldsRead source.program.now source.layouts.now.structures held at types spots values → RootNumber number values spots i at held
   root-number AllFit.none held spots i at number e read = absurd (cc)
   root-number (AllFit.more {type} {types} {tree} {trees} fits all) held [] i at number e read = absurd (read-no_spots type types (And tree trees) read.0 read.1)
@@ -253,7 +253,7 @@ module _ (source : Source) (program : Program) (layouts : Layouts) (range : Rang
   pub element-shallow : (capacity : ℕ) (type : Ty) (addr : ℕ) (value : Tree) → StandsFor program layouts capacity type range addr value → HoldsWithinDepth source.program.now type 33
   element-shallow capacity type addr value stands = turn (λ a b c. HoldsWithinDepth a type 33) (element-held program settled type (stands.kind, stands.held, stands.of_kind))
 
-  pub statics-start : (values : Trees) (roots : List Root) (spots : List Spot) → roots ≡ program.roots → spots ≡ layouts.statics.fields → source.from ≡ range.start - range.start
+  pub statics-start : (values : Trees) (roots : List Root) (spots : List FieldSpot) → roots ≡ program.roots → spots ≡ layouts.statics.fields → source.from ≡ range.start - range.start
       → IsInside range range.start layouts.statics.size → StandForStatics program layouts range values → FieldsStand source outside_all (map (λ (r : Root). r.ty) roots) spots 0 values
   statics-start values roots spots items places from inside stand =
       let here = statics-stand source (turn (λ a b c. Settled a) settled) (turn (λ a b c. IsLaidOut a b) laid) small values (omega (arith, from))

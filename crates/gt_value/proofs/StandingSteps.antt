@@ -6,7 +6,7 @@ use Rattle.std.proofs.lemmas.List.Elements.{All-head, All-tail}
 use Rattle.gt_types.specs.declared.types.Ty.{Ty}
 use Rattle.gt_types.specs.declared.program.Program.{Program}
 use Rattle.gt_layout.specs.declared.planes.Plane.{Plane}
-use Rattle.gt_layout.specs.declared.planes.Spot.{Spot}
+use Rattle.gt_layout.specs.declared.planes.FieldSpot.{FieldSpot}
 use Rattle.gt_layout.specs.Storages.{extent_of}
 use Rattle.gt_layout.specs.Places.{begin_at}
 use Rattle.gt_tree.specs.Trees.{Tree, Trees, End, And, count}
@@ -138,22 +138,22 @@ each-more source around type values made more x begin n i next lt r e is pushed 
 
 -- ---- fields
 
-Laid-le : {program : Program} {planes : List Plane} {capacity : ℕ} {from : ℕ} {types : List Ty} {spots : List Spot} {end : ℕ} → Laid program planes capacity from types spots end → from ≤ end
+Laid-le : {program : Program} {planes : List Plane} {capacity : ℕ} {from : ℕ} {types : List Ty} {spots : List FieldSpot} {end : ℕ} → Laid program planes capacity from types spots end → from ≤ end
 Laid-le (Laid.none le) = le
 Laid-le (Laid.more {width} le room rest) = let more = Laid-le rest in omega (arith, le, more)
 
-laid-more : {program : Program} {planes : List Plane} {capacity : ℕ} (from end : ℕ) (type : Ty) (types : List Ty) (s : Spot) (spots : List Spot)
+laid-more : {program : Program} {planes : List Plane} {capacity : ℕ} (from end : ℕ) (type : Ty) (types : List Ty) (s : FieldSpot) (spots : List FieldSpot)
     → Laid program planes capacity from (type ∷ types) (s ∷ spots) end → (w : ℕ) × Room program planes capacity type w × Laid program planes capacity (begin_at s + w) types spots end
 laid-more from end type types s spots (Laid.more {width = w} le room rest) = (w, room, rest)
 
-pub record FieldsStep (source : Source) (around : Around) (type : Ty) (types : List Ty) (spot : Spot) (spots : List Spot) (at : ℕ) (values : Trees) : Type 0 where
+pub record FieldsStep (source : Source) (around : Around) (type : Ty) (types : List Ty) (spot : FieldSpot) (spots : List FieldSpot) (at : ℕ) (values : Trees) : Type 0 where
   pub tree : Tree
   pub rest : Trees
   pub is : values ≡ And tree rest
   pub first : Stands source around type (at + begin_at spot) tree
   pub others : FieldsStand source around types spots at rest
 
-pub fields-step : (source : Source) (around : Around) (type : Ty) (types : List Ty) (spot : Spot) (spots : List Spot) (at : ℕ) (values : Trees) → FieldsStand source around (type ∷ types) (spot ∷ spots) at values
+pub fields-step : (source : Source) (around : Around) (type : Ty) (types : List Ty) (spot : FieldSpot) (spots : List FieldSpot) (at : ℕ) (values : Trees) → FieldsStand source around (type ∷ types) (spot ∷ spots) at values
     → FieldsStep source around type types spot spots at values
 fields-step source around type types spot spots at values s =
     let held = Got itself (bits_from source.space.now source.from) around.whole in
@@ -187,27 +187,27 @@ fields-step source around type types spot spots at values s =
       };
     }
 
-pub fields-first : (source : Source) (around : Around) (type : Ty) (types : List Ty) (spot : Spot) (spots : List Spot) (at : ℕ) (values : Trees) (s : FieldsStand source around (type ∷ types) (spot ∷ spots) at values)
+pub fields-first : (source : Source) (around : Around) (type : Ty) (types : List Ty) (spot : FieldSpot) (spots : List FieldSpot) (at : ℕ) (values : Trees) (s : FieldsStand source around (type ∷ types) (spot ∷ spots) at values)
     → (fields-step source around type types spot spots at values s).first.context.scope ≡ s.context.scope
 unfolding fields-step
 fields-first source around type types spot spots at values s = refl
 
-pub fields-others : (source : Source) (around : Around) (type : Ty) (types : List Ty) (spot : Spot) (spots : List Spot) (at : ℕ) (values : Trees) (s : FieldsStand source around (type ∷ types) (spot ∷ spots) at values)
+pub fields-others : (source : Source) (around : Around) (type : Ty) (types : List Ty) (spot : FieldSpot) (spots : List FieldSpot) (at : ℕ) (values : Trees) (s : FieldsStand source around (type ∷ types) (spot ∷ spots) at values)
     → (fields-step source around type types spot spots at values s).others.context.scope ≡ s.context.scope
 unfolding fields-step
 fields-others source around type types spot spots at values s = refl
 
-pub some-spots : (source : Source) (around : Around) (type : Ty) (types : List Ty) (spots : List Spot) (at : ℕ) (values : Trees) → FieldsStand source around (type ∷ types) spots at values → 0 < length spots
+pub some-spots : (source : Source) (around : Around) (type : Ty) (types : List Ty) (spots : List FieldSpot) (at : ℕ) (values : Trees) → FieldsStand source around (type ∷ types) spots at values → 0 < length spots
 some-spots source around type types [] at values s = let found = is-more type types values s.fit in absurd (read-no_spots type types values s.read.0 s.read.1)
 some-spots source around type types (spot ∷ spots) at values s = omega arith
 
 -- the values of fields of which some were read, and the rest
-pub record FieldsRest {X : Type 0} (source : Source) (around : Around) (type_of : X → Ty) (fields : List X) (spots : List Spot) (at : ℕ) (values : Trees) (made : List Value) (i : ℕ) : Type 0 where
+pub record FieldsRest {X : Type 0} (source : Source) (around : Around) (type_of : X → Ty) (fields : List X) (spots : List FieldSpot) (at : ℕ) (values : Trees) (made : List Value) (i : ℕ) : Type 0 where
   pub rest : Trees
   pub front : values ≡ joined (map tree_of made) rest
   pub stand : FieldsStand source around (map type_of (drop i fields)) (drop i spots) at rest
 
-module _ {X : Type 0} (source : Source) (around : Around) (type_of : X → Ty) (fields : List X) (spots : List Spot) (at : ℕ) (values : Trees) where
+module _ {X : Type 0} (source : Source) (around : Around) (type_of : X → Ty) (fields : List X) (spots : List FieldSpot) (at : ℕ) (values : Trees) where
   pub fields-end : (made : List Value) (i : ℕ) → length fields ≤ i → FieldsRest source around type_of fields spots at values made i → trees (map tree_of made) ≡ values
   fields-end made i le r =
       let none : drop i fields ≡ [] = drop_of_length-le fields le in
@@ -226,7 +226,7 @@ module _ {X : Type 0} (source : Source) (around : Around) (type_of : X → Ty) (
       omega (arith, some, length-drop i spots)
 
   -- the next of them
-  pub fields-next : (made : List Value) (i : ℕ) (f : X) (spot : Spot) → i < length fields → f ≡ get_or fields i f → spot ≡ get_or spots i spot → (r : FieldsRest source around type_of fields spots at values made i)
+  pub fields-next : (made : List Value) (i : ℕ) (f : X) (spot : FieldSpot) → i < length fields → f ≡ get_or fields i f → spot ≡ get_or spots i spot → (r : FieldsRest source around type_of fields spots at values made i)
       → FieldsStep source around (type_of f) (map type_of (drop (i + 1) fields)) spot (drop (i + 1) spots) at r.rest
   fields-next made i f spot lt is spot_is r =
       let within = spot-there made i f lt is r in
@@ -235,7 +235,7 @@ module _ {X : Type 0} (source : Source) (around : Around) (type_of : X → Ty) (
       fields-step source around (type_of f) (map type_of (drop (i + 1) fields)) spot (drop (i + 1) spots) at r.rest
       (subst (λ ss. FieldsStand source around (type_of f ∷ map type_of (drop (i + 1) fields)) ss at r.rest) here (spots-left made i f lt is r))
 
-  pub fields-more : (made more : List Value) (i : ℕ) (f : X) (spot : Spot) (x : Value) → i < length fields → f ≡ get_or fields i f → spot ≡ get_or spots i spot → FieldsRest source around type_of fields spots at values made i
+  pub fields-more : (made more : List Value) (i : ℕ) (f : X) (spot : FieldSpot) (x : Value) → i < length fields → f ≡ get_or fields i f → spot ≡ get_or spots i spot → FieldsRest source around type_of fields spots at values made i
       → ((value : Tree) → Stands source around (type_of f) (at + begin_at spot) value → tree_of x ≡ value) → more ≡ made ++ x ∷ [] → FieldsRest source around type_of fields spots at values more (i + 1)
   fields-more made more i f spot x lt is spot_is r reads pushed =
       let step = fields-next made i f spot lt is spot_is r in

@@ -4,7 +4,7 @@ use Rattle.gt_types.specs.declared.types.Ty.{Ty}
 use Rattle.gt_types.specs.declared.program.Root.{Root as RootOf}
 use Rattle.gt_types.specs.declared.program.Program.{Program}
 use Rattle.gt_layout.specs.declared.planes.Layouts.{Layouts}
-use Rattle.gt_layout.specs.declared.planes.Spot.{Spot}
+use Rattle.gt_layout.specs.declared.planes.FieldSpot.{FieldSpot}
 use Rattle.gt_layout.specs.Storages.{extent_of}
 use Rattle.gt_layout.specs.Places.{begin_at}
 use Rattle.gt_space.specs.Range.{Range}
@@ -34,7 +34,7 @@ abbrev pub element_part : Trees → Ty → Tree → Part
 element_part statics type value = record { bit = 0; type = type; holder = Element; scope = outside statics; active = true; tree = value }
 
 -- a value of the root of this number, as a part of the static record
-abbrev pub root_part : Trees → ℕ → Spot → RootOf → Tree → Part
+abbrev pub root_part : Trees → ℕ → FieldSpot → RootOf → Tree → Part
 root_part values i spot r value = record { bit = begin_at spot; type = r.ty; holder = Root i; scope = outside values; active = true; tree = value }
 
 -- what is read, and where
@@ -68,7 +68,7 @@ pub record IsAt (at : Frame) (c : Cursor) (value : Part) (path : List ℕ) : Typ
 -- a cursor stands at the value of the root of this number
 pub record IsAtRoot (program : Program) (layouts : Layouts) (space : Range) (values : Trees) (i : ℕ) (c : Cursor) : Type 0 where
   pub r : RootOf
-  pub spot : Spot
+  pub spot : FieldSpot
   pub tree : Tree
   pub root : slice_get program.roots i ≡ Some r
   pub spot_is : slice_get layouts.statics.fields i ≡ Some spot

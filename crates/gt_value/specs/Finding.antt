@@ -4,7 +4,7 @@ use Rattle.gt_types.specs.declared.types.Ty.{Ty}
 use Rattle.gt_types.specs.declared.program.Root.{Root as RootOf}
 use Rattle.gt_types.specs.Shapes.{count_of}
 use Rattle.gt_types.specs.Values.{value_of}
-use Rattle.gt_layout.specs.declared.planes.Spot.{Spot}
+use Rattle.gt_layout.specs.declared.planes.FieldSpot.{FieldSpot}
 use Rattle.gt_tree.specs.Trees.{Tree, Trees}
 use Rattle.gt_tree.specs.Scopes.{Scope, outside, ◌then◌}
 use Rattle.gt_value.specs.declared.sources.Around.{Around}
@@ -16,7 +16,7 @@ use Rattle.gt_value.specs.Reading.{Stands, FieldsStand, EachStands, outside_all,
 abbrev pub StandsIn : Source → Around → Scope → Ty → ℕ → Tree → Type 0
 StandsIn source around scope type at value = (s : Stands source around type at value) × (s.context.scope ≡ scope)
 
-abbrev pub FieldsStandIn : Source → Around → Scope → List Ty → List Spot → ℕ → Trees → Type 0
+abbrev pub FieldsStandIn : Source → Around → Scope → List Ty → List FieldSpot → ℕ → Trees → Type 0
 FieldsStandIn source around scope types spots at values = (s : FieldsStand source around types spots at values) × (s.context.scope ≡ scope)
 
 abbrev pub EachStandIn : Source → Around → Scope → Ty → ℕ → ℕ → Trees → Type 0

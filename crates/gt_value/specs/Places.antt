@@ -14,7 +14,7 @@ use Rattle.gt_types.specs.Contains.{HasStructure}
 use Rattle.gt_types.specs.Unions.{IsCommon}
 use Rattle.gt_layout.specs.declared.planes.Layouts.{Layouts}
 use Rattle.gt_layout.specs.declared.planes.Plane.{Plane}
-use Rattle.gt_layout.specs.declared.planes.Spot.{Spot}
+use Rattle.gt_layout.specs.declared.planes.FieldSpot.{FieldSpot}
 use Rattle.gt_layout.specs.Storages.{extent_of}
 use Rattle.gt_layout.specs.Places.{begin_at}
 use Rattle.gt_space.specs.Range.{Range}
@@ -48,7 +48,7 @@ pub record Part : Type 0 where
 pub data PartLies (program : Program) (planes : List Plane) : Scope → Holder → Bool → ℕ → Ty → Tree → List ℕ → Part → Type 0 where
   whole : {scope : Scope} {holder : Holder} {active : Bool} {at : ℕ} {type : Ty} {tree : Tree}
       → PartLies program planes scope holder active at type tree [] (record { bit = at; type = type; holder = holder; scope = scope; active = active; tree = tree })
-  field : {scope : Scope} {holder : Holder} {active : Bool} {at i : ℕ} {node : TypeId} {desc : Option Expr} {s : Structure} {plane : Plane} {f : Field} {spot : Spot} {trees : Trees} {tree : Tree} {path : List ℕ} {p : Part}
+  field : {scope : Scope} {holder : Holder} {active : Bool} {at i : ℕ} {node : TypeId} {desc : Option Expr} {s : Structure} {plane : Plane} {f : Field} {spot : FieldSpot} {trees : Trees} {tree : Tree} {path : List ℕ} {p : Part}
       → HasStructure program node s → s.is_union ≡ false → slice_get planes node.0 ≡ Some plane → slice_get s.fields i ≡ Some f → slice_get plane.fields i ≡ Some spot → tree_at trees i ≡ Some tree
       → PartLies program planes (inside scope node (Rec trees)) (lies_in.Field node i) active (at + begin_at spot) f.ty tree path p → PartLies program planes scope holder active at (ty.Node node desc) (Rec trees) (i ∷ path) p
   member : {scope : Scope} {holder : Holder} {active : Bool} {at i : ℕ} {node : TypeId} {desc : Option Expr} {s : Structure} {f : Field} {tree : Tree} {path : List ℕ} {p : Part}
@@ -65,11 +65,11 @@ pub data PartLies (program : Program) (planes : List Plane) : Scope → Holder �
       → PartLies program planes scope holder active (at + i * (8 * (extent_of planes elem).size)) elem tree path p → PartLies program planes scope holder active at type (Row trees) (i ∷ path) p
 
 -- Where the part of the static record at a path lies, of which the first place is that of a root.
-pub record StaticPartLies (program : Program) (planes : List Plane) (spots : List Spot) (statics : Trees) (path : List ℕ) (p : Part) : Type 0 where
+pub record StaticPartLies (program : Program) (planes : List Plane) (spots : List FieldSpot) (statics : Trees) (path : List ℕ) (p : Part) : Type 0 where
   pub i : ℕ
   pub rest : List ℕ
   pub r : RootOf
-  pub spot : Spot
+  pub spot : FieldSpot
   pub tree : Tree
   pub path_is : path ≡ i ∷ rest
   pub root : slice_get program.roots i ≡ Some r

@@ -17,7 +17,7 @@ use Rattle.gt_types.specs.Paths.{IsScalarRoot}
 use Rattle.gt_types.specs.Settled.{Settled}
 use Rattle.gt_types.specs.Values.{value_of, within_i64}
 use Rattle.gt_layout.specs.declared.planes.Plane.{Plane}
-use Rattle.gt_layout.specs.declared.planes.Spot.{Spot}
+use Rattle.gt_layout.specs.declared.planes.FieldSpot.{FieldSpot}
 use Rattle.gt_layout.specs.Storages.{bytes_of, extent_of}
 use Rattle.gt_layout.specs.Places.{begin_at}
 use Rattle.gt_layout.specs.Planes.{IsLaidOut}
@@ -100,7 +100,7 @@ number_in range from p =
 -- ---- paths
 
 -- the field at a place in a structure that begins at a bit, where it begins inside
-abbrev pub place_field : List Field → List Spot → ℕ → ℕ → ℕ → Option Place
+abbrev pub place_field : List Field → List FieldSpot → ℕ → ℕ → ℕ → Option Place
 place_field fields spots end at i =
     slice_get fields i then λ f. slice_get spots i then λ spot. cond (nat_le (at + begin_at spot) end) (Some (place f.ty (at + begin_at spot))) None
 
@@ -220,7 +220,7 @@ pub record Stands (source : Source) (around : Around) (type : Ty) (at : ℕ) (va
   pub inside : at + width ≤ end_from source.space.now source.from
 
 -- values of fields stand at their places in a structure that begins at a bit
-pub record FieldsStand (source : Source) (around : Around) (types : List Ty) (spots : List Spot) (at : ℕ) (values : Trees) : Type 0 where
+pub record FieldsStand (source : Source) (around : Around) (types : List Ty) (spots : List FieldSpot) (at : ℕ) (values : Trees) : Type 0 where
   pub context : Context source around
   pub typed : All (IsTyped source around context) types
   pub fit : AllFit source.program.now context.blocks context.capacity context.scope types values

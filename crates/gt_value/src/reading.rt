@@ -21,7 +21,7 @@ use crate::readers::{worth, worth_of};
 use crate::sources::{Around, Source, begin_at, bytes_of, shape_of};
 use crate::unions::{active_member, common_structure};
 use crate::values::Value;
-use gt_layout::{Layouts, Spot};
+use gt_layout::{Layouts, FieldSpot};
 use gt_space::Space;
 use gt_types::{Boxed, Expr, Field, MAX_DEPTH, Program, Root, Structure, Ty, TypeId};
 use std::alloc::{AllocError, Global};
@@ -221,7 +221,7 @@ fn read_fields(
     source: &Source<'_>,
     around: Around,
     fields: &[Field],
-    spots: &[Spot],
+    spots: &[FieldSpot],
     at: u32,
     depth: usize,
 ) -> Result<Vec<Value>, AllocError>
@@ -286,7 +286,7 @@ fn read_roots(
     source: &Source<'_>,
     around: Around,
     roots: &[Root],
-    spots: &[Spot],
+    spots: &[FieldSpot],
 ) -> Result<Vec<Value>, AllocError>
     requires stand { (values : Trees) × FieldsStand source.now around (map (λ r. r.ty) roots.now) spots.now 0 values }
     requires shallow { All (λ r. HoldsWithinDepth source.now.program.now r.ty 33) roots.now }

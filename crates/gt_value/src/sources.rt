@@ -12,7 +12,7 @@ ghost use Rattle.gt_tree.specs.Numbers.{is_signed};
 ghost use Rattle.gt_value.specs.Reading.{end_from, shape_of, number_in, place, place_field, step_to, walk_to, anchor_of, outside_all, entered, without_pointers};
 
 use crate::bits::number_at;
-use gt_layout::{Layouts, Spot};
+use gt_layout::{Layouts, FieldSpot};
 use gt_space::Space;
 use gt_types::{Base, Field, Program, Scalar, Ty, TypeId, Width, Word};
 
@@ -247,7 +247,7 @@ impl<'a> Source<'a> {
 // The field at a place in a structure that begins at a bit, where it begins inside the space.
 fn place_field<'a>(
     fields: &'a [Field],
-    spots: &[Spot],
+    spots: &[FieldSpot],
     end: u32,
     at: u32,
     i: usize,
@@ -267,7 +267,7 @@ fn place_field<'a>(
 }
 
 // The first bit of a field, from the begin of its structure.
-pub fn begin_at(spot: &Spot) -> u64
+pub fn begin_at(spot: &FieldSpot) -> u64
     ensures begin { result ≡ begin_at spot.now }
     ensures small { result < 2 ^ 36 }
 {

@@ -7,18 +7,18 @@ use crate::graphs::Graph;
 use crate::grounds::Ground;
 use crate::reading::read_graph;
 use std::alloc::{AllocError, Global};
-use value_notation::{MALFORMED, Refusal, told, word_difference};
+use value_notation::{MALFORMED, Refusal, remark, word_difference};
 
 /// What a row comes out as, if that is not what it wants.
 pub fn difference(on: &Ground, line: &str) -> Result<Option<String>, AllocError>
     requires ground { IsGround on.now }
 {
     let Some((words, wanted)) = line.split_once(" -> ") else {
-        return told(on.alloc, MALFORMED);
+        return remark(on.alloc, MALFORMED);
     };
     match words.strip_prefix("graph ") {
         Some(words) => graph_difference(on, words, wanted),
-        None => told(on.alloc, MALFORMED),
+        None => remark(on.alloc, MALFORMED),
     }
 }
 
@@ -35,7 +35,7 @@ fn graph_difference(on: &Ground, words: &str, wanted: &str) -> Result<Option<Str
 // What is said of a row that is not read.
 fn refused(alloc: Global, refusal: Refusal) -> Result<Option<String>, AllocError> {
     match refusal {
-        Refusal::Malformed => told(alloc, MALFORMED),
+        Refusal::Malformed => remark(alloc, MALFORMED),
         Refusal::Memory => Err(AllocError),
     }
 }

@@ -6,7 +6,7 @@ use crate::writing::{Outcome, Repeats, try_static_write, try_write};
 use gt_leaf::Reads;
 use std::alloc::AllocError;
 use value_notation::{
-    MALFORMED, Row, Sample, Stop, Write, hexadecimal, stopped, text_difference, told,
+    MALFORMED, Row, Sample, Stop, Write, hexadecimal, stopped, text_difference, remark,
     word_difference,
 };
 
@@ -30,7 +30,7 @@ pub fn difference(on: &Sample, reads: &Reads, line: &str) -> Result<Option<Strin
     if let Some(row) = line.strip_prefix("spread ") {
         return spread_difference(on, reads, row);
     }
-    told(on.alloc, MALFORMED)
+    remark(on.alloc, MALFORMED)
 }
 
 // The same of a row that writes a leaf once.
@@ -39,7 +39,7 @@ fn write_difference(on: &Sample, reads: &Reads, line: &str) -> Result<Option<Str
     requires table { IsTableOf on.now.program reads.now }
 {
     let Some((words, wanted)) = line.split_once(" -> ") else {
-        return told(on.alloc, MALFORMED);
+        return remark(on.alloc, MALFORMED);
     };
     match written_at(on, reads, words, Repeats::at_one_place(1)) {
         Ok(Outcome::Bytes(bytes)) => {
@@ -57,11 +57,11 @@ fn times_difference(on: &Sample, reads: &Reads, line: &str) -> Result<Option<Str
     requires table { IsTableOf on.now.program reads.now }
 {
     let Some((times, row)) = line.split_once(" ") else {
-        return told(on.alloc, MALFORMED);
+        return remark(on.alloc, MALFORMED);
     };
     match times.parse::<u32>() {
         Ok(times) => repeats_difference(on, reads, row, Repeats::at_one_place(times)),
-        Err(_) => told(on.alloc, MALFORMED),
+        Err(_) => remark(on.alloc, MALFORMED),
     }
 }
 
@@ -71,14 +71,14 @@ fn spread_difference(on: &Sample, reads: &Reads, line: &str) -> Result<Option<St
     requires table { IsTableOf on.now.program reads.now }
 {
     let Some((times, rest)) = line.split_once(" ") else {
-        return told(on.alloc, MALFORMED);
+        return remark(on.alloc, MALFORMED);
     };
     let Some((places, row)) = rest.split_once(" ") else {
-        return told(on.alloc, MALFORMED);
+        return remark(on.alloc, MALFORMED);
     };
     match (times.parse::<u32>(), places.parse::<u32>()) {
         (Ok(times), Ok(places)) => { repeats_difference(on, reads, row, Repeats { times, places }) }
-        _ => told(on.alloc, MALFORMED),
+        _ => remark(on.alloc, MALFORMED),
     }
 }
 
@@ -93,7 +93,7 @@ fn repeats_difference(
     requires table { IsTableOf on.now.program reads.now }
 {
     let Some((words, wanted)) = row.split_once(" -> ") else {
-        return told(on.alloc, MALFORMED);
+        return remark(on.alloc, MALFORMED);
     };
     let found = match written_at(on, reads, words, repeats) {
         Ok(Outcome::Bytes(_)) => "written",

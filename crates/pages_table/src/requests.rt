@@ -214,19 +214,19 @@ fn starts(pages: &Pages, addr: u64) -> bool
 
 fn marked(alloc: Global, pages: &Pages, at: &str) -> Result<String, AllocError> {
     match address(at) {
-        Some(after) => told(alloc, pages.next_marked(after)),
+        Some(after) => next_text(alloc, pages.next_marked(after)),
         None => no_address(alloc),
     }
 }
 
 fn pending(alloc: Global, pages: &Pages, at: &str) -> Result<String, AllocError> {
     match address(at) {
-        Some(after) => told(alloc, pages.next_pending(after)),
+        Some(after) => next_text(alloc, pages.next_pending(after)),
         None => no_address(alloc),
     }
 }
 
-fn told(alloc: Global, found: Option<(u64, u32, u32)>) -> Result<String, AllocError> {
+fn next_text(alloc: Global, found: Option<(u64, u32, u32)>) -> Result<String, AllocError> {
     match found {
         Some((addr, walk, count)) => format!(in alloc; "0x{addr:x} {walk} {count}"),
         None => String::from_str(alloc, "none"),

@@ -13,7 +13,7 @@ use crate::writes::{RootWrite, read_writes};
 use gt_value::Value;
 use std::alloc::AllocError;
 use value_notation::{
-    MALFORMED, Refusal, Sample, Stop, hexadecimal, stopped, text_difference, told, word_difference,
+    MALFORMED, Refusal, Sample, Stop, hexadecimal, stopped, text_difference, remark, word_difference,
 };
 
 /// What a row comes out as, if that is not what it wants.
@@ -26,7 +26,7 @@ pub fn difference(on: &Sample, line: &str) -> Result<Option<String>, AllocError>
     if let Some(row) = line.strip_prefix("block ") {
         return block_difference(on, row);
     }
-    told(on.alloc, MALFORMED)
+    remark(on.alloc, MALFORMED)
 }
 
 // The same of a row of the static record.
@@ -38,7 +38,7 @@ fn record_difference(on: &Sample, row: &str) -> Result<Option<String>, AllocErro
     }
     match row.split_once(" -> ") {
         Some((words, wanted)) => compare_record(on, words, wanted, false),
-        None => told(on.alloc, MALFORMED),
+        None => remark(on.alloc, MALFORMED),
     }
 }
 
@@ -53,7 +53,7 @@ fn compare_record(
 {
     let writes = match read_writes(on.alloc, words) {
         Ok(writes) => writes,
-        Err(Refusal::Malformed) => return told(on.alloc, MALFORMED),
+        Err(Refusal::Malformed) => return remark(on.alloc, MALFORMED),
         Err(Refusal::Memory) => return Err(AllocError),
     };
     match refuses(on, writes.as_slice()) {
@@ -61,7 +61,7 @@ fn compare_record(
             Ok(seen) => text_difference(seen, wanted),
             Err(stop) => stopped(on.alloc, stop),
         },
-        Ok(false) => told(on.alloc, "a write fits that has to fit nowhere"),
+        Ok(false) => remark(on.alloc, "a write fits that has to fit nowhere"),
         Err(stop) => stopped(on.alloc, stop),
     }
 }
@@ -92,7 +92,7 @@ fn block_difference(on: &Sample, row: &str) -> Result<Option<String>, AllocError
     requires ready { IsReady on.now.program on.now.layouts }
 {
     let Some((words, wanted)) = row.split_once(" -> ") else {
-        return told(on.alloc, MALFORMED);
+        return remark(on.alloc, MALFORMED);
     };
     match try_block(on, words) {
         Ok(shown) => {

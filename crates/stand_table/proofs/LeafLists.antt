@@ -5,7 +5,7 @@ use Rattle.std.specs.List.{filter}
 use Rattle.std.proofs.lemmas.List.{map-append, append_assoc, append-nil}
 use Rattle.gt_types.specs.declared.types.Ty.{Ty}
 use Rattle.gt_types.specs.declared.program.Field.{Field}
-use Rattle.gt_layout.specs.declared.planes.Spot.{Spot}
+use Rattle.gt_layout.specs.declared.planes.FieldSpot.{FieldSpot}
 use Rattle.gt_layout.specs.Places.{begin_at}
 use Rattle.gt_layout.specs.Storages.{extent_of}
 use Rattle.gt_tree.specs.Fits.{types_of}
@@ -28,8 +28,8 @@ alone leaves = append-nil (leaves_in leaves)
 
 -- ---- fields
 
-module _ (on : Sample) (at : ℕ) (fields : List Field) (spots : List Spot) (values : List Value) where
-  abbrev Have : List Field → List Spot → List Value → List tree.Leaf → Type 0
+module _ (on : Sample) (at : ℕ) (fields : List Field) (spots : List FieldSpot) (values : List Value) where
+  abbrev Have : List Field → List FieldSpot → List Value → List tree.Leaf → Type 0
   Have fs ss vs leaves = FieldsHaveLeaves on.program on.layouts.structures at (types_of fs) ss (trees (map tree_of vs)) leaves
 
   -- leaves are those of so many fields: with those of the others they are those of all
@@ -39,7 +39,7 @@ module _ (on : Sample) (at : ℕ) (fields : List Field) (spots : List Spot) (val
   pub fields-start : FieldsSoFar 0 []
   fields-start = λ rest have. have
 
-  pub fields-more : (i : ℕ) (leaves more : List Leaf) (e : Field) (d : Spot) (v : Value) → i < length fields → i < length spots → i < length values → v ≡ get_or values i v
+  pub fields-more : (i : ℕ) (leaves more : List Leaf) (e : Field) (d : FieldSpot) (v : Value) → i < length fields → i < length spots → i < length values → v ≡ get_or values i v
       → AreLeaves on (at + begin_at (get_or spots i d)) (get_or fields i e).ty (tree_of v) more → FieldsSoFar i leaves → FieldsSoFar (i + 1) (leaves ++ more)
   fields-more i leaves more e d v hf hs hv ev part so =
       λ rest have.

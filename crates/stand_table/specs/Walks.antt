@@ -5,7 +5,7 @@ use Rattle.gt_types.specs.declared.types.TypeId.{TypeId}
 use Rattle.gt_types.specs.declared.types.Ty.{Ty}
 use Rattle.gt_types.specs.declared.types.Ty.TheVariants as ty
 use Rattle.gt_types.specs.declared.program.Field.{Field}
-use Rattle.gt_layout.specs.declared.planes.Spot.{Spot}
+use Rattle.gt_layout.specs.declared.planes.FieldSpot.{FieldSpot}
 use Rattle.gt_layout.specs.Storages.{extent_of}
 use Rattle.gt_tree.specs.Trees.{Tree, Null, To}
 use Rattle.gt_tree.specs.Fits.{types_of}
@@ -22,7 +22,7 @@ abbrev pub AreLeaves : Sample → ℕ → Ty → Tree → List Leaf → Type 0
 AreLeaves on at type value leaves = HasLeaves on.program on.layouts.structures at type value (leaves_in leaves)
 
 -- they are those of values of fields at their places in a structure
-abbrev pub AreOfFields : Sample → ℕ → List Field → List Spot → List Value → List Leaf → Type 0
+abbrev pub AreOfFields : Sample → ℕ → List Field → List FieldSpot → List Value → List Leaf → Type 0
 AreOfFields on at fields spots values leaves = FieldsHaveLeaves on.program on.layouts.structures at (types_of fields) spots (trees (map tree_of values)) (leaves_in leaves)
 
 -- they are those of elements one after another

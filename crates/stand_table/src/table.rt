@@ -5,18 +5,18 @@ use crate::leaves::LeafStop;
 use crate::rows::Row;
 use crate::verdicts::are_bytes_for;
 use std::alloc::AllocError;
-use value_notation::{MALFORMED, Refusal, Sample, told, word_difference};
+use value_notation::{MALFORMED, Refusal, Sample, remark, word_difference};
 
 /// What a row comes out as, if that is not what it wants.
 pub fn difference(on: &Sample, line: &str) -> Result<Option<String>, AllocError>
     requires ready { IsReady on.now.program on.now.layouts }
 {
     let Some((words, wanted)) = line.split_once(" -> ") else {
-        return told(on.alloc, MALFORMED);
+        return remark(on.alloc, MALFORMED);
     };
     match Row::read(on, words) {
         Ok(row) => row_difference(on, &row, wanted),
-        Err(Refusal::Malformed) => told(on.alloc, MALFORMED),
+        Err(Refusal::Malformed) => remark(on.alloc, MALFORMED),
         Err(Refusal::Memory) => Err(AllocError),
     }
 }

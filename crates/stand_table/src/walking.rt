@@ -12,7 +12,7 @@ ghost use Rattle.stand_table.specs.Leaves.{leaf_of, leaves_in};
 ghost use Rattle.stand_table.specs.Walks.{AreLeaves, AreOfFields, AreOfElements, AreOfCommon, pointer_tree};
 
 use crate::leaves::{Content, Leaf, LeafStop};
-use gt_layout::{MAX_SIZE, Spot, extent};
+use gt_layout::{MAX_SIZE, FieldSpot, extent};
 use gt_types::{Field, Scalar, Ty, TypeId, Width};
 use gt_value::{Value, common_structure};
 use std::alloc::Global;
@@ -31,7 +31,7 @@ fn bit_after(at: u64, bits: u64) -> Result<u64, LeafStop>
 }
 
 // The bit at which a field begins in a structure that begins at a bit.
-fn field_begin(at: u64, spot: Spot) -> Result<u64, LeafStop>
+fn field_begin(at: u64, spot: FieldSpot) -> Result<u64, LeafStop>
     ensures { IfOk result (λ bit. bit ≡ at + begin_at spot) }
 {
     bit_after(at, 8 * spot.offset as u64 + spot.bit as u64)
@@ -203,7 +203,7 @@ fn field_leaves(
     on: &Sample,
     at: u64,
     fields: &[Field],
-    spots: &[Spot],
+    spots: &[FieldSpot],
 ) -> Result<Vec<Leaf>, LeafStop>
     requires ready { IsReady on.now.program on.now.layouts }
     ensures { IfOk result (λ leaves. AreOfFields on.now at fields.now spots.now parts.now leaves.items) }

@@ -43,8 +43,8 @@ pub fn is_row(line: &str) -> bool {
 pub fn stopped(alloc: Global, stop: Stop) -> Result<Option<String>, AllocError> {
     match stop {
         Stop::Memory => Err(AllocError),
-        Stop::Malformed => told(alloc, MALFORMED),
-        _ => told(alloc, "no value"),
+        Stop::Malformed => remark(alloc, MALFORMED),
+        _ => remark(alloc, "no value"),
     }
 }
 
@@ -66,12 +66,12 @@ pub fn word_difference(
     if found == wanted {
         Ok(None)
     } else {
-        told(alloc, found)
+        remark(alloc, found)
     }
 }
 
 /// Something to say of a row.
-pub fn told(alloc: Global, text: &str) -> Result<Option<String>, AllocError> {
+pub fn remark(alloc: Global, text: &str) -> Result<Option<String>, AllocError> {
     Ok(Some(String::from_str(alloc, text)?))
 }
 

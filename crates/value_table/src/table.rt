@@ -8,7 +8,7 @@ use crate::trials::{Trial, try_row};
 use std::alloc::{AllocError, Global};
 use value_notation::{
     Leaf, MALFORMED, Refusal, Row, Sample, Stop, hexadecimal, read_path, stopped, text_difference,
-    told, word_difference,
+    remark, word_difference,
 };
 
 // What a row wants of its last value.
@@ -39,7 +39,7 @@ fn times_difference(on: &Sample, line: &str) -> Result<Option<String>, AllocErro
     requires ready { IsReady on.now.program on.now.layouts }
 {
     let Some((words, wanted)) = line.split_once(" -> ") else {
-        return told(on.alloc, MALFORMED);
+        return remark(on.alloc, MALFORMED);
     };
     match repeated(on, words) {
         Ok(()) => word_difference(on.alloc, "done", wanted),
@@ -69,12 +69,12 @@ fn leaf_difference(on: &Sample, line: &str) -> Result<Option<String>, AllocError
     requires ready { IsReady on.now.program on.now.layouts }
 {
     let Some((words, wanted)) = line.split_once(" -> ") else {
-        return told(on.alloc, MALFORMED);
+        return remark(on.alloc, MALFORMED);
     };
     match seen_at(on, words) {
         Ok(Some(seen)) => text_difference(seen.text(on.alloc)?, wanted),
         Ok(None) if wanted == "none" => Ok(None),
-        Ok(None) => told(on.alloc, "none"),
+        Ok(None) => remark(on.alloc, "none"),
         Err(stop) => stopped(on.alloc, stop),
     }
 }
@@ -86,7 +86,7 @@ fn record_difference(on: &Sample, wanted: &str) -> Result<Option<String>, AllocE
     match try_record(on) {
         Ok(bytes) => text_difference(hexadecimal(on.alloc, &bytes)?, wanted),
         Err(Stop::Memory) => Err(AllocError),
-        Err(_) => told(on.alloc, "no value"),
+        Err(_) => remark(on.alloc, "no value"),
     }
 }
 
@@ -115,20 +115,20 @@ fn value_difference(on: &Sample, line: &str) -> Result<Option<String>, AllocErro
     let (words, wanted) = match (line.split_once(" -> "), line.split_once(" => ")) {
         (Some((words, text)), _) => (words, Wanted::Text(text)),
         (None, Some((words, bytes))) => (words, Wanted::Bytes(bytes)),
-        (None, None) => return told(on.alloc, MALFORMED),
+        (None, None) => return remark(on.alloc, MALFORMED),
     };
     let row = match Row::read(on.alloc, words) {
         Ok(row) => row,
-        Err(Refusal::Malformed) => return told(on.alloc, MALFORMED),
+        Err(Refusal::Malformed) => return remark(on.alloc, MALFORMED),
         Err(Refusal::Memory) => return Err(AllocError),
     };
     match (try_row(on, &row), wanted) {
         (Err(Stop::Memory), _) => Err(AllocError),
         (Err(Stop::Misfit), Wanted::Text("misfit")) => Ok(None),
-        (Err(Stop::Misfit), _) => told(on.alloc, "misfit"),
-        (Err(Stop::Early), _) => told(on.alloc, "misfit before the last write"),
-        (Err(Stop::Malformed), _) => told(on.alloc, MALFORMED),
-        (Err(Stop::TooLarge), _) => told(on.alloc, "larger than the space"),
+        (Err(Stop::Misfit), _) => remark(on.alloc, "misfit"),
+        (Err(Stop::Early), _) => remark(on.alloc, "misfit before the last write"),
+        (Err(Stop::Malformed), _) => remark(on.alloc, MALFORMED),
+        (Err(Stop::TooLarge), _) => remark(on.alloc, "larger than the space"),
         (Ok(trial), wanted) => compare(on.alloc, &trial, wanted),
     }
 }

@@ -6,6 +6,7 @@ use Rattle.gt_objects.specs.Marks.{swept}
 use Rattle.gt_caches.specs.Pairs.{pairs_of, staying}
 use Rattle.gt_collect.specs.Clearing.{IsZeroedAt}
 use Rattle.gt_collect.specs.Collecting.{cleared_heap}
+use Rattle.gt_caches.proofs.Heaps.{heap-with-pairs}
 use Rattle.gt_collect.proofs.Closed.{closed, counted, pairs_are, same_swept, settled_heap}
 use Rattle.gt_collect.proofs.finishing.finish.Goals as goal
 
@@ -37,7 +38,7 @@ sweep-freed-requires c =
         layouts,
         settled_heap program layouts before objects same heap is caches can,
         c.requires.schema.settled,
-        c.pairs_may_change.ensures program layouts objects (cleared_heap program heap) (staying caches) cleared (pairs_are program layouts before objects same heap is caches can) few,
+        heap-with-pairs program layouts objects (cleared_heap program heap) (staying caches) cleared (pairs_are program layouts before objects same heap is caches can) few,
         closed program layouts before objects same heap is caches can,
       );
     }
@@ -56,7 +57,7 @@ returns-clause-heap c = λ heap is held can.
     let all = is.good.graph.few_pairs in
     let few : pairs_in (staying caches) ≤ MAX_PAIRS = omega (arith, total, all, ap pairs_in held) in
     let settled = settled_heap program layouts before objects same heap is caches can in
-    let standing = c.pairs_may_change.ensures program layouts objects (cleared_heap program heap) (staying caches) cleared (pairs_are program layouts before objects same heap is caches can) few in
+    let standing = heap-with-pairs program layouts objects (cleared_heap program heap) (staying caches) cleared (pairs_are program layouts before objects same heap is caches can) few in
     subst (λ h. IsHeapOf program layouts c.sweep-freed.new.self h) (same_swept program layouts before objects same heap is caches can)
     (c.sweep-freed.ensures.swept program layouts settled c.requires.schema.settled standing (closed program layouts before objects same heap is caches can))
 
@@ -74,7 +75,7 @@ returns-clause-counts c = λ heap is held can.
     let all = is.good.graph.few_pairs in
     let few : pairs_in (staying caches) ≤ MAX_PAIRS = omega (arith, total, all, ap pairs_in held) in
     let settled = settled_heap program layouts before objects same heap is caches can in
-    let standing = c.pairs_may_change.ensures program layouts objects (cleared_heap program heap) (staying caches) cleared (pairs_are program layouts before objects same heap is caches can) few in
+    let standing = heap-with-pairs program layouts objects (cleared_heap program heap) (staying caches) cleared (pairs_are program layouts before objects same heap is caches can) few in
     let holds = c.sweep-freed.ensures.swept program layouts settled c.requires.schema.settled standing (closed program layouts before objects same heap is caches can) in
     counted program layouts before objects same heap is caches can c.len.result c.sweep-freed.result c.keep_staying-dropped.result (c.len.ensures.len program layouts (swept objects settled) holds)
     (c.sweep-freed.ensures.freed program layouts settled standing) (total ∙ ap pairs_in (sym held))

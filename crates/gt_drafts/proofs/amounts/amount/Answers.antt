@@ -1,9 +1,10 @@
 use Rattle.std.proofs.Common.{sym, ap}
 use Rattle.gt_drafts.specs.Amounts.{amount_of, amount_of_reading}
+use Rattle.gt_expr.proofs.ExpressionLemmas.{expression_of-refused}
 use Rattle.gt_drafts.proofs.amounts.amount.Goals as goal
 
 pub returns-in-Err-At : goal.returns-in-Err-At
 unfolding amount_of
 returns-in-Err-At g c =
     ap (amount_of_reading (g.V.Values.value_of c.args.values.now))
-    (sym (c.one_answer.ensures.fault c.args.text.now 0 0 c.in-Err-At.field-0-0 (rw c.in-Err-At.field-0-is at c.in-Err-At.ensures.stopped)))
+    (sym (expression_of-refused c.args.text.now 0 0 c.in-Err-At.field-0-0 (rw c.in-Err-At.field-0-is at c.in-Err-At.ensures.stopped)))

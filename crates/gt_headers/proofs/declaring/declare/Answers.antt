@@ -1,3 +1,4 @@
+use Rattle.gt_settled.proofs.Whole as whole
 use Rattle.gt_headers.proofs.ReadingLemmas.{read_few}
 use Rattle.gt_headers.proofs.SettlingLemmas.{declares_by, roots_in, size_stop, structures_in}
 use Rattle.gt_headers.proofs.declaring.declare.Goals as goal
@@ -9,7 +10,7 @@ lay_out-requires-clause-few c =
 pub lay_out-requires-clause-settled : goal.lay_out-requires-clause-settled
 lay_out-requires-clause-settled c =
     let draft = c.in-Ok.resolution.draft in
-    c.declared_is_settled.ensures.settled draft c.in-Ok-settle.program c.in-Ok.ensures.sound c.in-Ok-settle.ensures.declared
+    whole.settled draft c.in-Ok-settle.program c.in-Ok.ensures.sound c.in-Ok-settle.ensures.declared
 
 pub lay_out-requires-clause-structures : goal.lay_out-requires-clause-structures
 lay_out-requires-clause-structures c =

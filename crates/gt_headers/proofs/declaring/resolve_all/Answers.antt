@@ -1,3 +1,4 @@
+use Rattle.gt_sound.proofs.Laws as laws
 use Rattle.gt_headers.proofs.ReadingLemmas.{read_few}
 use Rattle.gt_headers.proofs.SoundLemmas.{sound_of}
 use Rattle.gt_headers.proofs.declaring.resolve_all.Goals as goal
@@ -8,5 +9,5 @@ resolve-requires c =
 
 pub returns-in-Ok-resolve-clause-sound : goal.returns-in-Ok-resolve-clause-sound
 returns-in-Ok-resolve-clause-sound c =
-    sound_of c.read_is_well_made.ensures.well_made c.resolved_is_sound.ensures.sound c.args.texts.now c.in-Ok.files.items c.deref.result.now c.in-Ok-resolve.draft
+    sound_of laws.read_is_well_made laws.resolved_is_sound c.args.texts.now c.in-Ok.files.items c.deref.result.now c.in-Ok-resolve.draft
     c.deref.ensures.value c.in-Ok.ensures.files c.in-Ok-resolve.ensures.draft

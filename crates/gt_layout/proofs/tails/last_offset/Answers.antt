@@ -1,9 +1,9 @@
 use Rattle.std.proofs.Common.{◌≡◌, ◌≤◌, ◌-◌, ℕ, suc, List, [], ◌∷◌, length, get_or, ap, ◌∙◌, refl, arith}
-use Rattle.gt_layout.specs.declared.planes.Spot.{Spot}
+use Rattle.gt_layout.specs.declared.planes.FieldSpot.{FieldSpot}
 use Rattle.gt_layout.specs.Places.{last_offset}
 use Rattle.gt_layout.proofs.tails.last_offset.Goals as goal
 
-last_one : (ss : List Spot) (d : Spot) → 1 ≤ length ss → (get_or ss (length ss - 1) d).offset ≡ last_offset ss
+last_one : (ss : List FieldSpot) (d : FieldSpot) → 1 ≤ length ss → (get_or ss (length ss - 1) d).offset ≡ last_offset ss
 last_one [] d some = absurd (omega (arith, some))
 last_one (s ∷ []) d some = refl
 last_one (s ∷ t ∷ ss) d some =

@@ -1,8 +1,9 @@
 use Rattle.gt_script.specs.declared.command.Command.TheVariants as command
 use Rattle.gt_making.proofs.Asked.{goes}
+use Rattle.gt_determined.proofs.Goods.{states-stay-good}
 use Rattle.gt_making.proofs.arrays.make_array.Goals as goal
 
 pub returns-clause-next : goal.returns-clause-next
 returns-clause-next c =
-    goes (command.Array c.args.var.now c.args.ty.now c.args.n) _ c.args.s.now c.array.new.s (λ s t answer next. next) tt (λ collects. elim collects [ ]) c.requires.session c.good_states_stay_good.ensures c.array.ensures.schema c.array.result
+    goes (command.Array c.args.var.now c.args.ty.now c.args.n) _ c.args.s.now c.array.new.s (λ s t answer next. next) tt (λ collects. elim collects [ ]) c.requires.session states-stay-good c.array.ensures.schema c.array.result
     c.array.ensures.next

@@ -3,6 +3,7 @@ use Rattle.gt_value.specs.Names.{kind_of}
 use Rattle.gt_making.specs.Binding.{MakesMany}
 use Rattle.gt_making.proofs.Sizing.{too-large, not-too-large, many-too-large}
 use Rattle.gt_making.proofs.Asked.{leaves-so}
+use Rattle.gt_objects.proofs.Listed.{greatest-size}
 use Rattle.gt_making.proofs.binding.bind_many.Goals as goal
 
 pub returns-then-count-clause-many : goal.returns-then-count-clause-many
@@ -17,7 +18,7 @@ returns-then-count-clause-many c = λ told s stands. (
 pub returns-in-None-clause-many : goal.returns-in-None-clause-many
 returns-in-None-clause-many c = λ told s stands. (
   s,
-  MakesMany.too_large (too-large c.args.s.now.schema.program c.args.s.now.schema.layouts (record { kind = c.args.kind; count = c.args.count; capacity = 0 }) c.blocks_have_a_greatest_size.ensures c.in-None.ensures.size),
+  MakesMany.too_large (too-large c.args.s.now.schema.program c.args.s.now.schema.layouts (record { kind = c.args.kind; count = c.args.count; capacity = 0 }) greatest-size c.in-None.ensures.size),
   stands.holds,
 )
 
@@ -25,8 +26,8 @@ pub bind_zeros-requires-clause-size : goal.bind_zeros-requires-clause-size
 bind_zeros-requires-clause-size c = λ large.
     let session = c.requires.session in
     not-too-large c.args.s.now.schema.program c.args.s.now.schema.layouts session.2.holds.schema.settled session.2.holds.schema.laid (record { kind = c.args.kind; count = c.args.count; capacity = 0 }) c.in-Some.field-0
-    c.requires.kind c.blocks_have_a_greatest_size.ensures c.in-Some.ensures.size
-    (too-large c.args.s.now.schema.program c.args.s.now.schema.layouts (record { kind = c.args.kind; count = c.args.count; capacity = 0 }) c.blocks_have_a_greatest_size.ensures large)
+    c.requires.kind greatest-size c.in-Some.ensures.size
+    (too-large c.args.s.now.schema.program c.args.s.now.schema.layouts (record { kind = c.args.kind; count = c.args.count; capacity = 0 }) greatest-size large)
 
 pub returns-in-Some-clause-many : goal.returns-in-Some-clause-many
 returns-in-Some-clause-many c =
@@ -34,4 +35,4 @@ returns-in-Some-clause-many c =
     leaves-so _ _ c.args.s.now c.bind_zeros.new.s
     (λ s t answer binds. MakesMany.binds
     (not-too-large c.args.s.now.schema.program c.args.s.now.schema.layouts session.2.holds.schema.settled session.2.holds.schema.laid (record { kind = c.args.kind; count = c.args.count; capacity = 0 }) c.in-Some.field-0
-    c.requires.kind c.blocks_have_a_greatest_size.ensures c.in-Some.ensures.size) binds) c.bind_zeros.result c.bind_zeros.ensures.binds
+    c.requires.kind greatest-size c.in-Some.ensures.size) binds) c.bind_zeros.result c.bind_zeros.ensures.binds

@@ -7,6 +7,7 @@ use Rattle.gt_making.specs.Binding.{MakesSingle}
 use Rattle.gt_making.proofs.Sizing.{too-large, not-too-large}
 use Rattle.gt_making.proofs.Asked.{leaves-so}
 use Rattle.gt_making.proofs.Single.{has-room, no-room, misshapen, well-shaped, far}
+use Rattle.gt_objects.proofs.Listed.{greatest-size}
 use Rattle.gt_making.proofs.singles.bind_single.Goals as goal
 
 pub returns-then-room-clause-single : goal.returns-then-room-clause-single
@@ -25,7 +26,7 @@ returns-in_default-clause-single c = λ given s stands. (
   s,
   MakesSingle.too_large
       (subst (HasCapacity c.args.s.now.schema.program c.args.node (option_map pos c.args.number)) (sym c.room_of-room.ensures) (has-room c.args.s.now.schema.program c.args.node c.is_tail-tail.result c.args.number c.is_tail-tail.ensures.tail))
-      (too-large c.args.s.now.schema.program c.args.s.now.schema.layouts (record { kind = told.Nodes c.args.node; count = 1; capacity = c.room_of-room.result }) c.blocks_have_a_greatest_size.ensures c.in_default.ensures.size),
+      (too-large c.args.s.now.schema.program c.args.s.now.schema.layouts (record { kind = told.Nodes c.args.node; count = 1; capacity = c.room_of-room.result }) greatest-size c.in_default.ensures.size),
   stands.holds,
 )
 
@@ -35,7 +36,7 @@ returns-then-not-is_shaped-clause-single c = λ given s stands. (
   MakesSingle.shape
       (subst (HasCapacity c.args.s.now.schema.program c.args.node (option_map pos c.args.number)) (sym c.room_of-room.ensures) (has-room c.args.s.now.schema.program c.args.node c.is_tail-tail.result c.args.number c.is_tail-tail.ensures.tail))
       (not-too-large c.args.s.now.schema.program c.args.s.now.schema.layouts stands.holds.schema.settled stands.holds.schema.laid (record { kind = told.Nodes c.args.node; count = 1; capacity = c.room_of-room.result }) c.in-Some.field-0
-      c.requires.node c.blocks_have_a_greatest_size.ensures c.in-Some.ensures.size)
+      c.requires.node greatest-size c.in-Some.ensures.size)
       (misshapen c.args.s.now.schema.program c.args.node s (wanted (Nodes c.args.node) 1 c.room_of-room.result) c.is_tail-tail.result c.args.number c.is_tail-tail.ensures.tail (sym c.is_shaped.ensures ∙ c.if-not-is_shaped.true)),
   stands.holds,
 )
@@ -46,7 +47,7 @@ returns-then-not-branch-clause-single c = λ given s stands. (
   MakesSingle.shape
       (subst (HasCapacity c.args.s.now.schema.program c.args.node (option_map pos c.args.number)) (sym c.room_of-room.ensures) (has-room c.args.s.now.schema.program c.args.node c.is_tail-tail.result c.args.number c.is_tail-tail.ensures.tail))
       (not-too-large c.args.s.now.schema.program c.args.s.now.schema.layouts stands.holds.schema.settled stands.holds.schema.laid (record { kind = told.Nodes c.args.node; count = 1; capacity = c.room_of-room.result }) c.in-Some.field-0
-      c.requires.node c.blocks_have_a_greatest_size.ensures c.in-Some.ensures.size)
+      c.requires.node greatest-size c.in-Some.ensures.size)
       (IsMisshapen.no_zero (λ value zero. let yes = (c.in_ok-has_zero.ensures.zero s.heap.graph).1 (value, zero) in absurd (let both = c.if-not-branch.true in cc))),
   stands.holds,
 )
@@ -61,8 +62,8 @@ pub bind_zeros-requires-clause-size : goal.bind_zeros-requires-clause-size
 bind_zeros-requires-clause-size c = λ large.
     let session = c.requires.session in
     not-too-large c.args.s.now.schema.program c.args.s.now.schema.layouts session.2.holds.schema.settled session.2.holds.schema.laid (record { kind = told.Nodes c.args.node; count = 1; capacity = c.room_of-room.result }) c.in-Some.field-0
-    c.requires.node c.blocks_have_a_greatest_size.ensures c.in-Some.ensures.size
-    (too-large c.args.s.now.schema.program c.args.s.now.schema.layouts (record { kind = told.Nodes c.args.node; count = 1; capacity = c.room_of-room.result }) c.blocks_have_a_greatest_size.ensures large)
+    c.requires.node greatest-size c.in-Some.ensures.size
+    (too-large c.args.s.now.schema.program c.args.s.now.schema.layouts (record { kind = told.Nodes c.args.node; count = 1; capacity = c.room_of-room.result }) greatest-size large)
 
 pub returns-clause-single : goal.returns-clause-single
 returns-clause-single c =
@@ -73,6 +74,6 @@ returns-clause-single c =
     MakesSingle.binds
     (subst (HasCapacity c.args.s.now.schema.program c.args.node (option_map pos c.args.number)) (sym c.room_of-room.ensures) (has-room c.args.s.now.schema.program c.args.node c.is_tail-tail.result c.args.number c.is_tail-tail.ensures.tail))
     (not-too-large c.args.s.now.schema.program c.args.s.now.schema.layouts session.2.holds.schema.settled session.2.holds.schema.laid (record { kind = told.Nodes c.args.node; count = 1; capacity = c.room_of-room.result }) c.in-Some.field-0
-    c.requires.node c.blocks_have_a_greatest_size.ensures c.in-Some.ensures.size)
+    c.requires.node greatest-size c.in-Some.ensures.size)
     (well-shaped c.args.s.now.schema.program c.args.node s (wanted (Nodes c.args.node) 1 c.room_of-room.result) c.is_tail-tail.result c.args.number c.is_tail-tail.ensures.tail (sym c.is_shaped.ensures ∙ c.if-not-is_shaped.false) zero.0 zero.1)
     binds) c.bind_zeros.result c.bind_zeros.ensures.binds

@@ -7,6 +7,7 @@ use Rattle.gt_making.proofs.Asked.{leaves-so}
 use Rattle.gt_making.proofs.BoundNames.{bound-there}
 use Rattle.gt_making.proofs.Binds.{IsEnd, ended, makes-text, too-many}
 use Rattle.gt_making.proofs.Sizing.{text-large, text-small, too-large}
+use Rattle.gt_objects.proofs.Listed.{greatest-size}
 use Rattle.gt_making.proofs.strings.string.Goals as goal
 
 pub returns-then-text-clause-next : goal.returns-then-text-clause-next
@@ -27,7 +28,7 @@ conclude-requires-clause-bound c = subst (λ v. IsSome (meaning v c.args.var.now
 pub conclude-requires-clause-possible : goal.conclude-requires-clause-possible
 conclude-requires-clause-possible c = λ e.
     text-small c.args.s.now.schema.program c.args.s.now.schema.layouts (length c.args.text.now) (let small = c.if-text.false in omega (arith, small))
-    (too-large c.args.s.now.schema.program c.args.s.now.schema.layouts (known_text c.args.text.now) c.blocks_have_a_greatest_size.ensures
+    (too-large c.args.s.now.schema.program c.args.s.now.schema.layouts (known_text c.args.text.now) greatest-size
     (c.make_text-made.ensures.too_large e c.args.s.now.schema.program c.args.s.now.schema.layouts))
 
 ends : (c : goal.After-conclude) → IsEnd c.args.s.now c.args.var.now (wanted Chars (suc (length c.args.text.now)) 0) (λ state. text c.args.text.now) c.conclude.new.s c.conclude.result

@@ -1,6 +1,7 @@
+use Rattle.gt_expr.proofs.ExpressionLemmas.{expression_of-refused}
 use Rattle.gt_marked.proofs.options.expression.Goals as goal
 
 pub returns-in-Err-At : goal.returns-in-Err-At
 returns-in-Err-At c ts =
     let refused = rw c.in-Err-At.field-0-is at c.in-Err-At.ensures.stopped in
-    rw (c.one_answer.ensures.fault c.args.text.now 0 0 c.in-Err-At.fault refused)
+    rw (expression_of-refused c.args.text.now 0 0 c.in-Err-At.fault refused)

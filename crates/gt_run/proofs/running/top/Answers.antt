@@ -9,16 +9,20 @@ use Rattle.gt_front.specs.Refused.{IsRefusalLine}
 use Rattle.gt_front.specs.declared.preparing.Halt.TheVariants as halt
 use Rattle.gt_front.specs.declared.refusal.FileWhy.TheVariants.{Fault}
 use Rattle.gt_front.specs.declared.refusal.Refusal.TheVariants.{File as InFile}
+use Rattle.gt_script.proofs.Settled as script
+use Rattle.gt_headers.proofs.Laws as headers
 use Rattle.gt_run.specs.Ended.{Ends}
 use Rattle.gt_run.proofs.EndLemmas.{Ends-stopped, Ends-unanswered}
 use Rattle.gt_run.proofs.NoneRan.{none_ran}
-use Rattle.gt_run.proofs.WellLemmas.{Ends-well}
+use Rattle.gt_run.proofs.WellLemmas.{Ends-well, refused_well}
+use Rattle.gt_run.proofs.RefusedEnds.{Ends-refused}
+use Rattle.gt_run.proofs.Laws as laws
 use Rattle.gt_run.proofs.running.top.Given.{Over}
 use Rattle.gt_run.proofs.running.top.Goals as goal
 
 pub run_ready-requires-clause-settled : goal.run_ready-requires-clause-settled
 run_ready-requires-clause-settled g c =
-    let asks = c.in-Ok.ensures.ready in c.declared_programs_are_settled.ensures.settled asks.texts.headers c.in-Ok.ready.program asks.declares
+    let asks = c.in-Ok.ensures.ready in headers.declared_is_settled asks.texts.headers c.in-Ok.ready.program asks.declares
 
 pub returns-in-Ok-clause-ended : goal.returns-in-Ok-clause-ended
 returns-in-Ok-clause-ended g c =
@@ -56,7 +60,7 @@ returns-in-Ok-clause-complete g c = λ well no_file no_sink.
     let before = g.F.Files.told c.args.files.now in
     let its = returns-in-Ok-clause-ended g c in
     let file_rose : (word : ℕ) → c.run_ready.result.refusal ≡ Some (InFile word Fault) → Rose (g.F.Files.faults c.args.files.now) (g.F.Files.faults c.run_ready.new.files) = search rules in
-    Ends-well words before its.0 _ _ c.run_ready.result c.run_ready.new.space _ _ (λ texts refusal first. c.well_is_not_refused.ensures words before texts refusal well first) no_file no_sink
+    Ends-well words before its.0 _ _ c.run_ready.result c.run_ready.new.space _ _ (refused_well script.one_outcome headers.no_fault words before well) no_file no_sink
     file_rose c.run_ready.ensures.cause its.2
 
 pub returns-in-Ok-clause-refused : goal.returns-in-Ok-clause-refused
@@ -65,7 +69,7 @@ returns-in-Ok-clause-refused g c = λ held texts refusal told first known no_fil
     let its = returns-in-Ok-clause-ended g c in
     let file_rose : (word : ℕ) → c.run_ready.result.refusal ≡ Some (InFile word Fault) → Rose (g.F.Files.faults c.args.files.now) (g.F.Files.faults c.run_ready.new.files) = search rules in
     let E : Option Held → Type 0 = λ told. Ends words told its.0 (g.K.Sink.written c.args.out.now) (g.K.Sink.written c.run_ready.new.out) c.run_ready.result c.run_ready.new.space in
-    c.refused_is_told.ensures words held texts refusal its.0 _ _ c.run_ready.result c.run_ready.new.space first known (subst E told its.2)
+    Ends-refused laws.one_refusal laws.no_run words held texts refusal its.0 _ _ c.run_ready.result c.run_ready.new.space first known (subst E told its.2)
     (λ word is. no_file (file_rose word is))
 
 pub returns-in-Err-Memory-clause-read : goal.returns-in-Err-Memory-clause-read
@@ -113,7 +117,7 @@ returns-in-Err-Refused-clause-complete g c = λ well no_file no_sink.
     let words = c.args.words.now in
     let before = g.F.Files.told c.args.files.now in
     let file_rose : (word : ℕ) → c.refused_outcome.result.refusal ≡ Some (InFile word Fault) → Rose (g.F.Files.faults c.args.files.now) (g.F.Files.faults c.prepare.new.files) = search rules in
-    Ends-well words before (was_read g c) _ _ c.refused_outcome.result c.args.space.now _ _ (λ texts refusal first. c.well_is_not_refused.ensures words before texts refusal well first) no_file no_sink
+    Ends-well words before (was_read g c) _ _ c.refused_outcome.result c.args.space.now _ _ (refused_well script.one_outcome headers.no_fault words before well) no_file no_sink
     file_rose c.refused_outcome.ensures.cause (refused_ends g c)
 
 pub returns-in-Err-Refused-clause-refused : goal.returns-in-Err-Refused-clause-refused
@@ -121,5 +125,5 @@ returns-in-Err-Refused-clause-refused g c = λ held texts refusal told first kno
     let words = c.args.words.now in
     let file_rose : (word : ℕ) → c.refused_outcome.result.refusal ≡ Some (InFile word Fault) → Rose (g.F.Files.faults c.args.files.now) (g.F.Files.faults c.prepare.new.files) = search rules in
     let E : Option Held → Type 0 = λ told. Ends words told (was_read g c) (g.K.Sink.written c.args.out.now) (g.K.Sink.written c.refused_outcome.new.out) c.refused_outcome.result c.args.space.now in
-    c.refused_is_told.ensures words held texts refusal (was_read g c) _ _ c.refused_outcome.result c.args.space.now first known (subst E told (refused_ends g c))
+    Ends-refused laws.one_refusal laws.no_run words held texts refusal (was_read g c) _ _ c.refused_outcome.result c.args.space.now first known (subst E told (refused_ends g c))
     (λ word is. no_file (file_rose word is))

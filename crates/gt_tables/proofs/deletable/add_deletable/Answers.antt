@@ -2,7 +2,7 @@ use Rattle.std.proofs.Common.{◌≡◌, ◌/◌, ◌++◌, Some}
 use Rattle.std.specs.Prelude.{slice_get}
 use Rattle.gt_types.specs.declared.program.Root.{Root}
 use Rattle.gt_layout.proofs.Laying.{read_at}
-use Rattle.gt_layout.specs.declared.planes.Spot.{Spot}
+use Rattle.gt_layout.specs.declared.planes.FieldSpot.{FieldSpot}
 use Rattle.gt_edges.specs.Deletable.{words_from}
 use Rattle.gt_tables.specs.RootWords.{words_of}
 use Rattle.gt_tables.proofs.Keeping.{if-ok}
@@ -34,7 +34,7 @@ returns c =
     record {
       added =
           if-ok (λ _. c.add_words.new.words.items ≡ c.args.words.now.items ++ words_from c.root_address-address.result (c.size_of.result / 8))
-          (λ _. (q : Root) (s : Spot) → slice_get program.roots c.args.place ≡ Some q → slice_get layouts.statics.fields c.args.place ≡ Some s
+          (λ _. (q : Root) (s : FieldSpot) → slice_get program.roots c.args.place ≡ Some q → slice_get layouts.statics.fields c.args.place ≡ Some s
           → c.add_words.new.words.items ≡ c.args.words.now.items ++ words_of layouts.structures c.args.start q s)
           c.add_words.result
           (λ _ added. words-added program layouts c.requires.settled c.requires.laid c.requires.within c.args.place r there c.args.start c.root_address-address.result c.size_of.result c.as_slice-2.result.now c.as_slice-2.ensures.items

@@ -9,7 +9,7 @@ use Rattle.gt_types.specs.declared.types.Ty.TheVariants as node
 use Rattle.gt_types.specs.declared.types.Ty.TheVariants.{Ptr, outs-Arr, outs-Tail}
 use Rattle.gt_types.specs.Shapes.{dimensions}
 use Rattle.gt_types.specs.Contains.{held_by}
-use Rattle.gt_layout.specs.declared.planes.Spot.{Spot}
+use Rattle.gt_layout.specs.declared.planes.FieldSpot.{FieldSpot}
 use Rattle.gt_layout.specs.Storages.{extent_of}
 use Rattle.gt_layout.specs.Progress.{IsWithinDepth, HoldsWithinDepth}
 use Rattle.gt_layout.proofs.Laying.{read_at}
@@ -68,7 +68,7 @@ add_fields-loop-i-preserved t c =
           (counts-deeper c.args.source.now (HoldsWithinDepth program f.ty) (λ n. n) c.loop-i.parts c.type_row.new.parts deep [] more deeper
           (counts-site c.args.source.now (HoldsWithinDepth program f.ty) c.in_field-lies.result.site c.loop-i.parts c.type_row.new.parts _ [] more c.in_field-lies.ensures.site c.in_ok-row.ensures.counts)));
       adds =
-          let first_spot : Spot = record { offset = 0; bit = 0 } in
+          let first_spot : FieldSpot = record { offset = 0; bit = 0 } in
           fields-step c.args.source.now c.loop-i.parts c.type_row.new.parts c.in_ok-row.ensures.grows c.args.inner c.args.fields.now c.args.spots.now c.loop-i.i c.args.rows.now.items c.loop-i.rows.items
           c.add_row.new.rows.items f first_spot c.in_ok-row.row c.loop-i.invariant.adds c.loop-i-test.true (omega (arith, c.loop-i-test.true, c.requires.spots)) c.index-fields-i.is
           (subst (λ a. ServesType c.args.source.now c.type_row.new.parts.walks.items a f.ty (get_or c.args.spots.now c.loop-i.i first_spot).offset c.in_ok-row.row) c.in_field-lies.ensures.around c.in_ok-row.ensures.serves)

@@ -1,6 +1,6 @@
 use Rattle.std.proofs.Common.{sym, subst}
 use Rattle.gt_links.specs.declared.rings.Entry.{Entry}
-use Rattle.gt_links.specs.declared.rings.Place.TheVariants.{Node}
+use Rattle.gt_links.specs.declared.rings.Neighbour.TheVariants.{Node}
 use Rattle.gt_links.specs.Rings.{IsPlace}
 use Rattle.gt_links.proofs.RingLemmas.{Relinks-from_writes, Removes-from_relinks}
 use Rattle.gt_links.proofs.rings.Rings.remove.Goals as goal

@@ -1,7 +1,7 @@
 use Rattle.std.specs.Bool.{Decides}
 use Rattle.std.proofs.lemmas.Result.{IfOk-weaker}
 use Rattle.gt_types.specs.Paths.{IsFieldDescBeside, paths_of}
-use Rattle.gt_paths.specs.declared.checks.Place.TheVariants.{Desc}
+use Rattle.gt_paths.specs.declared.checks.PathOption.TheVariants.{Desc}
 use Rattle.gt_paths.specs.Checks.{inner_of}
 use Rattle.gt_paths.proofs.Fitting.{AllFit, field_desc}
 use Rattle.gt_paths.proofs.checks.PathChecks.is_field_desc.Goals as goal

@@ -1,7 +1,7 @@
 use Rattle.std.specs.Bool.{Decides}
 use Rattle.std.proofs.lemmas.Result.{IfOk-weaker}
 use Rattle.gt_types.specs.Paths.{IsOptionBeside, paths_of}
-use Rattle.gt_paths.specs.declared.checks.Place.TheVariants.{Own}
+use Rattle.gt_paths.specs.declared.checks.PathOption.TheVariants.{Own}
 use Rattle.gt_paths.specs.Checks.{inner_of}
 use Rattle.gt_paths.proofs.Fitting.{AllFit, own_option}
 use Rattle.gt_paths.proofs.checks.PathChecks.is_option.Goals as goal
