@@ -43,7 +43,7 @@ fn lay_out(
     }
     let structure = &program.structures.as_slice()[place];
     for field in structure.fields.as_slice() {
-        lay_out_held(alloc, program, &field.ty, depth, known)?;
+        lay_out_inner(alloc, program, &field.ty, depth, known)?;
     }
     let made = plane(alloc, structure, known.as_slice())?;
     known[place] = made;
@@ -52,7 +52,7 @@ fn lay_out(
 
 // Lays out the structure that a field holds by value, where it holds one.
 #[cycle(order)]
-fn lay_out_held(
+fn lay_out_inner(
     alloc: Global,
     program: &Program,
     ty: &Ty,

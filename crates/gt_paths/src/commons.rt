@@ -43,7 +43,7 @@ fn starts_with(program: &Program, start: Start, node: TypeId) -> bool
 }
 
 // The start of one more structure.
-fn joined(program: &Program, start: Start, own: TypeId) -> Start
+fn join_structure(program: &Program, start: Start, own: TypeId) -> Start
     ensures next { StartsToo program.now start own result }
 {
     match start {
@@ -64,7 +64,7 @@ fn start_with(program: &Program, start: Start, f: &Field) -> Start
         return start;
     }
     match itself(&f.ty) {
-        Some(own) => joined(program, start, own),
+        Some(own) => join_structure(program, start, own),
         None => Start::Apart,
     }
 }

@@ -46,7 +46,7 @@ impl Containers {
             lists: IndexMap::new(alloc),
         };
         for (place, s) in program.structures.as_slice().iter().enumerate() {
-            made.add_held(alloc, place as u32, s.fields.as_slice())?;
+            made.add_fields(alloc, place as u32, s.fields.as_slice())?;
         }
         Ok(made)
     }
@@ -95,7 +95,7 @@ impl Containers {
     }
 
     // Adds a structure to the containers of what its fields hold.
-    fn add_held(&mut self, alloc: Global, outer: u32, fields: &[Field]) -> Result<(), AllocError>
+    fn add_fields(&mut self, alloc: Global, outer: u32, fields: &[Field]) -> Result<(), AllocError>
         ensures added { OnOk result (AddsHeld self.old outer fields.now self.new) }
     {
         for f in fields {

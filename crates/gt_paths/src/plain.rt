@@ -38,7 +38,7 @@ fn add_odd(program: &Program, odd: &mut IndexSet<u32>, node: TypeId) -> Result<(
 }
 
 // Adds what a field holds, if it is no plain struct.
-fn add_held(program: &Program, odd: &mut IndexSet<u32>, f: &Field) -> Result<(), AllocError>
+fn add_odd_field(program: &Program, odd: &mut IndexSet<u32>, f: &Field) -> Result<(), AllocError>
     ensures added { OnOk result (AddsHeldOdd program.now odd.old.keys (f.now ∷ []) odd.new.keys) }
 {
     match held_by(&f.ty) {
@@ -51,7 +51,7 @@ fn add_held(program: &Program, odd: &mut IndexSet<u32>, f: &Field) -> Result<(),
 }
 
 // Adds what fields hold that is no plain struct.
-fn add_all_held(
+fn add_odd_fields(
     program: &Program,
     odd: &mut IndexSet<u32>,
     fields: &[Field],
@@ -59,7 +59,7 @@ fn add_all_held(
     ensures added { OnOk result (AddsHeldOdd program.now odd.old.keys fields.now odd.new.keys) }
 {
     for f in fields {
-        add_held(program, odd, f)?;
+        add_odd_field(program, odd, f)?;
     }
     Ok(())
 }
@@ -72,7 +72,7 @@ fn odd_structures(alloc: Global, program: &Program) -> Result<IndexSet<u32>, All
     let mut odd = IndexSet::new(alloc);
     for (place, s) in program.structures.as_slice().iter().enumerate() {
         add_odd(program, &mut odd, TypeId(place as u32))?;
-        add_all_held(program, &mut odd, s.fields.as_slice())?;
+        add_odd_fields(program, &mut odd, s.fields.as_slice())?;
     }
     Ok(odd)
 }

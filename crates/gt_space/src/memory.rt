@@ -1,5 +1,5 @@
 //! A block of bytes in raw memory. Only the six functions of this file read, write or free through a
-//! pointer: `allocate`, `zeroed` and `deallocate` for a block, `none` where there is none, and
+//! pointer: `allocate`, `write_zeros` and `deallocate` for a block, `none` where there is none, and
 //! `as_slice` and `as_mut_slice` for its bytes. What a struct here owns takes no space: the holder of
 //! a block keeps its pointer and its length.
 
@@ -83,7 +83,7 @@ pub(crate) fn deallocate<A: Allocator>(
 
 impl Room {
     /// Writes zero into each byte.
-    pub(crate) fn zeroed(self, ptr: *mut u8, len: usize) -> Bytes
+    pub(crate) fn write_zeros(self, ptr: *mut u8, len: usize) -> Bytes
         requires small { len < 2 ^ 63 }
         requires room { (self.at ≡ ptr) × (self.len ≡ len) }
         ensures { (result.at ≡ ptr) × (result.items ≡ replicate len 0) }

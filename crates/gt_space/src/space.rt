@@ -98,7 +98,7 @@ impl Space {
         let below = (statics as u64).div_ceil(PAGE_BYTES) * PAGE_BYTES;
         let len = below + pages as u64 * PAGE_BYTES;
         let (ptr, room, deed) = allocate(&self.alloc, len as usize)?;
-        let bytes = room.zeroed(ptr, len as usize);
+        let bytes = room.write_zeros(ptr, len as usize);
         *self = Space {
             start: HEAP_START - below,
             ptr,

@@ -27,7 +27,7 @@ fn find_plain(program: &Program, known: &mut Vec<Option<bool>>, depth: usize, no
     ensures known { AreKnown program.now known.new.items }
     ensures plain { Decides result (IsPlain program.now node) }
 {
-    if let Some(plain) = noted(known, node) {
+    if let Some(plain) = note_at(known, node) {
         return plain;
     }
     let plain = look_inside(program, known, depth, node);
@@ -36,7 +36,7 @@ fn find_plain(program: &Program, known: &mut Vec<Option<bool>>, depth: usize, no
 }
 
 // What is noted of a structure.
-fn noted(known: &[Option<bool>], node: TypeId) -> Option<bool>
+fn note_at(known: &[Option<bool>], node: TypeId) -> Option<bool>
     ensures noted { (plain : Bool) → result ≡ Some plain → slice_get known.now node.0 ≡ Some (Some plain) }
 {
     match known.get(node.0 as usize) {

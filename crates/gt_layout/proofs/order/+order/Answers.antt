@@ -2,8 +2,8 @@ use Rattle.std.proofs.Common.{◌∙◌, arith}
 use Rattle.gt_layout.proofs.Laying.{onward, field_within, fields_laid, held_more, few_of, placeable_of, made_grows, made_laid}
 use Rattle.gt_layout.proofs.order.+order.Goals as goal
 
-pub lay_out-lay_out_held-requires : goal.lay_out-lay_out_held-requires
-lay_out-lay_out_held-requires t c = (
+pub lay_out-lay_out_inner-requires : goal.lay_out-lay_out_inner-requires
+lay_out-lay_out_inner-requires t c = (
   omega arith,
   (
     c.requires.settled,
@@ -20,9 +20,9 @@ lay_out-lay_out_held-requires t c = (
 
 pub lay_out-loop-field-preserved : goal.lay_out-loop-field-preserved
 lay_out-loop-field-preserved t c = record {
-  grows = onward c.args.program.now c.args.known.now.items c.loop-field.known.items c.lay_out_held.new.known.items c.loop-field.invariant.grows c.in_ok-lay_out_held.ensures.grows;
-  held = held_more c.args.program.now c.loop-field.known.items c.lay_out_held.new.known.items c.as_slice-field-items.result.now c.loop-field.field-index c.field-item.result c.loop-field-test.true c.field-item.is
-      c.in_ok-lay_out_held.ensures.grows c.in_ok-lay_out_held.ensures.laid c.loop-field.invariant.held;
+  grows = onward c.args.program.now c.args.known.now.items c.loop-field.known.items c.lay_out_inner.new.known.items c.loop-field.invariant.grows c.in_ok-lay_out_inner.ensures.grows;
+  held = held_more c.args.program.now c.loop-field.known.items c.lay_out_inner.new.known.items c.as_slice-field-items.result.now c.loop-field.field-index c.field-item.result c.loop-field-test.true c.field-item.is
+      c.in_ok-lay_out_inner.ensures.grows c.in_ok-lay_out_inner.ensures.laid c.loop-field.invariant.held;
 }
 
 pub lay_out-plane-requires-clause-few_fields : goal.lay_out-plane-requires-clause-few_fields

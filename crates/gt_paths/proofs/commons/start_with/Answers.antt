@@ -7,8 +7,8 @@ returns-then-not-may_be_active c = record { next = never_active c.args.program.n
 
 pub returns-in-Some : goal.returns-in-Some
 returns-in-Some c = record {
-  next = structure_next c.args.program.now c.args.start c.joined.result c.args.f.now c.in-Some.own (sym c.may_be_active.ensures ∙ c.if-not-may_be_active.false) (sym c.in-Some.ensures.itself)
-      c.joined.ensures.next;
+  next = structure_next c.args.program.now c.args.start c.join_structure.result c.args.f.now c.in-Some.own (sym c.may_be_active.ensures ∙ c.if-not-may_be_active.false) (sym c.in-Some.ensures.itself)
+      c.join_structure.ensures.next;
 }
 
 pub returns-in-None : goal.returns-in-None

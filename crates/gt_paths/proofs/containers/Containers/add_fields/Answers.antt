@@ -1,5 +1,5 @@
 use Rattle.gt_paths.proofs.Containing.{adds_all, adds_next, adds_none}
-use Rattle.gt_paths.proofs.containers.Containers.add_held.Goals as goal
+use Rattle.gt_paths.proofs.containers.Containers.add_fields.Goals as goal
 
 pub loop-f-init : goal.loop-f-init
 loop-f-init c = adds_none c.args.self.now c.args.outer

@@ -1,4 +1,4 @@
--- `zeroed` writes the bytes from the first on. Assumes `Logic`.
+-- `write_zeros` writes the bytes from the first on. Assumes `Logic`.
 use Rattle.std.proofs.Common.{◌≡◌, ℕ, zero, suc, ◌+◌, ◌-◌, ◌^◌, ◌<◌, ◌≤◌, List, [], ◌∷◌, ◌++◌, length, replicate, refl, sym, ap, ◌∙◌, arith, lit<, w8, w64}
 use mathlib.Core.WellFounded.InvImage
 use lib.Dec.{ltb→lt, nltb→le}
@@ -41,10 +41,10 @@ use Rattle.gt_space.specs.Memory.{owned_room}
 use Rattle.gt_space.proofs.MemorySteps.{none, byte, none_made, none_had, row_snoc, room_first}
 use Rattle.gt_space.specs.contracts.memory.Bytes as B
 use Rattle.gt_space.specs.contracts.memory.Room as R
-use Rattle.gt_space.specs.contracts.memory.Room.zeroed as F
-use Rattle.gt_space.specs.contracts.memory.Room.zeroed.Key.{name as #self}
-use Rattle.gt_space.proofs.memory.Room.zeroed.Statement as stated
-use Rattle.gt_space.proofs.memory.Room.zeroed.Code as code
+use Rattle.gt_space.specs.contracts.memory.Room.write_zeros as F
+use Rattle.gt_space.specs.contracts.memory.Room.write_zeros.Key.{name as #self}
+use Rattle.gt_space.proofs.memory.Room.write_zeros.Statement as stated
+use Rattle.gt_space.proofs.memory.Room.write_zeros.Code as code
 
 abbrev stayed : Stays F.ended.signature.params F.ended.kept
 stayed = (stay_dropped (plain (λ _. R.the_row)) yes, (stay_dropped (plain (λ _. RawPtr)) yes, (stay_dropped (plain (λ _. usize)) yes, tt)))
@@ -151,9 +151,9 @@ module _ {M : Type 1} {𝓤 : Ura M} (𝓛 : Logic 𝓤) (at_mem : Memory → SP
       walk_Meets 𝓛 F.ended stayed (Goes-blank 𝓛 0 (plain (λ _. R.the_row)) yes (λ κs x f. tt), (Goes-dropped 𝓛 0 (plain (λ _. RawPtr)) yes (λ κs x f. refl), (Goes-dropped 𝓛 0 (plain (λ _. usize)) yes (λ κs x f. refl), tt))) held
       (WpFn 𝓤 H 𝓣.C 𝓣.Λ code.function) (WpFn-mono 𝓤 H 𝓛.laws 𝓣 code.function) (walks 𝓣)
 
-pub zeroed_spec : {M : Type 1} → stated.statement M
+pub write_zeros_spec : {M : Type 1} → stated.statement M
 unfolding tables_of
-zeroed_spec 𝓤 𝓛 𝓜 𝓡 wired =
+write_zeros_spec 𝓤 𝓛 𝓜 𝓡 wired =
     let 𝓣 : Tables 𝓤 𝓛.H = tables_of 𝓤 𝓛.H 𝓜 (tables 𝓤 𝓛.H 𝓜 𝓡 𝓡.env) in
     entered 𝓤 𝓛.H (triple_of 𝓛 F.ended.signature (closing 𝓛 F.ended (held 𝓛 𝓜.mem 𝓡.returns))) 𝓣.C 𝓣.Λ #self code.function
     (code.unfolded 𝓤 𝓛.H 𝓜 𝓡 wired) (meets 𝓛 𝓜.mem 𝓡.returns 𝓣)

@@ -3,7 +3,7 @@ use Rattle.gt_paths.specs.declared.commons.Start.{Start}
 use Rattle.gt_paths.specs.declared.commons.Start.TheVariants.{From, Apart}
 use Rattle.gt_paths.specs.Starts.{StartsToo}
 use Rattle.gt_paths.proofs.Meetings.{apart_too, from_meet, from_none, from_own}
-use Rattle.gt_paths.proofs.commons.joined.Goals as goal
+use Rattle.gt_paths.proofs.commons.join_structure.Goals as goal
 
 pub returns-in-Free : goal.returns-in-Free
 returns-in-Free c = record { next = subst (λ (o : Start). StartsToo c.args.program.now o c.args.own (From c.args.own)) (sym c.in-Free.is) (from_own c.args.program.now c.args.own) }

@@ -1,6 +1,6 @@
 use Rattle.std.proofs.Common.{sym}
 use Rattle.gt_paths.proofs.Odd.{held_nothing, held_one}
-use Rattle.gt_paths.proofs.plain.add_held.Goals as goal
+use Rattle.gt_paths.proofs.plain.add_odd_field.Goals as goal
 
 pub returns-in-None : goal.returns-in-None
 returns-in-None c = record { added = held_nothing c.args.program.now c.args.odd.now.keys c.args.f.now (sym c.in-None.ensures.held) }
