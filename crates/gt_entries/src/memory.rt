@@ -5,7 +5,7 @@ use std::alloc::AllocError;
 
 // An empty vector with room for so many items: this one where it has room for them and for less than twice as many. Otherwise its memory is
 // given back, and just as much is taken as is needed.
-fn emptied<T: Drop>(items: Vec<T>, wanted: usize) -> Result<Vec<T>, AllocError>
+fn make_room<T: Drop>(items: Vec<T>, wanted: usize) -> Result<Vec<T>, AllocError>
     ensures { IfOk result (λ new. new.items ≡ []) }
 {
     if wanted <= items.capacity() && items.capacity() / 2 < wanted {
@@ -19,10 +19,10 @@ fn emptied<T: Drop>(items: Vec<T>, wanted: usize) -> Result<Vec<T>, AllocError>
 }
 
 /// So many times a value, in the memory of a vector where this suffices and is less than twice what is needed.
-pub fn filled<T: Copy + Drop>(items: Vec<T>, value: T, len: usize) -> Result<Vec<T>, AllocError>
+pub fn refill<T: Copy + Drop>(items: Vec<T>, value: T, len: usize) -> Result<Vec<T>, AllocError>
     ensures { IfOk result (λ new. new.items ≡ replicate len value) }
 {
-    let mut items = emptied(items, len)?;
+    let mut items = make_room(items, len)?;
     items.resize(len, value)?;
     Ok(items)
 }

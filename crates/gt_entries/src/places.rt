@@ -4,7 +4,7 @@ ghost use Rattle.gt_bits.specs.Sets as bits;
 ghost use Rattle.gt_entries.specs.Cells.{Free, Used, IsFirstFrom, cell_at, is_free, is_lost, is_marked, is_pending, mark_in, postponed, swept, unmarked, walked};
 
 use crate::marks::Mark;
-use crate::memory::filled;
+use crate::memory::refill;
 use crate::sets::Sets;
 use gt_bits::{count, has, next, next_gap};
 use std::alloc::{AllocError, Global};
@@ -65,7 +65,7 @@ impl Places {
         let words = (count as usize + 63) / 64;
         let tag = Tag { walk: 0, count: 0 };
         let sets = self.sets.renew(words)?;
-        let tags = filled(self.tags, tag, count as usize)?;
+        let tags = refill(self.tags, tag, count as usize)?;
         Ok(Places {
             count,
             free: count,
@@ -92,14 +92,14 @@ impl Places {
     pub fn marked_count(&self) -> u32
         ensures count { result ≡ count_by is_marked self.now }
     {
-        count(self.sets.marked())
+        count(self.sets.marked_places())
     }
 
     /// Whether a place has a block.
     pub fn is_used(&self, k: u32) -> bool
         ensures used { result ≡ not (is_free (cell_at self.now k)) }
     {
-        has(self.sets.used(), k)
+        has(self.sets.used_places(), k)
     }
 
     /// Whether some place is free.
@@ -116,7 +116,7 @@ impl Places {
         ensures full { IfNone result (count_by is_free self.old ≡ 0) }
         ensures unchanged { IfNone result (self.new ≡ self.old) }
     {
-        let k = next_gap(self.sets.used(), 0, self.count)?;
+        let k = next_gap(self.sets.used_places(), 0, self.count)?;
         self.sets.take(k);
         self.free -= 1;
         Some(k)
@@ -136,14 +136,14 @@ impl Places {
     pub fn mark_of(&self, k: u32) -> Option<Mark>
         ensures mark { result ≡ mark_in (cell_at self.now k) }
     {
-        if !has(self.sets.marked(), k) {
+        if !has(self.sets.marked_places(), k) {
             return None;
         }
         let tag = self.tags[k as usize];
         Some(Mark {
             walk: tag.walk,
             count: tag.count,
-            pending: has(self.sets.pending(), k),
+            pending: has(self.sets.pending_places(), k),
         })
     }
 
@@ -182,7 +182,7 @@ impl Places {
     pub fn postpone(&mut self, k: u32)
         ensures postponed { self.new ≡ slice_set self.old k (postponed (cell_at self.old k)) }
     {
-        if !has(self.sets.marked(), k) {
+        if !has(self.sets.marked_places(), k) {
             return;
         }
         self.sets.set_pending(k);
@@ -197,17 +197,17 @@ impl Places {
     }
 
     /// The first place from `from` on with a marked block, or `None` where there is none.
-    pub fn next_marked(&self, from: u32) -> Option<u32>
+    pub fn next_mark(&self, from: u32) -> Option<u32>
         ensures first { IsFirstFrom is_marked self.now from result }
     {
-        next(self.sets.marked(), from)
+        next(self.sets.marked_places(), from)
     }
 
     /// The first place from `from` on with a marked block that is left to a pass, or `None` where there is none.
     pub fn next_pending(&self, from: u32) -> Option<u32>
         ensures first { IsFirstFrom is_pending self.now from result }
     {
-        next(self.sets.pending(), from)
+        next(self.sets.pending_places(), from)
     }
 
     /// Takes the blocks away that are not marked, and says how many these were.
@@ -215,7 +215,7 @@ impl Places {
         ensures swept { self.new ≡ map swept self.old }
         ensures freed { result ≡ count_by is_lost self.old }
     {
-        let freed = count(self.sets.used()) - count(self.sets.marked());
+        let freed = count(self.sets.used_places()) - count(self.sets.marked_places());
         self.sets.sweep();
         self.free += freed;
         freed

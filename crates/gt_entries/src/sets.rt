@@ -2,7 +2,7 @@
 ghost use Rattle.std.specs.Prelude.{◌≡◌, ◌≢◌, ℕ, ◌*◌, ◌^◌, ◌<◌, ◌≤◌, true, false, not, [], length, replicate, IfOk};
 ghost use Rattle.gt_bits.specs.Sets as bits;
 
-use crate::memory::filled;
+use crate::memory::refill;
 use gt_bits::{clear, insert, insert_new, remove};
 use std::alloc::{AllocError, Global};
 use std::marker::Model;
@@ -43,26 +43,26 @@ impl Sets {
         requires { len < 2 ^ 32 }
         ensures { IfOk result (λ s. s ≡ record { used = replicate len 0; marked = replicate len 0; pending = replicate len 0 }) }
     {
-        let words = filled(self.words, 0, 3 * len)?;
+        let words = refill(self.words, 0, 3 * len)?;
         Ok(Sets { len, words })
     }
 
     /// The places in use.
-    pub(crate) fn used(&self) -> &[u64]
+    pub(crate) fn used_places(&self) -> &[u64]
         ensures { result.now ≡ self.now.used }
     {
         &self.words[..self.len]
     }
 
     /// The places with a marked block.
-    pub(crate) fn marked(&self) -> &[u64]
+    pub(crate) fn marked_places(&self) -> &[u64]
         ensures { result.now ≡ self.now.marked }
     {
         &self.words[self.len..2 * self.len]
     }
 
     /// The places with a block that is left to a pass.
-    pub(crate) fn pending(&self) -> &[u64]
+    pub(crate) fn pending_places(&self) -> &[u64]
         ensures { result.now ≡ self.now.pending }
     {
         &self.words[2 * self.len..]

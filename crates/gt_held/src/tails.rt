@@ -103,7 +103,7 @@ fn is_tail_member(
 }
 
 // So many structures of which nothing is known yet.
-fn none_known(alloc: Global, program: &Program) -> Result<Vec<Option<bool>>, AllocError>
+fn empty_memo(alloc: Global, program: &Program) -> Result<Vec<Option<bool>>, AllocError>
     ensures known { IfOk result (λ known. AreKnownTails program.now known.items) }
 {
     let mut known = Vec::new(alloc);
@@ -119,7 +119,7 @@ impl TailTypes {
         requires settled { Settled program.now }
         ensures types { IfOk result (AreTailTypesOf program.now) }
     {
-        let mut known = none_known(alloc, program)?;
+        let mut known = empty_memo(alloc, program)?;
         let mut tails = Vec::new(alloc);
         for place in 0..program.structures.len() {
             tails.push(is_tail(program, place, MAX_DEPTH, &mut known))?;

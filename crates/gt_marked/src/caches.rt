@@ -6,7 +6,7 @@ ghost use Rattle.gt_marked.specs.Marked.{comma_at, greater_at, pointed_at, trait
 use crate::declarators::star;
 use crate::structures::semicolon;
 use crate::types::{Context, base_type, name, stars, without_qualifiers};
-use crate::unread::{Unread, unexpected};
+use crate::unread::{Unread, unexpected_token};
 use gt_items::{Item, Name, PointedType, RawCache, RawOption};
 use gt_search::{Lexeme, UNSUPPORTED};
 use gt_types::List;
@@ -21,9 +21,9 @@ pub fn cache(
 ) -> Result<(Item, &[Lexeme]), Unread>
     ensures { Gives (λ x. (x.0, x.1.now)) result (cache_at options tokens.now) }
 {
-    let (key, rest) = pointed(alloc, tokens)?;
+    let (key, rest) = pointed_type(alloc, tokens)?;
     let rest = comma(rest)?;
-    let (value, rest) = pointed(alloc, rest)?;
+    let (value, rest) = pointed_type(alloc, rest)?;
     let rest = traits(alloc, rest)?;
     let rest = greater(rest)?;
     let rest = star(rest)?;
@@ -40,7 +40,7 @@ pub fn cache(
 
 // A type and its stars.
 #[tactic(auto, unfolding(crate::specs::Marked::pointed_at))]
-fn pointed(alloc: Global, tokens: &[Lexeme]) -> Result<(PointedType, &[Lexeme]), Unread>
+fn pointed_type(alloc: Global, tokens: &[Lexeme]) -> Result<(PointedType, &[Lexeme]), Unread>
     ensures { Gives (λ x. (x.0, x.1.now)) result (pointed_at tokens.now) }
 {
     let (ty, rest) = base_type(alloc, Context::Elsewhere, tokens)?;
@@ -93,7 +93,7 @@ fn comma(tokens: &[Lexeme]) -> Result<&[Lexeme], Unread>
 {
     match tokens {
         [Lexeme::Comma(_), rest @ ..] => Ok(rest),
-        _ => Err(unexpected(tokens)),
+        _ => Err(unexpected_token(tokens)),
     }
 }
 
@@ -102,6 +102,6 @@ fn greater(tokens: &[Lexeme]) -> Result<&[Lexeme], Unread>
 {
     match tokens {
         [Lexeme::Greater(_), rest @ ..] => Ok(rest),
-        _ => Err(unexpected(tokens)),
+        _ => Err(unexpected_token(tokens)),
     }
 }

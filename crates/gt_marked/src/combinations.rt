@@ -77,7 +77,7 @@ fn signed_as(sign: Sign, words: Combination) -> Option<Combination>
     ensures { result ≡ signed_as sign words }
 {
     match words.sign {
-        Sign::Plain => checked(Combination { sign, ..words }),
+        Sign::Plain => check_combination(Combination { sign, ..words }),
         Sign::Signed | Sign::Unsigned => None,
     }
 }
@@ -86,7 +86,7 @@ fn sized_short(words: Combination) -> Option<Combination>
     ensures { result ≡ sized_short words }
 {
     match words.size {
-        Size::Plain => checked(Combination {
+        Size::Plain => check_combination(Combination {
             size: Size::Short,
             ..words
         }),
@@ -98,11 +98,11 @@ fn sized_long(words: Combination) -> Option<Combination>
     ensures { result ≡ sized_long words }
 {
     match words.size {
-        Size::Plain => checked(Combination {
+        Size::Plain => check_combination(Combination {
             size: Size::Long,
             ..words
         }),
-        Size::Long => checked(Combination {
+        Size::Long => check_combination(Combination {
             size: Size::LongLong,
             ..words
         }),
@@ -114,13 +114,13 @@ fn with_core(core: Core, words: Combination) -> Option<Combination>
     ensures { result ≡ with_core core words }
 {
     match words.core {
-        Core::Plain => checked(Combination { core, ..words }),
+        Core::Plain => check_combination(Combination { core, ..words }),
         Core::Int | Core::Char | Core::Bool | Core::Float | Core::Double | Core::Void => None,
     }
 }
 
 // The combination where its words stand together in a type of C.
-fn checked(words: Combination) -> Option<Combination>
+fn check_combination(words: Combination) -> Option<Combination>
     ensures { result ≡ checked words }
 {
     if is_combination(words.sign, words.size, words.core) {

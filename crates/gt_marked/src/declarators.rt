@@ -6,7 +6,7 @@ ghost use Rattle.gt_marked.specs.Fields.{bits_at, no_function_at, plain_declarat
 use crate::groups::{before_end, bounds, inside, kept_text};
 use crate::markers::{close_round, maybe_marker, open_round};
 use crate::types::{name, stars, without_qualifiers};
-use crate::unread::{Unread, unexpected};
+use crate::unread::{Unread, unexpected_token};
 use gt_items::{Declarator, Stars};
 use gt_search::{Bracket, Lexeme, UNSUPPORTED};
 use gt_types::{Bytes, List};
@@ -40,7 +40,7 @@ pub fn goes_on(tokens: &[Lexeme]) -> Result<(bool, &[Lexeme]), Unread>
     match tokens {
         [Lexeme::Comma(_), rest @ ..] => Ok((true, rest)),
         [Lexeme::Semicolon(_), rest @ ..] => Ok((false, rest)),
-        _ => Err(unexpected(tokens)),
+        _ => Err(unexpected_token(tokens)),
     }
 }
 
@@ -104,7 +104,7 @@ pub fn star(tokens: &[Lexeme]) -> Result<&[Lexeme], Unread>
 {
     match tokens {
         [Lexeme::Star(_), rest @ ..] => Ok(rest),
-        _ => Err(unexpected(tokens)),
+        _ => Err(unexpected_token(tokens)),
     }
 }
 

@@ -5,14 +5,14 @@ ghost use Rattle.gt_marked.specs.Marked.{typedef_structure_at, reserved_at, mark
 
 use crate::globals::global;
 use crate::structures::structure;
-use crate::unread::{Unread, unexpected};
+use crate::unread::{Unread, unexpected_token};
 use gt_items::{Item, Keyword};
 use gt_search::{BAD_MARKER_PLACE, Lexeme, TokenText, UNEXPECTED, UNSUPPORTED};
 use std::alloc::Global;
 
 /// A marked item.
 #[tactic(auto, unfolding(crate::specs::Marked::marked_at))]
-pub fn marked(alloc: Global, tokens: &[Lexeme]) -> Result<(Item, &[Lexeme]), Unread>
+pub fn marked_item(alloc: Global, tokens: &[Lexeme]) -> Result<(Item, &[Lexeme]), Unread>
     ensures { Gives (λ x. (x.0, x.1.now)) result (marked_at tokens.now) }
 {
     match tokens {
@@ -20,12 +20,12 @@ pub fn marked(alloc: Global, tokens: &[Lexeme]) -> Result<(Item, &[Lexeme]), Unr
         [Lexeme::Tag(Keyword::Struct, _), rest @ ..] => structure(alloc, false, false, rest),
         [Lexeme::Tag(Keyword::Union, _), rest @ ..] => structure(alloc, false, true, rest),
         [Lexeme::Static(_) | Lexeme::Extern(_), rest @ ..] => global(alloc, rest),
-        [Lexeme::Reserved(spot), ..] => Err(reserved(spot)),
+        [Lexeme::Reserved(spot), ..] => Err(reserved_fault(spot)),
         [Lexeme::Gty(spot), ..] => Err(Unread::Fault {
             number: BAD_MARKER_PLACE,
             at: spot.start,
         }),
-        _ => Err(unexpected(tokens)),
+        _ => Err(unexpected_token(tokens)),
     }
 }
 
@@ -37,12 +37,12 @@ fn typedef_structure(alloc: Global, tokens: &[Lexeme]) -> Result<(Item, &[Lexeme
     match tokens {
         [Lexeme::Tag(Keyword::Struct, _), rest @ ..] => structure(alloc, true, false, rest),
         [Lexeme::Tag(Keyword::Union, _), rest @ ..] => structure(alloc, true, true, rest),
-        _ => Err(unexpected(tokens)),
+        _ => Err(unexpected_token(tokens)),
     }
 }
 
 // `class` and `template` are not supported; `namespace` may not stand here.
-fn reserved(spot: &TokenText) -> Unread
+fn reserved_fault(spot: &TokenText) -> Unread
     ensures { Fails result (reserved_at spot.now) }
 {
     let number = if spot.word.is("namespace") {

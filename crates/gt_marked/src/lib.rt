@@ -19,8 +19,8 @@ mod unread;
 
 pub use declarators::goes_on;
 pub use groups::{depth_after, inside, kept_text};
-pub use items::marked;
+pub use items::marked_item;
 pub use laws::{field_rules, marked_rules, marker_rules, type_rules};
 pub use structures::alias;
 pub use types::{Context, base_type, without_qualifiers};
-pub use unread::{Unread, unexpected};
+pub use unread::{Unread, unexpected_token};

@@ -4,7 +4,7 @@ ghost use Rattle.gt_marked.specs.Outcome.{Gives};
 ghost use Rattle.gt_marked.specs.Markers.{gty_at, open_round_at, close_round_at, marker_at, maybe_marker};
 
 use crate::options::options;
-use crate::unread::{Unread, unexpected};
+use crate::unread::{Unread, unexpected_token};
 use gt_items::RawOption;
 use gt_search::{Bracket, Lexeme};
 use gt_types::List;
@@ -43,7 +43,7 @@ fn gty(tokens: &[Lexeme]) -> Result<&[Lexeme], Unread>
 {
     match tokens {
         [Lexeme::Gty(_), rest @ ..] => Ok(rest),
-        _ => Err(unexpected(tokens)),
+        _ => Err(unexpected_token(tokens)),
     }
 }
 
@@ -53,7 +53,7 @@ pub fn open_round(tokens: &[Lexeme]) -> Result<&[Lexeme], Unread>
 {
     match tokens {
         [Lexeme::Open(Bracket::Round, _), rest @ ..] => Ok(rest),
-        _ => Err(unexpected(tokens)),
+        _ => Err(unexpected_token(tokens)),
     }
 }
 
@@ -63,6 +63,6 @@ pub fn close_round(tokens: &[Lexeme]) -> Result<&[Lexeme], Unread>
 {
     match tokens {
         [Lexeme::Close(Bracket::Round, _), rest @ ..] => Ok(rest),
-        _ => Err(unexpected(tokens)),
+        _ => Err(unexpected_token(tokens)),
     }
 }

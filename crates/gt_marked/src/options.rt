@@ -6,8 +6,8 @@ ghost use Rattle.gt_marked.specs.Outcome.{Gives, GivesBefore};
 ghost use Rattle.gt_marked.specs.Markers.{takes_expression, unescaped, expression_at, parameter_at, parameters_at, option_at, comma_after, options_from, options_at};
 
 use crate::markers::close_round;
-use crate::strings::{strings, unescaped};
-use crate::unread::{Unread, unexpected};
+use crate::strings::{strings, unescape};
+use crate::unread::{Unread, unexpected_token};
 use gt_expr::BAD_EXPR;
 use gt_items::{Parameter, RawOption};
 use gt_search::{Bracket, Lexeme, TokenText};
@@ -61,7 +61,7 @@ fn option(alloc: Global, tokens: &[Lexeme]) -> Result<(RawOption, &[Lexeme]), Un
         return Err(Unread::Ended);
     };
     if !first.is_identifier() {
-        return Err(unexpected(tokens));
+        return Err(unexpected_token(tokens));
     }
     let (parameter, rest) = parameters(alloc, first.spot(), after)?;
     let name = first.spot().name(alloc)?;
@@ -90,7 +90,7 @@ fn parameters<'a>(
 fn parameter(alloc: Global, name: &TokenText, text: &[u8]) -> Result<Parameter, Unread>
     ensures { GivesBefore result (parameter_at name.now (unescaped false text.now)) }
 {
-    let Some(text) = unescaped(alloc, text)? else {
+    let Some(text) = unescape(alloc, text)? else {
         return Err(Unread::Fault {
             number: BAD_EXPR,
             at: name.start,

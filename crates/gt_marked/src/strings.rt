@@ -3,7 +3,7 @@ ghost use Rattle.std.specs.Prelude.{◌≡◌, ◌==◌, ◌||◌, false, IfOk};
 ghost use Rattle.gt_marked.specs.Outcome.{Gives};
 ghost use Rattle.gt_marked.specs.Markers.{inside_quotes, more_strings, strings_at, unescaped};
 
-use crate::unread::{Unread, unexpected};
+use crate::unread::{Unread, unexpected_token};
 use gt_search::Lexeme;
 use gt_types::Bytes;
 use std::alloc::{AllocError, Global};
@@ -14,7 +14,7 @@ pub fn strings(alloc: Global, tokens: &[Lexeme]) -> Result<(Bytes, &[Lexeme]), U
     ensures { Gives (λ x. (x.0, x.1.now)) result (strings_at tokens.now) }
 {
     let [Lexeme::Quoted(spot), rest @ ..] = tokens else {
-        return Err(unexpected(tokens));
+        return Err(unexpected_token(tokens));
     };
     let text = Bytes::of(alloc, inside_quotes(spot.word.as_str().as_bytes()))?;
     more_strings(text, rest)
@@ -44,7 +44,7 @@ fn inside_quotes(literal: &[u8]) -> &[u8]
 }
 
 /// The bytes without the backslashes before quotes and backslashes; nothing where a backslash stands before another byte.
-pub fn unescaped(alloc: Global, text: &[u8]) -> Result<Option<Bytes>, AllocError>
+pub fn unescape(alloc: Global, text: &[u8]) -> Result<Option<Bytes>, AllocError>
     ensures { IfOk result (λ found. found ≡ unescaped false text.now) }
 {
     let mut bytes = Bytes::new(alloc);

@@ -6,7 +6,7 @@ ghost use Rattle.gt_marked.specs.Marked.{semicolon_at, open_brace_at, marker_aft
 use crate::fields::fields;
 use crate::markers::marker;
 use crate::types::{name, stars};
-use crate::unread::{Unread, unexpected};
+use crate::unread::{Unread, unexpected_token};
 use gt_items::{Alias, Item, Name, RawOption, RawStructure};
 use gt_search::{Bracket, Lexeme, UNSUPPORTED};
 use gt_types::List;
@@ -82,7 +82,7 @@ fn open_brace(tokens: &[Lexeme]) -> Result<&[Lexeme], Unread>
             number: UNSUPPORTED,
             at: spot.start,
         }),
-        _ => Err(unexpected(tokens)),
+        _ => Err(unexpected_token(tokens)),
     }
 }
 
@@ -118,6 +118,6 @@ pub fn semicolon(tokens: &[Lexeme]) -> Result<&[Lexeme], Unread>
 {
     match tokens {
         [Lexeme::Semicolon(_), rest @ ..] => Ok(rest),
-        _ => Err(unexpected(tokens)),
+        _ => Err(unexpected_token(tokens)),
     }
 }

@@ -5,7 +5,7 @@ ghost use Rattle.gt_marked.specs.Types.{without_qualifiers, one_more, stars_from
 
 use crate::combinations::words;
 use crate::markers::{close_round, marker};
-use crate::unread::{Unread, unexpected};
+use crate::unread::{Unread, unexpected_token};
 use gt_items::{Keyword, Name, RawType, Stars};
 use gt_search::{Bracket, Lexeme, TokenText, UNEXPECTED, UNSUPPORTED};
 use std::alloc::Global;
@@ -37,16 +37,16 @@ fn bare_type(alloc: Global, place: Context, tokens: &[Lexeme]) -> Result<(RawTyp
     match tokens {
         [Lexeme::Type(..), ..] => words(tokens),
         [Lexeme::Tag(keyword, _), after @ ..] => {
-            tagged(alloc, place, *keyword, without_qualifiers(after))
+            tagged_type(alloc, place, *keyword, without_qualifiers(after))
         }
-        [Lexeme::Name(spot), after @ ..] => named(alloc, place, spot, after),
-        _ => Err(unexpected(tokens)),
+        [Lexeme::Name(spot), after @ ..] => named_type(alloc, place, spot, after),
+        _ => Err(unexpected_token(tokens)),
     }
 }
 
 // The tag after a keyword.
 #[tactic(auto, unfolding(crate::specs::Types::tagged_at))]
-fn tagged(
+fn tagged_type(
     alloc: Global,
     place: Context,
     keyword: Keyword,
@@ -64,7 +64,7 @@ fn tagged(
             number: definition_fault(place),
             at: brace.start,
         }),
-        _ => Err(unexpected(tokens)),
+        _ => Err(unexpected_token(tokens)),
     }
 }
 
@@ -107,7 +107,7 @@ fn definition_fault(place: Context) -> u8
 }
 
 // A type that begins with a name.
-fn named<'a>(
+fn named_type<'a>(
     alloc: Global,
     place: Context,
     spot: &TokenText,
@@ -159,7 +159,7 @@ pub fn name(alloc: Global, tokens: &[Lexeme]) -> Result<(Name, &[Lexeme]), Unrea
 {
     match tokens {
         [Lexeme::Name(spot), rest @ ..] => Ok((spot.name(alloc)?, rest)),
-        _ => Err(unexpected(tokens)),
+        _ => Err(unexpected_token(tokens)),
     }
 }
 

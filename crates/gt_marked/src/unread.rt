@@ -36,7 +36,7 @@ impl<T: Drop> From<AllocFailed<T>> for Unread {
 }
 
 /// What to answer where the first of the tokens may not stand at its place, or where there is none.
-pub fn unexpected(tokens: &[Lexeme]) -> Unread
+pub fn unexpected_token(tokens: &[Lexeme]) -> Unread
     ensures { result ≡ unexpected_as tokens.now }
 {
     match tokens {

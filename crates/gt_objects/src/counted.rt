@@ -114,7 +114,7 @@ impl CountedPages {
     }
 
     /// Whether the block that starts at an address is marked.
-    pub(crate) fn marked(&self, addr: u64) -> bool
+    pub(crate) fn is_marked(&self, addr: u64) -> bool
         requires start { StartsSome self.now.slots addr }
         ensures marked { result ≡ is_some (mark_at self.now.slots addr) }
     {
@@ -154,7 +154,7 @@ impl CountedPages {
     }
 
     /// The bytes of all blocks.
-    pub(crate) fn allocated(&self) -> u64
+    pub(crate) fn bytes(&self) -> u64
         ensures bytes { result ≡ bytes_of (map block_of self.now.slots) }
     {
         self.totals.bytes()
@@ -179,5 +179,5 @@ impl CountedPages {
 fn marked_totals(pages: &Pages) -> Totals
     ensures totals { AreTotals result (map block_of (filter is_marked pages.now.slots)) }
 {
-    Totals::of_marked(pages.marked_totals())
+    Totals::of_marks(pages.marked_totals())
 }

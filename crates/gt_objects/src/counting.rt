@@ -29,7 +29,7 @@ impl Objects {
     pub fn allocated(&self) -> u64
         ensures bytes { (program : Program) (layouts : Layouts) (heap : Heap) → IsHeapOf program layouts self.now heap → result ≡ sum (map (λ b. b.size) (ledger_of heap.places).blocks) }
     {
-        self.pages.allocated()
+        self.pages.bytes()
     }
 
     /// How many pages the image takes up; none before the first load.

@@ -56,7 +56,7 @@ impl Objects {
         requires there { (program : Program) × (layouts : Layouts) × (heap : Heap) × (o : Object) × IsHeapOf program layouts self.now heap × (object_of heap.graph.objects addr ≡ Some o) }
         ensures marked { result ≡ is_marked self.now addr }
     {
-        self.pages.marked(addr)
+        self.pages.is_marked(addr)
     }
 
     /// How many objects are marked. It takes no memory, and its time is linear in them and in the pages in use.

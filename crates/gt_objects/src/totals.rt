@@ -28,7 +28,7 @@ impl Totals {
     }
 
     /// The totals of marked blocks.
-    pub(crate) fn of_marked(marked: MarkedTotals) -> Totals
+    pub(crate) fn of_marks(marked: MarkedTotals) -> Totals
         ensures { (blocks : List Block) → AreMarkedTotals marked blocks → AreTotals result blocks }
     {
         let counts = marked.counts;

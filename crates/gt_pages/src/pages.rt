@@ -149,7 +149,7 @@ impl Pages {
     }
 
     /// Whether the block that starts at an address is marked.
-    pub fn marked(&self, addr: u64) -> bool
+    pub fn is_marked(&self, addr: u64) -> bool
         requires start { StartsSome self.now.slots addr }
         ensures marked { IsTrue result ↔ (mark_at self.now.slots addr ≢ None) }
     {
@@ -183,10 +183,10 @@ impl Pages {
     }
 
     /// The least address above `after` of a marked block, with its walk and count; `None` where there is none.
-    pub fn next_marked(&self, after: u64) -> Option<(u64, u32, u32)>
+    pub fn next_mark(&self, after: u64) -> Option<(u64, u32, u32)>
         ensures next { result ≡ told_of (next_slot is_marked self.now.slots after) }
     {
-        self.store.next_marked(after)
+        self.store.next_mark(after)
     }
 
     /// The least address above `after` of a marked block that is left to a pass, with its walk and count; `None` where

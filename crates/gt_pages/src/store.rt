@@ -352,13 +352,13 @@ impl Store {
         entry.places.set_walked(spot.place);
     }
 
-    pub(crate) fn next_marked(&self, after: u64) -> Option<(u64, u32, u32)>
+    pub(crate) fn next_mark(&self, after: u64) -> Option<(u64, u32, u32)>
         requires { IsKept (parts_of self.now) }
         ensures { result ≡ told_of (next_slot slots.is_marked (contents_of (parts_of self.now)).slots after) }
     {
         let mut from = self.spot_above(after)?;
         'entries: loop {
-            match self.next_marked_in(from) {
+            match self.next_mark_in(from) {
                 Some(spot) => return self.tell(spot),
                 None => match self.next_spot(from.page + 1) {
                     None => return None,
@@ -369,13 +369,13 @@ impl Store {
     }
 
     // The first marked place of an entry from a spot on.
-    fn next_marked_in(&self, from: EntryPlace) -> Option<EntryPlace>
+    fn next_mark_in(&self, from: EntryPlace) -> Option<EntryPlace>
         requires { from.page < length (parts_of self.now).entries }
         ensures { IsFirstIn cells.is_marked (parts_of self.now) from result }
     {
         let place = self.entries[from.page as usize]
             .places
-            .next_marked(from.place)?;
+            .next_mark(from.place)?;
         Some(EntryPlace {
             page: from.page,
             place,
@@ -824,7 +824,7 @@ impl Store {
             ↔ ((k : ℕ) → is_marked (cell_at (entry_at (parts_of self.now).entries page).places k) ≡ false) }
     {
         let entry = &self.entries[page as usize];
-        entry.places.next_marked(0).is_none()
+        entry.places.next_mark(0).is_none()
     }
 
     // Frees the blocks of an entry that are not marked, and says how many these were.

@@ -46,7 +46,7 @@ fn read(alloc: Global, file: u32, text: &[u8], lexed: &Lexed) -> Result<Items, S
     match earlier(first, end) {
         End::Complete => Ok(Items {
             items: List::of(items),
-            constants: constants(alloc, text, lexed)?,
+            constants: constants(alloc, text, lexed, &lexemes)?,
         }),
         End::Fails { number, at } => Err(Stop::At(Fault { number, file, at })),
     }
@@ -77,13 +77,13 @@ fn read_item(alloc: Global, one: &[Lexeme], items: &mut Vec<Item>) -> Result<End
             Ok(End::Complete)
         }
         Err(Unread::Memory) => Err(AllocError),
-        Err(Unread::Ended) => Ok(unclosed(one)),
+        Err(Unread::Ended) => Ok(unclosed_end(one)),
         Err(Unread::Fault { number, at }) => Ok(End::Fails { number, at }),
     }
 }
 
 // The fault of an item whose tokens end too early.
-fn unclosed(one: &[Lexeme]) -> End
+fn unclosed_end(one: &[Lexeme]) -> End
     ensures { result ≡ first_of (unclosed_faults one.now) }
 {
     match one {

@@ -7,7 +7,7 @@ ghost use Rattle.gt_parse.specs.Reading.{is_marker, is_marked, item_at};
 use crate::enums::enum_item;
 use crate::typedefs::typedef_item;
 use gt_items::{Item, Keyword};
-use gt_marked::{Unread, depth_after, marked};
+use gt_marked::{Unread, depth_after, marked_item};
 use gt_search::{BAD_MARKER_PLACE, Lexeme};
 use std::alloc::{AllocError, Global};
 
@@ -17,9 +17,9 @@ pub fn item(alloc: Global, one: &[Lexeme]) -> Result<Option<Item>, Unread>
     ensures { ItemGives result (item_at one.now) }
 {
     if !is_marked(one) {
-        return unmarked(alloc, one);
+        return item_without_markers(alloc, one);
     }
-    let (item, _) = marked(alloc, one)?;
+    let (item, _) = marked_item(alloc, one)?;
     Ok(Some(item))
 }
 
@@ -44,7 +44,7 @@ fn is_marker(token: &Lexeme) -> bool
 }
 
 // An item without a marker in no brackets. No marker may stand in it at all.
-fn unmarked(alloc: Global, tokens: &[Lexeme]) -> Result<Option<Item>, Unread>
+fn item_without_markers(alloc: Global, tokens: &[Lexeme]) -> Result<Option<Item>, Unread>
     ensures { ItemGives result (unmarked_at tokens.now tokens.now) }
 {
     for token in tokens {

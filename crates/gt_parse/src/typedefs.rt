@@ -8,7 +8,8 @@ ghost use Rattle.gt_parse.specs.Unmarked.{body_at, plain_meaning_at, tagged_mean
 use crate::enums::enum_body;
 use gt_items::{Alias, Item, Keyword, Meaning, Name, RawTypedef, Stars};
 use gt_marked::{
-    Context, Unread, alias, base_type, depth_after, goes_on, inside, unexpected, without_qualifiers,
+    Context, Unread, alias, base_type, depth_after, goes_on, inside, unexpected_token,
+    without_qualifiers,
 };
 use gt_search::{Bracket, Lexeme, TokenText};
 use gt_types::List;
@@ -89,7 +90,7 @@ fn keyword_meaning<'a>(
             let tag = spot.name(alloc)?;
             tagged_meaning(alloc, keyword, tag, whole, without_qualifiers(after))
         }
-        _ => Err(unexpected(tokens)),
+        _ => Err(unexpected_token(tokens)),
     }
 }
 

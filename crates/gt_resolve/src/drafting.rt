@@ -20,7 +20,7 @@ use gt_drafts::{
 use gt_items::{
     Declarator, Item, Items, PointedType, RawCache, RawField, RawRoot, RawStructure, RawType, Stars,
 };
-use gt_scope::{Scope, TypedefMeaning, spelled, with_stars};
+use gt_scope::{Scope, TypedefMeaning, spelling_of, with_stars};
 use gt_types::{Bytes, Copied, List};
 use std::alloc::{AllocError, Global};
 
@@ -91,24 +91,19 @@ fn bits(alloc: Global, scope: &Scope, text: &Option<Bytes>) -> Result<Option<Amo
 
 // ---- types
 
-fn resolved(
-    alloc: Global,
-    scope: &Scope,
-    ty: &RawType,
-    stars: Stars,
-) -> Result<Resolved, AllocError>
+fn resolve(alloc: Global, scope: &Scope, ty: &RawType, stars: Stars) -> Result<Resolved, AllocError>
     ensures resolved { IfOk result (λ r. r ≡ resolved_type scope.now.declarations.items scope.now.types.items (spelled_of ty.now) stars) }
 {
-    scope.resolved(alloc, &spelled(alloc, ty)?, stars)
+    scope.resolve(alloc, &spelling_of(alloc, ty)?, stars)
 }
 
-fn pointed(alloc: Global, scope: &Scope, pointed: &PointedType) -> Result<Resolved, AllocError>
+fn pointed_type(alloc: Global, scope: &Scope, pointed: &PointedType) -> Result<Resolved, AllocError>
     ensures pointed { IfOk result (λ r. r ≡ pointed_type scope.now.declarations.items scope.now.types.items pointed.now) }
 {
-    resolved(alloc, scope, &pointed.ty, pointed.stars)
+    resolve(alloc, scope, &pointed.ty, pointed.stars)
 }
 
-fn declared(
+fn declared_type(
     alloc: Global,
     scope: &Scope,
     means: &Resolved,
@@ -140,7 +135,7 @@ fn field(
     Ok(DraftField {
         name: name_copy(alloc, &declarator.name)?,
         options: options_copy(alloc, &declarator.options)?,
-        ty: declared(alloc, scope, means, declarator)?,
+        ty: declared_type(alloc, scope, means, declarator)?,
     })
 }
 
@@ -153,7 +148,7 @@ fn with_fields(
 ) -> Result<Vec<DraftField>, AllocError>
     ensures fields { IfOk result (λ made. made.items ≡ before.items ++ fields_in scope.now.declarations.items scope.now.types.items fields.now) }
 {
-    let means = resolved(alloc, scope, &fields.ty, Stars::Zero)?;
+    let means = resolve(alloc, scope, &fields.ty, Stars::Zero)?;
     let mut made = before;
     for declarator in fields.declarators.as_slice() {
         made.push(field(alloc, scope, &means, declarator)?)?;
@@ -199,7 +194,7 @@ fn type_of_root(alloc: Global, scope: &Scope, raw: &RawRoot) -> Result<DeclaredT
 {
     let replaced = has_length(raw.options.as_slice());
     Ok(DeclaredType {
-        resolved: resolved(alloc, scope, &raw.ty, raw.stars)?,
+        resolved: resolve(alloc, scope, &raw.ty, raw.stars)?,
         bounds: bounds(alloc, scope, replaced, raw.bounds.as_slice())?,
         bits: None,
         is_function: false,
@@ -224,8 +219,8 @@ fn cache(alloc: Global, scope: &Scope, file: u32, raw: &RawCache) -> Result<Draf
         file,
         name: name_copy(alloc, &raw.name)?,
         options: options_copy(alloc, &raw.options)?,
-        key: pointed(alloc, scope, &raw.key)?,
-        value: pointed(alloc, scope, &raw.value)?,
+        key: pointed_type(alloc, scope, &raw.key)?,
+        value: pointed_type(alloc, scope, &raw.value)?,
     })
 }
 
@@ -382,7 +377,7 @@ fn constants(alloc: Global, scope: &Scope) -> Result<List<DraftConstant>, AllocE
 }
 
 /// What the files declare, by their scope. Its only error is out of memory.
-pub fn drafted(alloc: Global, files: &[Items], scope: &Scope) -> Result<Draft, AllocError>
+pub fn draft_of(alloc: Global, files: &[Items], scope: &Scope) -> Result<Draft, AllocError>
     ensures same { IfOk result (λ d. d ≡ draft_of files.now scope.now.declarations.items scope.now.types.items) }
 {
     Ok(Draft {

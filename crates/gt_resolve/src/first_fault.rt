@@ -8,7 +8,7 @@ ghost use Rattle.gt_drafts.specs.Shapes.{has_flag};
 ghost use Rattle.gt_drafts.specs.FirstFaults.{IsFirstOf, first_from};
 
 use crate::bounds::is_bad_type;
-use crate::redefined::redefined;
+use crate::redefined::redefinition;
 use crate::{BAD_BOUND, BY_VALUE_CYCLE, REDEFINED, TOO_MANY, UNDEFINED};
 use gt_drafts::{
     Draft, DraftCache, DraftField, DraftRoot, DraftStructure, flag_at, is_undefined_type,
@@ -32,7 +32,7 @@ pub fn first_fault(
     ensures first { IfOk result (λ r. (cyclic : List Bool) → Suffice draft.now.structures shapes.now.deep.items cyclic shapes.now.cyclic.items
         → IsFirstOf (faults_of scope.now.declarations.items scope.now.types.items draft.now cyclic shapes.now.deep.items shapes.now.tails.items) r) }
 {
-    let earliest = redefined(alloc, scope)?;
+    let earliest = redefinition(alloc, scope)?;
     let earliest = of_structures(alloc, earliest, shapes, draft.structures.as_slice())?;
     let earliest = of_roots(earliest, &shapes.tails, draft.roots.as_slice());
     Ok(of_caches(earliest, draft.caches.as_slice()))

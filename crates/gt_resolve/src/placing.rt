@@ -35,7 +35,7 @@ fn one_item(fault: Option<Fault>, place: usize) -> Result<Fault, usize>
 }
 
 // The fault at a place among those of a file, or by how many places they are too few.
-fn found_in(tags: bool, file: u32, items: &[Item], place: usize) -> Result<Fault, usize>
+fn fault_in_items(tags: bool, file: u32, items: &[Item], place: usize) -> Result<Fault, usize>
     ensures item { result ≡ item_or_rest (filter_map (fault_item tags file) items.now) place }
 {
     let mut rest = place;
@@ -49,13 +49,13 @@ fn found_in(tags: bool, file: u32, items: &[Item], place: usize) -> Result<Fault
 }
 
 // The fault at a place among those of all files, or by how many places they are too few.
-fn found(tags: bool, files: &[Items], place: usize) -> Result<Fault, usize>
+fn fault_in_files(tags: bool, files: &[Items], place: usize) -> Result<Fault, usize>
     requires files { length files.now ≤ 64 }
     ensures item { result ≡ item_or_rest (faults_from tags 1 files.now) place }
 {
     let mut rest = place;
     for (at, items) in files.iter().enumerate() {
-        match found_in(tags, at as u32 + 1, items.items.as_slice(), rest) {
+        match fault_in_items(tags, at as u32 + 1, items.items.as_slice(), rest) {
             Ok(fault) => return Ok(fault),
             Err(less) => rest = less,
         }
@@ -63,13 +63,13 @@ fn found(tags: bool, files: &[Items], place: usize) -> Result<Fault, usize>
     Err(rest)
 }
 
-fn chosen(tags: bool, files: &[Items], place: Option<u32>) -> Option<Fault>
+fn chosen_fault(tags: bool, files: &[Items], place: Option<u32>) -> Option<Fault>
     requires files { length files.now ≤ 64 }
     ensures fault { result ≡ chosen (faults_from tags 1 files.now) place }
 {
     match place {
         None => None,
-        Some(place) => match found(tags, files, place as usize) {
+        Some(place) => match fault_in_files(tags, files, place as usize) {
             Ok(fault) => Some(fault),
             Err(_) => None,
         },
@@ -86,8 +86,8 @@ pub fn place(files: &[Items], structure: Option<u32>, root: Option<u32>) -> Faul
     requires root { IsThere (faults_from false 1 files.now) root }
     ensures earliest { IsFirst (placed files.now structure root) result }
 {
-    let of_structure = chosen(true, files, structure);
-    match chosen(false, files, root) {
+    let of_structure = chosen_fault(true, files, structure);
+    match chosen_fault(false, files, root) {
         None => first_of(of_structure),
         Some(fault) => earlier(of_structure, fault),
     }

@@ -125,7 +125,7 @@ fn mark(clashed: &mut Vec<bool>, clash: bool, first: usize)
 }
 
 // The earliest second definition, by the places of first ones.
-fn marked(
+fn redefinition_by_places(
     alloc: Global,
     scope: &Scope,
     tags: &Table<usize>,
@@ -146,10 +146,10 @@ fn marked(
 }
 
 /// The earliest second definition of a name with another meaning.
-pub fn redefined(alloc: Global, scope: &Scope) -> Result<Option<Fault>, AllocError>
+pub fn redefinition(alloc: Global, scope: &Scope) -> Result<Option<Fault>, AllocError>
     ensures earliest { IfOk result (λ r. r ≡ first_from None (redefinitions scope.now.declarations.items scope.now.types.items [] scope.now.declarations.items)) }
 {
     let tags = first_places(alloc, &scope.declarations, true)?;
     let others = first_places(alloc, &scope.declarations, false)?;
-    marked(alloc, scope, &tags, &others)
+    redefinition_by_places(alloc, scope, &tags, &others)
 }

@@ -1,7 +1,7 @@
 ghost use Rattle.std.specs.Prelude.{◌≤◌, length, IfOk, IfErr, ◌≡◌};
 ghost use Rattle.gt_resolve.specs.Resolution.{Resolves, IsResolveStop};
 
-use crate::drafting::drafted;
+use crate::drafting::draft_of;
 use crate::first_fault::first_fault;
 use gt_drafts::Draft;
 use gt_items::Items;
@@ -19,7 +19,7 @@ pub fn resolve(alloc: Global, files: &[Items]) -> Result<Draft, Stop>
     ensures fault { IfErr result (IsResolveStop files.now) }
 {
     let scope = scope_of(alloc, files)?;
-    let draft = drafted(alloc, files, &scope)?;
+    let draft = draft_of(alloc, files, &scope)?;
     let shapes = shapes_of(alloc, draft.structures.as_slice())?;
     match first_fault(alloc, &scope, &draft, &shapes)? {
         None => Ok(draft),

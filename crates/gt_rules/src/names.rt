@@ -50,7 +50,7 @@ pub fn held_node(ty: &DeclaredType) -> Option<TypeId>
 }
 
 // The structure to which one star is a pointer.
-fn pointed(base: &BaseType, stars: Stars) -> Option<TypeId>
+fn pointer_target(base: &BaseType, stars: Stars) -> Option<TypeId>
     requires small { HasSmallId base.now }
     ensures { result ≡ pointed base.now stars }
 {
@@ -75,7 +75,7 @@ pub fn plain_node(options: &[RawOption], ty: &DeclaredType) -> Option<TypeId>
     ensures named { result ≡ plain_node options.now ty.now }
 {
     if is_plain(options, ty) {
-        pointed(&ty.resolved.base, ty.resolved.stars)
+        pointer_target(&ty.resolved.base, ty.resolved.stars)
     } else {
         None
     }

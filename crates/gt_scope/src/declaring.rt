@@ -11,7 +11,7 @@ ghost use Rattle.gt_scope.specs.Declarations.{nothing_declared, as_constant, con
 
 use crate::constants::Constants;
 use crate::declaration::{Declaration, What};
-use crate::spelling::{fixed, spelled};
+use crate::spelling::{fixed_scalar, spelling_of};
 use crate::types::Spelled;
 use gt_drafts::{Amount, amount};
 use gt_items::{
@@ -41,7 +41,7 @@ pub fn declare_all(alloc: Global, files: &[Items]) -> Result<Declared, AllocErro
 {
     let mut declaring = Declaring::new(alloc);
     declaring.declare_files(alloc, files)?;
-    Ok(declaring.into_declared())
+    Ok(declaring.finish())
 }
 
 // What stands between two items, with the constants of all that is declared by their names.
@@ -84,7 +84,7 @@ impl<'a> Declaring<'a> {
         }
     }
 
-    fn into_declared(self) -> Declared
+    fn finish(self) -> Declared
         ensures declared { result.declarations.items ≡ self.entry.done }
         ensures repeated { AreRepeats result.declarations.items result.repeated.items }
     {
@@ -320,7 +320,7 @@ impl<'a> Declaring<'a> {
         ensures declared { OnOk result (self.new ≡ declare_alias file ty.now alias.now self.old) }
         ensures repeated { IfOk result (λ next. IsTrue next → last_type self.new.done ≡ Some ty.now) }
     {
-        if fixed(&alias.name.word).is_some() {
+        if fixed_scalar(&alias.name.word).is_some() {
             return Ok(repeated);
         }
         let ty = ty.copy(alloc)?;
@@ -401,7 +401,7 @@ impl<'a> Declaring<'a> {
                 let ty = number(signed);
                 return self.declare_aliases(alloc, file, &ty, aliases);
             }
-            Meaning::Type(ty) => spelled(alloc, ty)?,
+            Meaning::Type(ty) => spelling_of(alloc, ty)?,
             Meaning::Body {
                 keyword,
                 tag: Some(tag),

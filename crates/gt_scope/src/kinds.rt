@@ -32,7 +32,7 @@ pub struct Meant {
 }
 
 /// The meaning of an opaque name.
-pub fn unkept() -> Meant
+pub fn opaque_meaning() -> Meant
     ensures opaque { result ≡ unkept }
 {
     Meant {
@@ -62,7 +62,7 @@ pub fn meant_after(stars: Stars, means: Meant) -> Meant
         _ => false,
     };
     if !kept || !is_kept(means.kind) {
-        return unkept();
+        return opaque_meaning();
     }
     match stars {
         Stars::Zero => means,
@@ -74,7 +74,7 @@ pub fn meant_after(stars: Stars, means: Meant) -> Meant
 }
 
 // The number of a tag among tags, to which it is added where it is new.
-fn numbered(alloc: Global, tags: Table<()>, tag: &Word) -> Result<(Table<()>, usize), AllocError>
+fn number_tag(alloc: Global, tags: Table<()>, tag: &Word) -> Result<(Table<()>, usize), AllocError>
     ensures number { IfOk result (λ r. HasNumber (names_in r.0) tag.now r.1) }
     ensures kept { IfOk result (λ r. Keeps (names_in tags) (names_in r.0)) }
 {
@@ -107,7 +107,7 @@ pub fn kind_of(
         BaseType::Sizeless => Ok((tags, Kind::Sizeless)),
         BaseType::Structure(id) => Ok((tags, Kind::Structure(*id))),
         BaseType::Undefined { keyword, tag } => {
-            let (tags, tag) = numbered(alloc, tags, tag)?;
+            let (tags, tag) = number_tag(alloc, tags, tag)?;
             Ok((
                 tags,
                 Kind::Undefined {

@@ -19,5 +19,5 @@ mod types;
 pub use declaration::{Declaration, What};
 pub use meaning::TypedefMeaning;
 pub use scope::{Scope, scope_of, with_stars};
-pub use spelling::spelled;
+pub use spelling::spelling_of;
 pub use types::Spelled;

@@ -28,7 +28,7 @@ fn is_of(keyword: Keyword, what: &What) -> bool
     }
 }
 
-fn defined(what: &What) -> BaseType
+fn defined_type(what: &What) -> BaseType
     ensures defined { result ≡ defined_type what.now }
 {
     match what {
@@ -44,7 +44,7 @@ fn defined(what: &What) -> BaseType
     }
 }
 
-fn tagged(
+fn tagged_type(
     alloc: Global,
     tags: &Table<What>,
     keyword: Keyword,
@@ -53,7 +53,7 @@ fn tagged(
     ensures tagged { IfOk result (λ base. base ≡ tagged_type keyword tag.now (value_in tags.now tag.now)) }
 {
     match tags.get(tag) {
-        Some(what) if is_of(keyword, what) => Ok(defined(what)),
+        Some(what) if is_of(keyword, what) => Ok(defined_type(what)),
         _ => Ok(BaseType::Undefined {
             keyword,
             tag: tag.copy(alloc)?,
@@ -65,7 +65,7 @@ fn type_of(tags: &Table<What>, tag: &Word) -> BaseType
     ensures tag { result ≡ type_of_tag (value_in tags.now tag.now) }
 {
     match tags.get(tag) {
-        Some(what) => defined(what),
+        Some(what) => defined_type(what),
         None => BaseType::Unknown,
     }
 }
@@ -83,7 +83,7 @@ pub fn plain(alloc: Global, tags: &Table<What>, ty: &Spelled) -> Result<BaseType
         Spelled::Float => Ok(BaseType::Float),
         Spelled::Double => Ok(BaseType::Double),
         Spelled::Sizeless => Ok(BaseType::Sizeless),
-        Spelled::Tagged { keyword, tag } => tagged(alloc, tags, *keyword, tag),
+        Spelled::Tagged { keyword, tag } => tagged_type(alloc, tags, *keyword, tag),
         Spelled::Named(word) => Ok(type_of(tags, word)),
     }
 }

@@ -19,7 +19,7 @@ ghost use Rattle.gt_scope.specs.Tables.{values_from};
 use crate::copies::base_copy;
 use crate::declaration::{Declaration, What};
 use crate::declaring::declare_all;
-use crate::kinds::{Kind, Meant, meant_after, resolved_of, same_meant, unkept};
+use crate::kinds::{Kind, Meant, meant_after, opaque_meaning, resolved_of, same_meant};
 use crate::link::Target;
 use crate::meaning::TypedefMeaning;
 use crate::plain::plain;
@@ -290,12 +290,7 @@ impl Scope {
 
     /// A type after stars with its typedefs followed. Its only error is out of memory.
     #[tactic(auto, unfolding(crate::specs::Meanings::resolved_type))]
-    pub fn resolved(
-        &self,
-        alloc: Global,
-        ty: &Spelled,
-        stars: Stars,
-    ) -> Result<Resolved, AllocError>
+    pub fn resolve(&self, alloc: Global, ty: &Spelled, stars: Stars) -> Result<Resolved, AllocError>
         ensures same { IfOk result (λ r. r ≡ resolved_type self.now.declarations.items self.now.types.items ty.now stars) }
     {
         match ty {
@@ -311,19 +306,19 @@ impl Scope {
     }
 
     // The meaning of the type of the typedef at a place among the declarations.
-    fn followed(&self, place: usize) -> Meant
+    fn meaning_at(&self, place: usize) -> Meant
         ensures means { (d : Declaration) (ty : Spelled) → slice_get self.now.declarations.items place ≡ Some d → type_of d.what ≡ Some ty
             → IsMeant (names_in self.now.targets.tags) result (resolved_type self.now.declarations.items self.now.types.items ty Zero) }
     {
         match item_at(&self.targets.targets, place) {
-            None => unkept(),
+            None => opaque_meaning(),
             Some(target) => match target {
                 Target::End(kind) => Meant {
                     kind: *kind,
                     stars: Stars::Zero,
                 },
                 Target::Next(next) => match item_at(&self.meant, *next) {
-                    None => unkept(),
+                    None => opaque_meaning(),
                     Some(means) => *means,
                 },
             },
@@ -337,8 +332,8 @@ impl Scope {
             → result ≡ same_type (means_after stars (resolved_type self.now.declarations.items self.now.types.items t Zero))
             (means_after others (resolved_type self.now.declarations.items self.now.types.items u Zero)) }
     {
-        let means = meant_after(stars, self.followed(a));
-        let other = meant_after(others, self.followed(b));
+        let means = meant_after(stars, self.meaning_at(a));
+        let other = meant_after(others, self.meaning_at(b));
         same_meant(means, other)
     }
 

@@ -13,11 +13,11 @@ use std::alloc::{AllocError, Global};
 
 /// A type as it is spelled. Its only error is out of memory.
 #[tactic(auto, unfolding(crate::specs::Spelling::spelled_of))]
-pub fn spelled(alloc: Global, ty: &RawType) -> Result<Spelled, AllocError>
+pub fn spelling_of(alloc: Global, ty: &RawType) -> Result<Spelled, AllocError>
     ensures { IfOk result (λ s. s ≡ spelled_of ty.now) }
 {
     match ty {
-        RawType::Words(words) => Ok(combined(*words)),
+        RawType::Words(words) => Ok(spelling_of_words(*words)),
         RawType::UnsignedHostWide => Ok(integer(Width::W8, false)),
         RawType::Tagged { keyword, tag } => Ok(Spelled::Tagged {
             keyword: *keyword,
@@ -29,7 +29,7 @@ pub fn spelled(alloc: Global, ty: &RawType) -> Result<Spelled, AllocError>
 
 /// The number that a name of the fixed table is, or None for any other name.
 #[tactic(auto, unfolding(crate::specs::Spelling::fixed_of))]
-pub fn fixed(word: &Word) -> Option<Scalar>
+pub fn fixed_scalar(word: &Word) -> Option<Scalar>
     ensures { result ≡ fixed_of word.now }
 {
     if is_word(word, "HOST_WIDE_INT") || is_word(word, "int64_t") {
@@ -74,7 +74,7 @@ fn is_word(word: &Word, ascii: &str) -> bool
 fn spelled_name(alloc: Global, word: &Word) -> Result<Spelled, AllocError>
     ensures { IfOk result (λ s. s ≡ spelled_name word.now) }
 {
-    match fixed(word) {
+    match fixed_scalar(word) {
         Some(scalar) => Ok(Spelled::Number {
             scalar,
             is_char: false,
@@ -84,7 +84,7 @@ fn spelled_name(alloc: Global, word: &Word) -> Result<Spelled, AllocError>
 }
 
 // A combination of words.
-fn combined(words: Combination) -> Spelled
+fn spelling_of_words(words: Combination) -> Spelled
     ensures { result ≡ combined words.core words.sign words.size }
 {
     match words.core {

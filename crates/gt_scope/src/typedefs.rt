@@ -4,7 +4,7 @@ ghost use Rattle.std.specs.Option.{option_copied};
 ghost use Rattle.gt_scope.specs.Kinds.{unkept};
 ghost use Rattle.gt_scope.specs.Chains.{IsMemo, IsWalked, IsMeaningAt, AreMeanings};
 
-use crate::kinds::{Meant, meant_after, unkept};
+use crate::kinds::{Meant, meant_after, opaque_meaning};
 use crate::link::{Link, Target};
 use gt_items::Stars;
 use std::alloc::{AllocError, Global};
@@ -24,7 +24,7 @@ struct Walked {
 }
 
 /// The meaning of a typedef, where it is known.
-fn known(memo: &[Option<Meant>], at: usize) -> Option<Meant>
+fn note_at(memo: &[Option<Meant>], at: usize) -> Option<Meant>
     requires within { at < length memo.now }
     ensures known { Some result ≡ slice_get memo.now at }
 {
@@ -62,14 +62,14 @@ fn walk(
     'walk: loop {
         match item_at(links, at) {
             None => {
-                let means = unkept();
+                let means = opaque_meaning();
                 return Ok(Walked { way, means });
             }
-            Some(link) => match known(memo, at) {
+            Some(link) => match note_at(memo, at) {
                 Some(means) => return Ok(Walked { way, means }),
                 None => {
                     way.push(at)?;
-                    note(memo, at, unkept());
+                    note(memo, at, opaque_meaning());
                     match link.to {
                         Target::End(kind) => {
                             let stars = Stars::Zero;
@@ -122,7 +122,7 @@ fn meaning(
 }
 
 /// Nothing is known of so many typedefs.
-fn unknown(alloc: Global, links: &[Link]) -> Result<Vec<Option<Meant>>, AllocError>
+fn empty_memo(alloc: Global, links: &[Link]) -> Result<Vec<Option<Meant>>, AllocError>
     ensures memo { IfOk result (λ memo. IsMemo links.now memo.items) }
 {
     let mut memo = Vec::new(alloc);
@@ -136,7 +136,7 @@ fn unknown(alloc: Global, links: &[Link]) -> Result<Vec<Option<Meant>>, AllocErr
 pub fn meanings(alloc: Global, links: &[Link]) -> Result<Vec<Meant>, AllocError>
     ensures meanings { IfOk result (λ meant. AreMeanings links.now meant.items) }
 {
-    let mut memo = unknown(alloc, links)?;
+    let mut memo = empty_memo(alloc, links)?;
     let mut meant = Vec::new(alloc);
     for place in 0..links.len() {
         meant.push(meaning(alloc, links, &mut memo, place)?)?;

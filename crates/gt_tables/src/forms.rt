@@ -43,7 +43,7 @@ pub fn sub_row(offset: u32, walk: Option<u32>) -> Option<WalkRow>
 }
 
 // Elements, each so many bytes after the one before it, where they have a row.
-pub fn repeated(
+pub fn rep_row(
     source: &Source<'_>,
     offset: u32,
     n: u32,
@@ -64,7 +64,7 @@ pub fn repeated(
 }
 
 // As many elements as a length says, where they have a row.
-pub fn counted(
+pub fn tail_row(
     source: &Source<'_>,
     around: Around,
     offset: u32,

@@ -158,7 +158,7 @@ fn held_reads(program: &Program, ty: &Ty, depth: usize, known: &mut Vec<Option<b
 }
 
 // So many structures of which nothing is known yet.
-fn none_known(alloc: Global, structures: &[Structure]) -> Result<Vec<Option<bool>>, AllocError>
+fn empty_memo(alloc: Global, structures: &[Structure]) -> Result<Vec<Option<bool>>, AllocError>
     ensures all { IfOk result (λ known. length known.items ≡ length structures.now) }
     ensures none { (program : Program) → IfOk result (λ known. TellReaders program known.items) }
 {
@@ -174,7 +174,7 @@ pub fn readers(alloc: Global, program: &Program) -> Result<Vec<bool>, AllocError
     requires { Settled program.now }
     ensures readers { IfOk result (λ flags. Tell program.now flags.items (ReadsOutermost program.now)) }
 {
-    let mut known = none_known(alloc, program.structures.as_slice())?;
+    let mut known = empty_memo(alloc, program.structures.as_slice())?;
     let mut all = Vec::new(alloc);
     for place in 0..program.structures.len() {
         all.push(reads(program, place, MAX_DEPTH, &mut known))?;

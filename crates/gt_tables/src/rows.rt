@@ -11,7 +11,7 @@ ghost use Rattle.gt_tree.specs.LeafLaws.{IsTypeIn};
 ghost use Rattle.gt_tables.specs.Building.{IsSource, first_of, parts_of, IsWalkOf, IsRow, AreRows, AreParts, Grows, IsAround, IsPlaced, AreServed, ServesType, ServesPart, ServesStructure, ServesMembers, AddsFields};
 ghost use Rattle.gt_tables.specs.Counting.{Counts, with_site};
 
-use crate::forms::{add_row, arm, counted, note, repeated, sub_row, switch_row};
+use crate::forms::{add_row, arm, note, rep_row, sub_row, switch_row, tail_row};
 use crate::parts::Parts;
 use crate::pointers::{pointer_row, string_row};
 use crate::sizes::size_of;
@@ -59,12 +59,12 @@ pub fn type_row(
         Ty::Arr { n, elem } => {
             let row = type_row(source, parts, lies, elem.get(), 0, depth)?;
             let size = size_of(elem.get(), source.layouts);
-            repeated(source, offset, *n, size, row)
+            rep_row(source, offset, *n, size, row)
         }
         Ty::Tail { len, elem } => {
             let row = type_row(source, parts, lies, elem.get(), 0, depth)?;
             let size = size_of(elem.get(), source.layouts);
-            counted(source, lies.around, offset, len, size, row)
+            tail_row(source, lies.around, offset, len, size, row)
         }
     }
 }

@@ -173,7 +173,7 @@ impl Source<'_> {
     }
 
     // The outermost structure around what lies there, where a structure reads it.
-    fn outermost_read(&self, lies: Lies, id: TypeId, reader: u32) -> Option<u32>
+    fn outermost_for(&self, lies: Lies, id: TypeId, reader: u32) -> Option<u32>
         ensures { result ≡ outermost_if (flag_at self.now.readers.now reader) (Some (first_of_node (around_of lies.around).outermost id)) }
     {
         match lies.around.enter(id).outermost {
@@ -193,7 +193,7 @@ impl Source<'_> {
         Part {
             node: id.0,
             site,
-            outermost: self.outermost_read(lies, id, reader),
+            outermost: self.outermost_for(lies, id, reader),
         }
     }
 

@@ -322,7 +322,7 @@ impl Plain {
     }
 
     /// The first marked block above an address.
-    pub fn next_marked(&self, after: u64) -> Option<(u64, u32, u32)> {
+    pub fn next_mark(&self, after: u64) -> Option<(u64, u32, u32)> {
         for b in &self.blocks {
             if b.addr <= after {
                 continue;

@@ -317,8 +317,8 @@ fn same_contents(alloc: Global, pages: &Pages, plain: &Plain) -> Result<bool, Al
 fn same_marks(pages: &Pages, plain: &Plain) -> bool {
     let mut after = 0;
     for _ in 0..plain.blocks.len().saturating_add(1) {
-        let found = pages.next_marked(after);
-        if found != plain.next_marked(after) {
+        let found = pages.next_mark(after);
+        if found != plain.next_mark(after) {
             return false;
         }
         let Some((addr, _walk, _count)) = found else {
@@ -364,7 +364,7 @@ fn same_mark(pages: &Pages, block: Block) -> bool {
     let Some((start, _size)) = pages.owner(block.addr) else {
         return false;
     };
-    let marked = pages.marked(start);
+    let marked = pages.is_marked(start);
     let mark = pages.marked_as(start);
     start == block.addr && marked == block.mark.is_some() && mark == block.told_mark()
 }

@@ -214,7 +214,7 @@ fn starts(pages: &Pages, addr: u64) -> bool
 
 fn marked(alloc: Global, pages: &Pages, at: &str) -> Result<String, AllocError> {
     match address(at) {
-        Some(after) => next_text(alloc, pages.next_marked(after)),
+        Some(after) => next_text(alloc, pages.next_mark(after)),
         None => no_address(alloc),
     }
 }

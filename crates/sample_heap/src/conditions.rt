@@ -14,7 +14,7 @@ fn all_named(tables: &Tables, space: &Space, known: &Pages, pages: &Pages) -> bo
     known.sound();
     let mut after = 0;
     for _ in 0..u64::MAX {
-        match known.next_marked(after) {
+        match known.next_mark(after) {
             None => return true,
             Some((addr, walk, count)) => {
                 if !are_named(tables, space, known, pages, addr, walk, count) {
@@ -34,7 +34,7 @@ fn all_known(known: &Pages, pages: &Pages) -> bool
     pages.sound();
     let mut after = 0;
     for _ in 0..u64::MAX {
-        match pages.next_marked(after) {
+        match pages.next_mark(after) {
             None => return true,
             Some((addr, walk, count)) => {
                 if !is_known(known, addr, walk, count) {

@@ -1,6 +1,6 @@
 use Rattle.std.proofs.Common.{◌≡◌, ℕ, length, Some}
 use Rattle.std.specs.Prelude.{Bool, slice_get}
-use Rattle.gt_held.proofs.tails.none_known.Given as goal
+use Rattle.gt_held.proofs.tails.empty_memo.Given as goal
 
 abbrev pub invariant-loop : goal.invariant-loop
 invariant-loop l = record {

@@ -1,7 +1,7 @@
 use Rattle.std.proofs.Common.{sym, arith}
 use Rattle.gt_marked.proofs.Escapes.{unescaped_backslash, unescaped_plain, unescaped_escaped, unescaped_wrong, unescaped_ends, unescaped_breaks}
-use Rattle.gt_marked.proofs.strings.unescaped.Goals as goal
-use Rattle.gt_marked.proofs.strings.unescaped.Goals.{then-is_escaped+else-not-may_be_escaped, else-is_escaped+else-byte-eq92}
+use Rattle.gt_marked.proofs.strings.unescape.Goals as goal
+use Rattle.gt_marked.proofs.strings.unescape.Goals.{then-is_escaped+else-not-may_be_escaped, else-is_escaped+else-byte-eq92}
 
 pub returns-then-not-may_be_escaped : goal.returns-then-not-may_be_escaped
 returns-then-not-may_be_escaped c =

@@ -1,7 +1,7 @@
 use Rattle.std.proofs.Common.{◌∙◌, ap}
 use Rattle.gt_drafts.specs.Options.{has_length}
 use Rattle.gt_resolve.proofs.DraftLemmas.{declarator_after}
-use Rattle.gt_resolve.proofs.drafting.declared.Goals as goal
+use Rattle.gt_resolve.proofs.drafting.declared_type.Goals as goal
 
 pub returns : goal.returns
 returns c =

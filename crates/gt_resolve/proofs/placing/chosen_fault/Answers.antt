@@ -1,7 +1,7 @@
 use Rattle.std.proofs.Common.{◌∙◌, ap, sym}
 use Rattle.gt_resolve.specs.Placings.{chosen, faults_from}
 use Rattle.gt_resolve.proofs.PlacingLemmas.{found_is, not_found_is}
-use Rattle.gt_resolve.proofs.placing.chosen.Goals as goal
+use Rattle.gt_resolve.proofs.placing.chosen_fault.Goals as goal
 
 pub returns-in-Ok : goal.returns-in-Ok
 returns-in-Ok c =

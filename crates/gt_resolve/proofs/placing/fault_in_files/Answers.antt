@@ -2,7 +2,7 @@ use Rattle.std.proofs.Common.{◌∙◌, ◌+◌, drop, refl, arith, Ok, Err}
 use Rattle.std.specs.Prelude.{filter_map}
 use Rattle.gt_resolve.specs.Placings.{fault_item, faults_from, item_or_rest}
 use Rattle.gt_resolve.proofs.PlacingLemmas.{next_file, no_file, found_here, found_after}
-use Rattle.gt_resolve.proofs.placing.found.Goals as goal
+use Rattle.gt_resolve.proofs.placing.fault_in_files.Goals as goal
 
 pub returns-in-Ok : goal.returns-in-Ok
 returns-in-Ok c =

@@ -12,5 +12,5 @@ returns-in-Some c =
       earliest =
           first_of_two of_structure of_root c.earlier.result
           (first_with of_structure of_root c.in-Some.fault c.earlier.result (sym c.in-Some.ensures.fault)
-          (ap (λ found. earlier_of found c.in-Some.fault) (sym c.chosen-of_structure.ensures.fault) ∙ c.earlier.ensures.earlier));
+          (ap (λ found. earlier_of found c.in-Some.fault) (sym c.chosen_fault-of_structure.ensures.fault) ∙ c.earlier.ensures.earlier));
     }

@@ -2,7 +2,7 @@ use Rattle.std.proofs.Common.{◌≡◌, ◌∙◌, Some, ap, arith, refl, sym}
 use Rattle.std.specs.Prelude.{slice_get}
 use Rattle.std.proofs.lemmas.Option.{slice_get-get_or}
 use Rattle.gt_resolve.proofs.Classes.{marked_more, marked_end}
-use Rattle.gt_resolve.proofs.redefined.marked.Goals as goal
+use Rattle.gt_resolve.proofs.redefined.redefinition_by_places.Goals as goal
 
 pub loop-place-preserved : goal.loop-place-preserved
 loop-place-preserved c =

@@ -1,7 +1,7 @@
 use Rattle.std.proofs.Common.{◌≡◌, None, false, length, replicate, drop}
 use Rattle.gt_drafts.specs.FirstFaults.{first_from}
 use Rattle.gt_resolve.specs.Redefinitions.{marked_faults}
-use Rattle.gt_resolve.proofs.redefined.marked.Given as goal
+use Rattle.gt_resolve.proofs.redefined.redefinition_by_places.Given as goal
 
 -- the earliest of the faults of so many declarations and of those after them is the earliest of all
 abbrev pub invariant-loop-place : goal.invariant-loop-place

@@ -1,6 +1,6 @@
 use Rattle.std.proofs.Common.{length, ap, sym}
 use Rattle.gt_scope.proofs.KindLemmas.{number_found, number_added}
-use Rattle.gt_scope.proofs.kinds.numbered.Goals as goal
+use Rattle.gt_scope.proofs.kinds.number_tag.Goals as goal
 
 pub returns-in-Some-clause-number : goal.returns-in-Some-clause-number
 returns-in-Some-clause-number c = number_found c.args.tags c.args.tag.now c.in-Some.number c.in-Some.ensures.place

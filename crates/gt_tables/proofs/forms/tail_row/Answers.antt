@@ -1,7 +1,7 @@
 use Rattle.std.proofs.Common.{ap, sym, ◌∙◌, Some}
 use Rattle.std.specs.Option.{option_map}
 use Rattle.gt_walk.specs.declared.rows.WalkRow.TheVariants as row
-use Rattle.gt_tables.proofs.forms.counted.Goals as goal
+use Rattle.gt_tables.proofs.forms.tail_row.Goals as goal
 
 pub returns : goal.returns
 returns c =

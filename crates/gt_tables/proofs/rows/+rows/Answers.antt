@@ -180,8 +180,8 @@ type_row-returns-in_ok-row-in-Arr-clause-row t c =
     let elem = c.get.result.now in
     let is : out-Ty c.args.ty.now ≡ part.Arr c.in-Arr.n elem = ap out-Ty c.in-Arr.is ∙ outs-Arr c.in-Arr.n c.in-Arr.elem ∙ ap (part.Arr c.in-Arr.n) (sym c.get.ensures) in
     rep-row (first_of c.args.source.now) c.type_row.new.parts.walks.items (HoldsWithinDepth program elem) (HoldsWithinDepth program c.args.ty.now)
-    (λ depth deep node held. deep node (held-array c.args.ty.now elem c.in-Arr.n is ∙ held)) c.args.offset c.in-Arr.n c.size_of-size.result c.in_ok-row-in-Arr.row c.repeated.result
-    c.in_ok-row-in-Arr.ensures.row c.repeated.ensures
+    (λ depth deep node held. deep node (held-array c.args.ty.now elem c.in-Arr.n is ∙ held)) c.args.offset c.in-Arr.n c.size_of-size.result c.in_ok-row-in-Arr.row c.rep_row.result
+    c.in_ok-row-in-Arr.ensures.row c.rep_row.ensures
 
 pub type_row-returns-in_ok-row-in-Tail-clause-row : goal.type_row-returns-in_ok-row-in-Tail-clause-row
 type_row-returns-in_ok-row-in-Tail-clause-row t c =
@@ -190,8 +190,8 @@ type_row-returns-in_ok-row-in-Tail-clause-row t c =
     let is : out-Ty c.args.ty.now ≡ part.Tail c.in-Tail.len elem = ap out-Ty c.in-Tail.is ∙ outs-Tail c.in-Tail.len c.in-Tail.elem ∙ ap (part.Tail c.in-Tail.len) (sym c.get-in-Tail.ensures) in
     tail-row (first_of c.args.source.now) c.type_row-in-Tail.new.parts.walks.items (HoldsWithinDepth program elem) (HoldsWithinDepth program c.args.ty.now)
     (λ depth deep node held. deep node (held-tail c.args.ty.now elem c.in-Tail.len is ∙ held))
-    (λ e. c.in_ok-row-in-Tail.row ≢ None → IsRowExpr program c.args.source.now.layouts.now (around_of c.args.lies.around) c.in-Tail.len e) c.args.offset c.size_of-size-in-Tail.result c.in_ok-row-in-Tail.row c.counted.result
-    c.in_ok-row-in-Tail.ensures.row c.counted.ensures
+    (λ e. c.in_ok-row-in-Tail.row ≢ None → IsRowExpr program c.args.source.now.layouts.now (around_of c.args.lies.around) c.in-Tail.len e) c.args.offset c.size_of-size-in-Tail.result c.in_ok-row-in-Tail.row c.tail_row.result
+    c.in_ok-row-in-Tail.ensures.row c.tail_row.ensures
 
 pub union_arms-loop-i-preserved : goal.union_arms-loop-i-preserved
 union_arms-loop-i-preserved t c =
@@ -383,8 +383,8 @@ type_row-returns-in_ok-row-in-Arr-clause-serves t c =
     let same : c.get-in-Arr.result.now ≡ elem = c.get-in-Arr.ensures ∙ sym c.get.ensures in
     let typed = subst (IsTypeIn source.program.now) (sym same) (of_array c.requires.typed is) in
     let long = c.size_of-size.ensures.size source.program.now c.requires.source.settled c.requires.source.laid c.requires.source.within typed ∙ ap (λ e. (extent_of source.layouts.now.structures e).size) same in
-    if-ok (λ made. made ≡ option_map (Rep c.args.offset c.in-Arr.n c.size_of-size.result) row) (ServesType source walks c.args.lies.around c.args.ty.now c.args.offset) c.repeated.result
-    (λ made made-is. array-serves source walks c.args.lies.around c.args.ty.now elem c.in-Arr.n c.args.offset c.size_of-size.result row made is long made-is c.in_ok-row-in-Arr.ensures.serves) c.repeated.ensures
+    if-ok (λ made. made ≡ option_map (Rep c.args.offset c.in-Arr.n c.size_of-size.result) row) (ServesType source walks c.args.lies.around c.args.ty.now c.args.offset) c.rep_row.result
+    (λ made made-is. array-serves source walks c.args.lies.around c.args.ty.now elem c.in-Arr.n c.args.offset c.size_of-size.result row made is long made-is c.in_ok-row-in-Arr.ensures.serves) c.rep_row.ensures
 
 pub type_row-returns-in_ok-row-in-Tail-clause-serves : goal.type_row-returns-in_ok-row-in-Tail-clause-serves
 type_row-returns-in_ok-row-in-Tail-clause-serves t c =
@@ -399,8 +399,8 @@ type_row-returns-in_ok-row-in-Tail-clause-serves t c =
     let typed = subst (IsTypeIn source.program.now) (sym same) (of_tail c.requires.typed is) in
     let long = c.size_of-size-in-Tail.ensures.size source.program.now c.requires.source.settled c.requires.source.laid c.requires.source.within typed ∙ ap (λ e. (extent_of source.layouts.now.structures e).size) same in
     if-ok (λ made. (e : RowExpr) × (made ≡ option_map (Tail c.args.offset e size) row) × (row ≢ None → IsRowExpr source.program.now source.layouts.now (around_of around) c.in-Tail.len e) × (row ≢ None → IsOrdered e))
-    (ServesType source walks around c.args.ty.now c.args.offset) c.counted.result
-    (λ made h. tail-serves source walks around c.args.ty.now elem c.in-Tail.len c.args.offset size row made is long (h.0, h.1, h.2) c.in_ok-row-in-Tail.ensures.serves) c.counted.ensures
+    (ServesType source walks around c.args.ty.now c.args.offset) c.tail_row.result
+    (λ made h. tail-serves source walks around c.args.ty.now elem c.in-Tail.len c.args.offset size row made is long (h.0, h.1, h.2) c.in_ok-row-in-Tail.ensures.serves) c.tail_row.ensures
 
 -- what looking at a part, or at the elements of an array, adds
 pub part_walk-returns-clause-counts : goal.part_walk-returns-clause-counts
@@ -465,10 +465,10 @@ type_row-returns-in_ok-row-in-Arr-clause-counts t c =
     let is : out-Ty c.args.ty.now ≡ part.Arr c.in-Arr.n elem = ap out-Ty c.in-Arr.is ∙ outs-Arr c.in-Arr.n c.in-Arr.elem ∙ ap (part.Arr c.in-Arr.n) (sym c.get.ensures) in
     let deep = HoldsWithinDepth program c.args.ty.now in
     let inner = HoldsWithinDepth program elem in
-    if-ok (λ made. made ≡ option_map (Rep c.args.offset c.in-Arr.n size) row) (λ made. Counts source deep (with_site c.args.lies.site) [] (parts_of made) old new) c.repeated.result
+    if-ok (λ made. made ≡ option_map (Rep c.args.offset c.in-Arr.n size) row) (λ made. Counts source deep (with_site c.args.lies.site) [] (parts_of made) old new) c.rep_row.result
     (λ made made-is.
     counts-deeper source inner (with_site c.args.lies.site) old new deep [] (parts_of made) (λ depth holds node held. holds node (held-array c.args.ty.now elem c.in-Arr.n is ∙ held))
-    (counts-after source inner (with_site c.args.lies.site) old new [] (parts_of row) (parts_of made) (ap parts_of made-is ∙ rep-named c.args.offset c.in-Arr.n size row) c.in_ok-row-in-Arr.ensures.counts)) c.repeated.ensures
+    (counts-after source inner (with_site c.args.lies.site) old new [] (parts_of row) (parts_of made) (ap parts_of made-is ∙ rep-named c.args.offset c.in-Arr.n size row) c.in_ok-row-in-Arr.ensures.counts)) c.rep_row.ensures
 
 pub type_row-returns-in_ok-row-in-Tail-clause-counts : goal.type_row-returns-in_ok-row-in-Tail-clause-counts
 type_row-returns-in_ok-row-in-Tail-clause-counts t c =
@@ -483,10 +483,10 @@ type_row-returns-in_ok-row-in-Tail-clause-counts t c =
     let deep = HoldsWithinDepth program c.args.ty.now in
     let inner = HoldsWithinDepth program elem in
     if-ok (λ made. (e : RowExpr) × (made ≡ option_map (Tail c.args.offset e size) row) × (row ≢ None → IsRowExpr program source.layouts.now (around_of c.args.lies.around) c.in-Tail.len e) × (row ≢ None → IsOrdered e))
-    (λ made. Counts source deep (with_site c.args.lies.site) [] (parts_of made) old new) c.counted.result
+    (λ made. Counts source deep (with_site c.args.lies.site) [] (parts_of made) old new) c.tail_row.result
     (λ made h.
     counts-deeper source inner (with_site c.args.lies.site) old new deep [] (parts_of made) (λ depth holds node held. holds node (held-tail c.args.ty.now elem c.in-Tail.len is ∙ held))
-    (counts-after source inner (with_site c.args.lies.site) old new [] (parts_of row) (parts_of made) (ap parts_of h.1 ∙ tail-named c.args.offset h.0 size row) c.in_ok-row-in-Tail.ensures.counts)) c.counted.ensures
+    (counts-after source inner (with_site c.args.lies.site) old new [] (parts_of row) (parts_of made) (ap parts_of h.1 ∙ tail-named c.args.offset h.0 size row) c.in_ok-row-in-Tail.ensures.counts)) c.tail_row.ensures
 
 -- what the rows of a structure name, its arms or its fields do
 pub structure_rows-returns-then-structure-clause-counts : goal.structure_rows-returns-then-structure-clause-counts

@@ -9,7 +9,7 @@ use Rattle.gt_entries.proofs.places.Places.is_used.Goals as goal
 pub returns : goal.returns
 returns c = record {
   used =
-      c.has.ensures ∙ ap (λ words. has words c.args.k) c.used.ensures
+      c.has.ensures ∙ ap (λ words. has words c.args.k) c.used_places.ensures
       ∙ used_bit (has c.self.inside.sets.used c.args.k) (has c.self.inside.sets.marked c.args.k) (has c.self.inside.sets.pending c.args.k) (tag_at c.self.inside.tags.items c.args.k)
       ∙ ap (λ x. not (is_free x)) (sym (place_at c.self.inside.count c.self.inside.sets.used c.self.inside.sets.marked c.self.inside.sets.pending c.self.inside.tags.items c.self.invariant.kept c.args.k))
       ∙ ap (λ cells. not (is_free (cell_at cells c.args.k))) c.self.view_is;

@@ -7,7 +7,7 @@ use Rattle.gt_entries.proofs.places.Places.marked_count.Goals as goal
 pub returns : goal.returns
 returns c = record {
   count =
-      c.count.ensures ∙ ap (λ words. length (members words)) c.marked.ensures
+      c.count.ensures ∙ ap (λ words. length (members words)) c.marked_places.ensures
       ∙ count_marked c.self.inside.count c.self.inside.sets.used c.self.inside.sets.marked c.self.inside.sets.pending c.self.inside.tags.items c.self.invariant.kept
       ∙ ap (λ cells. count_by is_marked cells) c.self.view_is;
 }

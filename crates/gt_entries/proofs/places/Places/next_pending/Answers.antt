@@ -13,5 +13,5 @@ returns c = record {
       (first_from c.self.inside.count c.self.inside.sets.used c.self.inside.sets.marked c.self.inside.sets.pending c.self.inside.tags.items c.self.invariant.kept c.self.inside.sets.pending is_pending c.args.from c.next.result
       (λ k. pending_bit (has c.self.inside.sets.used k) (has c.self.inside.sets.marked k) (has c.self.inside.sets.pending k) (tag_at c.self.inside.tags.items k) (c.self.invariant.kept.marks_used k) (c.self.invariant.kept.pending_marked k))
       (λ k pending. c.self.invariant.kept.within k (c.self.invariant.kept.marks_used k (c.self.invariant.kept.pending_marked k pending)))
-      (subst (λ words. IsNext words c.args.from c.next.result) c.pending.ensures c.next.ensures));
+      (subst (λ words. IsNext words c.args.from c.next.result) c.pending_places.ensures c.next.ensures));
 }

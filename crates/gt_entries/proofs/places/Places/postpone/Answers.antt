@@ -8,7 +8,7 @@ use Rattle.gt_entries.proofs.places.Places.postpone.Goals as goal
 pub returns-then-not-has : goal.returns-then-not-has
 returns-then-not-has c = record {
   postponed =
-      let bit : has c.self.inside.sets.marked c.args.k ≡ false = ap (λ words. has words c.args.k) (sym c.marked.ensures) ∙ (sym c.has.ensures ∙ c.if-not-has.true) in
+      let bit : has c.self.inside.sets.marked c.args.k ≡ false = ap (λ words. has words c.args.k) (sym c.marked_places.ensures) ∙ (sym c.has.ensures ∙ c.if-not-has.true) in
       sym c.self.view_is
       ∙ cells_none c.self.inside.count c.self.inside.sets.used c.self.inside.sets.marked c.self.inside.sets.pending c.self.inside.tags.items c.self.invariant.kept c.args.k bit
       ∙ ap (λ cells. set cells c.args.k (postponed (cell_at cells c.args.k))) c.self.view_is;
@@ -16,13 +16,13 @@ returns-then-not-has c = record {
 
 pub set_pending-requires : goal.set_pending-requires
 set_pending-requires c =
-    let bit : has c.self.inside.sets.marked c.args.k ≡ true = ap (λ words. has words c.args.k) (sym c.marked.ensures) ∙ (sym c.has.ensures ∙ c.if-not-has.false) in
+    let bit : has c.self.inside.sets.marked c.args.k ≡ true = ap (λ words. has words c.args.k) (sym c.marked_places.ensures) ∙ (sym c.has.ensures ∙ c.if-not-has.false) in
     let low = c.self.invariant.kept.within c.args.k (c.self.invariant.kept.marks_used c.args.k bit) in
     omega (arith, low, c.self.invariant.kept.room, c.self.invariant.kept.pending_words)
 
 pub invariant_of-self : goal.invariant_of-self
 invariant_of-self c =
-    let bit : has c.self.inside.sets.marked c.args.k ≡ true = ap (λ words. has words c.args.k) (sym c.marked.ensures) ∙ (sym c.has.ensures ∙ c.if-not-has.false) in
+    let bit : has c.self.inside.sets.marked c.args.k ≡ true = ap (λ words. has words c.args.k) (sym c.marked_places.ensures) ∙ (sym c.has.ensures ∙ c.if-not-has.false) in
     let low = c.self.invariant.kept.within c.args.k (c.self.invariant.kept.marks_used c.args.k bit) in
     rw (ap (λ s. s.used) c.set_pending.ensures.rest, ap (λ s. s.marked) c.set_pending.ensures.rest)
     (record {
@@ -34,7 +34,7 @@ invariant_of-self c =
 pub returns : goal.returns
 returns c = record {
   postponed =
-      let bit : has c.self.inside.sets.marked c.args.k ≡ true = ap (λ words. has words c.args.k) (sym c.marked.ensures) ∙ (sym c.has.ensures ∙ c.if-not-has.false) in
+      let bit : has c.self.inside.sets.marked c.args.k ≡ true = ap (λ words. has words c.args.k) (sym c.marked_places.ensures) ∙ (sym c.has.ensures ∙ c.if-not-has.false) in
       let low = c.self.invariant.kept.within c.args.k (c.self.invariant.kept.marks_used c.args.k bit) in
       rw (ap (λ s. s.used) c.set_pending.ensures.rest, ap (λ s. s.marked) c.set_pending.ensures.rest)
       (cells_postponed c.self.inside.count c.self.inside.sets.used c.self.inside.sets.marked c.self.inside.sets.pending c.self.inside.tags.items c.set_pending.new.self.pending c.args.k low bit

@@ -9,22 +9,22 @@ use Rattle.gt_entries.proofs.places.Places.sweep.Goals as goal
 pub overflow_sub-freed : goal.overflow_sub-freed
 overflow_sub-freed c =
     let split = count_lost c.self.inside.count c.self.inside.sets.used c.self.inside.sets.marked c.self.inside.sets.pending c.self.inside.tags.items c.self.invariant.kept in
-    let used : c.count.result ≡ length (members c.self.inside.sets.used) = c.count.ensures ∙ ap (λ words. length (members words)) c.used.ensures in
-    let marked : c.count-2.result ≡ length (members c.self.inside.sets.marked) = c.count-2.ensures ∙ ap (λ words. length (members words)) c.marked.ensures in
+    let used : c.count.result ≡ length (members c.self.inside.sets.used) = c.count.ensures ∙ ap (λ words. length (members words)) c.used_places.ensures in
+    let marked : c.count-2.result ≡ length (members c.self.inside.sets.marked) = c.count-2.ensures ∙ ap (λ words. length (members words)) c.marked_places.ensures in
     omega (arith, split, used, marked)
 
 pub overflow_add-self : goal.overflow_add-self
 overflow_add-self c =
     let split = count_lost c.self.inside.count c.self.inside.sets.used c.self.inside.sets.marked c.self.inside.sets.pending c.self.inside.tags.items c.self.invariant.kept in
-    let used : c.count.result ≡ length (members c.self.inside.sets.used) = c.count.ensures ∙ ap (λ words. length (members words)) c.used.ensures in
-    let marked : c.count-2.result ≡ length (members c.self.inside.sets.marked) = c.count-2.ensures ∙ ap (λ words. length (members words)) c.marked.ensures in
+    let used : c.count.result ≡ length (members c.self.inside.sets.used) = c.count.ensures ∙ ap (λ words. length (members words)) c.used_places.ensures in
+    let marked : c.count-2.result ≡ length (members c.self.inside.sets.marked) = c.count-2.ensures ∙ ap (λ words. length (members words)) c.marked_places.ensures in
     omega (arith, split, used, marked, c.self.invariant.free_count, count_used c.self.inside.count c.self.inside.sets.used c.self.inside.sets.marked c.self.inside.sets.pending c.self.inside.tags.items c.self.invariant.kept, c.self.invariant.kept.room, c.self.invariant.kept.fits)
 
 pub invariant_of-self : goal.invariant_of-self
 invariant_of-self c =
     let split = count_lost c.self.inside.count c.self.inside.sets.used c.self.inside.sets.marked c.self.inside.sets.pending c.self.inside.tags.items c.self.invariant.kept in
-    let used : c.count.result ≡ length (members c.self.inside.sets.used) = c.count.ensures ∙ ap (λ words. length (members words)) c.used.ensures in
-    let marked : c.count-2.result ≡ length (members c.self.inside.sets.marked) = c.count-2.ensures ∙ ap (λ words. length (members words)) c.marked.ensures in
+    let used : c.count.result ≡ length (members c.self.inside.sets.used) = c.count.ensures ∙ ap (λ words. length (members words)) c.used_places.ensures in
+    let marked : c.count-2.result ≡ length (members c.self.inside.sets.marked) = c.count-2.ensures ∙ ap (λ words. length (members words)) c.marked_places.ensures in
     rw c.sweep.ensures
     (record {
       kept = kept_sweep c.self.inside.count c.self.inside.sets.used c.self.inside.sets.marked c.self.inside.sets.pending c.self.inside.tags.items c.self.invariant.kept;
@@ -38,7 +38,7 @@ returns-clause-swept c =
 pub returns-clause-freed : goal.returns-clause-freed
 returns-clause-freed c =
     let split = count_lost c.self.inside.count c.self.inside.sets.used c.self.inside.sets.marked c.self.inside.sets.pending c.self.inside.tags.items c.self.invariant.kept in
-    let used : c.count.result ≡ length (members c.self.inside.sets.used) = c.count.ensures ∙ ap (λ words. length (members words)) c.used.ensures in
-    let marked : c.count-2.result ≡ length (members c.self.inside.sets.marked) = c.count-2.ensures ∙ ap (λ words. length (members words)) c.marked.ensures in
+    let used : c.count.result ≡ length (members c.self.inside.sets.used) = c.count.ensures ∙ ap (λ words. length (members words)) c.used_places.ensures in
+    let marked : c.count-2.result ≡ length (members c.self.inside.sets.marked) = c.count-2.ensures ∙ ap (λ words. length (members words)) c.marked_places.ensures in
     let seen : count_by is_lost (cells_of c.self.inside.count c.self.inside.sets.used c.self.inside.sets.marked c.self.inside.sets.pending c.self.inside.tags.items) ≡ count_by is_lost c.args.self.now = ap (λ cells. count_by is_lost cells) c.self.view_is in
     omega (arith, split, used, marked, seen)

@@ -12,19 +12,19 @@ if_none (Some x) P p = tt
 
 pub returns-in_err-k-clause-full : goal.returns-in_err-k-clause-full
 returns-in_err-k-clause-full c =
-    let gap = subst (λ r. IsNextGap c.self.inside.sets.used 0 c.self.inside.count r) c.in_err-k.was (subst (λ words. IsNextGap words 0 c.self.inside.count c.next_gap.result) c.used.ensures c.next_gap.ensures) in
+    let gap = subst (λ r. IsNextGap c.self.inside.sets.used 0 c.self.inside.count r) c.in_err-k.was (subst (λ words. IsNextGap words 0 c.self.inside.count c.next_gap.result) c.used_places.ensures c.next_gap.ensures) in
     if_none c.from_residual.result (count_by is_free c.args.self.now ≡ 0)
     (ap (λ cells. count_by is_free cells) (sym c.self.view_is)
     ∙ none_free c.self.inside.count c.self.inside.sets.used c.self.inside.sets.marked c.self.inside.sets.pending c.self.inside.tags.items (λ k low. gap.none k (omega arith) low))
 
 pub overflow_sub-self : goal.overflow_sub-self
 overflow_sub-self c =
-    let gap = subst (λ r. IsNextGap c.self.inside.sets.used 0 c.self.inside.count r) c.in_ok-k.was (subst (λ words. IsNextGap words 0 c.self.inside.count c.next_gap.result) c.used.ensures c.next_gap.ensures) in
+    let gap = subst (λ r. IsNextGap c.self.inside.sets.used 0 c.self.inside.count r) c.in_ok-k.was (subst (λ words. IsNextGap words 0 c.self.inside.count c.next_gap.result) c.used_places.ensures c.next_gap.ensures) in
     omega (arith, c.self.invariant.free_count, some_free c.self.inside.count c.self.inside.sets.used c.self.inside.sets.marked c.self.inside.sets.pending c.self.inside.tags.items c.in_ok-k.k gap.below gap.missing)
 
 pub invariant_of-self : goal.invariant_of-self
 invariant_of-self c =
-    let gap = subst (λ r. IsNextGap c.self.inside.sets.used 0 c.self.inside.count r) c.in_ok-k.was (subst (λ words. IsNextGap words 0 c.self.inside.count c.next_gap.result) c.used.ensures c.next_gap.ensures) in
+    let gap = subst (λ r. IsNextGap c.self.inside.sets.used 0 c.self.inside.count r) c.in_ok-k.was (subst (λ words. IsNextGap words 0 c.self.inside.count c.next_gap.result) c.used_places.ensures c.next_gap.ensures) in
     rw (ap (λ s. s.marked) c.take.ensures.rest, ap (λ s. s.pending) c.take.ensures.rest)
     (record {
       kept = kept_take c.self.inside.count c.self.inside.sets.used c.self.inside.sets.marked c.self.inside.sets.pending c.self.inside.tags.items c.take.new.self.used c.in_ok-k.k gap.below gap.missing
@@ -35,7 +35,7 @@ invariant_of-self c =
 
 pub returns-clause-free : goal.returns-clause-free
 returns-clause-free c =
-    let gap = subst (λ r. IsNextGap c.self.inside.sets.used 0 c.self.inside.count r) c.in_ok-k.was (subst (λ words. IsNextGap words 0 c.self.inside.count c.next_gap.result) c.used.ensures c.next_gap.ensures) in
+    let gap = subst (λ r. IsNextGap c.self.inside.sets.used 0 c.self.inside.count r) c.in_ok-k.was (subst (λ words. IsNextGap words 0 c.self.inside.count c.next_gap.result) c.used_places.ensures c.next_gap.ensures) in
     let len : length (cells_of c.self.inside.count c.self.inside.sets.used c.self.inside.sets.marked c.self.inside.sets.pending c.self.inside.tags.items) ≡ length c.args.self.now = ap (λ cells. length cells) c.self.view_is in (
       omega (arith, len, len_cells c.self.inside.count c.self.inside.sets.used c.self.inside.sets.marked c.self.inside.sets.pending c.self.inside.tags.items, gap.below),
       ap (λ cells. cell_at cells c.in_ok-k.k) (sym c.self.view_is) ∙ free_at c.self.inside.count c.self.inside.sets.used c.self.inside.sets.marked c.self.inside.sets.pending c.self.inside.tags.items c.self.invariant.kept c.in_ok-k.k gap.missing,
@@ -43,7 +43,7 @@ returns-clause-free c =
 
 pub returns-clause-taken : goal.returns-clause-taken
 returns-clause-taken c =
-    let gap = subst (λ r. IsNextGap c.self.inside.sets.used 0 c.self.inside.count r) c.in_ok-k.was (subst (λ words. IsNextGap words 0 c.self.inside.count c.next_gap.result) c.used.ensures c.next_gap.ensures) in
+    let gap = subst (λ r. IsNextGap c.self.inside.sets.used 0 c.self.inside.count r) c.in_ok-k.was (subst (λ words. IsNextGap words 0 c.self.inside.count c.next_gap.result) c.used_places.ensures c.next_gap.ensures) in
     rw (ap (λ s. s.marked) c.take.ensures.rest, ap (λ s. s.pending) c.take.ensures.rest)
     (cells_take c.self.inside.count c.self.inside.sets.used c.self.inside.sets.marked c.self.inside.sets.pending c.self.inside.tags.items c.take.new.self.used c.in_ok-k.k gap.below gap.missing
     c.take.ensures.len c.take.ensures.held

@@ -3,7 +3,7 @@ use Rattle.gt_entries.specs.Cells as cells
 use Rattle.gt_pages.specs.Slots as slots
 use Rattle.gt_pages.specs.Parts.{parts_of}
 use Rattle.gt_pages.proofs.NextLemmas.{next_found, next_none, none_above, skips_step}
-use Rattle.gt_pages.proofs.store.Store.next_marked.Goals as goal
+use Rattle.gt_pages.proofs.store.Store.next_mark.Goals as goal
 
 pub returns-in_err-from : goal.returns-in_err-from
 returns-in_err-from c =

@@ -15,7 +15,7 @@ returns c =
           c.same_meant.ensures.same
           ∙ meant_same tags c.meant_after-means.result c.meant_after-other.result (means_after c.args.stars x) (means_after c.args.others y)
           (subst (λ m. IsMeant tags m (means_after c.args.stars x)) (sym c.meant_after-means.ensures.means)
-          (after_meant tags c.args.stars c.followed.result x (c.followed.ensures.means d t found is)))
+          (after_meant tags c.args.stars c.meaning_at.result x (c.meaning_at.ensures.means d t found is)))
           (subst (λ m. IsMeant tags m (means_after c.args.others y)) (sym c.meant_after-other.ensures.means)
-          (after_meant tags c.args.others c.followed-2.result y (c.followed-2.ensures.means e u there other)));
+          (after_meant tags c.args.others c.meaning_at-2.result y (c.meaning_at-2.ensures.means e u there other)));
     }

@@ -2,7 +2,7 @@ use Rattle.std.proofs.Common.{◌∙◌, Some, ap, sym}
 use Rattle.std.specs.Prelude.{slice_get}
 use Rattle.gt_scope.specs.Kinds.{names_in}
 use Rattle.gt_scope.proofs.ScopeLemmas.{followed_end, followed_next, followed_past}
-use Rattle.gt_scope.proofs.scope.Scope.followed.Goals as goal
+use Rattle.gt_scope.proofs.scope.Scope.meaning_at.Goals as goal
 
 pub returns-in-End : goal.returns-in-End
 returns-in-End c =

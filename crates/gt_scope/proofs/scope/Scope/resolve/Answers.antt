@@ -1,7 +1,7 @@
 use Rattle.std.proofs.Common.{◌∙◌, ap}
 use Rattle.std.specs.Prelude.{slice_get}
 use Rattle.gt_scope.proofs.ScopeLemmas.{none_resolved, past_resolved, found_resolved}
-use Rattle.gt_scope.proofs.scope.Scope.resolved.Goals as goal
+use Rattle.gt_scope.proofs.scope.Scope.resolve.Goals as goal
 
 pub returns-in-None : goal.returns-in-None
 returns-in-None c =
