@@ -8,7 +8,7 @@ ghost use Rattle.gt_layout.specs.Planes.{IsHeldPlane, held, is_alignment, is_pla
 ghost use Rattle.gt_layout.specs.Progress.{finished};
 
 use crate::extents::storage;
-use crate::planes::{MAX_SIZE, Plane, FieldSpot};
+use crate::planes::{FieldSpot, MAX_SIZE, Plane};
 use crate::rounding::round_up;
 use crate::storages::Storage;
 use gt_types::{List, Structure, TOO_LARGE};

@@ -18,4 +18,4 @@ mod tails;
 pub use drafts::{can_place, plane};
 pub use extents::extent;
 pub use layouts::layout;
-pub use planes::{Extent, Growth, LayoutStop, Layouts, MAX_SIZE, Plane, FieldSpot, TailSpot};
+pub use planes::{Extent, FieldSpot, Growth, LayoutStop, Layouts, MAX_SIZE, Plane, TailSpot};

@@ -9,7 +9,7 @@ ghost use Rattle.gt_listing.specs.Listing.{active_words, chain_line, chain_word,
 use crate::types::push_type;
 use gt_canon::{push_integer, push_named, push_number, push_path, push_word};
 use gt_digits::push_decimal;
-use gt_layout::{Plane, FieldSpot};
+use gt_layout::{FieldSpot, Plane};
 use gt_types::{Active, Bytes, Chain, ChainKind, Field, Program, Structure};
 use std::alloc::{AllocError, Global};
 

@@ -31,7 +31,11 @@ pub fn base_type(
 }
 
 #[tactic(auto, unfolding(crate::specs::Types::bare_type_at, crate::specs::Types::words_from))]
-fn bare_type(alloc: Global, place: Context, tokens: &[Lexeme]) -> Result<(RawType, &[Lexeme]), Unread>
+fn bare_type(
+    alloc: Global,
+    place: Context,
+    tokens: &[Lexeme],
+) -> Result<(RawType, &[Lexeme]), Unread>
     ensures { Gives (λ x. (x.0, x.1.now)) result (bare_type_at place tokens.now) }
 {
     match tokens {

@@ -15,7 +15,7 @@ ghost use Rattle.gt_value.specs.Values.{tree_of, trees};
 ghost use Rattle.gt_store.specs.Overlays.{CanStore, CanStorePart, CanStoreEach, IsWritten, EachIsWritten, bytes_in};
 
 use crate::bits::{bits_in, bits_of_number, write_bits, write_bytes, write_number};
-use gt_layout::{Layouts, FieldSpot, extent};
+use gt_layout::{FieldSpot, Layouts, extent};
 use gt_space::Space;
 use gt_types::{Program, Scalar, Ty, TypeId, Width};
 use gt_value::{Value, common_structure};

@@ -7,7 +7,7 @@ ghost use Rattle.gt_layout.specs.Excess.{IsWithin};
 ghost use Rattle.gt_layout.specs.Storages.{extent_of};
 ghost use Rattle.gt_tree.specs.LeafLaws.{IsTypeIn};
 
-use gt_layout::{Layouts, FieldSpot, extent};
+use gt_layout::{FieldSpot, Layouts, extent};
 use gt_types::Ty;
 
 // The bytes of a type.

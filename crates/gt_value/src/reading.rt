@@ -21,7 +21,7 @@ use crate::readers::{worth, worth_of};
 use crate::sources::{Around, Source, begin_at, bytes_of, shape_of};
 use crate::unions::{active_member, common_structure};
 use crate::values::Value;
-use gt_layout::{Layouts, FieldSpot};
+use gt_layout::{FieldSpot, Layouts};
 use gt_space::Space;
 use gt_types::{Boxed, Expr, Field, MAX_DEPTH, Program, Root, Structure, Ty, TypeId};
 use std::alloc::{AllocError, Global};

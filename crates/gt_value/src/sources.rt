@@ -12,7 +12,7 @@ ghost use Rattle.gt_tree.specs.Numbers.{is_signed};
 ghost use Rattle.gt_value.specs.Reading.{end_from, shape_of, number_in, place, place_field, step_to, walk_to, anchor_of, outside_all, entered, without_pointers};
 
 use crate::bits::number_at;
-use gt_layout::{Layouts, FieldSpot};
+use gt_layout::{FieldSpot, Layouts};
 use gt_space::Space;
 use gt_types::{Base, Field, Program, Scalar, Ty, TypeId, Width, Word};
 

@@ -6,7 +6,7 @@ use crate::writing::{Outcome, Repeats, try_static_write, try_write};
 use gt_leaf::Reads;
 use std::alloc::AllocError;
 use value_notation::{
-    MALFORMED, Row, Sample, Stop, Write, hexadecimal, stopped, text_difference, remark,
+    MALFORMED, Row, Sample, Stop, Write, hexadecimal, remark, stopped, text_difference,
     word_difference,
 };
 

@@ -13,7 +13,8 @@ use crate::writes::{RootWrite, read_writes};
 use gt_value::Value;
 use std::alloc::AllocError;
 use value_notation::{
-    MALFORMED, Refusal, Sample, Stop, hexadecimal, stopped, text_difference, remark, word_difference,
+    MALFORMED, Refusal, Sample, Stop, hexadecimal, remark, stopped, text_difference,
+    word_difference,
 };
 
 /// What a row comes out as, if that is not what it wants.

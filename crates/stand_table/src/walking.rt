@@ -12,7 +12,7 @@ ghost use Rattle.stand_table.specs.Leaves.{leaf_of, leaves_in};
 ghost use Rattle.stand_table.specs.Walks.{AreLeaves, AreOfFields, AreOfElements, AreOfCommon, pointer_tree};
 
 use crate::leaves::{Content, Leaf, LeafStop};
-use gt_layout::{MAX_SIZE, FieldSpot, extent};
+use gt_layout::{FieldSpot, MAX_SIZE, extent};
 use gt_types::{Field, Scalar, Ty, TypeId, Width};
 use gt_value::{Value, common_structure};
 use std::alloc::Global;

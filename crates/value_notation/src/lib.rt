@@ -13,7 +13,7 @@ mod trials;
 mod values;
 
 pub use answers::{
-    MALFORMED, Tally, hexadecimal, is_row, stopped, text_difference, remark, word_difference,
+    MALFORMED, Tally, hexadecimal, is_row, remark, stopped, text_difference, word_difference,
 };
 pub use blocks::TableBlocks;
 pub use leaves::{Leaf, Refusal, Write, read_bytes, read_path};

@@ -7,8 +7,8 @@ use crate::statics::{try_record, try_root};
 use crate::trials::{Trial, try_row};
 use std::alloc::{AllocError, Global};
 use value_notation::{
-    Leaf, MALFORMED, Refusal, Row, Sample, Stop, hexadecimal, read_path, stopped, text_difference,
-    remark, word_difference,
+    Leaf, MALFORMED, Refusal, Row, Sample, Stop, hexadecimal, read_path, remark, stopped,
+    text_difference, word_difference,
 };
 
 // What a row wants of its last value.
