@@ -8,3 +8,4 @@ pub mod Writing
 pub mod Verdicts
 pub mod Around
 pub mod Outers
+pub mod KnownPlaces

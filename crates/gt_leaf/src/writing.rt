@@ -1,12 +1,13 @@
 // One leaf written where it lies.
-ghost use Rattle.std.specs.Prelude.{◌≡◌, ◌≢◌, ◌↔◌, ℤ, IsTrue, Option, option_copied};
+ghost use Rattle.std.specs.Prelude.{◌≡◌, ◌≢◌, ◌↔◌, ℕ, ℤ, IsTrue, Option, option_copied};
 ghost use Rattle.gt_types.specs.declared.expressions.Expr.{Expr};
 ghost use Rattle.gt_types.specs.declared.program.Program.{Program};
 ghost use Rattle.gt_types.specs.Shapes.{count_of, is_pointer};
 ghost use Rattle.gt_types.specs.Settled.{Settled};
+ghost use Rattle.gt_layout.specs.declared.planes.Layouts.{Layouts};
 ghost use Rattle.gt_layout.specs.Planes.{IsLaidOut};
 ghost use Rattle.gt_layout.specs.Excess.{IsWithin};
-ghost use Rattle.gt_space.specs.Range.{IsInside, KeepsAddresses};
+ghost use Rattle.gt_space.specs.Range.{Range, IsInside, KeepsAddresses};
 ghost use Rattle.gt_tree.specs.Trees.{Tree, Trees};
 ghost use Rattle.gt_tree.specs.Scopes.{◌then◌, eval_in};
 ghost use Rattle.gt_value.specs.Bytes.{IsElement, IsRoomFor};
@@ -15,7 +16,8 @@ ghost use Rattle.gt_leaf.specs.Tables.{IsTableOf};
 ghost use Rattle.gt_leaf.specs.Unread.{Around, IsUnread};
 ghost use Rattle.gt_leaf.specs.HeldTypes.{IsOfPart};
 ghost use Rattle.gt_leaf.specs.Verdicts.{IsFit, IsMisfit};
-ghost use Rattle.gt_leaf.specs.Writing.{StandsBeside, StaticsStandBeside, is_number_leaf, takes_number, has_word, LeafFits, IsAlone, MayPutElement, WritesElement, LeavesElement, MisfitsElement, MayPutStatics, WritesStatics, LeavesStatics, MisfitsStatics};
+ghost use Rattle.gt_leaf.specs.KnownPlaces.{HasLeafAt, LeavesLeaf, MisfitsLeaf};
+ghost use Rattle.gt_leaf.specs.Writing.{StandsBeside, StaticsStandBeside, is_number_leaf, takes_number, has_word, LeafFits, IsAlone, MayPut, MayPutElement, WritesElement, LeavesElement, MisfitsElement, MayPutStatics, WritesStatics, LeavesStatics, MisfitsStatics};
 ghost use Rattle.gt_leaf.specs.declared.writing.LeafWrite.TheVariants.{Written, NotInPlace, Misfit};
 ghost use Rattle.gt_leaf.specs.declared.writing.LeafVerdict.TheVariants as LeafVerdict;
 ghost use Rattle.gt_leaf.specs.declared.writing.LeafVerdict.TheVariants.{InPlace};
@@ -285,4 +287,33 @@ pub fn write_static_leaf<N: BlockNames>(
         LeafVerdict::NotInPlace => LeafWrite::NotInPlace,
         LeafVerdict::Misfit => LeafWrite::Misfit,
     }
+}
+
+/// Judges the write of the leaf at a path of an element of a block before it is done, where the place at which the leaf lies is known:
+/// the verdict is as that of [`judge_leaf`], and the path is not walked again. It takes no memory.
+pub fn judge_leaf_at<N: BlockNames>(
+    program: &Program,
+    reads: &Reads,
+    names: &N,
+    ty: &Ty,
+    path: &[u32],
+    place: Place,
+    leaf: LeafContent,
+) -> LeafVerdict
+    requires settled { Settled program.now }
+    requires table { IsTableOf program.now reads.now }
+    ensures in_place { (other : Place) → result ≡ InPlace other → (layouts : Layouts) (statics : Trees) (capacity : ℕ) (range : Range) (addr : ℕ) (value : Tree) → HasLeafAt program.now layouts (N.blocks names.now) statics capacity ty.now range addr value path.now place
+        → MayPut program.now layouts (N.blocks names.now) statics capacity ty.now addr value path.now leaf range other }
+    ensures not_in_place { result ≡ LeafVerdict.NotInPlace → (layouts : Layouts) (statics : Trees) (capacity : ℕ) (range : Range) (addr : ℕ) (value : Tree) → HasLeafAt program.now layouts (N.blocks names.now) statics capacity ty.now range addr value path.now place
+        → LeavesLeaf program.now layouts statics ty.now value path.now leaf }
+    ensures misfit { result ≡ LeafVerdict.Misfit → (layouts : Layouts) (statics : Trees) (capacity : ℕ) (range : Range) (addr : ℕ) (value : Tree) → HasLeafAt program.now layouts (N.blocks names.now) statics capacity ty.now range addr value path.now place
+        → MisfitsLeaf program.now (N.blocks names.now) statics capacity ty.now value path.now leaf }
+{
+    judge_at(
+        reads.is_unread(program, Some(ty), path, place),
+        names,
+        held_type(program, Some(ty), place.holder),
+        place,
+        leaf,
+    )
 }
