@@ -18,7 +18,6 @@ ghost use Rattle.gt_asking.specs.Judging.{IsGivenAs, RefusesAim};
 
 use crate::leaves::judge;
 use crate::paths::reach;
-use gt_determined::good_states_stay_good;
 use gt_elements::{Element, Owner};
 use gt_next::{Answer, Why};
 use gt_routes::{Places, Reached, WalkFail};
@@ -106,7 +105,6 @@ pub fn set(
             };
         }
     };
-    good_states_stay_good();
     let places = aimed.places.as_slice();
     match write(
         alloc,

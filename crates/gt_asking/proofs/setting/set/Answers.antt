@@ -1,4 +1,5 @@
 use Rattle.std.proofs.Common.{ap, sym, subst, ◌∙◌, Err}
+use Rattle.gt_determined.proofs.Goods.{states-stay-good}
 use Rattle.gt_asking.proofs.Sets.{set-refused, shape-answer, written-session}
 use Rattle.gt_next.specs.Paths.{Leads}
 use Rattle.gt_session.specs.Sessions.{StandsFor}
@@ -32,7 +33,7 @@ returns-in-Ok-write-clause-next c told s st =
     let leaf = c.in-Some.leaf in
     let takes = subst (λ ps. SpotTakes schema.program s.heap.graph (spot owner ps) leaf) (sym c.as_slice-places.ensures) (c.in-Ok.ensures.takes s.heap st.holds.heap) in
     let leads = subst (λ ps. Leads schema.program s c.args.path.now (spot owner ps)) (sym c.as_slice-places.ensures) (c.in-Ok.ensures.leads told s st) in
-    written-session c.args.s.now told s st (c.good_states_stay_good.ensures schema.program schema.layouts (record { settled = st.holds.schema.settled; laid = st.holds.schema.laid })) c.args.path.now c.args.value.now leaf owner c.as_slice-places.result.now c.write.new.objects
+    written-session c.args.s.now told s st (states-stay-good schema.program schema.layouts (record { settled = st.holds.schema.settled; laid = st.holds.schema.laid })) c.args.path.now c.args.value.now leaf owner c.as_slice-places.result.now c.write.new.objects
     (c.in-Some.ensures.given told s st) takes leads (c.in-Ok-write.ensures.written s.heap st.holds.heap)
 
 pub returns-in-Shape-clause-next : goal.returns-in-Shape-clause-next
