@@ -6,3 +6,4 @@ pub mod Showing
 pub mod WholeBlocks
 pub mod Judged
 pub mod Sets
+mod Founds

@@ -5,7 +5,7 @@ ghost use Rattle.gt_graph.specs.Good.{Heap};
 ghost use Rattle.gt_objects.specs.Holding.{IsHeapOf};
 ghost use Rattle.gt_next.specs.States.{State};
 ghost use Rattle.gt_next.specs.Paths.{Leads, RefusesPath};
-ghost use Rattle.gt_routes.specs.Reaching.{spot_of, IsEndAt, IsFirstIn, IsStart, start_of as spot_of_start};
+ghost use Rattle.gt_routes.specs.Reaching.{spot_of, IsEndAt, IsFirstIn, EndsInFirst, IsStart, start_of as spot_of_start};
 ghost use Rattle.gt_routes.specs.declared.steps.WalkFail.TheVariants.{Refused};
 ghost use Rattle.gt_session.specs.Sessions.{StandsFor, IsSession};
 ghost use Rattle.gt_next.specs.Paths.{Begins, RefusesStart};
@@ -41,6 +41,7 @@ pub fn reach<'a>(alloc: Global, s: &'a Session, path: &Route) -> Result<Reached<
     ensures leads { IfOk result (λ to. (told : Option Held) (state : State) → StandsFor s.now told state → Leads s.now.schema.program state path.now (spot_of to)) }
     ensures ends { IfOk result (λ to. (heap : Heap) → IsHeapOf s.now.schema.program s.now.schema.layouts s.now.objects heap → IsEndAt s.now.schema.program s.now.schema.layouts s.now.objects heap (spot_of to) to.end) }
     ensures first { IfOk result (λ to. (heap : Heap) → IsHeapOf s.now.schema.program s.now.schema.layouts s.now.objects heap → IsFirstIn s.now.schema.program s.now.schema.layouts s.now.objects heap to) }
+    ensures inside { IfOk result (EndsInFirst s.now.schema.program s.now.schema.layouts s.now.objects) }
     ensures refused { (why : Why) → result ≡ Err (Refused why) → (told : Option Held) (state : State) → StandsFor s.now told state → RefusesPath s.now.schema.program state path.now why }
 {
     match start_of(s, path) {

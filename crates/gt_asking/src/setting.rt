@@ -1,5 +1,5 @@
 // The command `set`.
-ghost use Rattle.std.specs.Prelude.{◌≡◌, IfOk, OnErr, MatchOption, Option, Err};
+ghost use Rattle.std.specs.Prelude.{◌≡◌, IfOk, OnErr, MatchOption, Option, Some, Err};
 ghost use Rattle.gt_io.specs.Held.{Held};
 ghost use Rattle.gt_graph.specs.Good.{Heap};
 ghost use Rattle.gt_objects.specs.Holding.{IsHeapOf};
@@ -10,28 +10,33 @@ ghost use Rattle.gt_next.specs.Spots.{spot};
 ghost use Rattle.gt_next.specs.Paths.{Leads};
 ghost use Rattle.gt_next.specs.Leaves.{IsUnboundValue};
 ghost use Rattle.gt_next.specs.Next.{NextSet};
-ghost use Rattle.gt_routes.specs.Reaching.{IsFirstBy};
+ghost use Rattle.gt_routes.specs.Reaching.{spot_of, IsEndAt, IsFirstIn, EndsInFirst};
 ghost use Rattle.gt_routes.specs.declared.steps.WalkFail.TheVariants.{Refused};
 ghost use Rattle.gt_session.specs.Sessions.{Goes, IsAsBefore, IsSession, KeepsBytes, StandsFor};
+ghost use Rattle.gt_writes.specs.declared.found.Found.{Found};
+ghost use Rattle.gt_writes.specs.FoundLeaves.{IsFoundAt};
 ghost use Rattle.gt_writes.specs.SpotWrites.{SpotTakes};
 ghost use Rattle.gt_asking.specs.Judging.{IsGivenAs, RefusesAim};
 
 use crate::leaves::judge;
 use crate::paths::reach;
-use gt_elements::{Element, Owner};
+use gt_elements::Owner;
 use gt_next::{Answer, Why};
-use gt_routes::{Places, Reached, WalkFail};
+use gt_objects::Objects;
+use gt_routes::{End, Places, Reached, WalkFail};
+use gt_schema::Schema;
 use gt_script::{Given, Route};
 use gt_session::Session;
 use gt_value::{LeafContent, ValueFail};
-use gt_writes::write;
+use gt_writes::{Found, write};
 use std::alloc::{AllocError, Global};
 
-// Where a leaf may be written, as `Reached` says it: into the static record or an object, and on by places in its value.
+// Where a leaf may be written, as `Reached` says it: into the static record or an object, and on by places in its value; and where it
+// lies, if that is known.
 #[derive(Drop)]
 struct Aim {
     owner: Owner,
-    first: Option<Element>,
+    found: Option<Found>,
     places: Places,
 }
 
@@ -49,11 +54,33 @@ fn leaf_given(s: &Session, value: &Given) -> Option<LeafContent>
     }
 }
 
+// Where the leaf at the end of a path lies, if the element is known in which it does.
+fn find_leaf(schema: &Schema, objects: &Objects, to: &Reached<'_>) -> Option<Found>
+    requires ready { (heap : Heap) × IsHeapOf schema.now.program schema.now.layouts objects.now heap }
+    requires end { (heap : Heap) → IsHeapOf schema.now.program schema.now.layouts objects.now heap → IsEndAt schema.now.program schema.now.layouts objects.now heap (spot_of to.now) to.now.end }
+    requires first { (heap : Heap) → IsHeapOf schema.now.program schema.now.layouts objects.now heap → IsFirstIn schema.now.program schema.now.layouts objects.now heap to.now }
+    requires inside { EndsInFirst schema.now.program schema.now.layouts objects.now to.now }
+    ensures found { (f : Found) → result ≡ Some f → (heap : Heap) → IsHeapOf schema.now.program schema.now.layouts objects.now heap → IsFoundAt schema.now.program schema.now.layouts objects.now heap (owner_of to.now.owner) to.now.places.items f }
+{
+    let _ = schema;
+    let _ = objects;
+    let Some(element) = to.first else {
+        return None;
+    };
+    let End::Value(at) = to.end else {
+        return None;
+    };
+    match at.leaf() {
+        Some(place) => Some(Found { element, place }),
+        None => None,
+    }
+}
+
 // Where a path leads, if a leaf may be written there.
 fn take_aim(alloc: Global, s: &Session, path: &Route, leaf: LeafContent) -> Result<Aim, WalkFail>
     requires session { IsSession s.now }
     ensures takes { IfOk result (λ aim. (heap : Heap) → IsHeapOf s.now.schema.program s.now.schema.layouts s.now.objects heap → SpotTakes s.now.schema.program heap.graph (spot (owner_of aim.owner) aim.places.items) leaf) }
-    ensures first { IfOk result (λ aim. (heap : Heap) → IsHeapOf s.now.schema.program s.now.schema.layouts s.now.objects heap → IsFirstBy s.now.schema.program s.now.schema.layouts s.now.objects heap (owner_of aim.owner) aim.places.items aim.first) }
+    ensures found { IfOk result (λ aim. (f : Found) → aim.found ≡ Some f → (heap : Heap) → IsHeapOf s.now.schema.program s.now.schema.layouts s.now.objects heap → IsFoundAt s.now.schema.program s.now.schema.layouts s.now.objects heap (owner_of aim.owner) aim.places.items f) }
     ensures leads { IfOk result (λ aim. (told : Option Held) (state : State) → StandsFor s.now told state → Leads s.now.schema.program state path.now (spot (owner_of aim.owner) aim.places.items)) }
     ensures refused { (why : Why) → result ≡ Err (Refused why) → (told : Option Held) (state : State) → StandsFor s.now told state → RefusesAim s.now.schema.program state path.now leaf why }
 {
@@ -64,15 +91,11 @@ fn take_aim(alloc: Global, s: &Session, path: &Route, leaf: LeafContent) -> Resu
     match judge(&s.schema, &s.objects, &to, leaf) {
         Some(why) => Err(WalkFail::Refused(why)),
         None => {
-            let Reached {
-                owner,
-                first,
-                places,
-                ..
-            } = to;
+            let found = find_leaf(&s.schema, &s.objects, &to);
+            let Reached { owner, places, .. } = to;
             Ok(Aim {
                 owner,
-                first,
+                found,
                 places,
             })
         }
@@ -112,7 +135,7 @@ pub fn set(
         &mut s.objects,
         aimed.owner,
         places,
-        aimed.first,
+        aimed.found,
         leaf,
     ) {
         Ok(()) => Ok(Answer::Done),

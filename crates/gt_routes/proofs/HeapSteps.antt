@@ -6,6 +6,7 @@ use Rattle.gt_types.specs.declared.types.TypeId.{TypeId}
 use Rattle.gt_types.specs.declared.types.Ty.{Ty}
 use Rattle.gt_types.specs.declared.program.Program.{Program}
 use Rattle.gt_layout.specs.declared.planes.Layouts.{Layouts}
+use Rattle.gt_script.specs.declared.command.Hop.{Hop}
 use Rattle.gt_tree.specs.Trees.{Tree, Trees, End, And, count, tree_at, part_at, part_of}
 use Rattle.gt_tree.specs.Blocks.{Nodes, element_type}
 use Rattle.gt_tree.specs.FixedLaws.{MayHold}
@@ -17,7 +18,7 @@ use Rattle.gt_value.specs.declared.names.BlockKind.TheVariants as held
 use Rattle.gt_value.specs.Names.{kind_of}
 use Rattle.gt_value.specs.Bytes.{StandsFor, StandForStatics}
 use Rattle.gt_value.specs.Places.{Part}
-use Rattle.gt_value.specs.Cursors.{frame, element_part, root_part, IsAt, IsAtRoot}
+use Rattle.gt_value.specs.Cursors.{Frame, frame, element_part, root_part, IsAt, IsAtRoot}
 use Rattle.gt_graph.specs.Objects.{Object, Graph, object_of}
 use Rattle.gt_graph.specs.Changes.{Owner, Statics, Of}
 use Rattle.gt_graph.specs.Good.{Heap, IsObject, IsGraph}
@@ -27,7 +28,10 @@ use Rattle.gt_elements.specs.declared.parts.Element.{Element}
 use Rattle.gt_elements.specs.Elements.{IsElementAt, IsFirstOf, RootsStand}
 use Rattle.gt_next.specs.Spots.{Spot, spot, Whole, Value, standing_at, passes_none, is_in_none}
 use Rattle.gt_next.specs.Paths.{IsOne}
-use Rattle.gt_routes.specs.Reaching.{IsValueAt, IsElementEnd, IsFirstBy, holds_nodes}
+use Rattle.gt_routes.specs.declared.steps.Step.{Step}
+use Rattle.gt_routes.specs.declared.reaching.End.TheVariants as ends
+use Rattle.gt_routes.specs.Steps.{StandsAt, LeadsFrom, along}
+use Rattle.gt_routes.specs.Reaching.{IsValueAt, IsElementEnd, IsFirstBy, IsInElement, IsInFirst, holds_nodes}
 use Rattle.gt_routes.proofs.TypedParts.{whole-is, whole-active}
 use Rattle.gt_routes.proofs.Passes.{one-of-none}
 use Rattle.gt_routes.proofs.SpotParts.{then-some, in-none, value-same}
@@ -114,6 +118,49 @@ pub first-further : (program : Program) (layouts : Layouts) (objects : Objects) 
 first-further program layouts objects heap owner places path more are first known e same =
     let f = known e same in
     record { address = f.address; place = f.place; rest = f.rest ++ path; owner_is = f.owner_is; path_is = are ∙ ap (λ xs. xs ++ path) f.path_is; there = f.there }
+
+-- ---- cursors in elements
+
+-- a cursor at the begin of a value stands there by types and values as well
+pub stands-whole : (at : Frame) (c : Cursor) (value : Part) → IsAt at c value [] → StandsAt at value [] c
+stands-whole at c value is =
+    let whole = whole-is is.lies in
+    let same : typed value.type value.tree ≡ typed is.p.type is.p.tree = ap (λ t. typed t value.tree) whole.0 ∙ ap (typed is.p.type) whole.1 in
+    record { here = is; known = ap Some same }
+
+-- the type by which an element is read is the one of what its block holds
+pub entered-inside : (program : Program) (layouts : Layouts) (objects : Objects) (heap : Heap) (address place : ℕ) (e : Element) → IsHeapOf program layouts objects heap → IsElementAt program layouts heap objects.space address place (Some e)
+    → (type : Ty) → (MayHold program (kind_of e.kind) → type ≡ element_type program (kind_of e.kind)) → (c : Cursor)
+    → ((statics : Trees) (value : Tree) → StandsFor program layouts e.capacity type objects.space e.addr value → IsAt (frame program layouts objects.space e.addr) c (element_part statics type value) []) → IsInElement program layouts objects e [] c
+entered-inside program layouts objects heap address place e is (o, there, el) type named c stands statics value s =
+    let sound = object-sound program heap.graph address o is.good.graph there in
+    let types = named (subst (MayHold program) el.kind sound.may_hold) in
+    let at = stands statics value (subst (λ t. StandsFor program layouts e.capacity t objects.space e.addr value) (sym types) s) in
+    subst (λ t. StandsAt (frame program layouts objects.space e.addr) (element_part statics t value) [] c) types (stands-whole (frame program layouts objects.space e.addr) c (element_part statics type value) at)
+
+-- a cursor at the begin of the element that was entered stands in it
+pub first-inside : (program : Program) (layouts : Layouts) (objects : Objects) (place : ℕ) (places : List ℕ) → places ≡ place ∷ [] → (entered : Element) (c : Cursor) → IsInElement program layouts objects entered [] c
+    → (first : Option Element) → first ≡ Some entered → IsInFirst program layouts objects first places c
+first-inside program layouts objects place places are entered c inside first is e known =
+    let one : entered ≡ e = cc in
+    (place, [], are, subst (λ x. IsInElement program layouts objects x [] c) one inside)
+
+-- so does one that a step in it leads to
+pub inside-further : (program : Program) (layouts : Layouts) (objects : Objects) (first : Option Element) (places more : List ℕ) (at : Cursor) (hop : Hop) (step : Step) → LeadsFrom program at hop step → more ≡ places ++ along step
+    → IsInFirst program layouts objects first places at → IsInFirst program layouts objects first more step.at
+inside-further program layouts objects first places more at hop step leads are inside e known =
+    let i = inside e known in
+    let type = element_type program (kind_of e.kind) in (
+      i.0,
+      i.1 ++ along step,
+      are ∙ ap (λ xs. xs ++ along step) i.2,
+      λ statics value s. (leads (frame program layouts objects.space e.addr) (element_part statics type value) i.1 (i.3 statics value s) refl).there,
+    )
+
+-- a cursor is the one at the end
+pub same-end : (program : Program) (layouts : Layouts) (objects : Objects) (first : Option Element) (places : List ℕ) (at : Cursor) → IsInFirst program layouts objects first places at
+    → (c : Cursor) → ends.Value at ≡ ends.Value c → IsInFirst program layouts objects first places c
+same-end program layouts objects first places at inside c same = let one : at ≡ c = cc in subst (IsInFirst program layouts objects first places) one inside
 
 -- ---- roots
 

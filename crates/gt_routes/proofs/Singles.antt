@@ -1,6 +1,6 @@
 -- Steps by names in objects, and steps that begin where a path stands.
 use Rattle.std.proofs.Common.{◌≡◌, ℕ, true, false, List, [], ◌∷◌, ◌++◌, ap, sym, subst, ◌∙◌, Some}
-use Rattle.std.specs.Prelude.{Option, Result, Ok, Err, IfOk}
+use Rattle.std.specs.Prelude.{Option, Result, Ok, Err, OnOk}
 use Rattle.gt_types.specs.declared.program.Program.{Program}
 use Rattle.gt_types.specs.Shapes.{is_pointer}
 use Rattle.gt_layout.specs.declared.planes.Layouts.{Layouts}
@@ -21,7 +21,6 @@ use Rattle.gt_next.specs.declared.answer.Why.TheVariants.{WrongType, NullStep}
 use Rattle.gt_next.specs.Spots.{Spot, spot, Standing, Whole, Value, standing_at}
 use Rattle.gt_next.specs.Paths.{StepsIn, RefusesIn, Follows, Steps, RefusesStep, IsOne}
 use Rattle.gt_routes.specs.declared.reaching.Reached.{Reached}
-use Rattle.gt_routes.specs.declared.steps.WalkFail.{WalkFail}
 use Rattle.gt_routes.specs.Reaching.{spot_of, IsValueAt, LeadsWithin, StopsWithin, LeadsOn, StopsAt, holds_nodes}
 use Rattle.gt_routes.proofs.SpotParts.{IsPartThere, then-some, value-same, standing-part}
 use Rattle.gt_routes.proofs.Named.{names-object}
@@ -97,9 +96,9 @@ whole-follows program g from address o owner is standing =
     let same : from ≡ spot (Of address) [] = is ∙ ap (λ x. spot x []) owners in
     subst (λ s. Follows program g from s) same (Follows.at_object standing)
 
-pub leads-on : (r : Result Reached WalkFail) (P Q : Reached → Type 0) → ((x : Reached) → P x → Q x) → IfOk r P → IfOk r Q
-leads-on (Ok x) P Q h p = h x p
-leads-on (Err e) P Q h p = tt
+pub on-ok : {X E : Type 0} (r : Result X E) {P Q : Type 0} → (P → Q) → OnOk r P → OnOk r Q
+on-ok (Ok x) f p = f p
+on-ok (Err e) f p = tt
 
 -- the object of which a path stands as a whole
 pub whole-there-at : (program : Program) (g : Graph) (from : Spot) (address : ℕ) (o : Object) → (from.owner ≡ Of address) → from ≡ spot (Of o.id) [] → standing_at program g from ≡ Some (Whole o) → (x : Object) × (object_of g.objects address ≡ Some x)

@@ -4,12 +4,16 @@ use Rattle.gt_types.specs.declared.program.Program.{Program}
 use Rattle.gt_types.specs.declared.program.Root.{Root as RootOf}
 use Rattle.gt_layout.specs.declared.planes.Layouts.{Layouts}
 use Rattle.gt_script.specs.declared.command.Hop.{Hop}
+use Rattle.gt_tree.specs.Trees.{Tree, Trees}
+use Rattle.gt_tree.specs.Blocks.{element_type}
 use Rattle.gt_tree.specs.Scopes.{Typed, typed}
 use Rattle.gt_value.specs.declared.cursors.Cursor.{Cursor}
 use Rattle.gt_value.specs.declared.names.BlockKind.{BlockKind}
 use Rattle.gt_value.specs.declared.names.BlockKind.TheVariants.{Nodes}
+use Rattle.gt_value.specs.Names.{kind_of}
+use Rattle.gt_value.specs.Bytes.{StandsFor}
 use Rattle.gt_value.specs.Places.{Part}
-use Rattle.gt_value.specs.Cursors.{Frame}
+use Rattle.gt_value.specs.Cursors.{Frame, frame, element_part}
 use Rattle.gt_graph.specs.Objects.{Object, object_of}
 use Rattle.gt_graph.specs.Changes as graph
 use Rattle.gt_graph.specs.Good.{Heap}
@@ -64,6 +68,19 @@ IsFirstBy program layouts objects heap owner path first = (e : Element) → firs
 
 abbrev pub IsFirstIn : Program → Layouts → Objects → Heap → Reached → Type 0
 IsFirstIn program layouts objects heap to = IsFirstBy program layouts objects heap (owner_of to.owner) to.places.items to.first
+
+-- a cursor stands at the end of a path in an element, whatever value the bytes of the element stand for
+abbrev pub IsInElement : Program → Layouts → Objects → Element → List ℕ → Cursor → Type 0
+IsInElement program layouts objects e path c = (statics : Trees) (value : Tree) → StandsFor program layouts e.capacity (element_type program (kind_of e.kind)) objects.space e.addr value
+    → StandsAt (frame program layouts objects.space e.addr) (element_part statics (element_type program (kind_of e.kind)) value) path c
+
+-- where the element to which a path first leads is known, a cursor stands in it, at the end of the rest of the path
+abbrev pub IsInFirst : Program → Layouts → Objects → Option Element → List ℕ → Cursor → Type 0
+IsInFirst program layouts objects first path c = (e : Element) → first ≡ Some e → (place : ℕ) × (rest : List ℕ) × (path ≡ place ∷ rest) × IsInElement program layouts objects e rest c
+
+-- so does the cursor at the end of a path
+abbrev pub EndsInFirst : Program → Layouts → Objects → Reached → Type 0
+EndsInFirst program layouts objects to = (c : Cursor) → to.end ≡ ends.Value c → IsInFirst program layouts objects to.first to.places.items c
 
 -- ---- no promise: single steps
 

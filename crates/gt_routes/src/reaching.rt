@@ -1,5 +1,5 @@
 // Where a path leads in a heap.
-ghost use Rattle.std.specs.Prelude.{◌≡◌, ℕ, List, ◌<◌, [], ◌∷◌, true, Some, Err, IfOk, MatchOption};
+ghost use Rattle.std.specs.Prelude.{◌≡◌, ℕ, List, ◌<◌, [], ◌∷◌, true, Some, Err, IfOk, OnOk, MatchOption};
 ghost use Rattle.gt_types.specs.Shapes.{is_pointer};
 ghost use Rattle.gt_tree.specs.Trees.{Null, To};
 ghost use Rattle.gt_value.specs.declared.cursors.Cursor.{Cursor};
@@ -16,8 +16,9 @@ ghost use Rattle.gt_next.specs.Spots.{spot};
 ghost use Rattle.gt_next.specs.Paths.{Steps, RefusesStep, Walks, RefusesWalk};
 ghost use Rattle.gt_schema.specs.Schemas.{IsSchema};
 ghost use Rattle.gt_routes.specs.declared.steps.WalkFail.TheVariants.{Refused};
+ghost use Rattle.gt_routes.specs.declared.reaching.End.TheVariants.{Value};
 ghost use Rattle.gt_routes.specs.Steps.{StandsAt};
-ghost use Rattle.gt_routes.specs.Reaching.{start_of, spot_of, IsStart, IsValueAt, IsEndAt, IsElementEnd, IsFirstBy, IsFirstIn, LeadsWithin, StopsWithin, LeadsOn, StopsAt, holds_nodes};
+ghost use Rattle.gt_routes.specs.Reaching.{start_of, spot_of, IsStart, IsValueAt, IsEndAt, IsElementEnd, IsFirstBy, IsFirstIn, IsInElement, IsInFirst, EndsInFirst, LeadsWithin, StopsWithin, LeadsOn, StopsAt, holds_nodes};
 
 use crate::hops::local_step;
 use crate::steps::{Places, WalkFail, add_places};
@@ -46,7 +47,7 @@ pub enum End<'a> {
 }
 
 /// Where a path leads: into the static record or an object, and on by places in its value, from the outside in. `first` is the element
-/// at the first of these places, where it is known already.
+/// at the first of these places, where it is known already; a cursor at the end then stands in it.
 #[derive(Drop)]
 pub struct Reached<'a> {
     pub owner: Owner,
@@ -82,27 +83,25 @@ fn target(space: &Space, at: Cursor<'_>) -> Option<u64>
     }
 }
 
-// An element of an object, and a cursor there.
-#[derive(Clone, Copy)]
-struct Entered<'a> {
-    element: Element,
-    at: Cursor<'a>,
-}
-
-// The element at a place of an object of which this is known.
+// Goes to the element at a place of an object of which this is known, and gives a cursor there.
 fn enter<'a>(
     schema: &'a Schema,
     objects: &'a Objects,
+    reached: &mut Reached<'a>,
     address: u64,
     known: Known,
     place: u32,
-) -> Entered<'a>
+) -> Result<Cursor<'a>, WalkFail>
     requires schema { IsSchema schema.now }
     requires ready { (heap : Heap) × IsHeapOf schema.now.program schema.now.layouts objects.now heap }
     requires known { (heap : Heap) → IsHeapOf schema.now.program schema.now.layouts objects.now heap → IsKnownAt heap.graph.objects address (Some known) }
     requires below { place < known.count }
-    ensures cursor { (heap : Heap) → IsHeapOf schema.now.program schema.now.layouts objects.now heap → IsElementEnd schema.now.program schema.now.layouts objects.now heap address place result.at }
-    ensures element { (heap : Heap) → IsHeapOf schema.now.program schema.now.layouts objects.now heap → IsElementAt schema.now.program schema.now.layouts heap objects.now.space address place (Some result.element) }
+    ensures cursor { IfOk result (λ at. (heap : Heap) → IsHeapOf schema.now.program schema.now.layouts objects.now heap → IsElementEnd schema.now.program schema.now.layouts objects.now heap address place at) }
+    ensures end { IfOk result (λ at. reached.new.end ≡ Value at) }
+    ensures spot { IfOk result (λ at. spot_of reached.new ≡ spot (Of address) (place ∷ [])) }
+    ensures first { IfOk result (λ at. (heap : Heap) → IsHeapOf schema.now.program schema.now.layouts objects.now heap → IsFirstIn schema.now.program schema.now.layouts objects.now heap reached.new) }
+    ensures inside { IfOk result (IsInFirst schema.now.program schema.now.layouts objects.now reached.new.first reached.new.places.items) }
+    ensures refused { (why : Why) → ¬ (result ≡ Err (Refused why)) }
 {
     let program = &schema.program;
     let layouts = &schema.layouts;
@@ -116,7 +115,14 @@ fn enter<'a>(
         element.addr,
         element.capacity,
     );
-    Entered { element, at }
+    reached.places.clear();
+    let Ok(()) = reached.places.push(place) else {
+        return Err(WalkFail::Memory);
+    };
+    reached.owner = Owner::Object(address);
+    reached.first = Some(element);
+    reached.end = End::Value(at);
+    Ok(at)
 }
 
 // Where a path starts.
@@ -132,6 +138,7 @@ fn begin<'a>(
     ensures start { IfOk result (λ to. spot_of to ≡ start_of start) }
     ensures ends { IfOk result (λ to. (heap : Heap) → IsHeapOf schema.now.program schema.now.layouts objects.now heap → IsEndAt schema.now.program schema.now.layouts objects.now heap (spot_of to) to.end) }
     ensures first { IfOk result (λ to. (heap : Heap) → IsHeapOf schema.now.program schema.now.layouts objects.now heap → IsFirstIn schema.now.program schema.now.layouts objects.now heap to) }
+    ensures inside { IfOk result (EndsInFirst schema.now.program schema.now.layouts objects.now) }
     ensures refused { (why : Why) → ¬ (result ≡ Err (Refused why)) }
 {
     let mut places = Places::new(alloc);
@@ -163,17 +170,18 @@ fn begin<'a>(
 
 // A step by a number in an object, to the element at this place.
 fn index_step<'a>(
-    alloc: Global,
     schema: &'a Schema,
     objects: &'a Objects,
+    reached: &mut Reached<'a>,
     address: u64,
     place: u64,
-) -> Result<Reached<'a>, WalkFail>
+) -> Result<(), WalkFail>
     requires schema { IsSchema schema.now }
     requires ready { (heap : Heap) × IsHeapOf schema.now.program schema.now.layouts objects.now heap }
     requires there { (heap : Heap) → IsHeapOf schema.now.program schema.now.layouts objects.now heap → (o : Object) × (object_of heap.graph.objects address ≡ Some o) }
-    ensures leads { IfOk result (λ to. (heap : Heap) → IsHeapOf schema.now.program schema.now.layouts objects.now heap → LeadsOn schema.now.program schema.now.layouts objects.now heap (spot (Of address) []) (Index place) to) }
-    ensures first { IfOk result (λ to. (heap : Heap) → IsHeapOf schema.now.program schema.now.layouts objects.now heap → IsFirstIn schema.now.program schema.now.layouts objects.now heap to) }
+    ensures leads { OnOk result ((heap : Heap) → IsHeapOf schema.now.program schema.now.layouts objects.now heap → LeadsOn schema.now.program schema.now.layouts objects.now heap (spot (Of address) []) (Index place) reached.new) }
+    ensures first { OnOk result ((heap : Heap) → IsHeapOf schema.now.program schema.now.layouts objects.now heap → IsFirstIn schema.now.program schema.now.layouts objects.now heap reached.new) }
+    ensures inside { OnOk result (EndsInFirst schema.now.program schema.now.layouts objects.now reached.new) }
     ensures refused { (why : Why) → result ≡ Err (Refused why) → (heap : Heap) → IsHeapOf schema.now.program schema.now.layouts objects.now heap → StopsAt schema.now.program heap (spot (Of address) []) (Index place) why }
 {
     let Some(known) = objects.known(address) else {
@@ -182,50 +190,39 @@ fn index_step<'a>(
     if place >= known.count as u64 {
         return Err(WalkFail::Refused(Why::BadIndex));
     }
-    let entered = enter(schema, objects, address, known, place as u32);
-    let mut places = Places::new(alloc);
-    let Ok(()) = places.push(place as u32) else {
-        return Err(WalkFail::Memory);
-    };
-    Ok(Reached {
-        owner: Owner::Object(address),
-        first: Some(entered.element),
-        places,
-        end: End::Value(entered.at),
-    })
+    match enter(schema, objects, reached, address, known, place as u32) {
+        Ok(_) => Ok(()),
+        Err(stop) => Err(stop),
+    }
 }
 
-// A step in the value at some places of the static record or of an object. The places of the step are added to them.
+// A step in the value at which a path stands. The places of the step are added to those of the path.
 fn value_step<'a>(
     schema: &'a Schema,
     objects: &'a Objects,
-    owner: Owner,
-    first: Option<Element>,
-    mut places: Places,
+    reached: &mut Reached<'a>,
     at: Cursor<'a>,
     hop: &Hop,
-) -> Result<Reached<'a>, WalkFail>
+) -> Result<(), WalkFail>
     requires schema { IsSchema schema.now }
     requires ready { (heap : Heap) × IsHeapOf schema.now.program schema.now.layouts objects.now heap }
-    requires stands { (heap : Heap) → IsHeapOf schema.now.program schema.now.layouts objects.now heap → IsValueAt schema.now.program schema.now.layouts objects.now heap (spot (owner_of owner) places.items) at }
-    requires first { (heap : Heap) → IsHeapOf schema.now.program schema.now.layouts objects.now heap → IsFirstBy schema.now.program schema.now.layouts objects.now heap (owner_of owner) places.items first }
-    ensures leads { IfOk result (λ to. (heap : Heap) → IsHeapOf schema.now.program schema.now.layouts objects.now heap → LeadsWithin schema.now.program schema.now.layouts objects.now heap (spot (owner_of owner) places.items) hop.now to) }
-    ensures first { IfOk result (λ to. (heap : Heap) → IsHeapOf schema.now.program schema.now.layouts objects.now heap → IsFirstIn schema.now.program schema.now.layouts objects.now heap to) }
-    ensures refused { (why : Why) → result ≡ Err (Refused why) → (heap : Heap) → IsHeapOf schema.now.program schema.now.layouts objects.now heap → StopsWithin schema.now.program heap (spot (owner_of owner) places.items) hop.now why }
+    requires stands { (heap : Heap) → IsHeapOf schema.now.program schema.now.layouts objects.now heap → IsValueAt schema.now.program schema.now.layouts objects.now heap (spot_of reached.old) at }
+    requires first { (heap : Heap) → IsHeapOf schema.now.program schema.now.layouts objects.now heap → IsFirstIn schema.now.program schema.now.layouts objects.now heap reached.old }
+    requires inside { IsInFirst schema.now.program schema.now.layouts objects.now reached.old.first reached.old.places.items at }
+    ensures leads { OnOk result ((heap : Heap) → IsHeapOf schema.now.program schema.now.layouts objects.now heap → LeadsWithin schema.now.program schema.now.layouts objects.now heap (spot_of reached.old) hop.now reached.new) }
+    ensures first { OnOk result ((heap : Heap) → IsHeapOf schema.now.program schema.now.layouts objects.now heap → IsFirstIn schema.now.program schema.now.layouts objects.now heap reached.new) }
+    ensures inside { OnOk result (EndsInFirst schema.now.program schema.now.layouts objects.now reached.new) }
+    ensures refused { (why : Why) → result ≡ Err (Refused why) → (heap : Heap) → IsHeapOf schema.now.program schema.now.layouts objects.now heap → StopsWithin schema.now.program heap (spot_of reached.old) hop.now why }
 {
     let step = match local_step(&schema.program, &schema.layouts, &schema.fields, at, hop) {
         Ok(step) => step,
         Err(why) => return Err(WalkFail::Refused(why)),
     };
-    let Ok(()) = add_places(&mut places, &step) else {
+    let Ok(()) = add_places(&mut reached.places, &step) else {
         return Err(WalkFail::Memory);
     };
-    Ok(Reached {
-        owner,
-        first,
-        places,
-        end: End::Value(step.at),
-    })
+    reached.end = End::Value(step.at);
+    Ok(())
 }
 
 // Whether a block holds structures.
@@ -237,18 +234,19 @@ fn holds_nodes(kind: BlockKind) -> bool
 
 // A step by a name in an object of one structure: it is a step in this structure. In another object it is refused.
 fn single_step<'a>(
-    alloc: Global,
     schema: &'a Schema,
     objects: &'a Objects,
+    reached: &mut Reached<'a>,
     address: u64,
     hop: &Hop,
-) -> Result<Reached<'a>, WalkFail>
+) -> Result<(), WalkFail>
     requires schema { IsSchema schema.now }
     requires ready { (heap : Heap) × IsHeapOf schema.now.program schema.now.layouts objects.now heap }
     requires name { (name : List ℕ) × (hop.now ≡ Name name) }
     requires there { (heap : Heap) → IsHeapOf schema.now.program schema.now.layouts objects.now heap → (o : Object) × (object_of heap.graph.objects address ≡ Some o) }
-    ensures leads { IfOk result (λ to. (heap : Heap) → IsHeapOf schema.now.program schema.now.layouts objects.now heap → LeadsOn schema.now.program schema.now.layouts objects.now heap (spot (Of address) []) hop.now to) }
-    ensures first { IfOk result (λ to. (heap : Heap) → IsHeapOf schema.now.program schema.now.layouts objects.now heap → IsFirstIn schema.now.program schema.now.layouts objects.now heap to) }
+    ensures leads { OnOk result ((heap : Heap) → IsHeapOf schema.now.program schema.now.layouts objects.now heap → LeadsOn schema.now.program schema.now.layouts objects.now heap (spot (Of address) []) hop.now reached.new) }
+    ensures first { OnOk result ((heap : Heap) → IsHeapOf schema.now.program schema.now.layouts objects.now heap → IsFirstIn schema.now.program schema.now.layouts objects.now heap reached.new) }
+    ensures inside { OnOk result (EndsInFirst schema.now.program schema.now.layouts objects.now reached.new) }
     ensures refused { (why : Why) → result ≡ Err (Refused why) → (heap : Heap) → IsHeapOf schema.now.program schema.now.layouts objects.now heap → StopsAt schema.now.program heap (spot (Of address) []) hop.now why }
 {
     let Some(known) = objects.known(address) else {
@@ -260,76 +258,66 @@ fn single_step<'a>(
     if !holds_nodes(known.kind) {
         return Err(WalkFail::Refused(Why::WrongType));
     }
-    let entered = enter(schema, objects, address, known, 0);
-    let mut places = Places::new(alloc);
-    let Ok(()) = places.push(0) else {
-        return Err(WalkFail::Memory);
-    };
-    let owner = Owner::Object(address);
-    let first = Some(entered.element);
-    value_step(schema, objects, owner, first, places, entered.at, hop)
+    match enter(schema, objects, reached, address, known, 0) {
+        Ok(at) => value_step(schema, objects, reached, at, hop),
+        Err(stop) => Err(stop),
+    }
 }
 
 // A step from an object as a whole.
 fn object_step<'a>(
-    alloc: Global,
     schema: &'a Schema,
     objects: &'a Objects,
+    reached: &mut Reached<'a>,
     address: u64,
     hop: &Hop,
-) -> Result<Reached<'a>, WalkFail>
+) -> Result<(), WalkFail>
     requires schema { IsSchema schema.now }
     requires ready { (heap : Heap) × IsHeapOf schema.now.program schema.now.layouts objects.now heap }
     requires there { (heap : Heap) → IsHeapOf schema.now.program schema.now.layouts objects.now heap → (o : Object) × (object_of heap.graph.objects address ≡ Some o) }
-    ensures leads { IfOk result (λ to. (heap : Heap) → IsHeapOf schema.now.program schema.now.layouts objects.now heap → LeadsOn schema.now.program schema.now.layouts objects.now heap (spot (Of address) []) hop.now to) }
-    ensures first { IfOk result (λ to. (heap : Heap) → IsHeapOf schema.now.program schema.now.layouts objects.now heap → IsFirstIn schema.now.program schema.now.layouts objects.now heap to) }
+    ensures leads { OnOk result ((heap : Heap) → IsHeapOf schema.now.program schema.now.layouts objects.now heap → LeadsOn schema.now.program schema.now.layouts objects.now heap (spot (Of address) []) hop.now reached.new) }
+    ensures first { OnOk result ((heap : Heap) → IsHeapOf schema.now.program schema.now.layouts objects.now heap → IsFirstIn schema.now.program schema.now.layouts objects.now heap reached.new) }
+    ensures inside { OnOk result (EndsInFirst schema.now.program schema.now.layouts objects.now reached.new) }
     ensures refused { (why : Why) → result ≡ Err (Refused why) → (heap : Heap) → IsHeapOf schema.now.program schema.now.layouts objects.now heap → StopsAt schema.now.program heap (spot (Of address) []) hop.now why }
 {
     match hop {
-        Hop::Index(place) => index_step(alloc, schema, objects, address, *place),
-        Hop::Name(_) => single_step(alloc, schema, objects, address, hop),
+        Hop::Index(place) => index_step(schema, objects, reached, address, *place),
+        Hop::Name(_) => single_step(schema, objects, reached, address, hop),
     }
 }
 
-// One step from where a path stands. At a pointer it begins at the object that this names.
+// One step from where a path stands, which then stands where the step leads. At a pointer it begins at the object that this names.
 fn step<'a>(
-    alloc: Global,
     schema: &'a Schema,
     objects: &'a Objects,
-    from: Reached<'a>,
+    reached: &mut Reached<'a>,
     hop: &Hop,
-) -> Result<Reached<'a>, WalkFail>
+) -> Result<(), WalkFail>
     requires schema { IsSchema schema.now }
     requires ready { (heap : Heap) × IsHeapOf schema.now.program schema.now.layouts objects.now heap }
-    requires stands { (heap : Heap) → IsHeapOf schema.now.program schema.now.layouts objects.now heap → IsEndAt schema.now.program schema.now.layouts objects.now heap (spot_of from) from.end }
-    requires first { (heap : Heap) → IsHeapOf schema.now.program schema.now.layouts objects.now heap → IsFirstIn schema.now.program schema.now.layouts objects.now heap from }
-    ensures leads { IfOk result (λ to. (heap : Heap) → IsHeapOf schema.now.program schema.now.layouts objects.now heap → Steps schema.now.program heap.graph (spot_of from.entry) hop.now (spot_of to)) }
-    ensures ends { IfOk result (λ to. (heap : Heap) → IsHeapOf schema.now.program schema.now.layouts objects.now heap → IsEndAt schema.now.program schema.now.layouts objects.now heap (spot_of to) to.end) }
-    ensures first { IfOk result (λ to. (heap : Heap) → IsHeapOf schema.now.program schema.now.layouts objects.now heap → IsFirstIn schema.now.program schema.now.layouts objects.now heap to) }
-    ensures refused { (why : Why) → result ≡ Err (Refused why) → (heap : Heap) → IsHeapOf schema.now.program schema.now.layouts objects.now heap → RefusesStep schema.now.program heap.graph (spot_of from.entry) hop.now why }
+    requires stands { (heap : Heap) → IsHeapOf schema.now.program schema.now.layouts objects.now heap → IsEndAt schema.now.program schema.now.layouts objects.now heap (spot_of reached.old) reached.old.end }
+    requires first { (heap : Heap) → IsHeapOf schema.now.program schema.now.layouts objects.now heap → IsFirstIn schema.now.program schema.now.layouts objects.now heap reached.old }
+    requires inside { EndsInFirst schema.now.program schema.now.layouts objects.now reached.old }
+    ensures leads { OnOk result ((heap : Heap) → IsHeapOf schema.now.program schema.now.layouts objects.now heap → Steps schema.now.program heap.graph (spot_of reached.old) hop.now (spot_of reached.new)) }
+    ensures ends { OnOk result ((heap : Heap) → IsHeapOf schema.now.program schema.now.layouts objects.now heap → IsEndAt schema.now.program schema.now.layouts objects.now heap (spot_of reached.new) reached.new.end) }
+    ensures first { OnOk result ((heap : Heap) → IsHeapOf schema.now.program schema.now.layouts objects.now heap → IsFirstIn schema.now.program schema.now.layouts objects.now heap reached.new) }
+    ensures inside { OnOk result (EndsInFirst schema.now.program schema.now.layouts objects.now reached.new) }
+    ensures refused { (why : Why) → result ≡ Err (Refused why) → (heap : Heap) → IsHeapOf schema.now.program schema.now.layouts objects.now heap → RefusesStep schema.now.program heap.graph (spot_of reached.old) hop.now why }
 {
-    let at = match from.end {
+    let at = match reached.end {
         End::Value(at) => at,
         End::Object => {
-            let Owner::Object(address) = from.owner else {
+            let Owner::Object(address) = reached.owner else {
                 unreachable!()
             };
-            return object_step(alloc, schema, objects, address, hop);
+            return object_step(schema, objects, reached, address, hop);
         }
     };
     if !is_pointer(at.ty()) {
-        return value_step(
-            schema,
-            objects,
-            from.owner,
-            from.first,
-            from.places,
-            at,
-            hop,
-        );
+        return value_step(schema, objects, reached, at, hop);
     }
     match target(objects.space(), at) {
-        Some(address) => object_step(alloc, schema, objects, address, hop),
+        Some(address) => object_step(schema, objects, reached, address, hop),
         None => Err(WalkFail::Refused(Why::NullStep)),
     }
 }
@@ -349,20 +337,21 @@ pub fn walk<'a>(
     ensures leads { IfOk result (λ to. (heap : Heap) → IsHeapOf schema.now.program schema.now.layouts objects.now heap → Walks schema.now.program heap.graph (start_of start) steps.now (spot_of to)) }
     ensures ends { IfOk result (λ to. (heap : Heap) → IsHeapOf schema.now.program schema.now.layouts objects.now heap → IsEndAt schema.now.program schema.now.layouts objects.now heap (spot_of to) to.end) }
     ensures first { IfOk result (λ to. (heap : Heap) → IsHeapOf schema.now.program schema.now.layouts objects.now heap → IsFirstIn schema.now.program schema.now.layouts objects.now heap to) }
+    ensures inside { IfOk result (EndsInFirst schema.now.program schema.now.layouts objects.now) }
     ensures refused { (why : Why) → result ≡ Err (Refused why) → (heap : Heap) → IsHeapOf schema.now.program schema.now.layouts objects.now heap → RefusesWalk schema.now.program heap.graph (start_of start) steps.now why }
 {
-    let mut at = begin(alloc, schema, objects, start)?;
+    let mut reached = begin(alloc, schema, objects, start)?;
     let mut hops = steps.hops();
     'steps: loop {
         let Ok(first) = hops.take_first(alloc) else {
             return Err(WalkFail::Memory);
         };
         let Some(hop) = first else {
-            return Ok(at);
+            return Ok(reached);
         };
-        at = match step(alloc, schema, objects, at, &hop) {
-            Ok(next) => next,
+        match step(schema, objects, &mut reached, &hop) {
+            Ok(()) => {}
             Err(stop) => return Err(stop),
-        };
+        }
     }
 }

@@ -1,3 +1,4 @@
 pub mod SpotWrites
 pub mod Typing
 pub mod Rewriting
+pub mod FoundLeaves

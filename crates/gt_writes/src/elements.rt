@@ -8,7 +8,6 @@ ghost use Rattle.gt_value.specs.Places.{IsContentOf};
 ghost use Rattle.gt_value.specs.Bytes.{IsElement, IsRoomFor};
 ghost use Rattle.gt_value.specs.Values.{tree_of};
 ghost use Rattle.gt_value.specs.declared.values.ValueFail.TheVariants.{Shape};
-ghost use Rattle.gt_elements.specs.declared.parts.Element.{Element};
 ghost use Rattle.gt_elements.specs.Elements.{IsElementAt};
 ghost use Rattle.gt_graph.specs.Changes.{Of};
 ghost use Rattle.gt_graph.specs.Good.{Heap};
@@ -16,16 +15,19 @@ ghost use Rattle.gt_objects.specs.Holding.{IsHeapOf};
 ghost use Rattle.gt_next.specs.Spots.{spot};
 ghost use Rattle.gt_schema.specs.Schemas.{IsSchema};
 ghost use Rattle.gt_writes.specs.SpotWrites.{SpotTakes, IsWrittenAt, MisfitsAt};
+ghost use Rattle.gt_writes.specs.declared.found.Found.{Found};
+ghost use Rattle.gt_writes.specs.FoundLeaves.{LiesAt, LiesInElement};
 ghost use Rattle.gt_writes.specs.Rewriting.{IsElementRewritten, StandsIn, ElementMisfits, MayPutIn, IsInActive};
 
+use crate::found::Found;
 use crate::leaves::{is_word_at, leaf_value, only_active};
 use gt_assign::assign;
 use gt_elements::{Element, Names, element};
-use gt_leaf::{LeafVerdict, judge_leaf};
+use gt_leaf::{LeafVerdict, judge_leaf, judge_leaf_at};
 use gt_objects::Objects;
 use gt_schema::Schema;
 use gt_types::Ty;
-use gt_value::{LeafContent, Value, ValueFail, read};
+use gt_value::{LeafContent, Place, Value, ValueFail, read};
 use std::alloc::Global;
 
 // Writes an element anew: what the write of a leaf makes of it.
@@ -67,7 +69,7 @@ fn rewrite_element(
 
 // Judges the write of the leaf at a path of an element before it is done. Where a union around it has no active member, it is not
 // written in place: what the type of its field says is then not what lies there.
-fn judge_element(
+fn judge_sought(
     schema: &Schema,
     objects: &Objects,
     element: Element,
@@ -103,21 +105,86 @@ fn judge_element(
     only_active(verdict, leaf)
 }
 
-// The element at a place of the object at an address: the one that is known already, or the one that is found.
+// The same where the place of the leaf is known.
+fn judge_found(
+    schema: &Schema,
+    objects: &Objects,
+    element: Element,
+    ty: &Ty,
+    path: &[u32],
+    place: Place,
+    leaf: LeafContent,
+) -> LeafVerdict
+    requires schema { IsSchema schema.now }
+    requires ready { (heap : Heap) × IsHeapOf schema.now.program schema.now.layouts objects.now heap }
+    requires element { IsElement schema.now.program ty.now }
+    requires inside { IsRoomFor schema.now.program schema.now.layouts element.capacity ty.now objects.now.space element.addr }
+    requires stands { (heap : Heap) → IsHeapOf schema.now.program schema.now.layouts objects.now heap → (value : Tree) × StandsIn schema.now.program schema.now.layouts heap element.capacity ty.now objects.now.space element.addr value }
+    requires place { LiesAt schema.now.program schema.now.layouts element.capacity ty.now objects.now.space element.addr path.now place }
+    ensures in_place { (other : Place) → result ≡ InPlace other → (heap : Heap) (value : Tree) → IsHeapOf schema.now.program schema.now.layouts objects.now heap → StandsIn schema.now.program schema.now.layouts heap element.capacity ty.now objects.now.space element.addr value
+        → MayPutIn schema.now.program schema.now.layouts heap element.capacity ty.now element.addr value path.now leaf objects.now.space other }
+    ensures active { (other : Place) → result ≡ InPlace other → IsInActive other leaf }
+    ensures misfit { result ≡ LeafVerdict.Misfit → (heap : Heap) (value tree : Tree) → IsHeapOf schema.now.program schema.now.layouts objects.now heap → StandsIn schema.now.program schema.now.layouts heap element.capacity ty.now objects.now.space element.addr value
+        → IsContentOf leaf tree → ElementMisfits schema.now.program heap element.capacity ty.now value path.now tree }
+{
+    let _ = element;
+    let names = Names::of(objects);
+    let verdict = judge_leaf_at(
+        &schema.program,
+        &schema.reads,
+        &names,
+        ty,
+        path,
+        place,
+        leaf,
+    );
+    only_active(verdict, leaf)
+}
+
+// Judges the write of the leaf at a path of an element, of which the place may be known.
+fn judge_element(
+    schema: &Schema,
+    objects: &Objects,
+    element: Element,
+    ty: &Ty,
+    path: &[u32],
+    found: Option<Found>,
+    leaf: LeafContent,
+) -> LeafVerdict
+    requires schema { IsSchema schema.now }
+    requires ready { (heap : Heap) × IsHeapOf schema.now.program schema.now.layouts objects.now heap }
+    requires element { IsElement schema.now.program ty.now }
+    requires inside { IsRoomFor schema.now.program schema.now.layouts element.capacity ty.now objects.now.space element.addr }
+    requires stands { (heap : Heap) → IsHeapOf schema.now.program schema.now.layouts objects.now heap → (value : Tree) × StandsIn schema.now.program schema.now.layouts heap element.capacity ty.now objects.now.space element.addr value }
+    requires found { (f : Found) → found ≡ Some f → LiesAt schema.now.program schema.now.layouts element.capacity ty.now objects.now.space element.addr path.now f.place }
+    ensures in_place { (place : Place) → result ≡ InPlace place → (heap : Heap) (value : Tree) → IsHeapOf schema.now.program schema.now.layouts objects.now heap → StandsIn schema.now.program schema.now.layouts heap element.capacity ty.now objects.now.space element.addr value
+        → MayPutIn schema.now.program schema.now.layouts heap element.capacity ty.now element.addr value path.now leaf objects.now.space place }
+    ensures active { (place : Place) → result ≡ InPlace place → IsInActive place leaf }
+    ensures misfit { result ≡ LeafVerdict.Misfit → (heap : Heap) (value tree : Tree) → IsHeapOf schema.now.program schema.now.layouts objects.now heap → StandsIn schema.now.program schema.now.layouts heap element.capacity ty.now objects.now.space element.addr value
+        → IsContentOf leaf tree → ElementMisfits schema.now.program heap element.capacity ty.now value path.now tree }
+{
+    match found {
+        Some(there) => judge_found(schema, objects, element, ty, path, there.place, leaf),
+        None => judge_sought(schema, objects, element, ty, path, leaf),
+    }
+}
+
+// The element at a place of the object at an address: the one in which the leaf was found, or the one that is there.
 fn find_element(
     schema: &Schema,
     objects: &Objects,
     addr: u64,
     place: u32,
-    first: Option<Element>,
+    found: Option<Found>,
 ) -> Option<Element>
     requires schema { IsSchema schema.now }
     requires ready { (heap : Heap) × IsHeapOf schema.now.program schema.now.layouts objects.now heap }
-    requires first { (e : Element) → first ≡ Some e → (heap : Heap) → IsHeapOf schema.now.program schema.now.layouts objects.now heap → IsElementAt schema.now.program schema.now.layouts heap objects.now.space addr place (Some e) }
+    requires found { (f : Found) → found ≡ Some f → (heap : Heap) → IsHeapOf schema.now.program schema.now.layouts objects.now heap → IsElementAt schema.now.program schema.now.layouts heap objects.now.space addr place (Some f.element) }
     ensures element { (heap : Heap) → IsHeapOf schema.now.program schema.now.layouts objects.now heap → IsElementAt schema.now.program schema.now.layouts heap objects.now.space addr place result }
+    ensures same { (f : Found) → found ≡ Some f → result ≡ Some f.element }
 {
-    match first {
-        Some(known) => Some(known),
+    match found {
+        Some(there) => Some(there.element),
         None => element(objects, &schema.program, &schema.layouts, addr, place),
     }
 }
@@ -130,23 +197,24 @@ pub fn write_in_object(
     addr: u64,
     place: u32,
     rest: &[u32],
-    first: Option<Element>,
+    found: Option<Found>,
     leaf: LeafContent,
 ) -> Result<(), ValueFail>
     requires schema { IsSchema schema.now }
     requires ready { (heap : Heap) × IsHeapOf schema.now.program schema.now.layouts objects.old heap }
     requires may { (heap : Heap) → IsHeapOf schema.now.program schema.now.layouts objects.old heap → SpotTakes schema.now.program heap.graph (spot (Of addr) (place ∷ rest.now)) leaf }
-    requires first { (e : Element) → first ≡ Some e → (heap : Heap) → IsHeapOf schema.now.program schema.now.layouts objects.old heap → IsElementAt schema.now.program schema.now.layouts heap objects.old.space addr place (Some e) }
+    requires found { (f : Found) → found ≡ Some f → (heap : Heap) → IsHeapOf schema.now.program schema.now.layouts objects.old heap → IsElementAt schema.now.program schema.now.layouts heap objects.old.space addr place (Some f.element) }
+    requires lies { (f : Found) → found ≡ Some f → LiesInElement schema.now.program schema.now.layouts objects.old.space f.element rest.now f.place }
     ensures written { OnOk result ((heap : Heap) → IsHeapOf schema.now.program schema.now.layouts objects.old heap → IsWrittenAt schema.now.program schema.now.layouts heap (Of addr) (place ∷ rest.now) leaf objects.new) }
     ensures shape { result ≡ Err Shape → (heap : Heap) → IsHeapOf schema.now.program schema.now.layouts objects.old heap → MisfitsAt schema.now.program heap (Of addr) (place ∷ rest.now) leaf }
     ensures unchanged { OnErr result (objects.new ≡ objects.old) }
 {
     objects.sound();
-    let Some(here) = find_element(schema, objects, addr, place, first) else {
+    let Some(here) = find_element(schema, objects, addr, place, found) else {
         return Err(ValueFail::Shape);
     };
     let ty = schema.types.get(here.kind);
-    match judge_element(schema, objects, here, ty, rest, leaf) {
+    match judge_element(schema, objects, here, ty, rest, found, leaf) {
         LeafVerdict::InPlace(at) => {
             objects.store_leaf(at, leaf);
             Ok(())

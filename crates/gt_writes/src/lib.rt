@@ -2,8 +2,10 @@
 #![tactic(auto)]
 
 mod elements;
+mod found;
 mod leaves;
 mod roots;
 mod writing;
 
+pub use found::Found;
 pub use writing::write;

@@ -5,7 +5,8 @@ use Rattle.gt_next.specs.Paths.{Leads}
 use Rattle.gt_session.specs.Sessions.{StandsFor}
 use Rattle.gt_next.specs.Next.{NextSet}
 use Rattle.gt_next.specs.Spots.{spot}
-use Rattle.gt_elements.specs.Elements.{owner_of, IsFirstOf}
+use Rattle.gt_elements.specs.Elements.{owner_of}
+use Rattle.gt_writes.specs.FoundLeaves.{IsFoundAt}
 use Rattle.gt_writes.specs.SpotWrites.{SpotTakes}
 use Rattle.gt_asking.proofs.setting.set.Goals as goal
 
@@ -21,10 +22,10 @@ pub write-requires-clause-may : goal.write-requires-clause-may
 write-requires-clause-may c heap is =
     subst (λ ps. SpotTakes c.args.s.now.schema.program heap.graph (spot (owner_of c.in-Ok.aimed.owner) ps) c.in-Some.leaf) (sym c.as_slice-places.ensures) (c.in-Ok.ensures.takes heap is)
 
-pub write-requires-clause-first : goal.write-requires-clause-first
-write-requires-clause-first c e known heap is =
+pub write-requires-clause-found : goal.write-requires-clause-found
+write-requires-clause-found c f known heap is =
     let schema = c.args.s.now.schema in
-    subst (λ ps. IsFirstOf schema.program schema.layouts c.args.s.now.objects heap (owner_of c.in-Ok.aimed.owner) ps e) (sym c.as_slice-places.ensures) (c.in-Ok.ensures.first heap is e known)
+    subst (λ ps. IsFoundAt schema.program schema.layouts c.args.s.now.objects heap (owner_of c.in-Ok.aimed.owner) ps f) (sym c.as_slice-places.ensures) (c.in-Ok.ensures.found f known heap is)
 
 pub returns-in-Ok-write-clause-next : goal.returns-in-Ok-write-clause-next
 returns-in-Ok-write-clause-next c told s st =

@@ -1,11 +1,11 @@
-use Rattle.std.proofs.Common.{◌≡◌, ◌<◌, [], ◌∷◌, ◌++◌, ap, sym, subst, ◌∙◌, arith}
-use Rattle.gt_graph.specs.Changes.{Of}
+use Rattle.std.proofs.Common.{◌≡◌, ◌<◌, ap, sym, subst, ◌∙◌, arith}
+use Rattle.std.specs.Prelude.{Err}
 use Rattle.gt_script.specs.declared.command.Hop.TheVariants.{Index}
 use Rattle.gt_next.specs.declared.answer.Why.TheVariants.{BadIndex}
-use Rattle.gt_next.specs.Spots.{spot}
 use Rattle.gt_next.specs.Paths.{Steps, RefusesStep}
-use Rattle.gt_routes.specs.Reaching.{IsValueAt}
-use Rattle.gt_routes.proofs.HeapSteps.{whole-there, first-entered}
+use Rattle.gt_routes.specs.declared.steps.WalkFail.TheVariants.{Refused}
+use Rattle.gt_routes.specs.Reaching.{spot_of, IsEndAt, IsValueAt}
+use Rattle.gt_routes.proofs.HeapSteps.{whole-there, same-end}
 use Rattle.gt_routes.proofs.reaching.index_step.Goals as goal
 
 pub returns-then-place-known-clause-refused : goal.returns-then-place-known-clause-refused
@@ -17,19 +17,32 @@ returns-then-place-known-clause-refused c why e heap is from follows =
     let past : ¬ (c.args.place < known.0.count) = λ lt. absurd (omega (arith, lt, count, c.if-place-known.true)) in
     subst (RefusesStep program heap.graph from (Index c.args.place)) same (RefusesStep.no_element follows (whole-there program heap.graph c.args.address known.0 known.1) past)
 
-pub returns-clause-leads : goal.returns-clause-leads
-returns-clause-leads c heap is =
+pub returns-in-Ok-clause-leads : goal.returns-in-Ok-clause-leads
+returns-in-Ok-clause-leads c heap is =
     let program = c.args.schema.now.program in
     let layouts = c.args.schema.now.layouts in
     let objects = c.args.objects.now in
-    let there = c.enter-entered.ensures.cursor heap is in
-    let items : c.push.new.self.items ≡ c.args.place ∷ [] = c.in-Ok.ensures.ok ∙ ap (λ xs. xs ++ c.args.place ∷ []) c.new-places.ensures.items in
+    let to = c.enter.new.reached in
+    let there = c.in-Ok.ensures.cursor heap is in
+    let spots = c.in-Ok.ensures.spot in
+    let ends = c.in-Ok.ensures.end in
     record {
       steps = λ from follows.
-          subst (λ xs. Steps program heap.graph from (Index c.args.place) (spot (Of c.args.address) xs)) (sym items)
+          subst (λ s. Steps program heap.graph from (Index c.args.place) s) (sym spots)
           (Steps.to_element follows (whole-there program heap.graph c.args.address there.o there.there) there.within);
-      ends = subst (λ xs. IsValueAt program layouts objects heap (spot (Of c.args.address) xs) c.enter-entered.result.at) (sym items) there.at;
+      ends = subst (λ e. IsEndAt program layouts objects heap (spot_of to) e) (sym ends) (subst (λ s. IsValueAt program layouts objects heap s c.in-Ok.field-0) (sym spots) there.at);
     }
+
+pub returns-in-Ok-clause-inside : goal.returns-in-Ok-clause-inside
+returns-in-Ok-clause-inside c at e =
+    let schema = c.args.schema.now in
+    let to = c.enter.new.reached in
+    same-end schema.program schema.layouts c.args.objects.now to.first to.places.items c.in-Ok.field-0 c.in-Ok.ensures.inside at (sym c.in-Ok.ensures.end ∙ e)
+
+pub returns-in-Err-clause-refused : goal.returns-in-Err-clause-refused
+returns-in-Err-clause-refused c why e heap is =
+    let same : c.in-Err.stop ≡ Refused why = cc in
+    absurd (c.enter.ensures.refused why (c.in-Err.is ∙ ap Err same))
 
 pub unreachable-requires : goal.unreachable-requires
 unreachable-requires c =
@@ -37,9 +50,3 @@ unreachable-requires c =
     let none = c.in_default.ensures.known c.args.schema.now.program c.args.schema.now.layouts heap c.requires.ready.1 in
     let there = (c.requires.there heap c.requires.ready.1).1 in
     cc
-
-pub returns-clause-first : goal.returns-clause-first
-returns-clause-first c heap is e same =
-    let schema = c.args.schema.now in
-    let items : c.push.new.self.items ≡ c.args.place ∷ [] = c.in-Ok.ensures.ok ∙ ap (λ xs. xs ++ c.args.place ∷ []) c.new-places.ensures.items in
-    first-entered schema.program schema.layouts c.args.objects.now heap c.args.address c.args.place c.push.new.self.items items c.enter-entered.result.element e (c.enter-entered.ensures.element heap is) same

@@ -5,15 +5,15 @@ use Rattle.gt_elements.specs.Elements.{owner_of}
 use Rattle.gt_next.specs.declared.answer.Why.TheVariants.{NullStep}
 use Rattle.gt_next.specs.Paths.{RefusesStep}
 use Rattle.gt_routes.specs.Reaching.{spot_of, IsValueAt, IsEndAt}
-use Rattle.gt_routes.proofs.Singles.{leads-on, value-leads, value-stops, target-follows, target-object, null-stops, whole-follows, whole-there-at}
+use Rattle.gt_routes.proofs.Singles.{on-ok, value-leads, value-stops, target-follows, target-object, null-stops, whole-follows, whole-there-at}
 use Rattle.gt_routes.proofs.reaching.step.Goals as goal
 
 pub returns-in-Object-clause-leads : goal.returns-in-Object-clause-leads
 returns-in-Object-clause-leads c =
     let schema = c.args.schema.now in
-    let from = spot_of c.args.from in
-    leads-on c.object_step.result _ _
-    (λ to leads heap is.
+    let from = spot_of c.args.reached.now in
+    on-ok c.object_step.result
+    (λ leads heap is.
     let whole = subst (λ e. IsEndAt schema.program schema.layouts c.args.objects.now heap from e) c.in-Object.is (c.requires.stands heap is) in
     (leads heap is).steps from (whole-follows schema.program heap.graph from c.in-Object-owner.address whole.0 (ap owner_of c.in-Object-owner.is) whole.1 whole.2))
     c.object_step.ensures.leads
@@ -21,26 +21,26 @@ returns-in-Object-clause-leads c =
 pub returns-in-Object-clause-refused : goal.returns-in-Object-clause-refused
 returns-in-Object-clause-refused c why e heap is =
     let schema = c.args.schema.now in
-    let from = spot_of c.args.from in
+    let from = spot_of c.args.reached.now in
     let whole = subst (λ e. IsEndAt schema.program schema.layouts c.args.objects.now heap from e) c.in-Object.is (c.requires.stands heap is) in
     c.object_step.ensures.refused why e heap is from (whole-follows schema.program heap.graph from c.in-Object-owner.address whole.0 (ap owner_of c.in-Object-owner.is) whole.1 whole.2)
 
 pub returns-then-not-is_pointer-clause-leads : goal.returns-then-not-is_pointer-clause-leads
 returns-then-not-is_pointer-clause-leads c =
     let schema = c.args.schema.now in
-    let from = spot_of c.args.from in
+    let from = spot_of c.args.reached.now in
     let at = c.in-Value.at in
     let plain : is_pointer at.ty.now ≡ false = ap is_pointer (sym c.ty.ensures) ∙ sym c.is_pointer.ensures ∙ c.if-not-is_pointer.true in
-    leads-on c.value_step.result _ _
-    (λ to leads heap is.
+    on-ok c.value_step.result
+    (λ leads heap is.
     let v = subst (λ e. IsEndAt schema.program schema.layouts c.args.objects.now heap from e) c.in-Value.is (c.requires.stands heap is) in
-    value-leads schema.program schema.layouts c.args.objects.now heap from at v plain c.args.hop.now to (leads heap is))
+    value-leads schema.program schema.layouts c.args.objects.now heap from at v plain c.args.hop.now c.value_step.new.reached (leads heap is))
     c.value_step.ensures.leads
 
 pub returns-then-not-is_pointer-clause-refused : goal.returns-then-not-is_pointer-clause-refused
 returns-then-not-is_pointer-clause-refused c why e heap is =
     let schema = c.args.schema.now in
-    let from = spot_of c.args.from in
+    let from = spot_of c.args.reached.now in
     let at = c.in-Value.at in
     let plain : is_pointer at.ty.now ≡ false = ap is_pointer (sym c.ty.ensures) ∙ sym c.is_pointer.ensures ∙ c.if-not-is_pointer.true in
     let v = subst (λ e. IsEndAt schema.program schema.layouts c.args.objects.now heap from e) c.in-Value.is (c.requires.stands heap is) in
@@ -50,16 +50,16 @@ pub target-requires-clause-stands : goal.target-requires-clause-stands
 target-requires-clause-stands c =
     let schema = c.args.schema.now in
     let heap = c.requires.ready.0 in
-    let v : IsValueAt schema.program schema.layouts c.args.objects.now heap (spot_of c.args.from) c.in-Value.at =
-    subst (λ e. IsEndAt schema.program schema.layouts c.args.objects.now heap (spot_of c.args.from) e) c.in-Value.is (c.requires.stands heap c.requires.ready.1) in
+    let v : IsValueAt schema.program schema.layouts c.args.objects.now heap (spot_of c.args.reached.now) c.in-Value.at =
+    subst (λ e. IsEndAt schema.program schema.layouts c.args.objects.now heap (spot_of c.args.reached.now) e) c.in-Value.is (c.requires.stands heap c.requires.ready.1) in
     (v.frame, v.value, v.path, v.here, v.space_is ∙ sym c.space.ensures)
 
 pub returns-in-Some-clause-leads : goal.returns-in-Some-clause-leads
 returns-in-Some-clause-leads c =
     let schema = c.args.schema.now in
-    let from = spot_of c.args.from in
-    leads-on c.object_step-in-Some.result _ _
-    (λ to leads heap is.
+    let from = spot_of c.args.reached.now in
+    on-ok c.object_step-in-Some.result
+    (λ leads heap is.
     let v : IsValueAt schema.program schema.layouts c.args.objects.now heap from c.in-Value.at = subst (λ e. IsEndAt schema.program schema.layouts c.args.objects.now heap from e) c.in-Value.is (c.requires.stands heap is) in
     let names : v.here.here.p.tree ≡ To c.in-Some.address = c.in-Some.ensures.target v.frame v.value v.path v.here (v.space_is ∙ sym c.space.ensures) in
     (leads heap is).steps from (target-follows schema.program schema.layouts c.args.objects.now heap from c.in-Value.at v c.in-Some.address names))
@@ -68,15 +68,15 @@ returns-in-Some-clause-leads c =
 pub returns-in-Some-clause-refused : goal.returns-in-Some-clause-refused
 returns-in-Some-clause-refused c why e heap is =
     let schema = c.args.schema.now in
-    let from = spot_of c.args.from in
+    let from = spot_of c.args.reached.now in
     let v : IsValueAt schema.program schema.layouts c.args.objects.now heap from c.in-Value.at = subst (λ e. IsEndAt schema.program schema.layouts c.args.objects.now heap from e) c.in-Value.is (c.requires.stands heap is) in
     let names : v.here.here.p.tree ≡ To c.in-Some.address = c.in-Some.ensures.target v.frame v.value v.path v.here (v.space_is ∙ sym c.space.ensures) in
     c.object_step-in-Some.ensures.refused why e heap is from (target-follows schema.program schema.layouts c.args.objects.now heap from c.in-Value.at v c.in-Some.address names)
 
-pub returns-clause-refused : goal.returns-clause-refused
-returns-clause-refused c why e heap is =
+pub returns-in-None-clause-refused : goal.returns-in-None-clause-refused
+returns-in-None-clause-refused c why e heap is =
     let schema = c.args.schema.now in
-    let from = spot_of c.args.from in
+    let from = spot_of c.args.reached.now in
     let v : IsValueAt schema.program schema.layouts c.args.objects.now heap from c.in-Value.at = subst (λ e. IsEndAt schema.program schema.layouts c.args.objects.now heap from e) c.in-Value.is (c.requires.stands heap is) in
     let null : v.here.here.p.tree ≡ Null = c.in-None.ensures.target v.frame v.value v.path v.here (v.space_is ∙ sym c.space.ensures) in
     let same : NullStep ≡ why = cc in
@@ -85,14 +85,14 @@ returns-clause-refused c why e heap is =
 pub object_step-requires-clause-there : goal.object_step-requires-clause-there
 object_step-requires-clause-there c heap is =
     let schema = c.args.schema.now in
-    let from = spot_of c.args.from in
+    let from = spot_of c.args.reached.now in
     let whole = subst (λ e. IsEndAt schema.program schema.layouts c.args.objects.now heap from e) c.in-Object.is (c.requires.stands heap is) in
     whole-there-at schema.program heap.graph from c.in-Object-owner.address whole.0 (ap owner_of c.in-Object-owner.is) whole.1 whole.2
 
 pub object_step-requires-in-Some-clause-there : goal.object_step-requires-in-Some-clause-there
 object_step-requires-in-Some-clause-there c heap is =
     let schema = c.args.schema.now in
-    let from = spot_of c.args.from in
+    let from = spot_of c.args.reached.now in
     let v : IsValueAt schema.program schema.layouts c.args.objects.now heap from c.in-Value.at = subst (λ e. IsEndAt schema.program schema.layouts c.args.objects.now heap from e) c.in-Value.is (c.requires.stands heap is) in
     let names : v.here.here.p.tree ≡ To c.in-Some.address = c.in-Some.ensures.target v.frame v.value v.path v.here (v.space_is ∙ sym c.space.ensures) in
     target-object schema.program schema.layouts c.args.objects.now heap from c.in-Value.at is v c.in-Some.address names

@@ -5,9 +5,9 @@ use Rattle.gt_tree.specs.Scopes.{typed}
 use Rattle.gt_next.specs.Spots.{spot, further}
 use Rattle.gt_next.specs.Paths.{StepsIn, RefusesIn}
 use Rattle.gt_routes.specs.Steps.{along}
-use Rattle.gt_routes.specs.Reaching.{IsValueAt}
+use Rattle.gt_routes.specs.Reaching.{spot_of, IsValueAt}
 use Rattle.gt_routes.proofs.SpotParts.{value-further}
-use Rattle.gt_routes.proofs.HeapSteps.{first-further}
+use Rattle.gt_routes.proofs.HeapSteps.{first-further, inside-further, same-end}
 use Rattle.gt_routes.proofs.reaching.value_step.Goals as goal
 
 pub local_step-requires-clause-stands : goal.local_step-requires-clause-stands
@@ -26,13 +26,13 @@ returns-in-Err-clause-refused c why e heap is =
 pub returns-clause-leads : goal.returns-clause-leads
 returns-clause-leads c heap is =
     let program = c.args.schema.now.program in
-    let at = spot (owner_of c.args.owner) c.args.places.items in
+    let at = spot_of c.args.reached.now in
     let places = along c.in-Ok.step in
     let v = c.requires.stands heap is in
     let p = v.here.here.p in
     let steps = c.in-Ok.ensures.leads v.frame v.value v.path v.here v.program_is in
-    let items : c.add_places.new.places.items ≡ c.args.places.items ++ places = c.in-Ok-add_places.ensures.added in
-    let spots : spot (owner_of c.args.owner) c.add_places.new.places.items ≡ further at places = ap (spot (owner_of c.args.owner)) items in
+    let items : c.add_places.new.places.items ≡ c.args.reached.now.places.items ++ places = c.in-Ok-add_places.ensures.added in
+    let spots : spot (owner_of c.args.reached.now.owner) c.add_places.new.places.items ≡ further at places = ap (spot (owner_of c.args.reached.now.owner)) items in
     let value = value-further program c.args.schema.now.layouts c.args.objects.now heap at c.args.at c.in-Ok.step.at c.args.hop.now places c.requires.schema.settled v steps in
     record {
       t = typed p.type p.tree;
@@ -46,4 +46,11 @@ returns-clause-leads c heap is =
 pub returns-clause-first : goal.returns-clause-first
 returns-clause-first c heap is =
     let schema = c.args.schema.now in
-    first-further schema.program schema.layouts c.args.objects.now heap (owner_of c.args.owner) c.args.places.items (along c.in-Ok.step) c.add_places.new.places.items c.in-Ok-add_places.ensures.added c.args.first (c.requires.first heap is)
+    first-further schema.program schema.layouts c.args.objects.now heap (owner_of c.args.reached.now.owner) c.args.reached.now.places.items (along c.in-Ok.step) c.add_places.new.places.items c.in-Ok-add_places.ensures.added c.args.reached.now.first (c.requires.first heap is)
+
+pub returns-clause-inside : goal.returns-clause-inside
+returns-clause-inside c =
+    let schema = c.args.schema.now in
+    let step = c.in-Ok.step in
+    same-end schema.program schema.layouts c.args.objects.now c.args.reached.now.first c.add_places.new.places.items step.at
+    (inside-further schema.program schema.layouts c.args.objects.now c.args.reached.now.first c.args.reached.now.places.items c.add_places.new.places.items c.args.at c.args.hop.now step c.in-Ok.ensures.leads c.in-Ok-add_places.ensures.added c.requires.inside)

@@ -2,7 +2,7 @@ use Rattle.std.proofs.Common.{◌∙◌, ap, sym, subst}
 use Rattle.gt_objects.specs.InBytes.{blocks_in}
 use Rattle.gt_tree.specs.Reshapes.{Assigns}
 use Rattle.gt_writes.proofs.Anew.{beside_by, put_by}
-use Rattle.gt_writes.proofs.elements.judge_element.Goals as goal
+use Rattle.gt_writes.proofs.elements.judge_sought.Goals as goal
 
 pub judge_leaf-verdict-requires-clause-stands : goal.judge_leaf-verdict-requires-clause-stands
 judge_leaf-verdict-requires-clause-stands c =

@@ -1,6 +1,7 @@
-use Rattle.std.proofs.Common.{◌∙◌, sym}
+use Rattle.std.proofs.Common.{◌∙◌, ap, sym}
+use Rattle.gt_tree.specs.Blocks.{element_type}
 use Rattle.gt_value.specs.Values.{tree_of}
-use Rattle.gt_writes.proofs.AtElement.{put_at, anew_at, misfit_all, misfit_one, word_there, nowhere, stands_here, type_is}
+use Rattle.gt_writes.proofs.AtElement.{lies_here, put_at, anew_at, misfit_all, misfit_one, word_there, nowhere, stands_here, type_is}
 use Rattle.gt_writes.proofs.Anew.{both_ok}
 use Rattle.gt_writes.proofs.LeafForms.{suits_word}
 use Rattle.gt_writes.proofs.elements.write_in_object.Goals as goal
@@ -104,3 +105,13 @@ returns-in_ok-value-in-NotInPlace-clause-shape c = λ e heap is.
     let word = word_there program c.args.schema.now.layouts c.args.objects.now heap is c.args.addr c.args.place c.args.rest.now at.0 at.1 c.in-Some.here at.2 c.get-ty.result.now same takes.t takes.standing c.is_word_at-is_word.result c.is_word_at-is_word.ensures in
     let tree_is = c.in_ok-value-in-NotInPlace.ensures.value heap.graph.objects takes.t.type word takes.suits in
     misfit_one program c.args.schema.now.layouts c.args.objects.now heap is c.args.addr c.args.place c.args.rest.now at.0 at.1 c.in-Some.here at.2 c.get-ty.result.now same c.args.leaf takes.t takes.standing (tree_of c.in_ok-value-in-NotInPlace.value) tree_is (c.rewrite_element.ensures.shape e heap at.2.tree is stands)
+
+pub judge_element-requires-clause-found : goal.judge_element-requires-clause-found
+judge_element-requires-clause-found c = λ f e.
+    let heap = c.requires.ready.0 in
+    let is = c.requires.ready.1 in
+    let program = c.args.schema.now.program in
+    let here = c.in-Some.here in
+    let at = c.in-Some.ensures.element heap is in
+    let same = type_is program c.args.schema.now.layouts c.args.objects.now heap is c.args.addr at.0 at.1 here.kind c.get-ty.result.now (c.get-ty.ensures.found program c.requires.schema.types) at.2.kind in
+    lies_here program c.args.schema.now.layouts c.args.objects.now.space here f.element (c.in-Some.ensures.same f e) c.get-ty.result.now (same ∙ ap (element_type program) at.2.kind) c.args.rest.now f.place (c.requires.lies f e)
