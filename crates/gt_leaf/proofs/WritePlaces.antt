@@ -5,13 +5,15 @@ use Rattle.gt_types.specs.declared.types.Ty.{Ty}
 use Rattle.gt_types.specs.declared.program.Program.{Program}
 use Rattle.gt_types.specs.Settled.{Settled}
 use Rattle.gt_layout.specs.declared.planes.Layouts.{Layouts}
+use Rattle.gt_layout.specs.declared.planes.Plane.{Plane}
 use Rattle.gt_layout.specs.Planes.{IsLaidOut}
 use Rattle.gt_space.specs.Range.{Range, IsInside, bytes_at}
 use Rattle.gt_tree.specs.Trees.{Tree, Rec, Trees, is_leaf, is_word, with_part, with_part_of, without_pointers}
 use Rattle.gt_tree.specs.Blocks.{Blocks, element_type}
 use Rattle.gt_tree.specs.Scopes.{Scope, outside, eval_in}
-use Rattle.gt_tree.specs.Reshapes.{Assigns}
+use Rattle.gt_tree.specs.Reshapes.{LeadsToLeaf, Assigns}
 use Rattle.gt_tree.specs.FixedLaws.{AreAddresses, AreStaticsOf}
+use Rattle.gt_value.specs.declared.places.Holder.{Holder}
 use Rattle.gt_value.specs.declared.places.Holder.TheVariants as lies_in
 use Rattle.gt_value.specs.declared.places.LeafContent.{LeafContent}
 use Rattle.gt_value.specs.declared.places.Place.{Place}
@@ -57,6 +59,14 @@ pub static-place-part : (program : Program) (layouts : Layouts) (range : Range) 
     → (at : IsStaticPlaceOf program layouts range values path place) → IsOfPart program at.p place known
 static-place-part program layouts range values path place known same at =
     of-part known at.is (same ∙ ap (held_type program None) at.is.holder_is ∙ root-type-there program at.lies place.kind at.is.kind_is)
+
+-- a path leads to the leaf at its place
+pub place-leads : {program : Program} {planes : List Plane} {scope : Scope} {holder : Holder} {type : Ty} {range : Range} {address : ℕ} {value : Tree} {path : List ℕ} {place : Place}
+    → IsPlaceOf program planes scope holder type range address value path place → LeadsToLeaf value path
+place-leads {range} {place} at = (at.p.tree, at.there, content-word (content_at range place) at.p.tree at.is.holds)
+
+pub static-leads : {program : Program} {layouts : Layouts} {range : Range} {values : Trees} {path : List ℕ} {place : Place} → IsStaticPlaceOf program layouts range values path place → LeadsToLeaf (Rec values) path
+static-leads {range} {place} at = (at.p.tree, at.there, content-word (content_at range place) at.p.tree at.is.holds)
 
 -- ---- the leaf that is written
 

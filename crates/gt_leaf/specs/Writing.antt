@@ -142,10 +142,10 @@ abbrev pub LeavesElement : Program → Layouts → Blocks → ℕ → Ty → ℕ
 LeavesElement program layouts blocks capacity type address path leaf range = (statics : Trees) (value : Tree) → StandsBeside program layouts blocks statics capacity type range address value
     → IsLeft program (structures_on program (Some type) path) (PartLies program layouts.structures (outside statics) lies_in.Element true 0 type value path) value path leaf
 
--- whatever value the bytes of an element stand for, no value fits with this leaf
+-- whatever value the bytes of an element stand for, there is a leaf at the path, and no value fits with this one there
 abbrev pub MisfitsElement : Program → Layouts → Blocks → ℕ → Ty → ℕ → List ℕ → LeafContent → Range → Type 0
-MisfitsElement program layouts blocks capacity type address path leaf range = (statics : Trees) (value tree new : Tree) → StandsBeside program layouts blocks statics capacity type range address value → IsContentOf leaf tree
-    → ¬ Assigns program blocks statics capacity type value path tree new
+MisfitsElement program layouts blocks capacity type address path leaf range = (statics : Trees) (value : Tree) → StandsBeside program layouts blocks statics capacity type range address value
+    → LeadsToLeaf value path × ((tree new : Tree) → IsContentOf leaf tree → ¬ Assigns program blocks statics capacity type value path tree new)
 
 -- so for the static record
 abbrev pub MayPutStatics : Program → Layouts → Blocks → List ℕ → LeafContent → Range → Place → Type 0
@@ -159,4 +159,5 @@ LeavesStatics program layouts blocks path leaf range = (values : Trees) → Stat
     → IsLeft program (structures_in_statics program path) (StaticPartLies program layouts.structures layouts.statics.fields values path) (Rec values) path leaf
 
 abbrev pub MisfitsStatics : Program → Layouts → Blocks → List ℕ → LeafContent → Range → Type 0
-MisfitsStatics program layouts blocks path leaf range = (values : Trees) (tree : Tree) (new : Trees) → StaticsStandBeside program layouts blocks range values → IsContentOf leaf tree → ¬ AssignsStatics program blocks values path tree new
+MisfitsStatics program layouts blocks path leaf range = (values : Trees) → StaticsStandBeside program layouts blocks range values
+    → LeadsToLeaf (Rec values) path × ((tree : Tree) (new : Trees) → IsContentOf leaf tree → ¬ AssignsStatics program blocks values path tree new)

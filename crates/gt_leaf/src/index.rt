@@ -44,8 +44,7 @@ pub struct Index<'a> {
 }
 
 impl<'a> Index<'a> {
-    /// That of a program. Its time is linear in the number of fields, and in how many structures may be outermost around others. Its
-    /// only error is out of memory.
+    /// That of a program. Its time is linear in the number of fields, besides that of `outers`. Its only error is out of memory.
     pub fn of(alloc: Global, program: &'a Program) -> Result<Index<'a>, AllocError>
         ensures program { IfOk result (λ made. made.program.now ≡ program.now) }
         ensures names { IfOk result (λ made. made.names ≡ names_of_all program.now.structures) }

@@ -57,8 +57,9 @@ fn list_outers(alloc: Global, program: &Program) -> Result<List<PlaceSet>, Alloc
     Ok(all)
 }
 
-/// For each structure with a path from `%0`, those that may be outermost around it. Its time is linear in the program's size and in
-/// how many these are. Its only error is out of memory, which it also says of more structures than any program has.
+/// For each structure with a path from `%0`, those that may be outermost around it. Its time is linear in the program's size and, for
+/// each such structure, in how many these are and in how often they contain one another. Its only error is out of memory, which it also
+/// says of more structures than any program has.
 pub fn outers(alloc: Global, program: &Program) -> Result<List<PlaceSet>, AllocError>
     ensures outers { IfOk result (AreOutersOf program.now) }
 {

@@ -28,8 +28,10 @@ pub struct Reads {
 }
 
 impl Reads {
-    /// The table of a program. Its time is linear in the program's size, where an expression counts once more for each structure that
-    /// contains its own at some depth. Its only error is out of memory.
+    /// The table of a program. Its time is linear in the program's size; in the fields of a structure, once for each structure that holds
+    /// it by value and, where it has a path from `%0`, once for each that contains it at some depth, with the containments among these;
+    /// and in the entries. So it is not linear where many structures contain one with many paths from `%1` or `%0`: the entries are then
+    /// the product of the two numbers. Its only error is out of memory.
     pub fn of(alloc: Global, program: &Program) -> Result<Reads, AllocError>
         ensures table { IfOk result (λ t. IsTableOf program.now t) }
     {

@@ -20,5 +20,5 @@ returns-clause-in_place c = λ place e heap value is s.
 pub returns-clause-misfit : goal.returns-clause-misfit
 returns-clause-misfit c = λ e heap value tree is s means new.
     let same = ap blocks_in c.of-names.ensures.objects ∙ c.of-names.ensures.blocks c.args.schema.now.program c.args.schema.now.layouts heap c.requires.schema.settled c.requires.schema.laid is in
-    λ assigns. c.judge_leaf-verdict.ensures.misfit (c.only_active.ensures.misfit e) heap.graph.statics value tree new (beside_by same c.space.ensures s) means
+    λ assigns. (c.judge_leaf-verdict.ensures.misfit (c.only_active.ensures.misfit e) heap.graph.statics value (beside_by same c.space.ensures s)).1 tree new means
     (subst (λ bs. Assigns c.args.schema.now.program bs heap.graph.statics c.args.element.capacity c.args.ty.now value c.args.path.now tree new) (sym same) assigns)

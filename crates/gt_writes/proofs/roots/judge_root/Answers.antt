@@ -31,5 +31,5 @@ pub returns-clause-misfit : goal.returns-clause-misfit
 returns-clause-misfit c = λ e heap tree is means news assigns.
     let same = ap blocks_in c.of-names.ensures.objects ∙ c.of-names.ensures.blocks c.args.schema.now.program c.args.schema.now.layouts heap c.requires.schema.settled c.requires.schema.laid is in
     let stand = roots c.args.schema.now.program c.args.schema.now.layouts c.requires.schema.settled c.requires.schema.laid c.args.objects.now heap is c.sound.ensures.space c.requires.schema.within in
-    c.judge_static_leaf-verdict.ensures.misfit (c.only_active.ensures.misfit e) heap.graph.statics tree news (roots_by same c.space.ensures stand.stand) means
+    (c.judge_static_leaf-verdict.ensures.misfit (c.only_active.ensures.misfit e) heap.graph.statics (roots_by same c.space.ensures stand.stand)).1 tree news means
     (subst (λ bs. AssignsStatics c.args.schema.now.program bs heap.graph.statics c.args.path.now tree news) (sym same) assigns)
