@@ -17,13 +17,13 @@ pub fn one_tree()
 {}
 
 /// Parts that are spelled in their order, with white space after each, are the parts of that text.
-pub fn parts_as_spelled()
+pub fn spelling_gives_parts()
     ensures { (text : List ℕ) (ps : List Part) → Spells text ps → parts_of text ≡ ps }
 {}
 
 /// A tree that is spelled by the grammar, in 256 parts or fewer, is the tree of that text. So `read` gives it back,
 /// unless memory runs out.
-pub fn trees_as_spelled()
+pub fn spelling_gives_trees()
     ensures { (text : List ℕ) (ps : List Part) (t : RawExpr) → Spells text ps → Derives Conditional ps t → length ps ≤ MAX_PARTS → IsExpression text t }
 {}
 

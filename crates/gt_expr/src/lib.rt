@@ -16,7 +16,7 @@ mod symbols;
 mod unread;
 
 pub use expressions::read;
-pub use laws::{one_answer, one_tree, parts_as_spelled, trees_as_spelled};
+pub use laws::{one_answer, one_tree, spelling_gives_parts, spelling_gives_trees};
 pub use raw::RawExpr;
 
 /// How many parts an expression may have.

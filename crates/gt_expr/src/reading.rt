@@ -26,7 +26,7 @@ pub fn tree(alloc: Global, parts: &[Part]) -> Result<RawExpr, Unread>
 
 // A line of the grammar, where fewer than `depth` lines stand in one another.
 #[cycle(reading)]
-fn nested(
+fn inner_line(
     alloc: Global,
     depth: usize,
     line: Line,
@@ -52,11 +52,11 @@ fn conditional(alloc: Global, depth: usize, parts: &[Part]) -> Result<(RawExpr, 
     let [Part::Question, rest @ ..] = rest else {
         return Ok((test, rest));
     };
-    let (yes, rest) = nested(alloc, depth, Line::Conditional, rest)?;
+    let (yes, rest) = inner_line(alloc, depth, Line::Conditional, rest)?;
     let [Part::Colon, rest @ ..] = rest else {
         return Err(Unread::NotGiven);
     };
-    let (no, rest) = nested(alloc, depth, Line::Conditional, rest)?;
+    let (no, rest) = inner_line(alloc, depth, Line::Conditional, rest)?;
     let tree = RawExpr::Cond {
         test: Boxed::new(alloc, test)?,
         yes: Boxed::new(alloc, yes)?,
@@ -100,8 +100,8 @@ fn unary(alloc: Global, depth: usize, parts: &[Part]) -> Result<(RawExpr, &[Part
     ensures { Gives (λ x. (x.0, x.1.now)) result (unary_at (tree_at depth) parts.now) }
 {
     match parts {
-        [Part::Operator(Op::Not), after @ ..] => prefixed(alloc, depth, Op::Not, after),
-        [Part::Operator(Op::Sub), after @ ..] => prefixed(alloc, depth, Op::Neg, after),
+        [Part::Operator(Op::Not), after @ ..] => prefix_operation(alloc, depth, Op::Not, after),
+        [Part::Operator(Op::Sub), after @ ..] => prefix_operation(alloc, depth, Op::Neg, after),
         [Part::Integer(value), after @ ..] => Ok((RawExpr::Int(*value), after)),
         [Part::Name(name), after @ ..] => Ok((RawExpr::Named(name.copy(alloc)?), after)),
         [Part::Percent(base), after @ ..] => {
@@ -109,7 +109,7 @@ fn unary(alloc: Global, depth: usize, parts: &[Part]) -> Result<(RawExpr, &[Part
             Ok(with_steps(alloc, RawExpr::Path { base: *base, steps }, after)?)
         }
         [Part::Open, after @ ..] => {
-            let (inner, rest) = nested(alloc, depth, Line::Conditional, after)?;
+            let (inner, rest) = inner_line(alloc, depth, Line::Conditional, after)?;
             let [Part::Close, rest @ ..] = rest else {
                 return Err(Unread::NotGiven);
             };
@@ -121,7 +121,7 @@ fn unary(alloc: Global, depth: usize, parts: &[Part]) -> Result<(RawExpr, &[Part
 
 // The operand of an operator of one operand, after the operator.
 #[cycle(reading)]
-fn prefixed(
+fn prefix_operation(
     alloc: Global,
     depth: usize,
     op: Op,
@@ -129,7 +129,7 @@ fn prefixed(
 ) -> Result<(RawExpr, &[Part]), Unread>
     ensures { Gives (λ x. (x.0, x.1.now)) result (prefixed_at (tree_at depth) op parts.now) }
 {
-    let (a, rest) = nested(alloc, depth, Line::Level(0), parts)?;
+    let (a, rest) = inner_line(alloc, depth, Line::Level(0), parts)?;
     let a = Boxed::new(alloc, a)?;
     Ok((RawExpr::One { op, a }, rest))
 }

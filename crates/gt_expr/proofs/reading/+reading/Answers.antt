@@ -5,15 +5,15 @@ use Rattle.gt_expr.proofs.Lines.{tree_at_deeper, tree_at_end, line_at_level, lev
 use Rattle.gt_expr.proofs.reading.+reading.Goals as goal
 use Rattle.gt_expr.proofs.reading.+reading.Goals.{binary-else-loop-test, binary-then-loop-test+in_default}
 
-pub nested-returns-in_default : goal.nested-returns-in_default
-nested-returns-in_default t c = tree_at_end c.args.depth c.args.line c.args.parts.now (omega (arith, c.in_default.ensures))
+pub inner_line-returns-in_default : goal.inner_line-returns-in_default
+inner_line-returns-in_default t c = tree_at_end c.args.depth c.args.line c.args.parts.now (omega (arith, c.in_default.ensures))
 
-pub nested-returns-in-Conditional : goal.nested-returns-in-Conditional
-nested-returns-in-Conditional t c =
+pub inner_line-returns-in-Conditional : goal.inner_line-returns-in-Conditional
+inner_line-returns-in-Conditional t c =
     rw (tree_at_deeper c.args.depth c.in-Some.depth c.args.line c.args.parts.now (omega (arith, c.in-Some.ensures)), c.in-Conditional.is) c.conditional.ensures
 
-pub nested-returns-in-Level : goal.nested-returns-in-Level
-nested-returns-in-Level t c =
+pub inner_line-returns-in-Level : goal.inner_line-returns-in-Level
+inner_line-returns-in-Level t c =
     rw (tree_at_deeper c.args.depth c.in-Some.depth c.args.line c.args.parts.now (omega (arith, c.in-Some.ensures)), c.in-Level.is, line_at_level) c.binary.ensures
 
 pub binary-returns-then-level-eq0 : goal.binary-returns-then-level-eq0

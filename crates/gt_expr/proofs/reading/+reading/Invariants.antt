@@ -2,14 +2,14 @@ use Rattle.std.proofs.Common.{◌≡◌, ◌+◌, ◌-◌, ◌*◌}
 use Rattle.gt_expr.specs.Reading.{level_at, unary_at, tree_at, more_at}
 use Rattle.gt_expr.proofs.reading.+reading.Given as goal
 
-abbrev pub decreases-nested : goal.decreases-nested
-decreases-nested l = 300 * l.depth
+abbrev pub decreases-inner_line : goal.decreases-inner_line
+decreases-inner_line l = 300 * l.depth
 
 abbrev pub decreases-unary : goal.decreases-unary
 decreases-unary l = 300 * l.depth + 2
 
-abbrev pub decreases-prefixed : goal.decreases-prefixed
-decreases-prefixed l = 300 * l.depth + 1
+abbrev pub decreases-prefix_operation : goal.decreases-prefix_operation
+decreases-prefix_operation l = 300 * l.depth + 1
 
 abbrev pub decreases-binary : goal.decreases-binary
 decreases-binary l = 300 * l.depth + 3 + l.level
