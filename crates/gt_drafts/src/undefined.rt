@@ -56,7 +56,7 @@ fn has_no_target(options: &[RawOption], resolved: &Resolved) -> bool
     }
 }
 
-fn names_undefined(amount: Amount) -> bool
+fn is_undefined_amount(amount: Amount) -> bool
     ensures same { result ≡ names_undefined amount }
 {
     match amount {
@@ -65,19 +65,19 @@ fn names_undefined(amount: Amount) -> bool
     }
 }
 
-fn some_undefined(bits: Option<Amount>) -> bool
+fn has_undefined_bits(bits: Option<Amount>) -> bool
     ensures same { result ≡ option_map_or names_undefined bits false }
 {
     match bits {
         None => false,
-        Some(amount) => names_undefined(amount),
+        Some(amount) => is_undefined_amount(amount),
     }
 }
 
-fn some_bound_undefined(bounds: &[Amount]) -> bool
+fn has_undefined_bound(bounds: &[Amount]) -> bool
     ensures same { result ≡ list_any names_undefined bounds.now }
 {
-    bounds.iter().any(|bound| names_undefined(*bound))
+    bounds.iter().any(|bound| is_undefined_amount(*bound))
 }
 
 /// Whether something of the type has no definition or no size: its base, a bound or its bit count.
@@ -91,10 +91,10 @@ pub fn is_undefined_type(options: &[RawOption], ty: &DeclaredType) -> bool
     if !ty.is_function && has_no_target(options, &ty.resolved) {
         return true;
     }
-    if some_bound_undefined(ty.bounds.as_slice()) {
+    if has_undefined_bound(ty.bounds.as_slice()) {
         return true;
     }
-    some_undefined(ty.bits)
+    has_undefined_bits(ty.bits)
 }
 
 // Whether a key or a value has no definition.

@@ -20,7 +20,7 @@ pub enum Found {
     Directive(Option<Define>),
 }
 
-fn part_found(start: Start, newline: bool) -> Found
+fn finish_part(start: Start, newline: bool) -> Found
     ensures { result ≡ found_of start newline }
 {
     match start {
@@ -60,7 +60,7 @@ pub fn next_piece(
             Err(open_at) => Err((OPEN_COMMENT, open_at)),
         },
         start => match past(start, text) {
-            Some((newline, rest)) => Ok(Some((part_found(start, newline), rest))),
+            Some((newline, rest)) => Ok(Some((finish_part(start, newline), rest))),
             None => Err((open_fault(start), text)),
         },
     }

@@ -19,7 +19,7 @@ pub enum Scope {
 
 impl Scope {
     // What a name alone stands for.
-    fn named(self, lookup: &Lookup, name: &Word) -> Option<Expr>
+    fn expression_of_name(self, lookup: &Lookup, name: &Word) -> Option<Expr>
         ensures named { (draft : Draft) → IsLookupOf draft lookup.now → result ≡ names_of self draft name.now }
     {
         if let Some(value) = lookup.constant(name) {
@@ -36,7 +36,7 @@ impl Scope {
 fn name_or_zero(lookup: &Lookup, scope: Scope, name: &Word) -> Expr
     ensures named { (draft : Draft) → IsLookupOf draft lookup.now → result ≡ or_zero (names_of scope draft name.now) }
 {
-    match scope.named(lookup, name) {
+    match scope.expression_of_name(lookup, name) {
         Some(expression) => expression,
         None => Expr::Int(0),
     }
@@ -91,7 +91,7 @@ pub fn with_names(
 fn is_named(lookup: &Lookup, scope: Scope, name: &Word) -> bool
     ensures named { (draft : Draft) → IsLookupOf draft lookup.now → result ≡ is_some (names_of scope draft name.now) }
 {
-    scope.named(lookup, name).is_some()
+    scope.expression_of_name(lookup, name).is_some()
 }
 
 /// Whether all names alone in the expression stand for something.

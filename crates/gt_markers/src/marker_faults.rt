@@ -85,7 +85,7 @@ fn is_second_tag(kind: OptionKind, repeated: bool) -> bool
 }
 
 // The earliest fault with those of an option of this kind that is not passed over.
-fn of_known(
+fn with_kind_faults(
     alloc: Global,
     earliest: Option<Fault>,
     draft: &Draft,
@@ -141,7 +141,7 @@ fn of_option(
     if marker.site.passes_over(standing.all, kind) {
         return Ok(earliest);
     }
-    of_known(
+    with_kind_faults(
         alloc, earliest, draft, lookup, marker, standing, option, kind,
     )
 }

@@ -70,7 +70,7 @@ fn of_own(
 }
 
 // The earliest fault with that of the first option of a name of ASCII characters, where it is repeated.
-fn of_repeated(
+fn with_repeated_fault(
     earliest: Option<Fault>,
     repeated: bool,
     file: u32,
@@ -100,9 +100,9 @@ fn of_repeats(
 {
     let tag = tag_value(alloc, lookup, options)?;
     let same_tag = structure.is_union && before.hold_tag(tag);
-    let earliest = of_repeated(earliest, same_tag, structure.file, options, "tag");
+    let earliest = with_repeated_fault(earliest, same_tag, structure.file, options, "tag");
     let default_twice = structure.is_union && before.hold_default();
-    let earliest = of_repeated(earliest, default_twice, structure.file, options, "default");
+    let earliest = with_repeated_fault(earliest, default_twice, structure.file, options, "default");
     before.add(tag, has_option(options, "default"))?;
     Ok(earliest)
 }

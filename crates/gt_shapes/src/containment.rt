@@ -12,7 +12,7 @@ use gt_types::{List, MAX_DEPTH};
 use std::alloc::{AllocError, Global};
 
 // Adds the structure that a field contains by value, where it does.
-fn push_held(ids: &mut List<usize>, field: &DraftField) -> Result<(), AllocError>
+fn push_inner(ids: &mut List<usize>, field: &DraftField) -> Result<(), AllocError>
     ensures pushed { OnOk result (ids.new ≡ ids.old ++ filter_map (λ f. held_type f.ty) (field.now ∷ [])) }
 {
     match held_type(&field.ty) {
@@ -27,7 +27,7 @@ fn held_in(alloc: Global, s: &DraftStructure) -> Result<List<usize>, AllocError>
 {
     let mut ids = List::new(alloc);
     for field in s.fields.as_slice() {
-        push_held(&mut ids, field)?;
+        push_inner(&mut ids, field)?;
     }
     Ok(ids)
 }

@@ -134,7 +134,7 @@ fn add_edges(graph: &mut [List<usize>], froms: &[usize], to: usize) -> Result<()
 }
 
 // The graph with its edges turned round.
-fn turned(alloc: Global, graph: &[List<usize>]) -> Result<Vec<List<usize>>, AllocError>
+fn reverse_edges(alloc: Global, graph: &[List<usize>]) -> Result<Vec<List<usize>>, AllocError>
     ensures turned { IfOk result (λ turned. turned.items ≡ with_turned 0 graph.now (replicate (length graph.now) [])) }
 {
     let mut turned = no_edges(alloc, graph.len())?;
@@ -149,7 +149,7 @@ pub fn tail_types(alloc: Global, structures: &[DraftStructure]) -> Result<Vec<bo
     ensures tails { IfOk result (λ tails. AreReached (with_turned 0 (map members_of structures.now) (replicate (length structures.now) [])) (tail_structs 0 structures.now) tails.items) }
 {
     let members = all_members(alloc, structures)?;
-    let unions = turned(alloc, &members)?;
+    let unions = reverse_edges(alloc, &members)?;
     let structs = tail_structs(alloc, structures)?;
     reach(alloc, &unions, &structs)
 }

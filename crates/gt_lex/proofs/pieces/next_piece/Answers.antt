@@ -27,7 +27,7 @@ returns-in-Err c =
 
 pub returns-in-Some : goal.returns-in-Some
 returns-in-Some c =
-    rw c.part_found.ensures
+    rw c.finish_part.ensures
     (next_part (c.args.whole - length c.args.text.now) c.args.fresh c.in-Some.newline c.args.text.now c.in-Some.rest.now c.text_start.result c.in-Some.ensures.utf8 (sym c.text_start.ensures) (sym c.in-Some.ensures.rest))
 
 pub returns-in-None : goal.returns-in-None

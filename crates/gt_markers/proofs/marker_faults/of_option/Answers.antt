@@ -9,8 +9,8 @@ use Rattle.gt_markers.proofs.Firsts.{if_ok}
 use Rattle.gt_markers.proofs.MarkerLemmas.{known_too, passed, unknown_too}
 use Rattle.gt_markers.proofs.marker_faults.of_option.Goals as goal
 
-pub of_known-requires : goal.of_known-requires
-of_known-requires c =
+pub with_kind_faults-requires : goal.with_kind_faults-requires
+with_kind_faults-requires c =
     record {
       lookup = c.requires.lookup;
       all = c.requires.all;
@@ -47,10 +47,10 @@ returns c =
     let e = c.args.earliest in
     record {
       earliest =
-          if_ok c.of_known.result
+          if_ok c.with_kind_faults.result
           (λ r. (before : List RawOption) → AreKindsOf before c.args.standing.before → r ≡ first_from e (known_faults draft site options file before o c.in-Some.kind))
           (λ r. (before : List RawOption) → AreKindsOf before c.args.standing.before → r ≡ first_from e (option_faults draft site options file before o))
           (λ r h before are.
           h before are ∙ ap (first_from e) (known_too draft site options file before o c.in-Some.kind (kind_of o.name.word) (sym c.in-Some.ensures.kind)))
-          c.of_known.ensures.earliest;
+          c.with_kind_faults.ensures.earliest;
     }

@@ -8,7 +8,7 @@ use Rattle.gt_markers.specs.SiteViews.{site_of}
 use Rattle.gt_markers.proofs.Firsts.{first_from_both, first_from_if, first_from_numbered}
 use Rattle.gt_markers.proofs.KindLemmas.{any_in, stands_by_kind}
 use Rattle.gt_markers.proofs.MarkerLemmas.{known_counted}
-use Rattle.gt_markers.proofs.marker_faults.of_known.Goals as goal
+use Rattle.gt_markers.proofs.marker_faults.with_kind_faults.Goals as goal
 
 pub returns : goal.returns
 returns c =

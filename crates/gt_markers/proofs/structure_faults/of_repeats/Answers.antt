@@ -32,5 +32,5 @@ returns-clause-earliest c =
       | else-structure-2 w ↦ not_repeated in_union twice c.if-structure-2.default_twice w.if-structure-2.false (w.default_twice-is ∙ w.if-structure-2.false)
     ] in
     first_from_both _ _ _ _ _
-    (first_from_repeated _ _ _ _ file (option_named (codes "tag") options) c.of_repeated-earliest.ensures.earliest of_tag)
-    (first_from_repeated _ _ _ _ file (option_named (codes "default") options) c.of_repeated-earliest-2.ensures.earliest of_default)
+    (first_from_repeated _ _ _ _ file (option_named (codes "tag") options) c.with_repeated_fault-earliest.ensures.earliest of_tag)
+    (first_from_repeated _ _ _ _ file (option_named (codes "default") options) c.with_repeated_fault-earliest-2.ensures.earliest of_default)

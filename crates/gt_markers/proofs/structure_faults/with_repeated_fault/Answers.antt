@@ -3,7 +3,7 @@ use Rattle.gt_items.specs.declared.items.RawOption.{RawOption}
 use Rattle.gt_drafts.specs.FirstFaults.{first_from}
 use Rattle.gt_markers.specs.MarkerFaults.{repeated_fault}
 use Rattle.gt_markers.proofs.Firsts.{first_from_nil}
-use Rattle.gt_markers.proofs.structure_faults.of_repeated.Goals as goal
+use Rattle.gt_markers.proofs.structure_faults.with_repeated_fault.Goals as goal
 
 pub returns-in-None : goal.returns-in-None
 returns-in-None c =

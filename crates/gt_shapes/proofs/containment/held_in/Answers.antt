@@ -6,4 +6,4 @@ use Rattle.gt_shapes.proofs.containment.held_in.Goals as goal
 pub loop-field-preserved : goal.loop-field-preserved
 loop-field-preserved c =
     filter_map_more (λ f. held_type f.ty) c.as_slice-field-items.result.now c.args.s.now.fields c.loop-field.field-index c.field-item.result c.loop-field.ids
-    c.push_held.new.ids c.as_slice-field-items.ensures.items (omega arith) c.field-item.is c.loop-field.invariant c.in_ok-push_held.ensures.pushed
+    c.push_inner.new.ids c.as_slice-field-items.ensures.items (omega arith) c.field-item.is c.loop-field.invariant c.in_ok-push_inner.ensures.pushed

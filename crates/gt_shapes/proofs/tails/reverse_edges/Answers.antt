@@ -2,7 +2,7 @@ use Rattle.std.proofs.Common.{◌≡◌, ◌∙◌, ◌+◌, ℕ, List, length, 
 use Rattle.std.proofs.lemmas.List.{with_items_is}
 use Rattle.gt_shapes.specs.Graphs.{with_edges, with_turned}
 use Rattle.gt_shapes.proofs.TailLemmas.{turned_more, turned_end, length_with_edges}
-use Rattle.gt_shapes.proofs.tails.turned.Goals as goal
+use Rattle.gt_shapes.proofs.tails.reverse_edges.Goals as goal
 
 pub loop-place-preserved : goal.loop-place-preserved
 loop-place-preserved c =

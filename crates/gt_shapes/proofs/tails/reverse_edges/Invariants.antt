@@ -1,6 +1,6 @@
 use Rattle.std.proofs.Common.{◌≡◌, [], drop, length, replicate}
 use Rattle.gt_shapes.specs.Graphs.{with_turned}
-use Rattle.gt_shapes.proofs.tails.turned.Given as goal
+use Rattle.gt_shapes.proofs.tails.reverse_edges.Given as goal
 
 -- the edges of the places after so many come to what all come to
 abbrev pub invariant-loop-place : goal.invariant-loop-place
