@@ -9,7 +9,7 @@ use gt_types::{Cache, Copied, TypeId};
 use gt_typing::node;
 use std::alloc::{AllocError, Global};
 
-fn pointed(base: &BaseType, stars: Stars) -> Option<TypeId>
+fn pointer_target(base: &BaseType, stars: Stars) -> Option<TypeId>
     requires small { HasSmallId base.now }
     ensures { result ≡ pointed base.now stars }
 {
@@ -24,7 +24,7 @@ pub fn key_type(resolved: &Resolved) -> Option<TypeId>
     requires small { HasSmallId resolved.now.base }
     ensures { result ≡ key_type resolved.now }
 {
-    pointed(&resolved.base, resolved.stars)
+    pointer_target(&resolved.base, resolved.stars)
 }
 
 // A key or a value that points to no structure is a fault, and counts as the first structure.

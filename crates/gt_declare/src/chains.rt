@@ -115,7 +115,7 @@ fn with_these(structure: Structure, chains: List<Chain>) -> Structure
 
 // Each structure with its chains.
 #[tactic(auto, unfolding(crate::specs::Chains::joined))]
-fn joined(
+fn join_chains(
     alloc: Global,
     chains: List<List<Chain>>,
     structures: List<Structure>,
@@ -141,5 +141,5 @@ pub fn with_chains(
 {
     let names = FieldNames::of(alloc, structures.as_slice())?;
     let chains = all_chains(alloc, structures.as_slice(), &names, drafts)?;
-    joined(alloc, chains, structures)
+    join_chains(alloc, chains, structures)
 }

@@ -8,7 +8,7 @@ use crate::caches::cache_of;
 use crate::chains::with_chains;
 use crate::planes::planes_of;
 use crate::roots::root_of;
-use crate::structures::all_unchained;
+use crate::structures::structures_without_chains;
 use crate::words::word_of;
 use gt_drafts::Draft;
 use gt_layout::Plane;
@@ -64,7 +64,7 @@ pub fn declare(alloc: Global, draft: &Draft, lookup: &Lookup) -> Result<Program,
     ensures made { IfOk result (IsMadeOf draft.now) }
 {
     let planes = planes_of(alloc, draft, lookup)?;
-    let structures = all_unchained(alloc, draft, lookup, &planes)?;
+    let structures = structures_without_chains(alloc, draft, lookup, &planes)?;
     Ok(Program {
         structures: with_chains(alloc, draft.structures.as_slice(), structures)?,
         roots: roots_of(alloc, draft, lookup, &planes)?,

@@ -6,7 +6,7 @@ ghost use Rattle.gt_markers.specs.Sound.{IsSound};
 ghost use Rattle.gt_drafts.specs.Shapes.{held_type, structure_by_value};
 ghost use Rattle.gt_declare.specs.Making.{AreHeldBy, Grows, HoldsShallow, IsHeldLaid, IsShallow};
 
-use crate::structures::unchained;
+use crate::structures::structure_without_chains;
 use gt_drafts::{BaseType, DeclaredType, Draft, DraftStructure};
 use gt_items::Stars;
 use gt_layout::{Plane, plane};
@@ -82,9 +82,9 @@ fn lay_out(
     }
     let structure = &draft.structures.as_slice()[place];
     for field in structure.fields.as_slice() {
-        lay_out_held(alloc, draft, lookup, &field.ty, depth, known)?;
+        lay_out_inner(alloc, draft, lookup, &field.ty, depth, known)?;
     }
-    let made = unchained(alloc, draft, lookup, known.as_slice(), structure)?;
+    let made = structure_without_chains(alloc, draft, lookup, known.as_slice(), structure)?;
     let laid = plane(alloc, &made, known.as_slice())?;
     known[place] = laid;
     Ok(())
@@ -92,7 +92,7 @@ fn lay_out(
 
 // Lays out the structure that something of this type contains by value, where it contains one.
 #[cycle(order)]
-fn lay_out_held(
+fn lay_out_inner(
     alloc: Global,
     draft: &Draft,
     lookup: &Lookup,

@@ -15,7 +15,7 @@ use std::alloc::{AllocError, Global};
 
 /// A structure without its chains, as the program has it. `planes` are those of the structures of the draft, by place, of which it reads
 /// no more than those of the structures that this one holds by value. It fails only if memory runs out.
-pub fn unchained(
+pub fn structure_without_chains(
     alloc: Global,
     draft: &Draft,
     lookup: &Lookup,
@@ -38,7 +38,7 @@ pub fn unchained(
 }
 
 /// All structures of a draft without their chains. It fails only if memory runs out.
-pub fn all_unchained(
+pub fn structures_without_chains(
     alloc: Global,
     draft: &Draft,
     lookup: &Lookup,
@@ -50,7 +50,7 @@ pub fn all_unchained(
 {
     let mut made = Vec::new(alloc);
     for structure in draft.structures.as_slice() {
-        made.push(unchained(alloc, draft, lookup, planes, structure)?)?;
+        made.push(structure_without_chains(alloc, draft, lookup, planes, structure)?)?;
     }
     Ok(List::of(made))
 }

@@ -38,7 +38,7 @@ impl Frame {
     }
 
     // Inside the structure that begins so many bytes on.
-    pub fn entered(&self, bytes: u32) -> Frame
+    pub fn enter(&self, bytes: u32) -> Frame
         requires near { self.now.at < 2 ^ 63 }
         ensures { frame_of result ≡ entered (frame_of self.now) bytes }
     {

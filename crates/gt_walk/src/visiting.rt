@@ -184,7 +184,7 @@ fn visit_row<S: EdgeSink>(
             ..
         } => visit_pointer(source.space, frame, *offset, *walk, count, sink),
         WalkRow::Sub { offset, walk } => {
-            let inner = frame.entered(*offset);
+            let inner = frame.enter(*offset);
             visit_walk(source, *walk, left, &inner, sink)
         }
         WalkRow::Rep {

@@ -1,6 +1,6 @@
 use Rattle.std.proofs.Common.{◌∙◌, sym, inl, inr}
 use Rattle.gt_declare.proofs.ChainLemmas.{joined_all}
-use Rattle.gt_declare.proofs.chains.joined.Goals as goal
+use Rattle.gt_declare.proofs.chains.join_chains.Goals as goal
 
 pub returns : goal.returns
 returns c =

@@ -9,9 +9,9 @@ pub returns : goal.returns
 returns c =
     record {
       chained =
-          subst (λ (all : List Structure). IfOk c.joined.result (λ made. made ≡ all)) (
+          subst (λ (all : List Structure). IfOk c.join_chains.result (λ made. made ≡ all)) (
           ap (λ (chains : List (List Chain)). joined chains c.args.structures) (
           c.in_ok-chains.ensures.chains ∙ ap (λ (structures : List Structure). chains_from structures 0 c.args.drafts.now) c.as_slice-2.ensures.items)
           ∙ joined_chains c.args.structures 0 c.args.drafts.now c.args.structures)
-          c.joined.ensures.joined;
+          c.join_chains.ensures.joined;
     }

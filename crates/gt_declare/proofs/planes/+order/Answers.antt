@@ -4,8 +4,8 @@ use Rattle.gt_declare.proofs.Ideals.{sound_at}
 use Rattle.gt_declare.proofs.LayingSteps.{field_shallow, few_at, held_more, laid_after, grows_after, onward, placeable_at, small_fields}
 use Rattle.gt_declare.proofs.planes.+order.Goals as goal
 
-pub lay_out-lay_out_held-requires : goal.lay_out-lay_out_held-requires
-lay_out-lay_out_held-requires t c = (
+pub lay_out-lay_out_inner-requires : goal.lay_out-lay_out_inner-requires
+lay_out-lay_out_inner-requires t c = (
   omega arith,
   (
     c.requires.draft,
@@ -25,13 +25,13 @@ lay_out-lay_out_held-requires t c = (
 
 pub lay_out-loop-field-preserved : goal.lay_out-loop-field-preserved
 lay_out-loop-field-preserved t c = record {
-  grows = onward c.args.draft.now c.args.known.now.items c.loop-field.known.items c.lay_out_held.new.known.items c.loop-field.invariant.grows c.in_ok-lay_out_held.ensures.grows;
-  held = held_more c.args.draft.now c.loop-field.known.items c.lay_out_held.new.known.items c.as_slice-field-items.result.now c.loop-field.field-index c.field-item.result c.loop-field-test.true c.field-item.is
-      c.in_ok-lay_out_held.ensures.grows c.in_ok-lay_out_held.ensures.laid c.loop-field.invariant.held;
+  grows = onward c.args.draft.now c.args.known.now.items c.loop-field.known.items c.lay_out_inner.new.known.items c.loop-field.invariant.grows c.in_ok-lay_out_inner.ensures.grows;
+  held = held_more c.args.draft.now c.loop-field.known.items c.lay_out_inner.new.known.items c.as_slice-field-items.result.now c.loop-field.field-index c.field-item.result c.loop-field-test.true c.field-item.is
+      c.in_ok-lay_out_inner.ensures.grows c.in_ok-lay_out_inner.ensures.laid c.loop-field.invariant.held;
 }
 
-pub lay_out-unchained-requires-clause-small : goal.lay_out-unchained-requires-clause-small
-lay_out-unchained-requires-clause-small t c =
+pub lay_out-structure_without_chains-requires-clause-small : goal.lay_out-structure_without_chains-requires-clause-small
+lay_out-structure_without_chains-requires-clause-small t c =
     small_fields c.args.draft.now c.index-as_slice-place.result c.requires.draft
     (sound_at c.args.draft.now c.args.place c.index-as_slice-place.result c.requires.draft
     (read_at c.as_slice.result.now c.args.draft.now.structures c.args.place c.index-as_slice-place.result c.as_slice.ensures.items c.requires.inside c.index-as_slice-place.is))

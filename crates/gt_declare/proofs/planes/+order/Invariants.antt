@@ -7,8 +7,8 @@ use Rattle.gt_declare.proofs.planes.+order.Given as goal
 abbrev pub decreases-lay_out : goal.decreases-lay_out
 decreases-lay_out l = 2 * l.depth + 1
 
-abbrev pub decreases-lay_out_held : goal.decreases-lay_out_held
-decreases-lay_out_held l = 2 * l.depth
+abbrev pub decreases-lay_out_inner : goal.decreases-lay_out_inner
+decreases-lay_out_inner l = 2 * l.depth
 
 abbrev pub invariant-lay_out-loop-field : goal.invariant-lay_out-loop-field
 invariant-lay_out-loop-field l = record {
