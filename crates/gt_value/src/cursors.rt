@@ -128,7 +128,7 @@ impl<'a> Cursor<'a> {
     }
 
     // The same source, at a part elsewhere.
-    fn moved(&self, site: Site, ty: &'a Ty, at: u32) -> Cursor<'a>
+    fn cursor_at(&self, site: Site, ty: &'a Ty, at: u32) -> Cursor<'a>
         ensures { IsMoved result self.now.source site ty.now at }
     {
         Cursor {
@@ -148,7 +148,7 @@ impl<'a> Cursor<'a> {
             return None;
         }
         let begin = self.at as u64 + place as u64 * (8 * size_of(elem, self.source.layouts));
-        Some(self.moved(self.site, elem, begin as u32))
+        Some(self.cursor_at(self.site, elem, begin as u32))
     }
 
     // The part at a place of a structure.
@@ -172,21 +172,21 @@ impl<'a> Cursor<'a> {
             let field = structure.fields.get(place as usize)?;
             let spot = plane.fields.get(place as usize)?;
             let begin = self.at as u64 + begin_at(spot);
-            return Some(self.moved(own, &field.ty, begin as u32));
+            return Some(self.cursor_at(own, &field.ty, begin as u32));
         }
         let worth = worth_of(desc, &self.source, inner);
         if let Some(active) = active_member(program, layouts, id, structure, worth) {
             if active != place {
                 return None;
             }
-            return Some(self.moved(own, &fields[active as usize].ty, self.at));
+            return Some(self.cursor_at(own, &fields[active as usize].ty, self.at));
         }
         let member = common_place(program, layouts, id, structure)?;
         let bare = Site {
             around: inner.without_pointers(),
             holder: self.site.holder,
         };
-        Some(self.moved(bare, &fields[member as usize].ty, self.at))
+        Some(self.cursor_at(bare, &fields[member as usize].ty, self.at))
     }
 
     /// A cursor at the part to which a path leads. None where no part lies there.

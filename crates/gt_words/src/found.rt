@@ -110,7 +110,7 @@ fn generated_call(
     if !headers.is_empty() {
         return Ok(None);
     }
-    let Some(n) = generated(digits) else {
+    let Some(n) = generated_number(digits) else {
         return Ok(None);
     };
     let word = Word::of(alloc, word)?;
@@ -122,7 +122,7 @@ fn generated_call(
 }
 
 #[tactic(auto, unfolding(crate::specs::Calls::generated_of))]
-fn generated(digits: &[u8]) -> Option<u32>
+fn generated_number(digits: &[u8]) -> Option<u32>
     ensures { result ≡ generated_of digits.now }
 {
     if digits.len() > MAX_GENERATED_DIGITS {

@@ -28,7 +28,7 @@ pub fn read_words(alloc: Global, words: &[Word]) -> Result<Option<Call>, AllocEr
     let command = command(alloc)?;
     match command.try_get_matches_from(texts.as_slice()) {
         Ok(matches) => found_call(alloc, &matches),
-        Err(error) => refused(&error),
+        Err(error) => refuse(&error),
     }
 }
 
@@ -44,7 +44,7 @@ fn texts_of<'a>(alloc: Global, words: &'a [Word]) -> Result<Vec<&'a str>, AllocE
 }
 
 // The answer where `clap` gives no matches: out of memory, or a refusal.
-fn refused(error: &Error) -> Result<Option<Call>, AllocError>
+fn refuse(error: &Error) -> Result<Option<Call>, AllocError>
     ensures { MatchResult result (λ found. (found ≡ None) × (kind_of error.now ≡ OutOfMemory → ⊥)) (λ _. kind_of error.now ≡ OutOfMemory) }
 {
     if error.kind() == ErrorKind::OutOfMemory {

@@ -31,5 +31,5 @@ returns c =
     let same : texts c.as_slice.result.now ≡ map encode_utf8_all c.args.words.now = ap texts c.as_slice.ensures.value ∙ c.in_ok-texts.ensures in
     let kinds = c.in-Err.ensures.kinds (ap is_simple_and_free ours ∙ is_ours_free) in
     let refused = refuses (app_of c.in_ok-command.command) (texts c.as_slice.result.now) c.args.words.now c.in-Err.error ours same in
-    let asked : IfOk c.refused.result (λ found. found ≡ call_of c.args.words.now) = MatchResult-weaker c.refused.result c.refused.ensures (λ found h. h.0 ∙ sym (refused h.1 kinds)) (λ _ _. tt) in
-    record { call = asked; ranges = ranged c.args.words.now c.refused.result asked }
+    let asked : IfOk c.refuse.result (λ found. found ≡ call_of c.args.words.now) = MatchResult-weaker c.refuse.result c.refuse.ensures (λ found h. h.0 ∙ sym (refused h.1 kinds)) (λ _ _. tt) in
+    record { call = asked; ranges = ranged c.args.words.now c.refuse.result asked }

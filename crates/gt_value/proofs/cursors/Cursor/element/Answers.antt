@@ -11,5 +11,5 @@ returns-then-place-n c values s =
 pub returns : goal.returns
 returns c =
     let self = c.args.self.now in
-    element-moved self.source self.site c.args.elem.now self.at c.args.n c.args.place c.moved.result (omega (arith, c.if-place-n.false))
-    (subst (λ k. IsMoved c.moved.result self.source self.site c.args.elem.now (self.at + c.args.place * (8 * k))) c.size_of.ensures c.moved.ensures)
+    element-moved self.source self.site c.args.elem.now self.at c.args.n c.args.place c.cursor_at.result (omega (arith, c.if-place-n.false))
+    (subst (λ k. IsMoved c.cursor_at.result self.source self.site c.args.elem.now (self.at + c.args.place * (8 * k))) c.size_of.ensures c.cursor_at.ensures)

@@ -115,9 +115,9 @@ returns-then-not-structure c =
     let spot_of : slice_get plane.fields c.args.place ≡ Some spot = search rules in
     let begin : self.at + c.begin_at.result ≡ self.at + begin_at spot = ap (λ k. self.at + k) c.begin_at.ensures.begin in
     let moved =
-    subst (λ k. IsMoved c.moved.result source (site c.enter-inner.result (lies_in.Field c.args.id c.args.place)) f.ty k) begin c.moved.ensures in
-    struct-step source self.site c.args.id c.args.desc.now self.at y has plane c.args.place f spot c.moved.result struct laid got spot_of
-    (subst (λ x. IsMoved c.moved.result source (site x (lies_in.Field c.args.id c.args.place)) f.ty (self.at + begin_at spot)) c.enter-inner.ensures moved)
+    subst (λ k. IsMoved c.cursor_at.result source (site c.enter-inner.result (lies_in.Field c.args.id c.args.place)) f.ty k) begin c.cursor_at.ensures in
+    struct-step source self.site c.args.id c.args.desc.now self.at y has plane c.args.place f spot c.cursor_at.result struct laid got spot_of
+    (subst (λ x. IsMoved c.cursor_at.result source (site x (lies_in.Field c.args.id c.args.place)) f.ty (self.at + begin_at spot)) c.enter-inner.ensures moved)
 
 pub active_member-requires-clause-laid : goal.active_member-requires-clause-laid
 active_member-requires-clause-laid c = c.requires.stands.1.context.laid
@@ -175,9 +175,9 @@ returns-in-Some c =
     let got = read_at c.as_slice-fields.result.now y.fields c.in-Some.active f c.as_slice-fields.ensures.items within c.index-fields-active.is in
     let got_place = subst (λ k. slice_get y.fields k ≡ Some f) c.if-active-place.false got in
     let active_place = active ∙ ap Some c.if-active-place.false in
-    let moved = subst (λ g. IsMoved c.moved-in-Some.result source (site c.enter-inner.result (lies_in.Field c.args.id c.args.place)) g.ty self.at) (sym c.index-fields-active.is) c.moved-in-Some.ensures in
-    member-step source self.site c.args.id c.args.desc.now self.at y has union c.args.place f c.moved-in-Some.result active_place got_place
-    (subst (λ x. IsMoved c.moved-in-Some.result source (site x (lies_in.Field c.args.id c.args.place)) f.ty self.at) c.enter-inner.ensures moved)
+    let moved = subst (λ g. IsMoved c.cursor_at-in-Some.result source (site c.enter-inner.result (lies_in.Field c.args.id c.args.place)) g.ty self.at) (sym c.index-fields-active.is) c.cursor_at-in-Some.ensures in
+    member-step source self.site c.args.id c.args.desc.now self.at y has union c.args.place f c.cursor_at-in-Some.result active_place got_place
+    (subst (λ x. IsMoved c.cursor_at-in-Some.result source (site x (lies_in.Field c.args.id c.args.place)) f.ty self.at) c.enter-inner.ensures moved)
 
 pub common_place-requires-clause-has : goal.common_place-requires-clause-has
 common_place-requires-clause-has c =
@@ -230,8 +230,8 @@ returns c =
     let got = read_at c.as_slice-fields.result.now y.fields c.in_ok-member.member f c.as_slice-fields.ensures.items within c.index-fields-member.is in
     let type = common-at source.program.now c.args.id y is.0 c.in_ok-member.member f c.requires.stands.1.context.settled has is.1 is.2 got in
     let changed : c.without_pointers.result ≡ without_pointers inner = c.without_pointers.ensures ∙ ap without_pointers c.enter-inner.ensures in
-    let next = c.moved-2.result in
-    let of_field = subst (λ g. IsMoved next source (site c.without_pointers.result self.site.holder) g.ty self.at) (sym c.index-fields-member.is) c.moved-2.ensures in
+    let next = c.cursor_at-2.result in
+    let of_field = subst (λ g. IsMoved next source (site c.without_pointers.result self.site.holder) g.ty self.at) (sym c.index-fields-member.is) c.cursor_at-2.ensures in
     let of_type = subst (λ t. IsMoved next source (site c.without_pointers.result self.site.holder) t self.at) type of_field in
     common-step source self.site c.args.id c.args.desc.now self.at y has union is.0 c.args.place next active is.1
     (subst (λ x. IsMoved next source (site x self.site.holder) (ty.Node is.0 None) self.at) changed of_type)
