@@ -1,5 +1,5 @@
 -- What is known of a leaf of an element whose place is known.
-use Rattle.std.specs.Prelude.{ℕ, List, Some, true}
+use Rattle.std.specs.Prelude.{ℕ, List}
 use Rattle.gt_types.specs.declared.types.Ty.{Ty}
 use Rattle.gt_types.specs.declared.program.Program.{Program}
 use Rattle.gt_layout.specs.declared.planes.Layouts.{Layouts}
@@ -8,14 +8,11 @@ use Rattle.gt_space.specs.Range.{Range}
 use Rattle.gt_tree.specs.Trees.{Tree, Trees}
 use Rattle.gt_tree.specs.Blocks.{Blocks}
 use Rattle.gt_tree.specs.Scopes.{outside}
-use Rattle.gt_tree.specs.Reshapes.{Assigns}
 use Rattle.gt_value.specs.declared.places.Holder.TheVariants as lies_in
-use Rattle.gt_value.specs.declared.places.LeafContent.{LeafContent}
 use Rattle.gt_value.specs.declared.places.Place.{Place}
 use Rattle.gt_value.specs.Bytes.{IsRoomFor}
-use Rattle.gt_value.specs.Places.{PartLies, IsContentOf, IsPlaceOf}
-use Rattle.gt_leaf.specs.Unread.{structures_on}
-use Rattle.gt_leaf.specs.Writing.{StandsBeside, IsLeft}
+use Rattle.gt_value.specs.Places.{IsPlaceOf}
+use Rattle.gt_leaf.specs.Writing.{StandsBeside}
 
 -- the bytes of an element stand for this value, in which the leaf at a path lies at this place
 pub record HasLeafAt (program : Program) (layouts : Layouts) (blocks : Blocks) (statics : Trees) (capacity : ℕ) (type : Ty) (range : Range) (address : ℕ) (value : Tree) (path : List ℕ) (place : Place) : Type 0 where
@@ -23,12 +20,3 @@ pub record HasLeafAt (program : Program) (layouts : Layouts) (blocks : Blocks) (
   pub inside : IsRoomFor program layouts capacity type range address
   pub stands : StandsBeside program layouts blocks statics capacity type range address value
   pub at : IsPlaceOf program layouts.structures (outside statics) lies_in.Element type range address value path place
-
--- the leaf at a path of a value cannot be looked at alone
-abbrev pub LeavesLeaf : Program → Layouts → Trees → Ty → Tree → List ℕ → LeafContent → Type 0
-LeavesLeaf program layouts statics type value path leaf =
-    IsLeft program (structures_on program (Some type) path) (PartLies program layouts.structures (outside statics) lies_in.Element true 0 type value path) value path leaf
-
--- no value is what the write of this leaf makes of a value
-abbrev pub MisfitsLeaf : Program → Blocks → Trees → ℕ → Ty → Tree → List ℕ → LeafContent → Type 0
-MisfitsLeaf program blocks statics capacity type value path leaf = (tree new : Tree) → IsContentOf leaf tree → ¬ Assigns program blocks statics capacity type value path tree new

@@ -137,15 +137,25 @@ abbrev pub WritesElement : Program → Layouts → Blocks → ℕ → Ty → ℕ
 WritesElement program layouts blocks capacity type address path leaf old new = (statics : Trees) (value : Tree) → StandsBeside program layouts blocks statics capacity type old address value
     → IsWrittenInPlace program layouts blocks statics capacity type address value path leaf old new
 
+-- the leaf at a path of a value cannot be looked at alone
+abbrev pub LeavesLeaf : Program → Layouts → Trees → Ty → Tree → List ℕ → LeafContent → Type 0
+LeavesLeaf program layouts statics type value path leaf =
+    IsLeft program (structures_on program (Some type) path) (PartLies program layouts.structures (outside statics) lies_in.Element true 0 type value path) value path leaf
+
+-- there is a leaf at the path of a value, and no value is what the write of this leaf makes of it
+abbrev pub MisfitsLeaf : Program → Blocks → Trees → ℕ → Ty → Tree → List ℕ → LeafContent → Type 0
+MisfitsLeaf program blocks statics capacity type value path leaf =
+    LeadsToLeaf value path × ((tree new : Tree) → IsContentOf leaf tree → ¬ Assigns program blocks statics capacity type value path tree new)
+
 -- whatever value the bytes of an element stand for, the leaf there cannot be looked at alone
 abbrev pub LeavesElement : Program → Layouts → Blocks → ℕ → Ty → ℕ → List ℕ → LeafContent → Range → Type 0
 LeavesElement program layouts blocks capacity type address path leaf range = (statics : Trees) (value : Tree) → StandsBeside program layouts blocks statics capacity type range address value
-    → IsLeft program (structures_on program (Some type) path) (PartLies program layouts.structures (outside statics) lies_in.Element true 0 type value path) value path leaf
+    → LeavesLeaf program layouts statics type value path leaf
 
 -- whatever value the bytes of an element stand for, there is a leaf at the path, and no value fits with this one there
 abbrev pub MisfitsElement : Program → Layouts → Blocks → ℕ → Ty → ℕ → List ℕ → LeafContent → Range → Type 0
 MisfitsElement program layouts blocks capacity type address path leaf range = (statics : Trees) (value : Tree) → StandsBeside program layouts blocks statics capacity type range address value
-    → LeadsToLeaf value path × ((tree new : Tree) → IsContentOf leaf tree → ¬ Assigns program blocks statics capacity type value path tree new)
+    → MisfitsLeaf program blocks statics capacity type value path leaf
 
 -- so for the static record
 abbrev pub MayPutStatics : Program → Layouts → Blocks → List ℕ → LeafContent → Range → Place → Type 0

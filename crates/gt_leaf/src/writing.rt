@@ -16,8 +16,8 @@ ghost use Rattle.gt_leaf.specs.Tables.{IsTableOf};
 ghost use Rattle.gt_leaf.specs.Unread.{Around, IsUnread};
 ghost use Rattle.gt_leaf.specs.HeldTypes.{IsOfPart};
 ghost use Rattle.gt_leaf.specs.Verdicts.{IsFit, IsMisfit};
-ghost use Rattle.gt_leaf.specs.KnownPlaces.{HasLeafAt, LeavesLeaf, MisfitsLeaf};
-ghost use Rattle.gt_leaf.specs.Writing.{StandsBeside, StaticsStandBeside, is_number_leaf, takes_number, has_word, LeafFits, IsAlone, MayPut, MayPutElement, WritesElement, LeavesElement, MisfitsElement, MayPutStatics, WritesStatics, LeavesStatics, MisfitsStatics};
+ghost use Rattle.gt_leaf.specs.KnownPlaces.{HasLeafAt};
+ghost use Rattle.gt_leaf.specs.Writing.{StandsBeside, StaticsStandBeside, is_number_leaf, takes_number, has_word, LeafFits, IsAlone, MayPut, MayPutElement, WritesElement, LeavesLeaf, MisfitsLeaf, LeavesElement, MisfitsElement, MayPutStatics, WritesStatics, LeavesStatics, MisfitsStatics};
 ghost use Rattle.gt_leaf.specs.declared.writing.LeafWrite.TheVariants.{Written, NotInPlace, Misfit};
 ghost use Rattle.gt_leaf.specs.declared.writing.LeafVerdict.TheVariants as LeafVerdict;
 ghost use Rattle.gt_leaf.specs.declared.writing.LeafVerdict.TheVariants.{InPlace};
@@ -290,7 +290,7 @@ pub fn write_static_leaf<N: BlockNames>(
 }
 
 /// Judges the write of the leaf at a path of an element of a block before it is done, where the place at which the leaf lies is known:
-/// the verdict is as that of [`judge_leaf`], and the path is not walked again. It takes no memory.
+/// what it promises is what [`judge_leaf`] does, and the path is not walked again. It takes no memory.
 pub fn judge_leaf_at<N: BlockNames>(
     program: &Program,
     reads: &Reads,

@@ -5,6 +5,7 @@ ghost use Rattle.gt_types.specs.declared.limits.TheConstants.{MAX_MIN_EXPAND, MA
 ghost use Rattle.gt_words.specs.declared.TheConstants.{DEFAULT_PAGES, DEFAULT_MIN_EXPAND, DEFAULT_MIN_HEAPSIZE, MAX_GENERATED, MAX_GENERATED_DIGITS};
 ghost use Rattle.gt_front.specs.declared.TheConstants.{MAX_HEADER_BYTES, MAX_SCRIPT_BYTES, SCRIPT_SYNTAX, SCRIPT_TOO_LONG};
 ghost use Rattle.gt_space.specs.declared.TheConstants.{PAGE_BYTES, HEAP_START, MAX_STATICS, MIN_PAGES, MAX_PAGES};
+ghost use Rattle.gt_script.specs.declared.stop.TheConstants.{MAX_COMMANDS};
 ghost use Rattle.gt_graph.specs.Good.{MAX_PAIRS};
 ghost use Rattle.gt_io.specs.Held.{Held};
 ghost use Rattle.gt_space.specs.Range.{Range};
@@ -27,6 +28,7 @@ pub fn numbers()
     ensures headers { MAX_HEADERS ≡ 64 }
     ensures files { (MAX_HEADER_BYTES ≡ 1048576) × (MAX_SCRIPT_BYTES ≡ 33554432) }
     ensures faults { (SCRIPT_SYNTAX ≡ 25) × (SCRIPT_TOO_LONG ≡ 26) }
+    ensures commands { MAX_COMMANDS ≡ 1000000 }
     ensures space { (HEAP_START ≡ 268435456) × (PAGE_BYTES ≡ 4096) × (MAX_STATICS ≡ 1048576) }
     ensures variables { MAX_VARIABLES ≡ 65536 }
     ensures pairs { MAX_PAIRS ≡ 1048576 }

@@ -120,7 +120,7 @@ digits_solid (c ∷ cs) h =
     let other : begins_step c ≡ false = false_from_ne_true (begins_step c) (λ e. both_ways (is_digit c 10) (step_no_digit c e) both.0) in
     rw (other, digits_solid cs both.1) refl
 
-abbrev StepsAgain : List ℕ → List Hop → Type 0
+abbrev pub StepsAgain : List ℕ → List Hop → Type 0
 StepsAgain text hops = cut_steps text ≡ ([], (cut_steps text).1) × (hops_at (cut_steps text).1 ≡ Some hops)
 
 -- a text of one step in front of others
@@ -142,7 +142,7 @@ element_again : (digits : List ℕ) (number : ℕ) → IsDecimal digits number �
 unfolding hop_at index_at following
 element_again digits number h = rw (before_again (codes "]") digits, decimal_again digits number h) refl
 
-steps_again : {rest : List ℕ} {hops : List Hop} → AreSteps rest hops → StepsAgain rest hops
+pub steps_again : {rest : List ℕ} {hops : List Hop} → AreSteps rest hops → StepsAgain rest hops
 unfolding cut_steps hops_at begins_step
 steps_again no_steps = (refl, refl)
 steps_again (field_first {rest} {hops} name h more) = step_front 46 (encode_utf8_all name) rest (Name name) hops refl (name_solid name h) (field_again name h) (steps_again more)

@@ -1,5 +1,5 @@
 -- The texts of steps, one after another.
-use Rattle.std.proofs.Common.{◌≡◌, ◌≢◌, ◌≤◌, eqb, take, length, ℕ, ◌<◌, Bool, true, false, List, [], ◌∷◌, ◌++◌, Option, Some, None, IsTrue, codes, encode_utf8_all, refl, sym, ap, subst, ◌∙◌, arith}
+use Rattle.std.proofs.Common.{◌≡◌, ◌≢◌, ◌≤◌, cond, eqb, take, length, ℕ, ◌<◌, Bool, true, false, List, [], ◌∷◌, ◌++◌, Option, Some, None, IsTrue, codes, encode_utf8_all, refl, sym, ap, subst, ◌∙◌, arith}
 use Rattle.std.specs.Prelude.{◌&&◌, is_some}
 use Rattle.std.specs.List.{list_all}
 use Rattle.std.specs.Char.{is_digit}
@@ -23,7 +23,7 @@ use Rattle.gt_script.proofs.Options.{bind_some}
 use Rattle.gt_script.proofs.NamesSpelled.{name_taken}
 use Rattle.gt_script.proofs.NumbersSpelled.{mapped_some}
 use Rattle.gt_script.proofs.Walks.{place, cut_front}
-use Rattle.gt_script.proofs.PathsSpelled.{joined, cut_joined, steps_taken}
+use Rattle.gt_script.proofs.PathsSpelled.{joined, cut_joined, steps_again, steps_taken}
 
 -- ---- they are UTF-8
 
@@ -89,6 +89,28 @@ none_whole text e h = unknown (hops_at (cut_steps text).1) h ∙ steps_whole tex
     unknown : (read : Option (List Hop)) → false ≡ is_some read → None ≡ read
     unknown None h = refl
     unknown (Some hops) h = absurd (cc)
+
+-- what is spelled as steps is read as those
+pub steps_read : (text : List ℕ) (hops : List Hop) → AreSteps text hops → steps_at text ≡ Some hops
+steps_read text hops h =
+    let again = steps_again h in
+    sym (steps_whole text (ap (λ (cut : List ℕ × List (List ℕ)). cut.0) again.0)) ∙ again.1
+
+empty : (xs : List ℕ) → length xs ≡ 0 → xs ≡ []
+empty [] h = refl
+empty (x ∷ xs) h = absurd (cc)
+
+-- and what is read so is spelled so
+pub steps_spelled : (text : List ℕ) (hops : List Hop) → steps_at text ≡ Some hops → AreSteps text hops
+unfolding steps_at
+steps_spelled text hops e = go (eqb (length (cut_steps text).0) 0) refl e
+  where
+    go : (b : Bool) → eqb (length (cut_steps text).0) 0 ≡ b → cond b (hops_at (cut_steps text).1) None ≡ Some hops → AreSteps text hops
+    go true first read =
+        let begins : (cut_steps text).0 ≡ [] = empty (cut_steps text).0 (eqb-true _ 0 first) in
+        let whole : text ≡ joined (cut_steps text).1 = cut_joined text ∙ ap (λ (front : List ℕ). front ++ joined (cut_steps text).1) begins in
+        subst (λ (t : List ℕ). AreSteps t hops) (sym whole) (steps_taken (cut_steps text).1 hops read)
+    go false first read = absurd (cc)
 
 -- ---- the first of them
 

@@ -29,7 +29,7 @@ pub record IsRefusedAt (text : List ℕ) (number : ℕ) : Type 0 where
   pub is_refused : IsRefused refused
   pub number_is : number ≡ suc (length front)
 
--- more than 1,000,000 commands stand, and no line up to the 1,000,001st is refused
+-- more than 1,000,000 commands stand, and no line up to the 1,000,001st command is refused
 pub record IsTooLong (text : List ℕ) : Type 0 where
   pub front : List (List ℕ)
   pub back : List (List ℕ)

@@ -65,7 +65,7 @@ pub enum Command {
     },
     /// `collect`: collect where enough was allocated since the last collection.
     Collect,
-    /// `collect force`: free the objects that no root reaches.
+    /// `collect force`: free the objects that neither a root that is not deletable reaches nor a pair that stays.
     CollectForce,
     /// `save "f" PAGE`: write an image of the heap to the file, with `page` as its preferred page.
     Save {

@@ -4,7 +4,7 @@ ghost use Rattle.std.specs.Prelude.{◌≡◌, pos, neg_ℤ};
 use std::fmt;
 use std::marker::Model;
 
-/// An integer from 1 - 2^64 to 2^64 - 1, that contracts see as that integer. It takes half the memory of an `i128`.
+/// An integer from 1 - 2^64 to 2^64 - 1, that contracts see as that integer. An `Option` of it takes half the memory of one of an `i128`.
 #[derive(Clone, Copy, Debug, PartialEq, Eq)]
 pub struct Number {
     negative: bool,

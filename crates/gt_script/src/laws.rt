@@ -1,13 +1,15 @@
 // Laws of the script language, for every text. The functions do nothing.
 ghost use Rattle.std.specs.Prelude.{◌≡◌, ◌<◌, ℕ, List, Some, Result, All, Contains};
+ghost use Rattle.gt_script.specs.declared.command.Hop.{Hop};
 ghost use Rattle.gt_script.specs.declared.command.Line.{Line};
 ghost use Rattle.gt_script.specs.declared.command.Command.TheVariants.{Text};
 ghost use Rattle.gt_script.specs.declared.stop.ScriptStop.{ScriptStop};
 ghost use Rattle.gt_script.specs.declared.pieces.Piece.{Piece};
 ghost use Rattle.gt_script.specs.Cutting.{words_of};
-ghost use Rattle.gt_script.specs.Language.{AreWords, IsLine};
+ghost use Rattle.gt_script.specs.Language.{AreSteps, AreWords, IsLine};
 ghost use Rattle.gt_script.specs.Outcome.{Parsed, IsOutcome, HasOutcome};
 ghost use Rattle.gt_script.specs.Scanning.{line_at};
+ghost use Rattle.gt_script.specs.Steps.{steps_at};
 
 /// Each text has exactly one outcome: lines, a first line that is refused, or more commands than a script may have. So
 /// `parse_script` gives it, unless memory runs out.
@@ -20,6 +22,12 @@ pub fn one_outcome()
 pub fn words_as_spelled()
     ensures again { (text : List ℕ) (words : List Piece) → AreWords text words → words_of text ≡ Some words }
     ensures taken { (text : List ℕ) (words : List Piece) → words_of text ≡ Some words → AreWords text words }
+{}
+
+/// What is spelled as steps is read as those steps, and what is read as steps is spelled so.
+pub fn steps_as_spelled()
+    ensures again { (text : List ℕ) (steps : List Hop) → AreSteps text steps → steps_at text ≡ Some steps }
+    ensures taken { (text : List ℕ) (steps : List Hop) → steps_at text ≡ Some steps → AreSteps text steps }
 {}
 
 /// What is spelled as a line is read as that line, and what is read as a line is spelled so.

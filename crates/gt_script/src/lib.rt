@@ -25,7 +25,9 @@ mod variable_forms;
 
 pub use command::{Command, Given, Hop, Line, Route, TypeName};
 pub use integers::Number;
-pub use laws::{lines_are_of_bytes, lines_as_spelled, one_outcome, words_as_spelled};
+pub use laws::{
+    lines_are_of_bytes, lines_as_spelled, one_outcome, steps_as_spelled, words_as_spelled,
+};
 pub use parsing::parse_script;
 pub use steps::{Hops, Steps};
 pub use stop::{MAX_COMMANDS, ScriptStop};

@@ -73,7 +73,7 @@ fn meant_text(alloc: Global, text: &str) -> Result<RcStr, AllocError> {
                 escapes = escapes.saturating_add(1);
                 Side::Escaped
             }
-            (Side::Quoted, b'"' | b'\n') => {
+            (Side::Quoted, b'"') | (Side::Quoted | Side::Escaped, b'\n') => {
                 push_blanks(&mut meant, escapes)?;
                 escapes = 0;
                 meant.push(*byte)?;

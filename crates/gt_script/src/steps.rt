@@ -39,8 +39,8 @@ impl Model for Steps {
 }
 
 impl Steps {
-    /// The steps that a text is, written as in a script: `.name` leads to a field and `[n]` to an element; None where it is no steps. It
-    /// has a copy of the text. Its only error is out of memory.
+    /// The steps that a text is, written as in a script: `.name` leads to a field and `[n]` to an element; None where it is no steps
+    /// ([`steps_as_spelled`](crate::steps_as_spelled)). It has a copy of the text. Its only error is out of memory.
     pub fn parse(alloc: Global, text: &str) -> Result<Option<Steps>, AllocError>
         ensures steps { IfOk result (λ found. found ≡ steps_at text.now) }
     {

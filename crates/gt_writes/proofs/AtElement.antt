@@ -38,7 +38,7 @@ use Rattle.gt_next.specs.Spots.{Value, spot, standing_at, in_object, typed_part}
 use Rattle.gt_writes.specs.SpotWrites.{SpotTakes, IsTreeOf, IsWrittenAt, MisfitsAt}
 use Rattle.gt_writes.specs.Rewriting.{StandsIn, MayPutIn, IsInActive, ElementMisfits, IsElementRewritten}
 use Rattle.gt_writes.specs.Typing.{type_along, is_some_word}
-use Rattle.gt_writes.specs.FoundLeaves.{LiesAt, LiesInElement}
+use Rattle.gt_writes.specs.FoundLeaves.{LeafLiesAt, LiesInElement}
 use Rattle.gt_writes.proofs.SpotTypes.{along-typed, leaf-fits}
 use Rattle.gt_writes.proofs.Replacing.{place_part, place_low, stored_in_heap}
 use Rattle.gt_writes.proofs.LeafForms.{form_by, tree_means, one_tree}
@@ -60,10 +60,10 @@ rest_same a b xs ys e = cc
 
 -- a leaf that was found in an element lies in it
 pub lies_here : (program : Program) (layouts : Layouts) (range : Range) (here e : Element) → option_of here ≡ option_of e → (type : Ty) → type ≡ element_type program (kind_of here.kind) → (path : List ℕ) (place : Place)
-    → LiesInElement program layouts range e path place → LiesAt program layouts here.capacity type range here.addr path place
+    → LiesInElement program layouts range e path place → LeafLiesAt program layouts here.capacity type range here.addr path place
 lies_here program layouts range here e same type is path place lies =
     let one : e ≡ here = cc in
-    subst (λ t. LiesAt program layouts here.capacity t range here.addr path place) (sym is) (subst (λ x. LiesInElement program layouts range x path place) one lies)
+    subst (λ t. LeafLiesAt program layouts here.capacity t range here.addr path place) (sym is) (subst (λ x. LiesInElement program layouts range x path place) one lies)
 
 -- the element to which a path first leads is the one at its first place
 pub first_there : (program : Program) (layouts : Layouts) (objects : Objects) (heap : Heap) (owner : Owner) (address : ℕ) → owner ≡ Of address → (path : List ℕ) (place : ℕ) (rest : List ℕ) → path ≡ place ∷ rest → (e : Element)

@@ -19,14 +19,14 @@ use Rattle.gt_elements.specs.declared.parts.Element.{Element}
 use Rattle.gt_elements.specs.Elements.{IsFirstOf}
 use Rattle.gt_writes.specs.declared.found.Found.{Found}
 
--- the leaf at a path of a value lies at this place, whatever value the bytes stand for
-abbrev pub LiesAt : Program → Layouts → ℕ → Ty → Range → ℕ → List ℕ → Place → Type 0
-LiesAt program layouts capacity type range address path place = (statics : Trees) (value : Tree) → StandsFor program layouts capacity type range address value
+-- the leaf at a path of a value lies at this place, whatever value the bytes stand for and whatever the roots are
+abbrev pub LeafLiesAt : Program → Layouts → ℕ → Ty → Range → ℕ → List ℕ → Place → Type 0
+LeafLiesAt program layouts capacity type range address path place = (statics : Trees) (value : Tree) → StandsFor program layouts capacity type range address value
     → IsPlaceOf program layouts.structures (outside statics) lies_in.Element type range address value path place
 
 -- so in an element
 abbrev pub LiesInElement : Program → Layouts → Range → Element → List ℕ → Place → Type 0
-LiesInElement program layouts range e path place = LiesAt program layouts e.capacity (element_type program (kind_of e.kind)) range e.addr path place
+LiesInElement program layouts range e path place = LeafLiesAt program layouts e.capacity (element_type program (kind_of e.kind)) range e.addr path place
 
 -- a leaf was found at a path: in the element to which the path first leads, at the place where the rest of it leads
 pub record IsFoundAt (program : Program) (layouts : Layouts) (objects : Objects) (heap : Heap) (owner : graph.Owner) (path : List ℕ) (f : Found) : Type 0 where

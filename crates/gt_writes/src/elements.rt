@@ -16,7 +16,7 @@ ghost use Rattle.gt_next.specs.Spots.{spot};
 ghost use Rattle.gt_schema.specs.Schemas.{IsSchema};
 ghost use Rattle.gt_writes.specs.SpotWrites.{SpotTakes, IsWrittenAt, MisfitsAt};
 ghost use Rattle.gt_writes.specs.declared.found.Found.{Found};
-ghost use Rattle.gt_writes.specs.FoundLeaves.{LiesAt, LiesInElement};
+ghost use Rattle.gt_writes.specs.FoundLeaves.{LeafLiesAt, LiesInElement};
 ghost use Rattle.gt_writes.specs.Rewriting.{IsElementRewritten, StandsIn, ElementMisfits, MayPutIn, IsInActive};
 
 use crate::found::Found;
@@ -120,7 +120,7 @@ fn judge_found(
     requires element { IsElement schema.now.program ty.now }
     requires inside { IsRoomFor schema.now.program schema.now.layouts element.capacity ty.now objects.now.space element.addr }
     requires stands { (heap : Heap) → IsHeapOf schema.now.program schema.now.layouts objects.now heap → (value : Tree) × StandsIn schema.now.program schema.now.layouts heap element.capacity ty.now objects.now.space element.addr value }
-    requires place { LiesAt schema.now.program schema.now.layouts element.capacity ty.now objects.now.space element.addr path.now place }
+    requires place { LeafLiesAt schema.now.program schema.now.layouts element.capacity ty.now objects.now.space element.addr path.now place }
     ensures in_place { (other : Place) → result ≡ InPlace other → (heap : Heap) (value : Tree) → IsHeapOf schema.now.program schema.now.layouts objects.now heap → StandsIn schema.now.program schema.now.layouts heap element.capacity ty.now objects.now.space element.addr value
         → MayPutIn schema.now.program schema.now.layouts heap element.capacity ty.now element.addr value path.now leaf objects.now.space other }
     ensures active { (other : Place) → result ≡ InPlace other → IsInActive other leaf }
@@ -156,7 +156,7 @@ fn judge_element(
     requires element { IsElement schema.now.program ty.now }
     requires inside { IsRoomFor schema.now.program schema.now.layouts element.capacity ty.now objects.now.space element.addr }
     requires stands { (heap : Heap) → IsHeapOf schema.now.program schema.now.layouts objects.now heap → (value : Tree) × StandsIn schema.now.program schema.now.layouts heap element.capacity ty.now objects.now.space element.addr value }
-    requires found { (f : Found) → found ≡ Some f → LiesAt schema.now.program schema.now.layouts element.capacity ty.now objects.now.space element.addr path.now f.place }
+    requires found { (f : Found) → found ≡ Some f → LeafLiesAt schema.now.program schema.now.layouts element.capacity ty.now objects.now.space element.addr path.now f.place }
     ensures in_place { (place : Place) → result ≡ InPlace place → (heap : Heap) (value : Tree) → IsHeapOf schema.now.program schema.now.layouts objects.now heap → StandsIn schema.now.program schema.now.layouts heap element.capacity ty.now objects.now.space element.addr value
         → MayPutIn schema.now.program schema.now.layouts heap element.capacity ty.now element.addr value path.now leaf objects.now.space place }
     ensures active { (place : Place) → result ≡ InPlace place → IsInActive place leaf }

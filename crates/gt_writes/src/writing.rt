@@ -20,7 +20,7 @@ use gt_value::{LeafContent, ValueFail};
 use std::alloc::Global;
 
 /// Writes the leaf at a spot, which suits the value there. `Shape` says that no value fits with it. Where no expression reads the leaf and
-/// each union around it has an active member, it takes no memory, and its time grows with the path alone. At an error nothing changes.
+/// each union around it has an active member, it takes no memory, and its time grows with the path, and for a string with its characters. At an error nothing changes.
 /// `found` is where the leaf lies in an object, where it is known already.
 pub fn write(
     alloc: Global,

@@ -19,6 +19,6 @@ returns-clause-misfit c = λ e heap value tree is s means new assigns.
     let schema = c.args.schema.now in
     let objects = c.args.objects.now in
     let same = ap blocks_in c.of-names.ensures.objects ∙ c.of-names.ensures.blocks schema.program schema.layouts heap c.requires.schema.settled c.requires.schema.laid is in
-    c.judge_leaf_at-verdict.ensures.misfit (c.only_active.ensures.misfit e) schema.layouts heap.graph.statics c.args.element.capacity objects.space c.args.element.addr value
-    (record { laid = c.requires.schema.laid; inside = c.requires.inside; stands = beside_by same refl s; at = c.requires.place heap.graph.statics value (stands-for s) }) tree new means
+    (c.judge_leaf_at-verdict.ensures.misfit (c.only_active.ensures.misfit e) schema.layouts heap.graph.statics c.args.element.capacity objects.space c.args.element.addr value
+    (record { laid = c.requires.schema.laid; inside = c.requires.inside; stands = beside_by same refl s; at = c.requires.place heap.graph.statics value (stands-for s) })).1 tree new means
     (subst (λ bs. Assigns schema.program bs heap.graph.statics c.args.element.capacity c.args.ty.now value c.args.path.now tree new) (sym same) assigns)
