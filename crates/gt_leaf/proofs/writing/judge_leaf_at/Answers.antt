@@ -29,5 +29,5 @@ returns-clause-misfit g c = λ e layouts statics capacity range addr value h.
     let part = place-part program layouts (outside statics) c.args.ty.now range addr value c.args.path.now c.args.place _ c.held_type.ensures h.at in (
       place-leads h.at,
       misfits program layouts c.requires.settled (g.N.BlockNames.blocks c.args.names.now) statics capacity c.args.ty.now addr value c.args.path.now c.args.leaf range c.args.place h.stands h.at
-      (c.judge_at.ensures.misfit e program around h.at.p (part-unread around c.is_unread.result h.at.is (c.is_unread.ensures.unread c.requires.table)) part),
+          (c.judge_at.ensures.misfit e program around h.at.p (part-unread around c.is_unread.result h.at.is (c.is_unread.ensures.unread c.requires.table)) part),
     )
