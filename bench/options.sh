@@ -57,6 +57,19 @@ fields() { contained "$1" "$2" n; }
 # The same where the path leads from each container but the last, which is 20 at each field.
 failing() { contained "$1" "$2" m; }
 
+# A structure with so many lengths, each at the end of another path from the outermost structure, in 3,900 containers.
+products() {
+  awk -v n="$1" -v header="$2/0.h" 'BEGIN {
+    print "struct GTY(()) leaf { int k; };" >header
+    print "struct GTY(()) counts {" >header
+    for (k = 1; k <= n; k++) print "  int f" k ";" >header
+    print "};\nstruct GTY(()) in {\n  struct counts s;" >header
+    for (k = 1; k <= n; k++) print "  struct leaf *GTY((length (\"%0.s.f" k "\"))) b" k ";" >header
+    print "};" >header
+    for (i = 1; i <= 3900; i++) print "struct GTY(()) c" i " { struct counts s; struct in f; };" >header
+  }'
+}
+
 # One field with so many options. The last of them is `skip`, which passes over those before it.
 one_field() {
   awk -v n="$1" -v header="$2/0.h" -v last="$3" 'BEGIN {
@@ -94,6 +107,7 @@ compare parts 10000 'options of 256 parts'
 compare containers 1000 'containers, a path from %1'
 compare containers 4000 'containers, a path from %1'
 compare outermost 4000 'containers, a path from %0'
+compare products 1000 'paths from %0 in 3,900 containers'
 compare fields 1000 'fields in 1,000 containers'
 compare failing 1000 'such fields with a bad path' 'fault 20 BadPath'
 compare skipped 80000 'options of one field, passed over'
