@@ -46,7 +46,7 @@ fn read(alloc: Global, file: u32, text: &[u8], lexed: &Lexed) -> Result<Items, S
     match earlier(first, end) {
         End::Complete => Ok(Items {
             items: List::of(items),
-            constants: constants(alloc, text, lexed, &lexemes)?,
+            constants: constants(alloc, text, lexed)?,
         }),
         End::Fails { number, at } => Err(Stop::At(Fault { number, file, at })),
     }
