@@ -9,4 +9,4 @@ mod Outcomes
 mod SomeOutcomes
 mod OptionFiles
 pub mod FaultPlaces
-pub mod Laws
+pub mod LawLemmas

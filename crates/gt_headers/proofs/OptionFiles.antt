@@ -1,6 +1,6 @@
 -- The faults of options stand in the files of what they are of.
 use Rattle.std.proofs.Common.{◌≡◌, ℕ, suc, Bool, true, false, List, [], ◌∷◌, ◌++◌, subst, inl, inr, Option, Some, None}
-use Rattle.std.specs.Prelude.{zero, All, Contains, flat_map, slice_get, if◌then◌else◌, ◌&&◌, not, is_none, codes}
+use Rattle.std.specs.Prelude.{zero, All, flat_map, slice_get, if◌then◌else◌, ◌&&◌, not, is_none, codes}
 use Rattle.std.specs.List.{list_any}
 use Rattle.std.specs.Option.{option_map_or}
 use Rattle.std.proofs.lemmas.List.Elements.{All-nil, All-cons, All-head, All-tail, All-append, All-contains}

@@ -3,4 +3,4 @@ mod NoneRan
 mod WellLemmas
 mod RefusalOnce
 mod RefusedEnds
-mod Laws
+mod LawLemmas

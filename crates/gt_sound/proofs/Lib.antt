@@ -13,4 +13,4 @@ mod ReadFields
 mod ReadItems
 mod Tokens
 mod Headers
-pub mod Laws
+pub mod LawLemmas

@@ -10,7 +10,7 @@ use Rattle.gt_items.specs.declared.items.Stars.TheVariants.{Zero, One, Two, More
 use Rattle.gt_scope.specs.declared.types.Spelled.{Spelled}
 use Rattle.gt_scope.specs.declared.types.Spelled.TheVariants as spelled
 use Rattle.gt_drafts.specs.declared.types.BaseType.{BaseType}
-use Rattle.gt_drafts.specs.declared.types.BaseType.TheVariants.{Number, Float, Double, Sizeless, Structure, Undefined}
+use Rattle.gt_drafts.specs.declared.types.BaseType.TheVariants.{Undefined}
 use Rattle.gt_drafts.specs.declared.types.Resolved.{Resolved}
 use Rattle.gt_scope.specs.declared.meaning.TypedefMeaning.{TypedefMeaning}
 use Rattle.gt_scope.specs.declared.declaration.Declaration.{Declaration}

@@ -1,4 +1,4 @@
-use Rattle.gt_sound.proofs.Laws as laws
+use Rattle.gt_sound.proofs.LawLemmas as laws
 use Rattle.gt_headers.proofs.ReadingLemmas.{read_few}
 use Rattle.gt_headers.proofs.SoundLemmas.{sound_of}
 use Rattle.gt_headers.proofs.declaring.resolve_all.Goals as goal

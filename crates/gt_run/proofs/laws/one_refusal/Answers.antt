@@ -1,4 +1,4 @@
-use Rattle.gt_run.proofs.Laws as laws
+use Rattle.gt_run.proofs.LawLemmas as laws
 use Rattle.gt_run.proofs.laws.one_refusal.Goals as goal
 
 pub returns-clause-refusal : goal.returns-clause-refusal

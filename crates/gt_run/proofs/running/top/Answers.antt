@@ -10,13 +10,13 @@ use Rattle.gt_front.specs.declared.preparing.Halt.TheVariants as halt
 use Rattle.gt_front.specs.declared.refusal.FileWhy.TheVariants.{Fault}
 use Rattle.gt_front.specs.declared.refusal.Refusal.TheVariants.{File as InFile}
 use Rattle.gt_script.proofs.Settled as script
-use Rattle.gt_headers.proofs.Laws as headers
+use Rattle.gt_headers.proofs.LawLemmas as headers
 use Rattle.gt_run.specs.Ended.{Ends}
 use Rattle.gt_run.proofs.EndLemmas.{Ends-stopped, Ends-unanswered}
 use Rattle.gt_run.proofs.NoneRan.{none_ran}
 use Rattle.gt_run.proofs.WellLemmas.{Ends-well, refused_well}
 use Rattle.gt_run.proofs.RefusedEnds.{Ends-refused}
-use Rattle.gt_run.proofs.Laws as laws
+use Rattle.gt_run.proofs.LawLemmas as laws
 use Rattle.gt_run.proofs.running.top.Given.{Over}
 use Rattle.gt_run.proofs.running.top.Goals as goal
 

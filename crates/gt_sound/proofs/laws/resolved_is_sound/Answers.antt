@@ -1,4 +1,4 @@
-use Rattle.gt_sound.proofs.Laws as laws
+use Rattle.gt_sound.proofs.LawLemmas as laws
 use Rattle.gt_sound.proofs.laws.resolved_is_sound.Goals as goal
 
 pub returns : goal.returns

@@ -8,7 +8,7 @@ use Rattle.gt_lex.proofs.Outcomes as lexed
 use Rattle.gt_search.proofs.Searched.{one_search}
 use Rattle.gt_resolve.proofs.Outcomes as resolved
 use Rattle.gt_options.proofs.Settled as options
-use Rattle.gt_sound.proofs.Laws as made
+use Rattle.gt_sound.proofs.LawLemmas as made
 use Rattle.gt_settled.proofs.Whole as whole
 use Rattle.gt_layout.proofs.Ideal as ideal
 use Rattle.gt_headers.proofs.ReadOutcomes as reading

@@ -1,6 +1,6 @@
 -- The laws, for proofs to cite.
 use Rattle.gt_script.proofs.Settled.{one_outcome}
-use Rattle.gt_headers.proofs.Laws.{no_fault, one_fault}
+use Rattle.gt_headers.proofs.LawLemmas.{no_fault, one_fault}
 use Rattle.gt_run.proofs.RefusalOnce.{one_first, none_run}
 use Rattle.gt_run.proofs.RefusedEnds.{OneRefusal, NoRun}
 
