@@ -11,6 +11,7 @@ ghost use Rattle.gt_next.specs.Making.{zeros};
 ghost use Rattle.gt_session.specs.Sessions.{IsAsBefore, IsSession, KeepsBytes};
 ghost use Rattle.gt_making.specs.Binding.{BindsIn, CanBeZero, Ends, LeavesBy, MakesMany, wanted_of};
 
+use gt_held::plain_zeros_are_there;
 use gt_next::{Answer, Why};
 use gt_objects::{Known, Made, MakeFail, block_size, element_size};
 use gt_session::Session;
@@ -91,6 +92,7 @@ pub fn bind_many(
     ensures space { OnErr result (s.new.objects.space ≡ s.old.objects.space) }
     ensures schema { s.new.schema ≡ s.old.schema }
 {
+    plain_zeros_are_there();
     if count > u32::MAX as u128 {
         let _ = element_size(&s.schema.program, &s.schema.layouts, kind, 0);
         return Ok(Answer::Refused(Why::TooLarge));
