@@ -28,13 +28,14 @@ while read -ra words; do row "${words[@]}"; done <list
 printf '\n# An example of each option, and of a fault, as docs/HEADERS.md has them.\n'
 awk -F ' [|] ' -v quote='`' '
   function text(cell) { gsub(quote, "", cell); return cell }
-  function print_row(header, status, printed) {
-    printf "\nwords s h.h\nfile s\nfile h.h\n| %s\nstatus %s\noutput\n", text(header), status
+  function print_row(shows, header, status, printed) {
+    printf "\n# The option %s, %s.\nwords s h.h\nfile s\nfile h.h\n| %s\nstatus %s\noutput\n", name, shows, text(header), status
     if (printed != "") printf "| %s\n", printed
   }
   /^[|] `[a-z_]+` [|] `/ && $4 ~ /^`h\.h:/ {
     printed = $4
     sub(/ [|]$/, "", printed)
-    print_row($2, 0, "")
-    print_row($3, 2, text(printed))
+    name = substr(text($1), 3)
+    print_row("without a fault", $2, 0, "")
+    print_row("with one", $3, 2, text(printed))
   }' ../docs/HEADERS.md
