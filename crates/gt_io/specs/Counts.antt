@@ -1,5 +1,5 @@
 -- The counts of failed calls, which say that a failure has its cause in the store or the sink.
-use Rattle.std.specs.Prelude.{◌≡◌, ◌≤◌, ◌+◌, ◌-◌, ◌^◌, ℕ, min, Result, IsErrOf}
+use Rattle.std.specs.Prelude.{◌≤◌, ◌+◌, ◌-◌, ◌^◌, ℕ, min, Result, IsErrOf}
 
 -- a count rose, or stands at the end of its type, where it is taken as risen
 abbrev pub Rose : ℕ → ℕ → Type 0

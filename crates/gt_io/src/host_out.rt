@@ -19,9 +19,14 @@ impl HostOut {
 }
 
 impl Sink for HostOut {
+    ghost use Rattle.gt_io.specs.declared.fail.WriteFail.TheVariants.{Failed};
+    ghost use Rattle.gt_io.specs.Counts.{HasCause};
+
     ghost written = { λ _. None };
 
     ghost faults = { λ s. s.faults };
+
+    ghost writes = { λ before _ result after. HasCause Failed before.faults after.faults result };
 
     fn write_all(&mut self, bytes: &[u8]) -> Result<(), WriteFail> {
         match self.out.write_all(bytes) {

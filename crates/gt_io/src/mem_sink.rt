@@ -37,11 +37,13 @@ impl MemSink {
 }
 
 impl Sink for MemSink {
-    ghost use Rattle.gt_io.specs.MemSink.{bytes_of, faults_of};
+    ghost use Rattle.gt_io.specs.MemSink.{bytes_of, faults_of, IsWrite};
 
     ghost written = { λ s. Some (bytes_of s) };
 
     ghost faults = { faults_of };
+
+    ghost writes = { IsWrite };
 
     fn write_all(&mut self, bytes: &[u8]) -> Result<(), WriteFail> {
         if self.schedule.next_fails() {

@@ -1,4 +1,4 @@
-use Rattle.std.proofs.Common.{◌≡◌, ap, ap₂, ◌∙◌}
+use Rattle.std.proofs.Common.{ap, ap₂, ◌∙◌}
 use Rattle.gt_io.specs.Held.{with_contents}
 use Rattle.gt_io.proofs.HeldEntries.{held_of-put}
 use Rattle.gt_io.proofs.shelf.Shelf.put.Goals as goal
