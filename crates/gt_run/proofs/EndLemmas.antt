@@ -19,16 +19,32 @@ use Rattle.gt_next.specs.States.{State, IsGoodState}
 use Rattle.gt_next.specs.Laws.{IsBuilt}
 use Rattle.gt_lines.specs.Runs.{RanFirst, RunsLines}
 use Rattle.gt_lines.specs.Scripts.{LeavesSpace, RunsScript}
+use Rattle.gt_lines.specs.Calls.{WriteOf, CallsOf}
 use Rattle.gt_lines.specs.declared.lines.LinesEnd.{LinesEnd}
 use Rattle.gt_lines.specs.declared.lines.LinesEnd.TheVariants as lines
 use Rattle.gt_run.specs.Comes.{IsRefusedFirst}
 use Rattle.gt_run.specs.Endings.{ending_of}
 use Rattle.gt_run.specs.Runs.{Opens, Runs}
+use Rattle.gt_run.specs.Outputs.{Output}
 use Rattle.gt_run.specs.Ended.{Ended, Ends, WasRead, refusal_of, status_of}
 use Rattle.gt_run.specs.Refusing.{Refuses}
 use Rattle.gt_run.specs.declared.ending.Ending.{Ending}
 use Rattle.gt_run.specs.declared.ending.Ending.TheVariants.{Finished, Refused, SinkFailed, NoMemory}
 use Rattle.gt_run.specs.declared.outcome.Outcome.{Outcome}
+
+-- ---- calls of the sink
+
+-- one more answer is not none
+answered-some : (before now : List Answer) (answer : Answer) → now ≡ before ++ answer ∷ [] → now ≢ []
+answered-some [] now answer e none = let is : answer ∷ [] ≡ [] = sym e ∙ none in cc
+answered-some (a ∷ more) now answer e none = let is : a ∷ more ++ answer ∷ [] ≡ [] = sym e ∙ none in cc
+
+-- without an answer no call was made
+none_called : {K : Type 0} (write : WriteOf K) (old : K) (script : List Line) (answers : List Answer) (new : K) → answers ≡ [] → CallsOf write old script answers new lines.NoMemory → new ≡ old
+none_called write old script [] new none (inl same) = same
+none_called write old script [] new none (inr (inl fails)) = absurd fails
+none_called write old script [] new none (inr (inr last)) = absurd (answered-some last.0 [] last.1 last.2 refl)
+none_called write old script (answer ∷ answers) new none calls = absurd (cc)
 
 -- ---- a script that is run
 
@@ -58,59 +74,56 @@ module _ (words : List (List ℕ)) (told : Option Held) (call : Call) (p : Progr
       }
 
   -- what lines leave is an ending of the program, where the space was empty
-  Ended-lines : (answers : List Answer) (old new : Option (List ℕ)) (before now : Range) (end : LinesEnd) → before ≡ empty_range
-      → RunsLines p layouts script opening state answers old new end → LeavesSpace p layouts state end answers before now → Ended words told (Some (whole asks.texts)) old (ending_of end) answers new now
-  Ended-lines answers old new before now lines.Finished empty h stands = (Runs-first answers now [] h.0 stands, refl, refl, h.1)
-  Ended-lines answers old new before now lines.SinkFailed empty h stands = inr (Runs-first answers now h.0 h.1 stands, refl, h.2)
-  Ended-lines [] old new before now lines.NoMemory empty h same = inl (refl, h.3 refl, same ∙ empty)
-  Ended-lines (answer ∷ answers) old new before now lines.NoMemory empty h stands =
-      inr ((λ none. cc), Runs-first (answer ∷ answers) now h.0 h.1 stands, refl, h.2)
+  Ended-lines : (answers : List Answer) (out : Output) (before now : Range) (end : LinesEnd) → before ≡ empty_range
+      → RunsLines p layouts script opening state answers out.taken out.takes end → CallsOf out.write out.old script answers out.new end → LeavesSpace p layouts state end answers before now
+      → Ended words told (Some (whole asks.texts)) out (ending_of end) answers now
+  Ended-lines answers out before now lines.Finished empty h calls stands = (Runs-first answers now [] h.0 stands, refl, refl, h.1, calls)
+  Ended-lines answers out before now lines.SinkFailed empty h calls stands = inr (Runs-first answers now h.0 h.1 stands, refl, h.2, calls)
+  Ended-lines [] out before now lines.NoMemory empty h calls same = inl (refl, h.3 refl, same ∙ empty, inl (none_called out.write out.old script [] out.new refl calls))
+  Ended-lines (answer ∷ answers) out before now lines.NoMemory empty h calls stands =
+      inr ((λ none. cc), Runs-first (answer ∷ answers) now h.0 h.1 stands, refl, h.2, calls)
 
 -- what a script leaves is an ending of the program, where the space was empty
 pub Ended-script : (words : List (List ℕ)) (told : Option Held) (call : Call) (p : Program) (layouts : Layouts) (script : List Line) → IsLaidOut p layouts
     → (asks : Asks words told call p script) → All (λ (line : Line). IsBuilt line.command) script → (opening : State) → Opens p call.settings told opening
-    → (answers : List Answer) (old new : Option (List ℕ)) (before now : Range) (end : LinesEnd) → before ≡ empty_range
-    → RunsScript p layouts script opening answers old new before now end → Ended words told (Some (whole asks.texts)) old (ending_of end) answers new now
-Ended-script words told call p layouts script laid asks built opening opens answers old new before now end empty h =
-    Ended-lines words told call p layouts script laid asks built opening h.last opens h.good answers old new before now end empty h.runs h.space
+    → (answers : List Answer) (out : Output) (before now : Range) (end : LinesEnd) → before ≡ empty_range
+    → RunsScript p layouts script opening answers out.taken out.takes before now end → CallsOf out.write out.old script answers out.new end
+    → Ended words told (Some (whole asks.texts)) out (ending_of end) answers now
+Ended-script words told call p layouts script laid asks built opening opens answers out before now end empty h calls =
+    Ended-lines words told call p layouts script laid asks built opening h.last opens h.good answers out before now end empty h.runs calls h.space
 
 -- ---- outcomes
 
 -- an outcome of an ending
-pub Ends-of : (words : List (List ℕ)) (told : Option Held) (read : Option Extent) (old new : Option (List ℕ)) (ending : Ending) (answers : List Answer) (range : Range) (outcome : Outcome)
+pub Ends-of : (words : List (List ℕ)) (told : Option Held) (read : Option Extent) (out : Output) (ending : Ending) (answers : List Answer) (range : Range) (outcome : Outcome)
     → outcome.status ≡ status_of ending answers → outcome.answers ≡ answers → outcome.refusal ≡ refusal_of ending
-    → Ended words told read old ending answers new range → Ends words told read old new outcome range
-Ends-of words told read old new ending answers range outcome status same refusal ended =
-    let E : List Answer → Type 0 = λ x. Ended words told read old ending x new range in
+    → Ended words told read out ending answers range → Ends words told read out outcome range
+Ends-of words told read out ending answers range outcome status same refusal ended =
+    let E : List Answer → Type 0 = λ x. Ended words told read out ending x range in
     record { ending = ending; status = status ∙ ap (status_of ending) (sym same); refusal = refusal; ended = subst E (sym same) ended }
 
 -- ---- a call that is refused
 
 -- what is refused first ends the call with its line
 pub Ended-refused : (words : List (List ℕ)) (told : Option Held) (texts : Texts) (refusal : Refusal) (line : List ℕ)
-    → IsRefusedFirst words told texts refusal → IsRefusalLine words texts refusal line → (old new : Option (List ℕ)) (ending : Ending)
-    → Refuses refusal line old new ending → Ended words told (Some (extent_for texts refusal)) old ending [] new empty_range
-Ended-refused words told texts refusal line first is old new (Refused other) h =
+    → IsRefusedFirst words told texts refusal → IsRefusalLine words texts refusal line → (out : Output) (ending : Ending)
+    → Refuses refusal line out ending → Ended words told (Some (extent_for texts refusal)) out ending [] empty_range
+Ended-refused words told texts refusal line first is out (Refused other) h =
     let F : Refusal → Type 0 = λ r. IsRefusedFirst words told texts r in
     let L : Refusal → Type 0 = λ r. IsRefusalLine words texts r line in
-    (refl, refl, texts, subst F (sym h.0) first, ap (λ r. Some (extent_for texts r)) (sym h.0), line, subst L (sym h.0) is, h.1)
-Ended-refused words told texts refusal line first is old new SinkFailed h = inl (refl, refl, refusal, texts, first, refl, line, is, h)
-Ended-refused words told texts refusal line first is old new NoMemory h = inl (refl, h, refl)
-Ended-refused words told texts refusal line first is old new Finished h = absurd h
+    (refl, refl, texts, subst F (sym h.0) first, ap (λ r. Some (extent_for texts r)) (sym h.0), line, subst L (sym h.0) is, h.1, h.2)
+Ended-refused words told texts refusal line first is out SinkFailed h = inl (refl, refl, refusal, texts, first, refl, line, is, h.0, h.1)
+Ended-refused words told texts refusal line first is out NoMemory h = inl (refl, h.0, refl, inr (line, h.1))
+Ended-refused words told texts refusal line first is out Finished h = absurd h
 
 -- ---- calls without an answer
 
--- one more answer is not none
-answered-some : (before now : List Answer) (answer : Answer) → now ≡ before ++ answer ∷ [] → now ≢ []
-answered-some [] now answer e none = let is : answer ∷ [] ≡ [] = sym e ∙ none in cc
-answered-some (a ∷ more) now answer e none = let is : a ∷ more ++ answer ∷ [] ≡ [] = sym e ∙ none in cc
-
 -- where no line was answered, the space is empty unless all is done
-pub Ends-unanswered : (words : List (List ℕ)) (told : Option Held) (read : Option Extent) (old new : Option (List ℕ)) (outcome : Outcome) (range : Range) → Ends words told read old new outcome range
+pub Ends-unanswered : (words : List (List ℕ)) (told : Option Held) (read : Option Extent) (out : Output) (outcome : Outcome) (range : Range) → Ends words told read out outcome range
     → outcome.answers ≡ [] → (range ≡ empty_range) ⊎ (outcome.status ≡ 0)
-Ends-unanswered words told read old new outcome range ends none =
+Ends-unanswered words told read out outcome range ends none =
     by_ending ends.ending ends.status ends.ended where
-      by_ending : (ending : Ending) → outcome.status ≡ status_of ending outcome.answers → Ended words told read old ending outcome.answers new range → (range ≡ empty_range) ⊎ (outcome.status ≡ 0)
+      by_ending : (ending : Ending) → outcome.status ≡ status_of ending outcome.answers → Ended words told read out ending outcome.answers range → (range ≡ empty_range) ⊎ (outcome.status ≡ 0)
       by_ending Finished s h = inr (s ∙ ap (status_of Finished) none)
       by_ending (Refused refusal) s h = inl h.1
       by_ending SinkFailed s h = elim h [ inl refused ↦ inl refused.1 | inr ran ↦ absurd (answered-some ran.2.3 outcome.answers ran.2.4 ran.2.5 none) ]
@@ -119,13 +132,13 @@ Ends-unanswered words told read old new outcome range ends none =
 -- ---- what was read up to a refusal
 
 module _ {F : Type 0} (reads : F → List ℕ → ℕ → Result (Option (List ℕ)) ReadFail → F → Type 0) (words : List (List ℕ)) (told : Option Held) (store last : F)
-    (read : Option Extent) (old new : Option (List ℕ)) (outcome : Outcome) (range : Range) where
+    (read : Option Extent) (out : Output) (outcome : Outcome) (range : Range) where
   -- a refusal that is told is what is refused first, by the texts of what was read
-  pub Ends-stopped : WasRead reads words store read last → Ends words told read old new outcome range → (refusal : Refusal) → outcome.refusal ≡ Some refusal
+  pub Ends-stopped : WasRead reads words store read last → Ends words told read out outcome range → (refusal : Refusal) → outcome.refusal ≡ Some refusal
       → (texts : Texts) × IsRefusedFirst words told texts refusal × HasRead reads words store (extent_for texts refusal) last
   Ends-stopped was ends refusal is =
       by_ending ends.ending ends.refusal ends.ended where
-        by_ending : (ending : Ending) → outcome.refusal ≡ refusal_of ending → Ended words told read old ending outcome.answers new range
+        by_ending : (ending : Ending) → outcome.refusal ≡ refusal_of ending → Ended words told read out ending outcome.answers range
             → (texts : Texts) × IsRefusedFirst words told texts refusal × HasRead reads words store (extent_for texts refusal) last
         by_ending (Refused other) r h =
             let some : Some other ≡ Some refusal = sym r ∙ is in

@@ -10,6 +10,7 @@ use Rattle.gt_front.specs.declared.refusal.Refusal.TheVariants.{Words, Header, S
 use Rattle.gt_next.specs.declared.answer.Answer.{Answer}
 use Rattle.gt_run.specs.Comes.{IsRefusedFirst, IsTold}
 use Rattle.gt_run.specs.Runs.{Runs}
+use Rattle.gt_run.specs.Outputs.{Output}
 use Rattle.gt_run.specs.Ended.{Ended, Ends, refusal_of, refusal_status, status_of}
 use Rattle.gt_run.specs.declared.ending.Ending.{Ending}
 use Rattle.gt_run.specs.declared.ending.Ending.TheVariants.{Finished, Refused, SinkFailed, NoMemory}
@@ -35,14 +36,14 @@ abbrev pub NoRun : Type 0
 NoRun = (words : List (List ℕ)) (held : Held) (texts : Texts) (refusal : Refusal) (answers : List Answer) (range : Range)
     → IsRefusedFirst words (Some held) texts refusal → IsTold refusal → Runs words (Some held) answers range → ⊥
 
-module _ (one : OneRefusal) (no_run : NoRun) (words : List (List ℕ)) (held : Held) (texts : Texts) (refusal : Refusal) (read : Option Extent) (old new : Option (List ℕ)) (outcome : Outcome) (range : Range) where
-  pub Ends-refused : IsRefusedFirst words (Some held) texts refusal → IsTold refusal → Ends words (Some held) read old new outcome range
+module _ (one : OneRefusal) (no_run : NoRun) (words : List (List ℕ)) (held : Held) (texts : Texts) (refusal : Refusal) (read : Option Extent) (out : Output) (outcome : Outcome) (range : Range) where
+  pub Ends-refused : IsRefusedFirst words (Some held) texts refusal → IsTold refusal → Ends words (Some held) read out outcome range
       → ((word : ℕ) → outcome.refusal ≡ Some (InFile word Fault) → ⊥)
       → ((outcome.refusal ≡ Some refusal) × (outcome.status ≡ refusal_status refusal)) ⊎ (outcome.status ≡ 4) ⊎ (outcome.status ≡ 9)
   Ends-refused first told ends no_fault =
       by_ending ends.ending ends.status ends.refusal ends.ended where
         by_ending : (ending : Ending) → outcome.status ≡ status_of ending outcome.answers → outcome.refusal ≡ refusal_of ending
-            → Ended words (Some held) read old ending outcome.answers new range
+            → Ended words (Some held) read out ending outcome.answers range
             → ((outcome.refusal ≡ Some refusal) × (outcome.status ≡ refusal_status refusal)) ⊎ (outcome.status ≡ 4) ⊎ (outcome.status ≡ 9)
         by_ending Finished s r h = absurd (no_run words held texts refusal outcome.answers range first told h.0)
         by_ending (Refused other) s r h =

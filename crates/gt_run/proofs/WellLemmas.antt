@@ -27,6 +27,7 @@ use Rattle.gt_next.specs.Texts.{is_refusal}
 use Rattle.gt_next.specs.Laws.{IsBuilt}
 use Rattle.gt_run.specs.Comes.{HasUnbuilt, IsRefusedFirst}
 use Rattle.gt_run.specs.Complete.{AreHeld, AreThere, IsWell}
+use Rattle.gt_run.specs.Outputs.{Output}
 use Rattle.gt_run.specs.Ended.{Ended, Ends, status_of, refusal_of}
 use Rattle.gt_run.specs.declared.ending.Ending.{Ending}
 use Rattle.gt_run.specs.declared.ending.Ending.TheVariants.{Finished, Refused, SinkFailed, NoMemory}
@@ -181,14 +182,14 @@ one_or_none true n e = inr (inl e)
 one_or_none false n e = inl e
 
 -- where nothing is refused and nothing outside failed, the script is run to its end, or memory runs out
-pub Ends-well : (words : List (List ℕ)) (told : Option Held) (read : Option Extent) (old new : Option (List ℕ)) (outcome : Outcome) (range : Range) (FileRose SinkRose : Type 0)
+pub Ends-well : (words : List (List ℕ)) (told : Option Held) (read : Option Extent) (out : Output) (outcome : Outcome) (range : Range) (FileRose SinkRose : Type 0)
     → ((texts : Texts) (refusal : Refusal) → IsRefusedFirst words told texts refusal → IsReadFault refusal) → (FileRose → ⊥) → (SinkRose → ⊥)
     → ((word : ℕ) → outcome.refusal ≡ Some (InFile word Fault) → FileRose) → (outcome.status ≡ 4 → SinkRose)
-    → Ends words told read old new outcome range → (outcome.status ≡ 0) ⊎ (outcome.status ≡ 1) ⊎ (outcome.status ≡ 9)
-Ends-well words told read old new outcome range FileRose SinkRose nothing no_file no_sink file_cause sink_cause ends =
+    → Ends words told read out outcome range → (outcome.status ≡ 0) ⊎ (outcome.status ≡ 1) ⊎ (outcome.status ≡ 9)
+Ends-well words told read out outcome range FileRose SinkRose nothing no_file no_sink file_cause sink_cause ends =
     ends_well ends.ending ends.status ends.refusal ends.ended where
       ends_well : (ending : Ending) → outcome.status ≡ status_of ending outcome.answers → outcome.refusal ≡ refusal_of ending
-          → Ended words told read old ending outcome.answers new range → (outcome.status ≡ 0) ⊎ (outcome.status ≡ 1) ⊎ (outcome.status ≡ 9)
+          → Ended words told read out ending outcome.answers range → (outcome.status ≡ 0) ⊎ (outcome.status ≡ 1) ⊎ (outcome.status ≡ 9)
       ends_well Finished s r h = one_or_none (list_any is_refusal outcome.answers) outcome.status s
       ends_well (Refused refusal) s r h =
           let w = nothing h.2 refusal h.3 in

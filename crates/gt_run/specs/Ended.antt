@@ -1,8 +1,9 @@
 -- How the program ends, and what it has then answered and written.
-use Rattle.std.specs.Prelude.{◌≡◌, ℕ, ◌⊎◌, List, [], Option, Some, None, Result, if◌then◌else◌}
+use Rattle.std.specs.Prelude.{◌≡◌, ℕ, ◌⊎◌, List, [], Option, Some, None, Result, Ok, Err, if◌then◌else◌}
 use Rattle.std.specs.List.{list_any}
 use Rattle.gt_space.specs.Range.{Range, empty_range}
 use Rattle.gt_io.specs.declared.fail.ReadFail.{ReadFail}
+use Rattle.gt_io.specs.declared.fail.WriteFail.TheVariants.{Failed, Memory}
 use Rattle.gt_io.specs.Held.{Held}
 use Rattle.gt_io.specs.Appends.{Adds, AddsFront, IsFrontOf}
 use Rattle.gt_front.specs.Order.{HasRead, Extent, extent_for, whole}
@@ -13,8 +14,11 @@ use Rattle.gt_front.specs.declared.refusal.Refusal.TheVariants.{Words, Header, S
 use Rattle.gt_next.specs.declared.answer.Answer.{Answer}
 use Rattle.gt_next.specs.Texts.{is_refusal, texts_of}
 use Rattle.gt_lines.specs.Runs.{AddsAllBut, IsNothing}
+use Rattle.gt_lines.specs.Calls.{CallsOf}
+use Rattle.gt_lines.specs.declared.lines.LinesEnd.TheVariants as lines
 use Rattle.gt_run.specs.Comes.{IsRefusedFirst}
 use Rattle.gt_run.specs.Runs.{Runs}
+use Rattle.gt_run.specs.Outputs.{Output}
 use Rattle.gt_run.specs.declared.ending.Ending.{Ending}
 use Rattle.gt_run.specs.declared.ending.Ending.TheVariants.{Finished, Refused, SinkFailed, NoMemory}
 use Rattle.gt_run.specs.declared.outcome.Outcome.{Outcome}
@@ -24,25 +28,29 @@ abbrev pub WasRead : {F : Type 0} → (F → List ℕ → ℕ → Result (Option
 WasRead reads words store (Some extent) last = HasRead reads words store extent last
 WasRead reads words store None last = Unit {0}
 
--- how the program ends, with its answers, what the sink took, and the bytes of the space, where this was read
--- finished: a run of all lines, by the texts that were read, and the text of its answers
--- refused: what comes first in the order of work, by the texts that were read, with its line, where it was read as far as this refusal
--- takes (`extent_for`); no command ran, and the space is empty, as it came
+-- how the program ends, with its answers, what the sink took and which calls of it were made, and the bytes of the space, where this was read
+-- finished: a run of all lines, by the texts that were read, and the text of its answers, each by one call where it has a byte
+-- refused: what comes first in the order of work, by the texts that were read, with its line, by one call, where it was read as far as this
+-- refusal takes (`extent_for`); no command ran, and the space is empty, as it came
 -- the sink failed: a prefix of such a refusal's line, where no command ran and the space is empty, as it came; or of the text of the
--- answers with all but the last whole
--- out of memory: no answer, where nothing was written and the space is empty, as it came, and nothing is said of what was read; or some,
--- and the text of the answers, or of all but the last: the answers are those to the lines that were run
-abbrev pub Ended : List (List ℕ) → Option Held → Option Extent → Option (List ℕ) → Ending → List Answer → Option (List ℕ) → Range → Type 0
-Ended words told read old Finished answers new range = (r : Runs words told answers range) × (read ≡ Some (whole r.asks.texts)) × (r.left ≡ []) × Adds old (texts_of r.done answers) new
-Ended words told read old (Refused refusal) answers new range = (answers ≡ []) × (range ≡ empty_range) × (texts : Texts) × IsRefusedFirst words told texts refusal
-    × (read ≡ Some (extent_for texts refusal)) × (line : List ℕ) × IsRefusalLine words texts refusal line × Adds old line new
-Ended words told read old SinkFailed answers new range =
+-- answers with all but the last whole; the last call is the one that failed
+-- out of memory: no answer, where nothing was written, at most one call failed, and the space is empty, as it came, and nothing is said of
+-- what was read; or some, and the text of the answers, or of all but the last: the answers are those to the lines that were run
+abbrev pub Ended : List (List ℕ) → Option Held → Option Extent → Output → Ending → List Answer → Range → Type 0
+Ended words told read out Finished answers range = (r : Runs words told answers range) × (read ≡ Some (whole r.asks.texts)) × (r.left ≡ [])
+    × Adds out.taken (texts_of r.done answers) out.takes × CallsOf out.write out.old r.lines answers out.new lines.Finished
+Ended words told read out (Refused refusal) answers range = (answers ≡ []) × (range ≡ empty_range) × (texts : Texts) × IsRefusedFirst words told texts refusal
+    × (read ≡ Some (extent_for texts refusal)) × (line : List ℕ) × IsRefusalLine words texts refusal line × Adds out.taken line out.takes × out.write out.old line (Ok tt) out.new
+Ended words told read out SinkFailed answers range =
     ((answers ≡ []) × (range ≡ empty_range) × (refusal : Refusal) × (texts : Texts) × IsRefusedFirst words told texts refusal
-    × (read ≡ Some (extent_for texts refusal)) × (line : List ℕ) × IsRefusalLine words texts refusal line × AddsFront old line new)
-    ⊎ ((r : Runs words told answers range) × (read ≡ Some (whole r.asks.texts)) × AddsAllBut old r.done answers IsFrontOf new)
-Ended words told read old NoMemory answers new range =
-    ((answers ≡ []) × (new ≡ old) × (range ≡ empty_range))
-    ⊎ ((answers ≡ [] → ⊥) × (r : Runs words told answers range) × (read ≡ Some (whole r.asks.texts)) × (Adds old (texts_of r.done answers) new ⊎ AddsAllBut old r.done answers IsNothing new))
+    × (read ≡ Some (extent_for texts refusal)) × (line : List ℕ) × IsRefusalLine words texts refusal line × AddsFront out.taken line out.takes × out.write out.old line (Err Failed) out.new)
+    ⊎ ((r : Runs words told answers range) × (read ≡ Some (whole r.asks.texts)) × AddsAllBut out.taken r.done answers IsFrontOf out.takes
+    × CallsOf out.write out.old r.lines answers out.new lines.SinkFailed)
+Ended words told read out NoMemory answers range =
+    ((answers ≡ []) × (out.takes ≡ out.taken) × (range ≡ empty_range) × ((out.new ≡ out.old) ⊎ ((line : List ℕ) × out.write out.old line (Err Memory) out.new)))
+    ⊎ ((answers ≡ [] → ⊥) × (r : Runs words told answers range) × (read ≡ Some (whole r.asks.texts))
+    × (Adds out.taken (texts_of r.done answers) out.takes ⊎ AddsAllBut out.taken r.done answers IsNothing out.takes)
+    × CallsOf out.write out.old r.lines answers out.new lines.NoMemory)
 
 -- the status of a refusal: 3 for a file, else 2
 abbrev pub refusal_status : Refusal → ℕ
@@ -67,8 +75,8 @@ refusal_of SinkFailed = None
 refusal_of NoMemory = None
 
 -- the program ended in one of these ways, and told it
-pub record Ends (words : List (List ℕ)) (told : Option Held) (read : Option Extent) (old new : Option (List ℕ)) (outcome : Outcome) (range : Range) : Type 0 where
+pub record Ends (words : List (List ℕ)) (told : Option Held) (read : Option Extent) (out : Output) (outcome : Outcome) (range : Range) : Type 0 where
   pub ending : Ending
   pub status : outcome.status ≡ status_of ending outcome.answers
   pub refusal : outcome.refusal ≡ refusal_of ending
-  pub ended : Ended words told read old ending outcome.answers new range
+  pub ended : Ended words told read out ending outcome.answers range

@@ -1,5 +1,6 @@
 pub mod Comes
 pub mod Runs
+pub mod Outputs
 pub mod Ended
 pub mod Complete
 pub mod Endings

@@ -1,6 +1,7 @@
 // The one line that is written where no command is run.
 ghost use Rattle.std.specs.Prelude.{◌≡◌, ◌≤◌};
 ghost use Rattle.gt_io.specs.Counts.{Rose};
+ghost use Rattle.gt_run.specs.Outputs.{output};
 ghost use Rattle.gt_run.specs.Refusing.{Refuses};
 
 use crate::ending::Ending;
@@ -9,7 +10,7 @@ use gt_io::{Sink, WriteFail};
 
 /// Writes the line of a refusal.
 pub fn refuse<K: Sink>(refusal: Refusal, line: &[u8], out: &mut K) -> Ending
-    ensures refused { Refuses refusal line.now (K.written out.old) (K.written out.new) result }
+    ensures refused { Refuses refusal line.now (output K.writes K.written out.old out.new) result }
     ensures later { K.faults out.old ≤ K.faults out.new }
     ensures cause { result ≡ Ending.SinkFailed → Rose (K.faults out.old) (K.faults out.new) }
 {

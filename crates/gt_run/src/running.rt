@@ -19,6 +19,7 @@ ghost use Rattle.gt_next.specs.Laws.{IsBuilt};
 ghost use Rattle.gt_run.specs.Comes.{IsRefusedFirst, IsTold};
 ghost use Rattle.gt_run.specs.Complete.{IsWell};
 ghost use Rattle.gt_run.specs.Ended.{Ends, WasRead, refusal_status};
+ghost use Rattle.gt_run.specs.Outputs.{output};
 ghost use Rattle.gt_run.specs.Runs.{Opens};
 
 use crate::built::are_built;
@@ -47,7 +48,7 @@ pub fn top<F: Files, K: Sink>(
 ) -> Outcome
     requires empty { space.old ≡ empty_range }
     ensures ended { (read : Option Extent) × WasRead F.reads words.now files.old read files.new
-        × Ends words.now (F.told files.old) read (K.written out.old) (K.written out.new) result space.new }
+        × Ends words.now (F.told files.old) read (output K.writes K.written out.old out.new) result space.new }
 
     // Where no line was answered, the space is empty, as it came, unless all is done.
     ensures unused { result.answers ≡ [] → (space.new ≡ empty_range) ⊎ (result.status ≡ 0) }
@@ -113,7 +114,7 @@ fn run_ready<F: Files, K: Sink>(
     requires ranges { IsInRange ready.call }
     requires empty { space.old ≡ empty_range }
     ensures ended { (words : List (List ℕ)) (asks : Asks words (F.told files.old) ready.call ready.program ready.lines)
-        → Ends words (F.told files.old) (Some (whole asks.texts)) (K.written out.old) (K.written out.new) result space.new }
+        → Ends words (F.told files.old) (Some (whole asks.texts)) (output K.writes K.written out.old out.new) result space.new }
     ensures refusal { IfSome result.refusal (λ refusal. refusal ≡ Refusal.NotBuilt) }
     ensures files { files.new ≡ files.old }
     ensures later { K.faults out.old ≤ K.faults out.new }
@@ -143,7 +144,7 @@ fn run_lines<F: Files, K: Sink>(
     requires empty { space.old ≡ empty_range }
     ensures ended { (words : List (List ℕ)) (call : Call) (opening : State) (asks : Asks words (F.told files.old) call session.schema.program lines.now)
         → Opens session.schema.program call.settings (F.told files.old) opening → StandsFor session (F.told files.old) opening
-        → Ends words (F.told files.old) (Some (whole asks.texts)) (K.written out.old) (K.written out.new) result space.new }
+        → Ends words (F.told files.old) (Some (whole asks.texts)) (output K.writes K.written out.old out.new) result space.new }
     ensures refusal { result.refusal ≡ None }
     ensures files { files.new ≡ files.old }
     ensures later { K.faults out.old ≤ K.faults out.new }
@@ -156,7 +157,7 @@ fn run_lines<F: Files, K: Sink>(
 
 // Says that the script asks for what is not built so far.
 fn refuse_unbuilt<K: Sink>(alloc: Global, call: &Call, out: &mut K) -> Outcome
-    ensures ended { (words : List (List ℕ)) (told : Option Held) (texts : Texts) → call_of words ≡ Some call.now → IsRefusedFirst words told texts Refusal.NotBuilt → Ends words told (Some (whole texts)) (K.written out.old) (K.written out.new) result empty_range }
+    ensures ended { (words : List (List ℕ)) (told : Option Held) (texts : Texts) → call_of words ≡ Some call.now → IsRefusedFirst words told texts Refusal.NotBuilt → Ends words told (Some (whole texts)) (output K.writes K.written out.old out.new) result empty_range }
     ensures refusal { IfSome result.refusal (λ refusal. refusal ≡ Refusal.NotBuilt) }
     ensures later { K.faults out.old ≤ K.faults out.new }
     ensures cause { result.status ≡ 4 → Rose (K.faults out.old) (K.faults out.new) }
@@ -170,7 +171,7 @@ fn refuse_unbuilt<K: Sink>(alloc: Global, call: &Call, out: &mut K) -> Outcome
 // Writes the line of a refusal, and ends with it.
 fn refused_outcome<K: Sink>(alloc: Global, refusal: Refusal, line: &[u8], out: &mut K) -> Outcome
     ensures ended { (words : List (List ℕ)) (told : Option Held) (texts : Texts) → IsRefusedFirst words told texts refusal
-        → IsRefusalLine words texts refusal line.now → Ends words told (Some (extent_for texts refusal)) (K.written out.old) (K.written out.new) result empty_range }
+        → IsRefusalLine words texts refusal line.now → Ends words told (Some (extent_for texts refusal)) (output K.writes K.written out.old out.new) result empty_range }
     ensures status { 2 ≤ result.status }
     ensures unanswered { result.answers ≡ [] }
     ensures refusal { IfSome result.refusal (λ told. told ≡ refusal) }

@@ -1,6 +1,7 @@
-use Rattle.std.proofs.Common.{◌≡◌, take, refl, ◌∙◌, arith, append-nil, rules}
+use Rattle.std.proofs.Common.{◌≡◌, take, length, refl, ap, ◌∙◌, arith, append-nil, rules}
 use Rattle.std.proofs.lemmas.List.{take_all}
 use Rattle.gt_lines.proofs.RunLemmas.{SoFar-none, SoFar-more, RunsLines-not_written, RunsLines-no_text, RunsLines-no_answer}
+use Rattle.gt_lines.proofs.CallLemmas.{no_calls, calls_more, count_more, calls_not_written, calls_no_text, calls_no_answer}
 use Rattle.gt_lines.proofs.lines.run_lines.Goals as goal
 
 pub returns-in-Err-NotWritten-clause-ran : goal.returns-in-Err-NotWritten-clause-ran
@@ -29,6 +30,8 @@ loop-line-preserved g c =
           let so = inv.ran state stands in
           let ran = c.in-Ok.ensures.ran so.0 so.2 in
           (ran.0, SoFar-more _ _ inv.schema _ _ _ c.loop-line-test.true c.line-item.is _ _ _ _ _ _ _ _ so.1 _ ran.1, ran.2);
+      count = count_more g.K.Sink.writes _ _ _ _ _ _ c.loop-line-test.true c.line-item.is _ _ inv.count inv.calls _ c.in-Ok.ensures.calls;
+      calls = calls_more g.K.Sink.writes _ _ _ _ _ _ c.loop-line-test.true c.line-item.is _ _ inv.count inv.calls _ c.in-Ok.ensures.calls;
       session = search rules;
       schema = search rules;
       files = search rules;
@@ -46,8 +49,22 @@ pub loop-line-init : goal.loop-line-init
 loop-line-init g c =
     record {
       ran = λ state stands. (state, SoFar-none _ _ _ _ _ c.requires.none_yet, stands);
+      count = ap length c.requires.none_yet;
+      calls = no_calls g.K.Sink.writes _ _ _ c.requires.none_yet;
       session = c.requires.session;
       schema = refl;
       files = refl;
       later = omega arith;
     }
+
+pub returns-in-Err-NotWritten-clause-calls : goal.returns-in-Err-NotWritten-clause-calls
+returns-in-Err-NotWritten-clause-calls g c =
+    calls_not_written g.K.Sink.writes _ _ _ _ _ _ c.loop-line-test.true c.line-item.is _ _ c.loop-line.invariant.count c.loop-line.invariant.calls _ c.in-Err-NotWritten.field-0-is c.in-Err-NotWritten.ensures.calls
+
+pub returns-in-Err-NoAnswer-clause-calls : goal.returns-in-Err-NoAnswer-clause-calls
+returns-in-Err-NoAnswer-clause-calls g c =
+    calls_no_answer g.K.Sink.writes _ _ _ _ _ _ c.loop-line-test.true c.line-item.is _ _ c.loop-line.invariant.count c.loop-line.invariant.calls _ c.in-Err-NoAnswer.field-0-is c.in-Err-NoAnswer.ensures.calls
+
+pub returns-in-Err-NoText-clause-calls : goal.returns-in-Err-NoText-clause-calls
+returns-in-Err-NoText-clause-calls g c =
+    calls_no_text g.K.Sink.writes _ _ _ _ _ _ c.loop-line-test.true c.line-item.is _ _ c.loop-line.invariant.count c.loop-line.invariant.calls _ c.in-Err-NoText.field-0-is c.in-Err-NoText.ensures.calls

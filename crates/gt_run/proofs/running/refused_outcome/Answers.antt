@@ -8,13 +8,13 @@ use Rattle.gt_run.proofs.running.refused_outcome.Goals as goal
 
 pub returns-clause-ended : goal.returns-clause-ended
 returns-clause-ended g c = λ words told texts first is.
-    Ends-of words told (Some (extent_for texts c.args.refusal)) _ _ c.refuse.result _ empty_range c.of.result
+    Ends-of words told (Some (extent_for texts c.args.refusal)) _ c.refuse.result _ empty_range c.of.result
     (c.of.ensures.status ∙ ap (status_of c.refuse.result) c.new.ensures.empty) (c.of.ensures.answers ∙ c.new.ensures.empty) c.of.ensures.refusal
-    (Ended-refused words told texts c.args.refusal c.args.line.now first is _ _ c.refuse.result c.refuse.ensures.refused)
+    (Ended-refused words told texts c.args.refusal c.args.line.now first is _ c.refuse.result c.refuse.ensures.refused)
 
 pub returns-clause-status : goal.returns-clause-status
 returns-clause-status g c =
-    subst (λ (status : ℕ). 2 ≤ status) (sym c.of.ensures.status) (refused-high c.args.refusal c.args.line.now _ _ c.refuse.result _ c.refuse.ensures.refused)
+    subst (λ (status : ℕ). 2 ≤ status) (sym c.of.ensures.status) (refused-high c.args.refusal c.args.line.now _ c.refuse.result _ c.refuse.ensures.refused)
 
 pub returns-clause-unanswered : goal.returns-clause-unanswered
 returns-clause-unanswered g c = c.of.ensures.answers ∙ c.new.ensures.empty

@@ -1,5 +1,6 @@
 use Rattle.std.proofs.Common.{◌∙◌, Some, ap, sym, subst}
 use Rattle.gt_front.specs.Order.{whole}
+use Rattle.gt_run.specs.Outputs.{output}
 use Rattle.gt_run.specs.Ended.{Ended, status_of}
 use Rattle.gt_run.specs.declared.ending.Ending.{Ending}
 use Rattle.gt_run.proofs.EndLemmas.{Ended-script, Ends-of}
@@ -9,13 +10,12 @@ pub returns-clause-ended : goal.returns-clause-ended
 returns-clause-ended g c = λ words call opening asks opens stands.
     let told = g.F.Files.told c.args.files.now in
     let schema = c.args.session.schema in
-    let taken = g.K.Sink.written c.args.out.now in
-    let takes = g.K.Sink.written c.run_script-end.new.out in
+    let out = output g.K.Sink.writes g.K.Sink.written c.args.out.now c.run_script-end.new.out in
     let answers = c.run_script-end.new.answers.items in
     let range = c.run_script-end.new.space in
-    let E : Ending → Type 0 = λ ending. Ended words told (Some (whole asks.texts)) taken ending answers takes range in
-    Ends-of words told (Some (whole asks.texts)) taken takes c.of.result answers range c.of-3.result
+    let E : Ending → Type 0 = λ ending. Ended words told (Some (whole asks.texts)) out ending answers range in
+    Ends-of words told (Some (whole asks.texts)) out c.of.result answers range c.of-3.result
     (c.of-3.ensures.status ∙ ap (status_of c.of.result) c.of-2.ensures.items) (c.of-3.ensures.answers ∙ c.of-2.ensures.items) c.of-3.ensures.refusal
     (subst E (sym c.of.ensures)
-    (Ended-script words told call schema.program schema.layouts c.args.lines.now stands.holds.schema.laid asks c.requires.built opening opens answers taken takes c.args.space.now range
-    c.run_script-end.result c.requires.empty (c.run_script-end.ensures.ran opening stands)))
+    (Ended-script words told call schema.program schema.layouts c.args.lines.now stands.holds.schema.laid asks c.requires.built opening opens answers out c.args.space.now range
+    c.run_script-end.result c.requires.empty (c.run_script-end.ensures.ran opening stands) c.run_script-end.ensures.calls))

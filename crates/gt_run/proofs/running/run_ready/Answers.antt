@@ -7,6 +7,7 @@ use Rattle.gt_headers.specs.Headers.{Declares}
 use Rattle.gt_front.specs.Order.{whole}
 use Rattle.gt_next.specs.Laws.{IsBuilt}
 use Rattle.gt_run.specs.Comes.{HasUnbuilt}
+use Rattle.gt_run.specs.Outputs.{output}
 use Rattle.gt_run.specs.Ended.{Ends}
 use Rattle.gt_run.specs.Runs.{Opens}
 use Rattle.gt_run.proofs.running.run_ready.Goals as goal
@@ -17,7 +18,7 @@ returns-then-not-are_built-clause-ended g c = λ words asks.
     let unbuilt : HasUnbuilt c.as_slice.result.now = rw c.if-not-are_built.true at c.are_built.ensures in
     let U : List Line → Type 0 = λ lines. HasUnbuilt lines in
     let told = g.F.Files.told c.args.files.now in
-    let E : Range → Type 0 = λ range. Ends words told (Some (whole asks.texts)) (g.K.Sink.written c.args.out.now) (g.K.Sink.written c.refuse_unbuilt.new.out) c.refuse_unbuilt.result range in
+    let E : Range → Type 0 = λ range. Ends words told (Some (whole asks.texts)) (output g.K.Sink.writes g.K.Sink.written c.args.out.now c.refuse_unbuilt.new.out) c.refuse_unbuilt.result range in
     subst E (sym c.requires.empty) (c.refuse_unbuilt.ensures.ended words told asks.texts asks.reads.called
     (inr (refl, c.args.ready.call, c.args.ready.program, c.args.ready.lines, asks, refl, subst U same unbuilt)))
 
