@@ -15,6 +15,10 @@ files_of f = f.shelf
 abbrev pub scheduled_of : MemFiles → List ℕ
 scheduled_of f = f.schedule.fails.items
 
+-- how many calls were made
+abbrev pub calls_of : MemFiles → ℕ
+calls_of f = f.schedule.calls
+
 -- how many calls have failed
 abbrev pub faults_of : MemFiles → ℕ
 faults_of f = f.schedule.faults

@@ -13,6 +13,10 @@ bytes_of s = s.bytes
 abbrev pub scheduled_of : MemSink → List ℕ
 scheduled_of s = s.schedule.fails.items
 
+-- how many calls were made
+abbrev pub calls_of : MemSink → ℕ
+calls_of s = s.schedule.calls
+
 -- how many calls have failed
 abbrev pub faults_of : MemSink → ℕ
 faults_of s = s.schedule.faults

@@ -1,8 +1,8 @@
-// The standard output: the trusted edge. Nothing is said of what a terminal got.
+// The standard output: the trusted edge. Nothing is said of what a terminal got, and of a write only that a failure is counted.
 ghost use Rattle.std.specs.Prelude.{None};
 
 use crate::{Sink, WriteFail};
-use std::io::{ErrorKind, Stdout, Write};
+use std::io::{Stdout, Write};
 
 /// The standard output of the program. It tells nothing of what it took.
 #[derive(Drop)]
@@ -31,13 +31,11 @@ impl Sink for HostOut {
     fn write_all(&mut self, bytes: &[u8]) -> Result<(), WriteFail> {
         match self.out.write_all(bytes) {
             Ok(()) => Ok(()),
-            Err(error) => match error.kind() {
-                ErrorKind::OutOfMemory => Err(WriteFail::Memory),
-                _ => {
-                    self.faults = self.faults.saturating_add(1);
-                    Err(WriteFail::Failed)
-                }
-            },
+            // A part of the bytes may be written, whatever the error: so it is never told as out of memory.
+            Err(_) => {
+                self.faults = self.faults.saturating_add(1);
+                Err(WriteFail::Failed)
+            }
         }
     }
 }

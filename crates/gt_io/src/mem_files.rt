@@ -16,13 +16,14 @@ pub struct MemFiles {
 }
 
 impl MemFiles {
-    ghost use Rattle.gt_io.specs.MemFiles.{files_of, scheduled_of};
+    ghost use Rattle.gt_io.specs.MemFiles.{files_of, scheduled_of, calls_of, faults_of};
     ghost use Rattle.gt_io.specs.Held.{none_held, with_contents};
 
     /// A store without files; `fails` are the numbers of the calls that are to fail, from 1. It takes no memory.
     pub fn new(alloc: Global, fails: Vec<u64>) -> MemFiles
         ensures empty { files_of result ≡ none_held }
         ensures fails { scheduled_of result ≡ fails.items }
+        ensures fresh { (calls_of result ≡ 0) × (faults_of result ≡ 0) }
     {
         MemFiles {
             shelf: Shelf::new(alloc),

@@ -7,7 +7,7 @@ use gt_types::Bytes;
 use std::alloc::Global;
 
 /// A sink that keeps its bytes and tells them. A call whose number is among those that are to fail answers `Failed` and
-/// changes nothing.
+/// takes nothing.
 #[derive(Drop)]
 pub struct MemSink {
     bytes: Bytes,
@@ -15,12 +15,13 @@ pub struct MemSink {
 }
 
 impl MemSink {
-    ghost use Rattle.gt_io.specs.MemSink.{bytes_of, scheduled_of};
+    ghost use Rattle.gt_io.specs.MemSink.{bytes_of, scheduled_of, calls_of, faults_of};
 
     /// A sink without bytes; `fails` are the numbers of the calls that are to fail, from 1. It takes no memory.
     pub fn new(alloc: Global, fails: Vec<u64>) -> MemSink
         ensures empty { bytes_of result ≡ [] }
         ensures fails { scheduled_of result ≡ fails.items }
+        ensures fresh { (calls_of result ≡ 0) × (faults_of result ≡ 0) }
     {
         MemSink {
             bytes: Bytes::new(alloc),

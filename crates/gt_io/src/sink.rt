@@ -15,7 +15,7 @@ pub trait Sink {
     /// How often a call has failed. It never falls, and stops at its type's end.
     ghost faults: { Self → ℕ };
 
-    /// What one write is: the sink before, the bytes, the answer, and the sink after.
+    /// What is known of one write: the sink before, the bytes, the answer, and the sink after. It stands beside what `written` says of the bytes.
     ghost writes: { Self → List ℕ → Result (Unit {0}) WriteFail → Self → Type 0 };
 
     /// Takes these bytes after those that it took before.

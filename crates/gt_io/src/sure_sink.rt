@@ -32,15 +32,15 @@ impl SureSink {
 }
 
 impl Sink for SureSink {
-    ghost use Rattle.std.specs.Prelude.{◌≢◌, Err};
-    ghost use Rattle.gt_io.specs.declared.fail.WriteFail.TheVariants.{Failed};
+    ghost use Rattle.std.specs.Prelude.{false};
+    ghost use Rattle.gt_io.specs.MemSink.{AnswersWrite};
     ghost use Rattle.gt_io.specs.SureSink.{sure_bytes_of};
 
     ghost written = { λ s. Some (sure_bytes_of s) };
 
     ghost faults = { λ _. 0 };
 
-    ghost writes = { λ _ _ result _. result ≢ Err Failed };
+    ghost writes = { λ before bytes result after. AnswersWrite false (sure_bytes_of before) bytes result (sure_bytes_of after) };
 
     fn write_all(&mut self, bytes: &[u8]) -> Result<(), WriteFail> {
         Ok(self.bytes.append(bytes)?)

@@ -5,7 +5,7 @@ ghost use Rattle.gt_next.specs.States.{State};
 ghost use Rattle.gt_session.specs.Sessions.{StandsFor, IsSession};
 ghost use Rattle.gt_next.specs.Laws.{IsBuilt};
 ghost use Rattle.gt_lines.specs.Lines.{RunsLine};
-ghost use Rattle.gt_lines.specs.Calls.{CallsLine, CallsOf};
+ghost use Rattle.gt_lines.specs.Calls.{LineCalls, SinkCalls};
 ghost use Rattle.gt_lines.specs.Runs.{RunsLines};
 
 use gt_answers::text;
@@ -51,7 +51,7 @@ pub fn run_line<F: Files, K: Sink>(
     requires built { IsBuilt line.now.command }
     ensures ran { (state : State) → StandsFor s.old (F.told files.old) state
         → (t : State) × RunsLine s.old.schema.program s.old.schema.layouts line.now state t answers.old.items answers.new.items (K.written out.old) (K.written out.new) result × StandsFor s.new (F.told files.new) t }
-    ensures calls { CallsLine K.writes out.old line.now answers.old.items answers.new.items out.new result }
+    ensures calls { LineCalls K.writes out.old line.now answers.old.items answers.new.items out.new result }
     ensures session { IsSession s.new }
     ensures schema { s.new.schema ≡ s.old.schema }
     ensures files { files.new ≡ files.old }
@@ -93,7 +93,7 @@ pub fn run_lines<F: Files, K: Sink>(
     requires none_yet { answers.old.items ≡ [] }
     ensures ran { (state : State) → StandsFor s.old (F.told files.old) state
         → (t : State) × RunsLines s.old.schema.program s.old.schema.layouts lines.now state t answers.new.items (K.written out.old) (K.written out.new) result × StandsFor s.new (F.told files.new) t }
-    ensures calls { CallsOf K.writes out.old lines.now answers.new.items out.new result }
+    ensures calls { SinkCalls K.writes out.old lines.now answers.new.items out.new result }
     ensures session { IsSession s.new }
     ensures schema { s.new.schema ≡ s.old.schema }
     ensures files { files.new ≡ files.old }

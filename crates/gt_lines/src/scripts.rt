@@ -5,7 +5,7 @@ ghost use Rattle.gt_next.specs.States.{State};
 ghost use Rattle.gt_session.specs.Sessions.{StandsFor, IsSession};
 ghost use Rattle.gt_next.specs.Laws.{IsBuilt};
 ghost use Rattle.gt_lines.specs.Scripts.{RunsScript};
-ghost use Rattle.gt_lines.specs.Calls.{CallsOf};
+ghost use Rattle.gt_lines.specs.Calls.{SinkCalls};
 
 use crate::lines::{LinesEnd, run_lines};
 use gt_io::{Files, Sink};
@@ -31,7 +31,7 @@ pub fn run_script<F: Files, K: Sink>(
     requires none_yet { answers.old.items ≡ [] }
     ensures ran { (state : State) → StandsFor session (F.told files.old) state
         → RunsScript session.schema.program session.schema.layouts lines.now state answers.new.items (K.written out.old) (K.written out.new) space.old space.new result }
-    ensures calls { CallsOf K.writes out.old lines.now answers.new.items out.new result }
+    ensures calls { SinkCalls K.writes out.old lines.now answers.new.items out.new result }
     ensures files { files.new ≡ files.old }
     ensures later { K.faults out.old ≤ K.faults out.new }
     ensures cause { result ≡ LinesEnd.SinkFailed → Rose (K.faults out.old) (K.faults out.new) }

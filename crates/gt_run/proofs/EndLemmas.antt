@@ -19,7 +19,7 @@ use Rattle.gt_next.specs.States.{State, IsGoodState}
 use Rattle.gt_next.specs.Laws.{IsBuilt}
 use Rattle.gt_lines.specs.Runs.{RanFirst, RunsLines}
 use Rattle.gt_lines.specs.Scripts.{LeavesSpace, RunsScript}
-use Rattle.gt_lines.specs.Calls.{WriteOf, CallsOf}
+use Rattle.gt_lines.specs.Calls.{WriteOf, SinkCalls}
 use Rattle.gt_lines.specs.declared.lines.LinesEnd.{LinesEnd}
 use Rattle.gt_lines.specs.declared.lines.LinesEnd.TheVariants as lines
 use Rattle.gt_run.specs.Comes.{IsRefusedFirst}
@@ -40,10 +40,11 @@ answered-some [] now answer e none = let is : answer ∷ [] ≡ [] = sym e ∙ n
 answered-some (a ∷ more) now answer e none = let is : a ∷ more ++ answer ∷ [] ≡ [] = sym e ∙ none in cc
 
 -- without an answer no call was made
-none_called : {K : Type 0} (write : WriteOf K) (old : K) (script : List Line) (answers : List Answer) (new : K) → answers ≡ [] → CallsOf write old script answers new lines.NoMemory → new ≡ old
-none_called write old script [] new none (inl same) = same
-none_called write old script [] new none (inr (inl fails)) = absurd fails
-none_called write old script [] new none (inr (inr last)) = absurd (answered-some last.0 [] last.1 last.2 refl)
+none_called : {K : Type 0} (write : WriteOf K) (old : K) (script : List Line) (answers : List Answer) (new : K) → answers ≡ [] → SinkCalls write old script answers new lines.NoMemory → new ≡ old
+none_called write old [] [] new none (inl same) = same
+none_called write old (line ∷ script) [] new none (inl same) = same
+none_called write old script [] new none (inr (inl last)) = absurd (answered-some last.before [] last.answer last.cut refl)
+none_called write old script [] new none (inr (inr last)) = absurd (answered-some last.before [] last.answer last.cut refl)
 none_called write old script (answer ∷ answers) new none calls = absurd (cc)
 
 -- ---- a script that is run
@@ -75,7 +76,7 @@ module _ (words : List (List ℕ)) (told : Option Held) (call : Call) (p : Progr
 
   -- what lines leave is an ending of the program, where the space was empty
   Ended-lines : (answers : List Answer) (out : Output) (before now : Range) (end : LinesEnd) → before ≡ empty_range
-      → RunsLines p layouts script opening state answers out.taken out.takes end → CallsOf out.write out.old script answers out.new end → LeavesSpace p layouts state end answers before now
+      → RunsLines p layouts script opening state answers out.had out.has end → SinkCalls out.write out.old script answers out.new end → LeavesSpace p layouts state end answers before now
       → Ended words told (Some (whole asks.texts)) out (ending_of end) answers now
   Ended-lines answers out before now lines.Finished empty h calls stands = (Runs-first answers now [] h.0 stands, refl, refl, h.1, calls)
   Ended-lines answers out before now lines.SinkFailed empty h calls stands = inr (Runs-first answers now h.0 h.1 stands, refl, h.2, calls)
@@ -87,7 +88,7 @@ module _ (words : List (List ℕ)) (told : Option Held) (call : Call) (p : Progr
 pub Ended-script : (words : List (List ℕ)) (told : Option Held) (call : Call) (p : Program) (layouts : Layouts) (script : List Line) → IsLaidOut p layouts
     → (asks : Asks words told call p script) → All (λ (line : Line). IsBuilt line.command) script → (opening : State) → Opens p call.settings told opening
     → (answers : List Answer) (out : Output) (before now : Range) (end : LinesEnd) → before ≡ empty_range
-    → RunsScript p layouts script opening answers out.taken out.takes before now end → CallsOf out.write out.old script answers out.new end
+    → RunsScript p layouts script opening answers out.had out.has before now end → SinkCalls out.write out.old script answers out.new end
     → Ended words told (Some (whole asks.texts)) out (ending_of end) answers now
 Ended-script words told call p layouts script laid asks built opening opens answers out before now end empty h calls =
     Ended-lines words told call p layouts script laid asks built opening h.last opens h.good answers out before now end empty h.runs calls h.space
@@ -113,7 +114,8 @@ Ended-refused words told texts refusal line first is out (Refused other) h =
     let L : Refusal → Type 0 = λ r. IsRefusalLine words texts r line in
     (refl, refl, texts, subst F (sym h.0) first, ap (λ r. Some (extent_for texts r)) (sym h.0), line, subst L (sym h.0) is, h.1, h.2)
 Ended-refused words told texts refusal line first is out SinkFailed h = inl (refl, refl, refusal, texts, first, refl, line, is, h.0, h.1)
-Ended-refused words told texts refusal line first is out NoMemory h = inl (refl, h.0, refl, inr (line, h.1))
+Ended-refused words told texts refusal line first is out NoMemory h =
+    inl (refl, h.0, refl, inr (record { refusal = refusal; texts = texts; first = first; reads = refl; line = line; is = is; fails = h.1 }))
 Ended-refused words told texts refusal line first is out Finished h = absurd h
 
 -- ---- calls without an answer

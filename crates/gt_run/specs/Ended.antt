@@ -14,7 +14,7 @@ use Rattle.gt_front.specs.declared.refusal.Refusal.TheVariants.{Words, Header, S
 use Rattle.gt_next.specs.declared.answer.Answer.{Answer}
 use Rattle.gt_next.specs.Texts.{is_refusal, texts_of}
 use Rattle.gt_lines.specs.Runs.{AddsAllBut, IsNothing}
-use Rattle.gt_lines.specs.Calls.{CallsOf}
+use Rattle.gt_lines.specs.Calls.{SinkCalls}
 use Rattle.gt_lines.specs.declared.lines.LinesEnd.TheVariants as lines
 use Rattle.gt_run.specs.Comes.{IsRefusedFirst}
 use Rattle.gt_run.specs.Runs.{Runs}
@@ -28,29 +28,39 @@ abbrev pub WasRead : {F : Type 0} → (F → List ℕ → ℕ → Result (Option
 WasRead reads words store (Some extent) last = HasRead reads words store extent last
 WasRead reads words store None last = Unit {0}
 
+-- the one call was for the line of what comes first in the order of work, and answered out of memory
+pub record FailsRefusal (words : List (List ℕ)) (told : Option Held) (read : Option Extent) (out : Output) : Type 0 where
+  pub refusal : Refusal
+  pub texts : Texts
+  pub first : IsRefusedFirst words told texts refusal
+  pub reads : read ≡ Some (extent_for texts refusal)
+  pub line : List ℕ
+  pub is : IsRefusalLine words texts refusal line
+  pub fails : out.write out.old line (Err Memory) out.new
+
 -- how the program ends, with its answers, what the sink took and which calls of it were made, and the bytes of the space, where this was read
 -- finished: a run of all lines, by the texts that were read, and the text of its answers, each by one call where it has a byte
--- refused: what comes first in the order of work, by the texts that were read, with its line, by one call, where it was read as far as this
--- refusal takes (`extent_for`); no command ran, and the space is empty, as it came
+-- refused: what comes first in the order of work, by the texts that were read, with its line, by one call, and what has to be read for this
+-- refusal was read (`extent_for`); no command ran, and the space is empty, as it came
 -- the sink failed: a prefix of such a refusal's line, where no command ran and the space is empty, as it came; or of the text of the
 -- answers with all but the last whole; the last call is the one that failed
--- out of memory: no answer, where nothing was written, at most one call failed, and the space is empty, as it came, and nothing is said of
--- what was read; or some, and the text of the answers, or of all but the last: the answers are those to the lines that were run
+-- out of memory: no answer, where nothing was written, no call was made but one for the line of a refusal that answered out of memory, and
+-- the space is empty, as it came; or some, and the text of the answers, or of all but the last: the answers are those to the lines that were run
 abbrev pub Ended : List (List ℕ) → Option Held → Option Extent → Output → Ending → List Answer → Range → Type 0
 Ended words told read out Finished answers range = (r : Runs words told answers range) × (read ≡ Some (whole r.asks.texts)) × (r.left ≡ [])
-    × Adds out.taken (texts_of r.done answers) out.takes × CallsOf out.write out.old r.lines answers out.new lines.Finished
+    × Adds out.had (texts_of r.done answers) out.has × SinkCalls out.write out.old r.lines answers out.new lines.Finished
 Ended words told read out (Refused refusal) answers range = (answers ≡ []) × (range ≡ empty_range) × (texts : Texts) × IsRefusedFirst words told texts refusal
-    × (read ≡ Some (extent_for texts refusal)) × (line : List ℕ) × IsRefusalLine words texts refusal line × Adds out.taken line out.takes × out.write out.old line (Ok tt) out.new
+    × (read ≡ Some (extent_for texts refusal)) × (line : List ℕ) × IsRefusalLine words texts refusal line × Adds out.had line out.has × out.write out.old line (Ok tt) out.new
 Ended words told read out SinkFailed answers range =
     ((answers ≡ []) × (range ≡ empty_range) × (refusal : Refusal) × (texts : Texts) × IsRefusedFirst words told texts refusal
-    × (read ≡ Some (extent_for texts refusal)) × (line : List ℕ) × IsRefusalLine words texts refusal line × AddsFront out.taken line out.takes × out.write out.old line (Err Failed) out.new)
-    ⊎ ((r : Runs words told answers range) × (read ≡ Some (whole r.asks.texts)) × AddsAllBut out.taken r.done answers IsFrontOf out.takes
-    × CallsOf out.write out.old r.lines answers out.new lines.SinkFailed)
+    × (read ≡ Some (extent_for texts refusal)) × (line : List ℕ) × IsRefusalLine words texts refusal line × AddsFront out.had line out.has × out.write out.old line (Err Failed) out.new)
+    ⊎ ((r : Runs words told answers range) × (read ≡ Some (whole r.asks.texts)) × AddsAllBut out.had r.done answers IsFrontOf out.has
+    × SinkCalls out.write out.old r.lines answers out.new lines.SinkFailed)
 Ended words told read out NoMemory answers range =
-    ((answers ≡ []) × (out.takes ≡ out.taken) × (range ≡ empty_range) × ((out.new ≡ out.old) ⊎ ((line : List ℕ) × out.write out.old line (Err Memory) out.new)))
+    ((answers ≡ []) × (out.has ≡ out.had) × (range ≡ empty_range) × ((out.new ≡ out.old) ⊎ FailsRefusal words told read out))
     ⊎ ((answers ≡ [] → ⊥) × (r : Runs words told answers range) × (read ≡ Some (whole r.asks.texts))
-    × (Adds out.taken (texts_of r.done answers) out.takes ⊎ AddsAllBut out.taken r.done answers IsNothing out.takes)
-    × CallsOf out.write out.old r.lines answers out.new lines.NoMemory)
+    × (Adds out.had (texts_of r.done answers) out.has ⊎ AddsAllBut out.had r.done answers IsNothing out.has)
+    × SinkCalls out.write out.old r.lines answers out.new lines.NoMemory)
 
 -- the status of a refusal: 3 for a file, else 2
 abbrev pub refusal_status : Refusal → ℕ

@@ -9,7 +9,7 @@ use Rattle.gt_run.specs.declared.ending.Ending.TheVariants.{Finished, Refused, S
 
 -- the refusal's line is written, by one call; or a prefix of it, where the sink failed; or nothing, for out of memory
 abbrev pub Refuses : Refusal → List ℕ → Output → Ending → Type 0
-Refuses refusal line out (Refused told) = (told ≡ refusal) × Adds out.taken line out.takes × out.write out.old line (Ok tt) out.new
-Refuses refusal line out SinkFailed = AddsFront out.taken line out.takes × out.write out.old line (Err Failed) out.new
-Refuses refusal line out NoMemory = (out.takes ≡ out.taken) × out.write out.old line (Err Memory) out.new
+Refuses refusal line out (Refused told) = (told ≡ refusal) × Adds out.had line out.has × out.write out.old line (Ok tt) out.new
+Refuses refusal line out SinkFailed = AddsFront out.had line out.has × out.write out.old line (Err Failed) out.new
+Refuses refusal line out NoMemory = (out.has ≡ out.had) × out.write out.old line (Err Memory) out.new
 Refuses refusal line out Finished = ⊥

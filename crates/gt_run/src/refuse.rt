@@ -8,7 +8,7 @@ use crate::ending::Ending;
 use gt_front::Refusal;
 use gt_io::{Sink, WriteFail};
 
-/// Writes the line of a refusal.
+/// Writes the line of a refusal, by one call of the sink.
 pub fn refuse<K: Sink>(refusal: Refusal, line: &[u8], out: &mut K) -> Ending
     ensures refused { Refuses refusal line.now (output K.writes K.written out.old out.new) result }
     ensures later { K.faults out.old ≤ K.faults out.new }
