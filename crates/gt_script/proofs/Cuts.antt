@@ -1,11 +1,12 @@
 -- The words of a line, from left to right.
-use Rattle.std.proofs.Common.{◌≡◌, ◌≢◌, ℕ, zero, suc, ◌≤◌, ◌<◌, Bool, true, false, cond, eqb, List, [], ◌∷◌, ◌++◌, length, take, drop, Option, Some, None, refl, sym, ap, ◌∙◌, append_assoc, arith, inl, inr}
+use Rattle.std.proofs.Common.{◌≡◌, ◌≢◌, ℕ, zero, suc, ◌+◌, ◌≤◌, ◌<◌, Bool, true, false, cond, eqb, List, [], ◌∷◌, ◌++◌, length, take, drop, Option, Some, None, refl, sym, ap, ◌∙◌, append_assoc, arith, inl, inr}
+use Rattle.std.specs.List.{prefix_len}
 use Rattle.std.proofs.lemmas.Bool.Decides.{nat_tests}
 use Rattle.std.proofs.lemmas.Option.{cond_some, same_Some}
 use Rattle.std.proofs.lemmas.List.{append-nil, length-drop}
 use Rattle.gt_script.specs.declared.pieces.Piece.{Piece}
 use Rattle.gt_script.specs.declared.pieces.Piece.TheVariants.{Plain, Quoted}
-use Rattle.gt_script.specs.Texts.{◌>>=◌}
+use Rattle.gt_script.specs.Texts.{◌>>=◌, following}
 use Rattle.gt_script.specs.Cutting.{is_blank, without_blanks, escape_of, quoted_at, ends_word, quoted_word_at, plain_len, word_at, words_within, words_of}
 use Rattle.gt_script.proofs.Options.{bind_some, chosen}
 
@@ -39,24 +40,23 @@ unfolding without_blanks
 without_blanks-shorter [] = omega arith
 without_blanks-shorter (c ∷ cs) = shorter_here c cs (is_blank c) refl (without_blanks-shorter cs)
 
--- blanks are passed one by one
-pub blank_more : (rest after text : List ℕ) (c : ℕ) → rest ≡ c ∷ after → true ≡ is_blank c → without_blanks rest ≡ text → without_blanks after ≡ text
+past_here : (c : ℕ) (cs : List ℕ) (b : Bool) → is_blank c ≡ b → drop (prefix_len is_blank cs) cs ≡ without_blanks cs → drop (prefix_len is_blank (c ∷ cs)) (c ∷ cs) ≡ without_blanks (c ∷ cs)
 unfolding without_blanks
-blank_more rest after text c e blank h =
-    let next : without_blanks rest ≡ without_blanks after = ap without_blanks e ∙ rw (← blank) refl in
-    sym next ∙ h
+past_here c cs true e h =
+    let next : prefix_len is_blank (c ∷ cs) ≡ suc (prefix_len is_blank cs) = rw e (omega arith) in
+    rw (next, e) h
+past_here c cs false e h =
+    let here : prefix_len is_blank (c ∷ cs) ≡ 0 = rw e refl in
+    rw (here, e) refl
 
-pub blank_end : (rest text : List ℕ) → rest ≡ [] → without_blanks rest ≡ text → rest ≡ text
+past_blanks : (text : List ℕ) → drop (prefix_len is_blank text) text ≡ without_blanks text
 unfolding without_blanks
-blank_end rest text e h =
-    let none : without_blanks rest ≡ rest = ap without_blanks e ∙ sym e in
-    sym none ∙ h
+past_blanks [] = refl
+past_blanks (c ∷ cs) = past_here c cs (is_blank c) refl (past_blanks cs)
 
-pub blank_stop : (rest after text : List ℕ) (c : ℕ) → rest ≡ c ∷ after → false ≡ is_blank c → without_blanks rest ≡ text → rest ≡ text
-unfolding without_blanks
-blank_stop rest after text c e other h =
-    let here : without_blanks rest ≡ rest = ap without_blanks e ∙ rw (← other) (sym e) in
-    sym here ∙ h
+-- what stands after the blanks at the front
+pub after_blanks : (text : List ℕ) (n : ℕ) → n ≡ prefix_len is_blank text → drop n text ≡ without_blanks text
+after_blanks text n at = ap (λ k. drop k text) at ∙ past_blanks text
 
 -- ---- a word takes a byte at least
 
@@ -101,6 +101,34 @@ word_at-shorter (c ∷ cs) r e =
           let same : drop (plain_len cs) cs ≡ r.1 = ap (λ (p : Piece × List ℕ). p.1) (same_Some (Plain (c ∷ take (plain_len cs) cs), drop (plain_len cs) cs) r g.1) in
           omega (arith, length-drop (plain_len cs) cs, ap length same)
     ]
+
+-- whether a text begins with a quote decides what its first word is
+first_byte : (c : ℕ) (cs : List ℕ) (b : Bool) → eqb c 34 ≡ b → following (34 ∷ []) (c ∷ cs) ≡ cond b (Some cs) None
+unfolding following
+first_byte c cs true e = rw e refl
+first_byte c cs false e = rw e refl
+
+quoted_here : (c : ℕ) (cs inside : List ℕ) (b : Bool) → eqb c 34 ≡ b → Some inside ≡ cond b (Some cs) None → quoted_word_at inside ≡ word_at (c ∷ cs)
+unfolding word_at
+quoted_here c cs inside true e is = rw e (ap quoted_word_at (same_Some inside cs is))
+quoted_here c cs inside false e is = absurd cc
+
+pub word_quoted : (text others inside : List ℕ) (c : ℕ) → text ≡ c ∷ others → Some inside ≡ following (34 ∷ []) text → quoted_word_at inside ≡ word_at text
+word_quoted text others inside c e is =
+    quoted_here c others inside (eqb c 34) refl (is ∙ ap (following (34 ∷ [])) e ∙ first_byte c others (eqb c 34) refl) ∙ sym (ap word_at e)
+
+plain_first : (c : ℕ) (cs : List ℕ) (b : Bool) → eqb c 34 ≡ b → None ≡ cond b (Some cs) None → Some (Plain (c ∷ take (plain_len cs) cs), drop (plain_len cs) cs) ≡ word_at (c ∷ cs)
+unfolding word_at
+plain_first c cs true e is = absurd cc
+plain_first c cs false e is = rw e refl
+
+pub word_plain : (text others word after : List ℕ) (c n : ℕ) → text ≡ c ∷ others → None ≡ following (34 ∷ []) text → n ≡ plain_len others → word ≡ take (1 + n) text → after ≡ drop (1 + n) text
+    → Some (Plain word, after) ≡ word_at text
+word_plain text others word after c n e none at w a =
+    let len : 1 + n ≡ suc (plain_len others) = omega (arith, at) in
+    let front : word ≡ c ∷ take (plain_len others) others = w ∙ ap (λ (t : List ℕ). take (1 + n) t) e ∙ ap (λ k. take k (c ∷ others)) len in
+    let back : after ≡ drop (plain_len others) others = a ∙ ap (λ (t : List ℕ). drop (1 + n) t) e ∙ ap (λ k. drop k (c ∷ others)) len in
+    rw (front, back) (plain_first c others (eqb c 34) refl (none ∙ ap (following (34 ∷ [])) e ∙ first_byte c others (eqb c 34) refl) ∙ sym (ap word_at e))
 
 -- ---- a count that is large enough
 

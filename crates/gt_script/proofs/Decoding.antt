@@ -15,21 +15,13 @@ use Rattle.gt_script.specs.Values.{is_identifier_of, name_at, file_at}
 pub utf8_false : (text : List ℕ) → (IsUtf8 text → ⊥) → is_utf8 text ≡ false
 utf8_false text h = false_from_ne_true (is_utf8 text) (λ e. h (IsUtf8-from_is_utf8 text e))
 
-pub name_unreadable : (text : List ℕ) → is_utf8 text ≡ false → None ≡ name_at text
+pub name_some : (text word : List ℕ) → IsUtf8 text → true ≡ is_identifier_of (chars text) → word ≡ chars text → Some word ≡ name_at text
 unfolding name_at
-name_unreadable text h = rw h refl
+name_some text word utf8 identifier e = rw (is_utf8-from_IsUtf8 text utf8, sym identifier) (ap Some e)
 
-pub name_some : (text inner word : List ℕ) → inner ≡ text → IsUtf8 text → true ≡ is_identifier_of (chars inner) → word ≡ chars inner → Some word ≡ name_at text
+pub name_other : (text : List ℕ) → false ≡ is_identifier_of (chars text) → None ≡ name_at text
 unfolding name_at
-name_some text inner word same utf8 identifier e =
-    let is_name : is_identifier_of (chars text) ≡ true = ap (λ t. is_identifier_of (chars t)) (sym same) ∙ sym identifier in
-    rw (is_utf8-from_IsUtf8 text utf8, is_name) (ap Some (e ∙ ap chars same))
-
-pub name_other : (text inner : List ℕ) → inner ≡ text → false ≡ is_identifier_of (chars inner) → None ≡ name_at text
-unfolding name_at
-name_other text inner same other =
-    let no_name : is_identifier_of (chars text) ≡ false = ap (λ t. is_identifier_of (chars t)) (sym same) ∙ sym other in
-    go (is_utf8 text) (is_identifier_of (chars text)) no_name
+name_other text other = go (is_utf8 text) (is_identifier_of (chars text)) (sym other)
   where
     go : (a b : Bool) → b ≡ false → None ≡ cond (a && b) (Some (chars text)) None
     go true b e = rw e refl
@@ -40,21 +32,17 @@ both_false true b e f = absurd cc
 both_false false true e f = absurd cc
 both_false false false e f = refl
 
-pub file_unreadable : (text : List ℕ) → false ≡ eqb (length text) 0 → false ≡ list_any (λ c. eqb c 0) text → is_utf8 text ≡ false → None ≡ file_at text
+pub file_some : (text word : List ℕ) → false ≡ eqb (length text) 0 → false ≡ list_any (λ c. eqb c 0) text → IsUtf8 text → word ≡ chars text → Some word ≡ file_at text
 unfolding file_at
-file_unreadable text some solid h = rw (both_false _ _ some solid, h) refl
+file_some text word some solid utf8 e = rw (both_false _ _ some solid, is_utf8-from_IsUtf8 text utf8) (ap Some e)
 
-pub file_some : (text inner word : List ℕ) → false ≡ eqb (length text) 0 → false ≡ list_any (λ c. eqb c 0) text → inner ≡ text → IsUtf8 text → word ≡ chars inner → Some word ≡ file_at text
-unfolding file_at
-file_some text inner word some solid same utf8 e = rw (both_false _ _ some solid, is_utf8-from_IsUtf8 text utf8) (ap Some (e ∙ ap chars same))
-
-pub said_none : (text : List ℕ) → false ≡ is_utf8 text → None ≡ said_at text
+pub said_none : (text : List ℕ) → is_utf8 text ≡ false → None ≡ said_at text
 unfolding said_at
-said_none text h = rw (← h) refl
+said_none text h = rw h refl
 
-pub said_is : (text : List ℕ) (passed : Bool) → true ≡ is_utf8 text → passed ≡ is_passed_over text → cond passed (Some None) (option_map Some (spoken_at text)) ≡ said_at text
+pub said_is : (text : List ℕ) (passed : Bool) → IsUtf8 text → passed ≡ is_passed_over text → cond passed (Some None) (option_map Some (spoken_at text)) ≡ said_at text
 unfolding said_at
-said_is text passed utf8 e = rw (← utf8, e) refl
+said_is text passed utf8 e = rw (is_utf8-from_IsUtf8 text utf8, e) refl
 
 -- a text that is cut at an ASCII byte
 pub utf8_parts : (text front back : List ℕ) (byte : ℕ) → byte < 128 → text ≡ front ++ byte ∷ back → IsUtf8 text → IsUtf8 front × IsUtf8 back

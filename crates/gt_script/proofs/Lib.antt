@@ -17,3 +17,4 @@ mod FormsSpelled
 pub mod Settled
 mod Splits
 mod TextBytes
+mod Boundaries

@@ -18,7 +18,7 @@ abbrev QuotedTaken : Bool → List ℕ → List ℕ × List ℕ → Type 0
 QuotedTaken false text r = (inside : List ℕ) × AreQuoted inside r.0 × (text ≡ inside ++ 34 ∷ r.1)
 QuotedTaken true text r = (inside : List ℕ) × AreQuoted (92 ∷ inside) r.0 × (text ≡ inside ++ 34 ∷ r.1)
 
-quoted_taken : (escape : Bool) (text : List ℕ) (r : List ℕ × List ℕ) → quoted_at escape text ≡ Some r → QuotedTaken escape text r
+pub quoted_taken : (escape : Bool) (text : List ℕ) (r : List ℕ × List ℕ) → quoted_at escape text ≡ Some r → QuotedTaken escape text r
 unfolding quoted_at
 quoted_taken true [] r e = absurd cc
 quoted_taken false [] r e = absurd cc

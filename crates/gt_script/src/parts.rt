@@ -1,7 +1,8 @@
-ghost use Rattle.std.specs.Prelude.{◌≡◌, ◌<◌, ◌==◌, ◌∷◌, length, position};
+// Texts that are cut at a byte.
+ghost use Rattle.std.specs.Prelude.{◌≡◌, ◌<◌, ◌==◌, [], ◌∷◌, length, position};
 ghost use Rattle.std.specs.Option.{option_map};
 ghost use Rattle.std.specs.Str.{IsUtf8};
-ghost use Rattle.gt_script.specs.Texts.{parts_at, lines_of};
+ghost use Rattle.gt_script.specs.Texts.{following, before, parts_at, lines_of};
 
 use memchr::memchr;
 
@@ -34,5 +35,31 @@ pub fn first_line(text: &[u8]) -> (&[u8], &[u8])
     match split_once(text, b'\n') {
         None => (text, &[]),
         Some(parts) => parts,
+    }
+}
+
+// What stands after an ASCII byte, where the text begins with it.
+#[tactic(auto, unfolding(crate::specs::Texts::following))]
+#[inline(always)]
+pub fn after_byte(text: &str, byte: u8) -> Option<&str>
+    requires ascii { byte < 128 }
+    ensures { option_map (λ rest. rest.now) result ≡ following (byte ∷ []) text.now }
+{
+    match text.as_bytes() {
+        [first, ..] if *first == byte => Some(&text[1..]),
+        _ => None,
+    }
+}
+
+// What stands before an ASCII byte, where the text ends with it.
+#[tactic(auto, unfolding(crate::specs::Texts::before))]
+#[inline(always)]
+pub fn before_byte(text: &str, byte: u8) -> Option<&str>
+    requires ascii { byte < 128 }
+    ensures { option_map (λ rest. rest.now) result ≡ before (byte ∷ []) text.now }
+{
+    match text.as_bytes() {
+        [.., last] if *last == byte => Some(&text[..text.len() - 1]),
+        _ => None,
     }
 }

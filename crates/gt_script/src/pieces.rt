@@ -1,6 +1,7 @@
 // The words of a line.
 ghost use Rattle.std.specs.Prelude.{◌≡◌, ◌≤◌, cond, Some, None, length, IfOk};
 ghost use Rattle.std.specs.Option.{option_map};
+ghost use Rattle.std.specs.List.{prefix_len};
 ghost use Rattle.gt_script.specs.Cutting.{is_blank, without_blanks, ends_word, quoted_word_at, plain_len, word_at};
 ghost use Rattle.gt_script.specs.Scanning.{few_of};
 
@@ -38,9 +39,9 @@ pub fn read_words<'a>(
     ensures { IfOk result (λ done. cond done (Some words.new.items) None ≡ few_of text.now) }
 {
     words.clear();
-    let bytes = text.bytes();
-    let end = text.place().wrapping_add(bytes.len());
-    let mut rest = without_blanks(bytes);
+    let all = text.text();
+    let end = text.place().wrapping_add(all.len());
+    let mut rest = without_blanks(all);
     while !rest.is_empty() {
         if words.len() == MOST_WORDS {
             return Ok(false);
@@ -56,33 +57,34 @@ pub fn read_words<'a>(
 }
 
 #[inline(always)]
-fn without_blanks(text: &[u8]) -> &[u8]
+fn without_blanks(text: &str) -> &str
     ensures { result.now ≡ without_blanks text.now }
 {
-    let mut rest = text;
-    'blanks: loop {
-        match front(rest) {
-            None => return rest,
-            Some((byte, after)) if is_blank(byte) => rest = after,
-            Some(_) => return rest,
-        }
-    }
+    &text[blank_len(text.as_bytes())..]
+}
+
+// How many blanks stand at the front.
+#[inline(always)]
+fn blank_len(text: &[u8]) -> usize
+    ensures { result ≡ prefix_len is_blank text.now }
+{
+    text.iter().take_while(|byte| is_blank(**byte)).count()
 }
 
 // The first word and what stands after it.
 #[tactic(auto, unfolding(crate::specs::Cutting::word_at))]
 #[inline(always)]
-fn word_at<'a>(alloc: Global, text: &Slice<'a>) -> Result<Option<(Piece<'a>, &'a [u8])>, AllocError>
+fn word_at<'a>(alloc: Global, text: &Slice<'a>) -> Result<Option<(Piece<'a>, &'a str)>, AllocError>
     ensures { IfOk result (λ found. option_map (λ r. (r.0, r.1.now)) found ≡ word_at text.now) }
 {
-    match front(text.bytes()) {
-        None => Ok(None),
-        Some((b'"', inside)) => {
-            quoted_word(alloc, &Slice::of(inside, text.place().wrapping_add(1)))
-        }
-        Some((_, others)) => {
+    let Some((_, others)) = front(text.bytes()) else {
+        return Ok(None);
+    };
+    match text.after(b'"') {
+        Some(inside) => quoted_word(alloc, &inside),
+        None => {
             let (word, after) = text.split_at(1 + plain_len(others));
-            Ok(Some((Piece::Plain(word), after.bytes())))
+            Ok(Some((Piece::Plain(word), after.text())))
         }
     }
 }
@@ -101,16 +103,18 @@ fn plain_len(text: &[u8]) -> usize
 fn quoted_word<'a>(
     alloc: Global,
     text: &Slice<'a>,
-) -> Result<Option<(Piece<'a>, &'a [u8])>, AllocError>
+) -> Result<Option<(Piece<'a>, &'a str)>, AllocError>
     ensures { IfOk result (λ found. option_map (λ r. (r.0, r.1.now)) found ≡ quoted_word_at text.now) }
 {
-    let Some((bytes, after)) = read_quoted(alloc, text.bytes())? else {
+    let Some((bytes, after)) = read_quoted(alloc, text.text().as_bytes())? else {
         return Ok(None);
     };
     if !ends_word(after) {
         return Ok(None);
     }
     let quoted = Quoted::of(bytes, text.place());
+    // It stands after a quote.
+    let after = unsafe { str::from_utf8_unchecked(after) };
     Ok(Some((Piece::Quoted(quoted), after)))
 }
 

@@ -1,15 +1,17 @@
 // The words of a line, with where they stand in the script.
-ghost use Rattle.std.specs.Prelude.{◌≡◌, ◌≤◌, [], ◌∷◌, length, take, drop};
+ghost use Rattle.std.specs.Prelude.{◌≡◌, ◌<◌, [], ◌∷◌, take, drop};
+ghost use Rattle.std.specs.Str.{IsUtf8, IsCharBoundary};
 ghost use Rattle.gt_script.specs.Texts.{following, before};
 
+use crate::parts::{after_byte, before_byte};
 use gt_types::Bytes;
 use std::marker::Model;
 
-/// Bytes of a script that contracts see as the list of their values, and the place in the script at which they are expected to begin.
-/// The place only says where to look for them: nothing is promised of it.
+/// A text of a script that contracts see as the list of its bytes, and the place in the script at which it is expected to begin.
+/// The place only says where to look for it: nothing is promised of it.
 #[derive(Drop)]
 pub struct Slice<'a> {
-    bytes: &'a [u8],
+    text: &'a str,
     place: usize,
 }
 
@@ -18,22 +20,30 @@ impl<'a> Model for Slice<'a> {
 
     ghost Value = { List ℕ };
 
-    ghost view = { λ s. s.bytes.now };
+    ghost view = { λ s. s.text.now };
 }
 
 impl<'a> Slice<'a> {
     #[inline(always)]
-    pub fn of(bytes: &'a [u8], place: usize) -> Slice<'a>
-        ensures { result ≡ bytes.now }
+    pub fn of(text: &'a str, place: usize) -> Slice<'a>
+        ensures { result ≡ text.now }
     {
-        Slice { bytes, place }
+        Slice { text, place }
+    }
+
+    #[inline(always)]
+    pub fn text(&self) -> &'a str
+        ensures text { result.now ≡ self.now }
+        ensures utf8 { IsUtf8 result.now }
+    {
+        self.text
     }
 
     #[inline(always)]
     pub fn bytes(&self) -> &'a [u8]
         ensures { result.now ≡ self.now }
     {
-        self.bytes
+        self.text.as_bytes()
     }
 
     pub fn place(&self) -> usize {
@@ -43,46 +53,44 @@ impl<'a> Slice<'a> {
     // What stands before and after a place.
     #[inline(always)]
     pub fn split_at(&self, at: usize) -> (Slice<'a>, Slice<'a>)
-        requires { at ≤ length self.now }
+        requires boundary { IsCharBoundary self.now at }
         ensures front { result.0 ≡ take at self.now }
         ensures back { result.1 ≡ drop at self.now }
     {
-        let (front, back) = self.bytes.split_at(at);
+        let (front, back) = self.text.split_at(at);
         (
             Slice::of(front, self.place),
             Slice::of(back, self.place.wrapping_add(at)),
         )
     }
 
-    // What stands after a byte, where the slice begins with it.
-    #[tactic(auto, unfolding(crate::specs::Texts::following))]
+    // What stands after an ASCII byte, where the slice begins with it.
     #[inline(always)]
     pub fn after(&self, byte: u8) -> Option<Slice<'a>>
+        requires ascii { byte < 128 }
         ensures { result ≡ following (byte ∷ []) self.now }
     {
-        match self.bytes {
-            [first, rest @ ..] if *first == byte => {
-                Some(Slice::of(rest, self.place.wrapping_add(1)))
-            }
-            _ => None,
+        match after_byte(self.text, byte) {
+            Some(rest) => Some(Slice::of(rest, self.place.wrapping_add(1))),
+            None => None,
         }
     }
 
-    // What stands before a byte, where the slice ends with it.
-    #[tactic(auto, unfolding(crate::specs::Texts::before))]
+    // What stands before an ASCII byte, where the slice ends with it.
     #[inline(always)]
     pub fn before(&self, byte: u8) -> Option<Slice<'a>>
+        requires ascii { byte < 128 }
         ensures { result ≡ before (byte ∷ []) self.now }
     {
-        match self.bytes {
-            [rest @ .., last] if *last == byte => Some(Slice::of(rest, self.place)),
-            _ => None,
+        match before_byte(self.text, byte) {
+            Some(rest) => Some(Slice::of(rest, self.place)),
+            None => None,
         }
     }
 }
 
-/// The bytes that a quoted word means, which contracts see, and the place in the script at which the text between its quotes is expected
-/// to begin. Nothing is promised of the place.
+/// The text that a quoted word means, which contracts see as the list of its bytes, and the place in the script at which the text between
+/// its quotes is expected to begin. Nothing is promised of the place.
 #[derive(Drop)]
 pub struct Quoted {
     bytes: Bytes,
@@ -91,14 +99,18 @@ pub struct Quoted {
 
 impl Model for Quoted {
     ghost use Rattle.std.specs.Prelude.{ℕ, List};
+    ghost use Rattle.std.specs.Str.{IsUtf8};
 
     ghost Value = { List ℕ };
 
     ghost view = { λ q. q.bytes };
+
+    ghost invariant = { λ q. IsUtf8 q.bytes };
 }
 
 impl Quoted {
     pub fn of(bytes: Bytes, place: usize) -> Quoted
+        requires utf8 { IsUtf8 bytes }
         ensures { result ≡ bytes }
     {
         Quoted { bytes, place }
@@ -108,6 +120,14 @@ impl Quoted {
         ensures { result.now ≡ self.now }
     {
         &self.bytes
+    }
+
+    pub fn text(&self) -> &str
+        ensures text { result.now ≡ self.now }
+        ensures utf8 { IsUtf8 result.now }
+    {
+        // Its bytes are UTF-8.
+        unsafe { str::from_utf8_unchecked(self.bytes.as_slice()) }
     }
 
     pub fn place(&self) -> usize {

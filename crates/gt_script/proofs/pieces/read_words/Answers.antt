@@ -10,10 +10,11 @@ use Rattle.gt_script.proofs.Cuts.{starts, goes_on, ends, is_done, word_at-shorte
 use Rattle.gt_script.proofs.pieces.read_words.Goals as goal
 
 pub loop-rest-init : goal.loop-rest-init
-loop-rest-init c = record {
-  so_far = rw c.clear.ensures.items (starts c.args.text.now c.without_blanks-rest.result.now (c.without_blanks-rest.ensures ∙ ap without_blanks c.bytes-bytes.ensures));
-  few = rw c.clear.ensures.items (omega arith);
-}
+loop-rest-init c = (
+  c.without_blanks-rest.utf8,
+  rw c.clear.ensures.items (starts c.args.text.now c.without_blanks-rest.result.now (c.without_blanks-rest.ensures ∙ ap without_blanks c.text-all.ensures.text)),
+  rw c.clear.ensures.items (omega arith),
+)
 
 pub loop-rest-smaller : goal.loop-rest-smaller
 loop-rest-smaller c =
@@ -23,26 +24,26 @@ loop-rest-smaller c =
 pub loop-rest-preserved : goal.loop-rest-preserved
 loop-rest-preserved c =
     let some : length c.loop-rest.rest.now ≢ 0 = grind (arith, nat_tests, c.loop-rest-test.ensures) in
-    let word : word_at c.loop-rest.rest.now ≡ Some (c.in-Some.word, c.in-Some.after.now) = ap word_at (sym c.of.ensures) ∙ sym c.in_ok-word.ensures ∙ ap (option_map (λ r. (r.0, r.1.now))) c.in-Some.is in
-    record {
-      so_far = rw c.in_ok-push.ensures.items
-          (goes_on c.args.text.now c.loop-rest.words.items c.loop-rest.rest.now c.in-Some.after.now c.without_blanks-rest-in-loop-rest.result.now c.in-Some.word c.loop-rest.invariant.so_far some word c.without_blanks-rest-in-loop-rest.ensures);
-      few = rw c.in_ok-push.ensures.items
-          (omega (arith, length-append c.loop-rest.words.items (c.in-Some.word ∷ []), c.loop-rest.invariant.few, c.if-len-eq-MOST_WORDS.false, c.len.ensures));
-    }
+    let word : word_at c.loop-rest.rest.now ≡ Some (c.in-Some.word, c.in-Some.after.now) = ap word_at (sym c.of.ensures) ∙ sym c.in_ok-word.ensures ∙ ap (option_map (λ r. (r.0, r.1.now))) c.in-Some.is in (
+      c.without_blanks-rest-in-loop-rest.utf8,
+      rw c.in_ok-push.ensures.items
+          (goes_on c.args.text.now c.loop-rest.words.items c.loop-rest.rest.now c.in-Some.after.now c.without_blanks-rest-in-loop-rest.result.now c.in-Some.word c.loop-rest.invariant.1 some word c.without_blanks-rest-in-loop-rest.ensures),
+      rw c.in_ok-push.ensures.items
+          (omega (arith, length-append c.loop-rest.words.items (c.in-Some.word ∷ []), c.loop-rest.invariant.2, c.if-len-eq-MOST_WORDS.false, c.len.ensures)),
+    )
 
 pub returns-in_default : goal.returns-in_default
 returns-in_default c =
     let some : length c.loop-rest.rest.now ≢ 0 = grind (arith, nat_tests, c.loop-rest-test.ensures) in
-    ap few (ends c.args.text.now c.loop-rest.words.items c.loop-rest.rest.now c.loop-rest.invariant.so_far some (ap word_at (sym c.of.ensures) ∙ sym c.in_ok-word.ensures ∙ ap (option_map (λ r. (r.0, r.1.now))) c.in_default.is))
+    ap few (ends c.args.text.now c.loop-rest.words.items c.loop-rest.rest.now c.loop-rest.invariant.1 some (ap word_at (sym c.of.ensures) ∙ sym c.in_ok-word.ensures ∙ ap (option_map (λ r. (r.0, r.1.now))) c.in_default.is))
 
 pub returns-then-len-eq-MOST_WORDS : goal.returns-then-len-eq-MOST_WORDS
 returns-then-len-eq-MOST_WORDS c =
     let some : length c.loop-rest.rest.now ≢ 0 = grind (arith, nat_tests, c.loop-rest-test.ensures) in
     let full : length c.loop-rest.words.items ≡ 4 = omega (arith, c.len.ensures, c.if-len-eq-MOST_WORDS.true) in
-    too_many c.args.text.now c.loop-rest.words.items c.loop-rest.rest.now c.loop-rest.invariant.so_far some full
+    too_many c.args.text.now c.loop-rest.words.items c.loop-rest.rest.now c.loop-rest.invariant.1 some full
 
 pub returns : goal.returns
 returns c =
-    few_short c.loop-rest.words.items c.loop-rest.invariant.few
-    ∙ ap few (is_done c.args.text.now c.loop-rest.words.items c.loop-rest.rest.now c.loop-rest.invariant.so_far (nil_from_length c.loop-rest.rest.now (eqb-true (length c.loop-rest.rest.now) 0 (sym c.loop-rest-test.ensures))))
+    few_short c.loop-rest.words.items c.loop-rest.invariant.2
+    ∙ ap few (is_done c.args.text.now c.loop-rest.words.items c.loop-rest.rest.now c.loop-rest.invariant.1 (nil_from_length c.loop-rest.rest.now (eqb-true (length c.loop-rest.rest.now) 0 (sym c.loop-rest-test.ensures))))

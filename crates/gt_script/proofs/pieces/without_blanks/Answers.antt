@@ -1,11 +1,12 @@
-use Rattle.gt_script.proofs.Cuts.{blank_more, blank_end, blank_stop}
+use Rattle.std.proofs.Common.{ap, ◌∙◌}
+use Rattle.std.specs.List.{prefix_len}
+use Rattle.gt_script.specs.Cutting.{is_blank}
+use Rattle.gt_script.proofs.Cuts.{after_blanks}
+use Rattle.gt_script.proofs.Boundaries.{blanks_boundary}
 use Rattle.gt_script.proofs.pieces.without_blanks.Goals as goal
 
-pub returns-in-None : goal.returns-in-None
-returns-in-None c = blank_end c.blanks.rest.now _ c.in-None.ensures c.blanks.invariant
+pub range_from-requires : goal.range_from-requires
+range_from-requires c = λ _. blanks_boundary c.args.text.now c.blank_len.result c.utf8.text (c.blank_len.ensures ∙ ap (prefix_len is_blank) c.as_bytes.ensures.value)
 
-pub blanks-preserved : goal.blanks-preserved
-blanks-preserved c = blank_more c.blanks.rest.now c.in-Some.after.now _ c.in-Some.byte c.in-Some.ensures c.if-is_blank.ensures c.blanks.invariant
-
-pub returns-in-Some-2 : goal.returns-in-Some-2
-returns-in-Some-2 c = blank_stop c.blanks.rest.now c.in-Some.after.now _ c.in-Some.byte c.in-Some.ensures c.if-is_blank.ensures c.blanks.invariant
+pub returns : goal.returns
+returns c = c.range_from.ensures.value ∙ after_blanks c.args.text.now c.blank_len.result (c.blank_len.ensures ∙ ap (prefix_len is_blank) c.as_bytes.ensures.value)
