@@ -1,12 +1,11 @@
 -- Texts that are UTF-8, and texts that are not.
-use Rattle.std.proofs.Common.{◌≡◌, ℕ, ◌+◌, ◌-◌, ◌<◌, Bool, true, false, not, cond, eqb, List, ◌∷◌, ◌++◌, length, get_or, slice_index, take, drop, Some, None, refl, sym, ap, subst, ◌∙◌, arith}
+use Rattle.std.proofs.Common.{◌≡◌, ℕ, ◌-◌, Bool, true, false, not, cond, eqb, List, length, slice_index, take, Some, None, refl, sym, ap, arith}
 use Rattle.std.specs.Prelude.{◌&&◌}
 use Rattle.std.specs.List.{list_any}
 use Rattle.std.specs.Str.{IsUtf8, is_utf8, chars}
 use Rattle.std.specs.Str.Lines.{strip_carriage_return}
 use Rattle.std.proofs.lemmas.Bool.{eqb-true, false_from_ne_true}
-use Rattle.std.proofs.lemmas.Str.{IsUtf8-from_is_utf8, is_utf8-from_IsUtf8, IsUtf8-take, IsUtf8-drop, IsCharBoundary-before_ascii, IsCharBoundary-after_ascii}
-use Rattle.std.proofs.lemmas.List.{length-append, get_or_at, take_at, drop_at, drop-drop}
+use Rattle.std.proofs.lemmas.Str.{IsUtf8-from_is_utf8, is_utf8-from_IsUtf8, IsUtf8-take}
 use Rattle.std.specs.Option.{option_map}
 use Rattle.gt_script.specs.Language.{is_passed_over}
 use Rattle.gt_script.specs.Scanning.{spoken_at, said_at}
@@ -43,18 +42,6 @@ said_none text h = rw h refl
 pub said_is : (text : List ℕ) (passed : Bool) → IsUtf8 text → passed ≡ is_passed_over text → cond passed (Some None) (option_map Some (spoken_at text)) ≡ said_at text
 unfolding said_at
 said_is text passed utf8 e = rw (is_utf8-from_IsUtf8 text utf8, e) refl
-
--- a text that is cut at an ASCII byte
-pub utf8_parts : (text front back : List ℕ) (byte : ℕ) → byte < 128 → text ≡ front ++ byte ∷ back → IsUtf8 text → IsUtf8 front × IsUtf8 back
-utf8_parts text front back byte low e u =
-    let whole : IsUtf8 (front ++ byte ∷ back) = subst IsUtf8 e u in
-    let here : get_or (front ++ byte ∷ back) (length front) 0 ≡ byte = get_or_at front byte back 0 (length front) refl in
-    let inside : length front < length (front ++ byte ∷ back) = omega (arith, length-append front (byte ∷ back)) in
-    let ascii : get_or (front ++ byte ∷ back) (length front) 0 < 128 = omega (arith, here, low) in
-    let after : drop (length front + 1) (front ++ byte ∷ back) ≡ back = sym (drop-drop 1 (length front) (front ++ byte ∷ back)) ∙ ap (drop 1) (drop_at front (byte ∷ back) (length front) refl) in (
-      subst IsUtf8 (take_at front (byte ∷ back) (length front) refl) (IsUtf8-take _ (length front) whole (IsCharBoundary-before_ascii _ (length front) inside ascii)),
-      subst IsUtf8 after (IsUtf8-drop _ (length front + 1) whole (IsCharBoundary-after_ascii _ (length front) whole inside ascii)),
-    )
 
 -- a line without its carriage return
 pub utf8_stripped : (text : List ℕ) → IsUtf8 text → IsUtf8 (strip_carriage_return text)

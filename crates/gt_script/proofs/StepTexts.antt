@@ -11,12 +11,13 @@ use Rattle.std.proofs.lemmas.Slice.Eq.{bytes_eq-Decides}
 use Rattle.std.proofs.lemmas.Str.{encodes_same}
 use Rattle.gt_script.specs.declared.command.Hop.{Hop}
 use Rattle.gt_script.specs.declared.command.Hop.TheVariants.{Name, Index}
-use Rattle.gt_script.specs.Texts.{◌>>=◌, following, before}
-use Rattle.gt_script.specs.Values.{name_at, decimal_at}
+use Rattle.gt_split.specs.Texts.{◌>>=◌, following, before}
+use Rattle.gt_script.specs.Values.{name_at}
+use Rattle.gt_split.specs.Numbers.{decimal_at}
 use Rattle.gt_script.specs.Steps.{cut_steps, index_at, hop_at, hops_at, AreStepsIn, steps_in, steps_or, steps_at}
 use Rattle.gt_script.specs.SameSteps.{same_step}
 use Rattle.gt_script.specs.Language.{AreSteps}
-use Rattle.gt_script.proofs.Options.{bind_some}
+use Rattle.gt_split.proofs.Options.{bind_some}
 use Rattle.gt_script.proofs.NamesSpelled.{name_taken}
 use Rattle.gt_script.proofs.NumbersSpelled.{mapped_some}
 use Rattle.gt_script.proofs.Walks.{place, cut_front}

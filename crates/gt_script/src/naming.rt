@@ -7,9 +7,8 @@ ghost use Rattle.gt_text.specs.Identifier.{continues_identifier_of};
 ghost use Rattle.gt_script.specs.Values.{is_identifier_of, variable_at, named_type, type_at, file_at};
 
 use crate::TypeName;
-use crate::front::front;
-use crate::slices::{Quoted, Slice};
 use crate::source::Source;
+use gt_split::{Quoted, Slice, front};
 use gt_text::{continues_identifier, starts_identifier};
 use gt_types::Word;
 use std::alloc::AllocError;

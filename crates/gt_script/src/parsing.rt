@@ -6,11 +6,10 @@ ghost use Rattle.gt_script.specs.Outcome.{Parsed, IsScriptStop};
 ghost use Rattle.gt_script.specs.Scanning.{outcome_of, IsOutcomeUnlessMemory};
 
 use crate::Line;
-use crate::parts::first_line;
-use crate::pieces::Piece;
 use crate::source::Source;
 use crate::statements::{Known, read_line};
 use crate::stop::{MAX_COMMANDS, ScriptStop};
+use gt_split::{Piece, first_line};
 use gt_types::List;
 use std::alloc::Global;
 

@@ -4,8 +4,7 @@ ghost use Rattle.std.specs.Str.{chars};
 ghost use Rattle.gt_script.specs.Values.{name_at};
 
 use crate::naming::{is_ascii_name, is_identifier};
-use crate::quotes::escape;
-use crate::slices::Slice;
+use gt_split::{Slice, escape};
 use gt_types::Word;
 use memchr::memchr;
 use std::alloc::{AllocError, Global};

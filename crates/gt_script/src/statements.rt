@@ -4,20 +4,17 @@ ghost use Rattle.std.specs.Option.{option_map_or};
 ghost use Rattle.std.specs.List.{list_all};
 ghost use Rattle.std.specs.Str.{IsUtf8, is_utf8};
 ghost use Rattle.std.specs.Str.Lines.{strip_carriage_return};
-ghost use Rattle.gt_script.specs.declared.pieces.Piece.{Piece};
+ghost use Rattle.gt_split.specs.declared.pieces.Piece.{Piece};
 ghost use Rattle.gt_script.specs.declared.statements.Known.TheVariants.{All};
-ghost use Rattle.gt_script.specs.Texts.{following};
-ghost use Rattle.gt_script.specs.Cutting.{is_blank};
+ghost use Rattle.gt_split.specs.Texts.{following, is_blank};
 ghost use Rattle.gt_script.specs.Commands.{form_at, line_of};
 ghost use Rattle.gt_script.specs.Language.{is_comment_of, is_passed_over};
 ghost use Rattle.gt_script.specs.Scanning.{spoken_at, said_at, line_at};
 
 use crate::Line;
-use crate::front::front;
 use crate::heap_forms::command;
-use crate::pieces::{Piece, is_blank, read_words};
-use crate::slices::Slice;
 use crate::source::Source;
+use gt_split::{Piece, Slice, front, is_blank, read_words};
 use std::alloc::AllocError;
 
 /// What of a script is known to be UTF-8: all of it, or nothing, so that each line is tested.
@@ -146,7 +143,7 @@ fn read_command<'a>(
 }
 
 // The line that words are.
-#[tactic(auto, unfolding(crate::specs::Commands::line_of, crate::specs::Texts::following))]
+#[tactic(auto, unfolding(crate::specs::Commands::line_of, gt_split::specs::Texts::following))]
 #[inline(always)]
 fn line(source: &Source, words: &[Piece<'_>]) -> Result<Option<Line>, AllocError>
     ensures { IfOk result (λ found. found ≡ line_of words.now) }
@@ -162,7 +159,7 @@ fn line(source: &Source, words: &[Piece<'_>]) -> Result<Option<Line>, AllocError
 }
 
 // Whether a first word makes its line quiet, and the word without the mark of that.
-#[tactic(auto, unfolding(crate::specs::Texts::following))]
+#[tactic(auto, unfolding(gt_split::specs::Texts::following))]
 #[inline(always)]
 fn verb_of(word: &[u8]) -> (bool, &[u8])
     ensures { (words : List Piece) → form_at result.0 words result.1.now ≡ option_map_or (form_at true words) (following (codes "@") word.now) (form_at false words word.now) }

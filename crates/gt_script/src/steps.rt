@@ -7,17 +7,14 @@ ghost use Rattle.std.specs.Option.{option_map};
 ghost use Rattle.std.specs.Str.{IsUtf8};
 ghost use Rattle.gt_script.specs.declared.command.Hop.{Hop};
 ghost use Rattle.gt_script.specs.declared.command.Hop.TheVariants.{Name, Index};
-ghost use Rattle.gt_script.specs.Texts.{following};
+ghost use Rattle.gt_split.specs.Texts.{following};
 ghost use Rattle.gt_script.specs.Values.{name_at};
 ghost use Rattle.gt_script.specs.Steps.{begins_step, cut_steps, index_at, hop_at, hops_at, steps_at, AreStepsIn, steps_in};
 ghost use Rattle.gt_script.specs.SameSteps.{same_step, same_step_equiv};
 
 use crate::Hop;
-use crate::front::front;
-use crate::numbers::decimal;
-use crate::parts::after_byte;
-use crate::slices::Slice;
 use crate::source::{Source, name_in};
+use gt_split::{Slice, after_byte, decimal, front};
 use gt_types::{Copied, Word};
 use std::alloc::{AllocError, Global};
 use std::marker::Model;
@@ -206,7 +203,7 @@ fn index(text: &[u8]) -> Option<Hop>
 }
 
 // The place of the element to which a step leads.
-#[tactic(auto, unfolding(crate::specs::Steps::index_at, crate::specs::Texts::following, crate::specs::Texts::before))]
+#[tactic(auto, unfolding(crate::specs::Steps::index_at, gt_split::specs::Texts::following, gt_split::specs::Texts::before))]
 fn place_in(text: &[u8]) -> Option<u64>
     ensures { option_map Index result ≡ index_at text.now }
 {
