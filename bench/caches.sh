@@ -38,7 +38,7 @@ measure "put, and collect what stays" 'print "@put map $n $n"' 'print "@collect 
 measure "put, and collect what goes" 'print "@put map $n $n"' 'print "@set head null"; print "@collect force"'
 
 crates="gt_types gt_unions gt_names gt_fields gt_layout gt_space gt_tree gt_value gt_links gt_bits gt_entries gt_pages gt_graph gt_store gt_directory gt_walk gt_mark gt_objects"
-crates="$crates gt_digits gt_show gt_canon gt_listing gt_text gt_script gt_io gt_next gt_caches"
+crates="$crates gt_digits gt_show gt_canon gt_listing gt_text gt_split gt_script gt_io gt_next gt_caches"
 copy_crates $crates
 ours=$work/crates/time_caches
 mkdir -p "$ours/src" "$ours/proofs/put" "$ours/proofs/put_all" "$ours/proofs/collect" "$ours/proofs/keep_often"

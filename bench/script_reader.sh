@@ -5,7 +5,7 @@
 # written and built in a copy of the crates that it needs.
 . "$(dirname "$0")/shared.sh"
 mkdir -p "$work/crates/read_script/src"
-copy_crates gt_types gt_text gt_script
+copy_crates gt_types gt_text gt_split gt_script
 echo 'read_script: gt_script' >>"$work/crates.txt"
 cat >"$work/crates/read_script/src/main.rt" <<'RT'
 //! Reads a script and says how many commands it has.
@@ -35,7 +35,7 @@ fn main(rt: HostRuntime) -> io::Result<()> {
 }
 RT
 cc -O2 -o "$work/reader" "$root/bench/reader.c"
-build_copied gt_types gt_text gt_script
+build_copied gt_types gt_text gt_split gt_script
 printf 'heap\n' >"$work/crates/read_script/stdin"
 (cd "$work/crates/read_script" && quiet rt run)
 program=$work/crates/read_script/out/read_script

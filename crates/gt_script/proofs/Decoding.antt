@@ -1,12 +1,11 @@
 -- Texts that are UTF-8, and texts that are not.
-use Rattle.std.proofs.Common.{◌≡◌, ℕ, ◌+◌, ◌-◌, ◌<◌, Bool, true, false, not, cond, eqb, List, ◌∷◌, ◌++◌, length, get_or, slice_index, take, drop, Some, None, refl, sym, ap, subst, ◌∙◌, arith}
+use Rattle.std.proofs.Common.{◌≡◌, ℕ, ◌-◌, Bool, true, false, not, cond, eqb, List, length, slice_index, take, Some, None, refl, sym, ap, arith}
 use Rattle.std.specs.Prelude.{◌&&◌}
 use Rattle.std.specs.List.{list_any}
 use Rattle.std.specs.Str.{IsUtf8, is_utf8, chars}
 use Rattle.std.specs.Str.Lines.{strip_carriage_return}
 use Rattle.std.proofs.lemmas.Bool.{eqb-true, false_from_ne_true}
-use Rattle.std.proofs.lemmas.Str.{IsUtf8-from_is_utf8, is_utf8-from_IsUtf8, IsUtf8-take, IsUtf8-drop, IsCharBoundary-before_ascii, IsCharBoundary-after_ascii}
-use Rattle.std.proofs.lemmas.List.{length-append, get_or_at, take_at, drop_at, drop-drop}
+use Rattle.std.proofs.lemmas.Str.{IsUtf8-from_is_utf8, is_utf8-from_IsUtf8, IsUtf8-take}
 use Rattle.std.specs.Option.{option_map}
 use Rattle.gt_script.specs.Language.{is_passed_over}
 use Rattle.gt_script.specs.Scanning.{spoken_at, said_at}
@@ -15,21 +14,13 @@ use Rattle.gt_script.specs.Values.{is_identifier_of, name_at, file_at}
 pub utf8_false : (text : List ℕ) → (IsUtf8 text → ⊥) → is_utf8 text ≡ false
 utf8_false text h = false_from_ne_true (is_utf8 text) (λ e. h (IsUtf8-from_is_utf8 text e))
 
-pub name_unreadable : (text : List ℕ) → is_utf8 text ≡ false → None ≡ name_at text
+pub name_some : (text word : List ℕ) → IsUtf8 text → true ≡ is_identifier_of (chars text) → word ≡ chars text → Some word ≡ name_at text
 unfolding name_at
-name_unreadable text h = rw h refl
+name_some text word utf8 identifier e = rw (is_utf8-from_IsUtf8 text utf8, sym identifier) (ap Some e)
 
-pub name_some : (text inner word : List ℕ) → inner ≡ text → IsUtf8 text → true ≡ is_identifier_of (chars inner) → word ≡ chars inner → Some word ≡ name_at text
+pub name_other : (text : List ℕ) → false ≡ is_identifier_of (chars text) → None ≡ name_at text
 unfolding name_at
-name_some text inner word same utf8 identifier e =
-    let is_name : is_identifier_of (chars text) ≡ true = ap (λ t. is_identifier_of (chars t)) (sym same) ∙ sym identifier in
-    rw (is_utf8-from_IsUtf8 text utf8, is_name) (ap Some (e ∙ ap chars same))
-
-pub name_other : (text inner : List ℕ) → inner ≡ text → false ≡ is_identifier_of (chars inner) → None ≡ name_at text
-unfolding name_at
-name_other text inner same other =
-    let no_name : is_identifier_of (chars text) ≡ false = ap (λ t. is_identifier_of (chars t)) (sym same) ∙ sym other in
-    go (is_utf8 text) (is_identifier_of (chars text)) no_name
+name_other text other = go (is_utf8 text) (is_identifier_of (chars text)) (sym other)
   where
     go : (a b : Bool) → b ≡ false → None ≡ cond (a && b) (Some (chars text)) None
     go true b e = rw e refl
@@ -40,33 +31,17 @@ both_false true b e f = absurd cc
 both_false false true e f = absurd cc
 both_false false false e f = refl
 
-pub file_unreadable : (text : List ℕ) → false ≡ eqb (length text) 0 → false ≡ list_any (λ c. eqb c 0) text → is_utf8 text ≡ false → None ≡ file_at text
+pub file_some : (text word : List ℕ) → false ≡ eqb (length text) 0 → false ≡ list_any (λ c. eqb c 0) text → IsUtf8 text → word ≡ chars text → Some word ≡ file_at text
 unfolding file_at
-file_unreadable text some solid h = rw (both_false _ _ some solid, h) refl
+file_some text word some solid utf8 e = rw (both_false _ _ some solid, is_utf8-from_IsUtf8 text utf8) (ap Some e)
 
-pub file_some : (text inner word : List ℕ) → false ≡ eqb (length text) 0 → false ≡ list_any (λ c. eqb c 0) text → inner ≡ text → IsUtf8 text → word ≡ chars inner → Some word ≡ file_at text
-unfolding file_at
-file_some text inner word some solid same utf8 e = rw (both_false _ _ some solid, is_utf8-from_IsUtf8 text utf8) (ap Some (e ∙ ap chars same))
-
-pub said_none : (text : List ℕ) → false ≡ is_utf8 text → None ≡ said_at text
+pub said_none : (text : List ℕ) → is_utf8 text ≡ false → None ≡ said_at text
 unfolding said_at
-said_none text h = rw (← h) refl
+said_none text h = rw h refl
 
-pub said_is : (text : List ℕ) (passed : Bool) → true ≡ is_utf8 text → passed ≡ is_passed_over text → cond passed (Some None) (option_map Some (spoken_at text)) ≡ said_at text
+pub said_is : (text : List ℕ) (passed : Bool) → IsUtf8 text → passed ≡ is_passed_over text → cond passed (Some None) (option_map Some (spoken_at text)) ≡ said_at text
 unfolding said_at
-said_is text passed utf8 e = rw (← utf8, e) refl
-
--- a text that is cut at an ASCII byte
-pub utf8_parts : (text front back : List ℕ) (byte : ℕ) → byte < 128 → text ≡ front ++ byte ∷ back → IsUtf8 text → IsUtf8 front × IsUtf8 back
-utf8_parts text front back byte low e u =
-    let whole : IsUtf8 (front ++ byte ∷ back) = subst IsUtf8 e u in
-    let here : get_or (front ++ byte ∷ back) (length front) 0 ≡ byte = get_or_at front byte back 0 (length front) refl in
-    let inside : length front < length (front ++ byte ∷ back) = omega (arith, length-append front (byte ∷ back)) in
-    let ascii : get_or (front ++ byte ∷ back) (length front) 0 < 128 = omega (arith, here, low) in
-    let after : drop (length front + 1) (front ++ byte ∷ back) ≡ back = sym (drop-drop 1 (length front) (front ++ byte ∷ back)) ∙ ap (drop 1) (drop_at front (byte ∷ back) (length front) refl) in (
-      subst IsUtf8 (take_at front (byte ∷ back) (length front) refl) (IsUtf8-take _ (length front) whole (IsCharBoundary-before_ascii _ (length front) inside ascii)),
-      subst IsUtf8 after (IsUtf8-drop _ (length front + 1) whole (IsCharBoundary-after_ascii _ (length front) whole inside ascii)),
-    )
+said_is text passed utf8 e = rw (is_utf8-from_IsUtf8 text utf8, e) refl
 
 -- a line without its carriage return
 pub utf8_stripped : (text : List ℕ) → IsUtf8 text → IsUtf8 (strip_carriage_return text)

@@ -13,17 +13,18 @@ use Rattle.gt_script.specs.declared.command.Line.{Line}
 use Rattle.gt_script.specs.declared.command.Command.{Command}
 use Rattle.gt_script.specs.declared.command.Command.TheVariants.{New, Array, Text, Block, Set, Get, Drop, Print, Put, Find, Collect, CollectForce, Save, Load, Tables, Heap, Stats}
 use Rattle.gt_script.specs.declared.command.TypeName.{TypeName}
-use Rattle.gt_script.specs.declared.pieces.Piece.{Piece}
-use Rattle.gt_script.specs.declared.pieces.Piece.TheVariants.{Plain, Quoted}
-use Rattle.gt_script.specs.Texts.{◌>>=◌, following}
-use Rattle.gt_script.specs.Cutting.{is_blank, without_blanks, words_within, words_of}
-use Rattle.gt_script.specs.Values.{name_at, variable_at, type_at, integer_at, given_at, file_at}
+use Rattle.gt_split.specs.declared.pieces.Piece.{Piece}
+use Rattle.gt_split.specs.declared.pieces.Piece.TheVariants.{Plain, Quoted}
+use Rattle.gt_split.specs.Texts.{◌>>=◌, following, is_blank}
+use Rattle.gt_split.specs.Cutting.{without_blanks, words_within, words_of}
+use Rattle.gt_script.specs.Values.{name_at, variable_at, type_at, given_at, file_at}
+use Rattle.gt_split.specs.Numbers.{integer_at}
 use Rattle.gt_script.specs.Paths.{path_at}
 use Rattle.gt_script.specs.Commands.{plain_new_at, sized_new_at, new_at, array_at, text_at, block_at, set_at, get_at, drop_at, print_at, put_at, find_at, collect_at, save_at, load_at, tables_at, heap_at, stats_at, variable_command_at, place_command_at, command_at, form_at, line_of}
 use Rattle.gt_script.specs.Scanning.{spoken_at, said_at, line_at}
 use Rattle.gt_script.specs.Language.{IsNamed, IsVariable, IsTyped, AreWords, no_words, blank_first, word_first, is_plain, is_quoted, IsForm, is_new, is_new_sized, is_array, is_string, is_block, is_set, is_get, is_drop, is_print, is_put, is_find, is_collect, is_collect_force, is_save, is_load, is_tables, is_heap, is_stats, IsSpelled, is_comment_of, is_passed_over, IsLine, IsPassedOver, IsRefused}
-use Rattle.gt_script.proofs.Options.{bind_some, map_or_some, passed, chosen}
-use Rattle.gt_script.proofs.Cuts.{words_of-blanks}
+use Rattle.gt_split.proofs.Options.{bind_some, map_or_some, passed, chosen}
+use Rattle.gt_split.proofs.Cuts.{words_of-blanks}
 use Rattle.gt_script.proofs.WordsSpelled.{words_taken, words_again}
 use Rattle.gt_script.proofs.NamesSpelled.{after_taken, name_taken, name_again, variable_taken, variable_again, type_taken, type_again, file_taken, file_again}
 use Rattle.gt_script.proofs.NumbersSpelled.{integer_taken, integer_again, value_taken, value_again, mapped_some}

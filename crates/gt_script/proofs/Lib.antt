@@ -1,8 +1,4 @@
 mod ManyWords
-mod Options
-mod Digits
-mod Quoting
-mod Cuts
 mod Walks
 mod Decoding
 mod AsciiNames
@@ -15,5 +11,5 @@ mod PathsSpelled
 mod StepTexts
 mod FormsSpelled
 pub mod Settled
-mod Splits
 mod TextBytes
+mod Boundaries

@@ -16,10 +16,10 @@ use Rattle.std.proofs.lemmas.Slice.Eq.{bytes_eq-Decides}
 use Rattle.std.proofs.lemmas.Str.{is_utf8-from_IsUtf8, IsUtf8-from_is_utf8, encode_ascii, chars-encodes, encodes-chars, scalars-chars, length-le-encodes}
 use Rattle.gt_text.specs.Identifier.{starts_identifier_of, continues_identifier_of}
 use Rattle.gt_script.specs.declared.command.TypeName.{TypeName}
-use Rattle.gt_script.specs.Texts.{following, before}
+use Rattle.gt_split.specs.Texts.{following, before}
 use Rattle.gt_script.specs.Values.{is_identifier_of, name_at, variable_at, named_type, type_at, file_at}
 use Rattle.gt_script.specs.Language.{IsName, variable_text, type_text, IsFile}
-use Rattle.gt_script.proofs.Options.{bind_some, map_or_some}
+use Rattle.gt_split.proofs.Options.{bind_some, map_or_some}
 
 -- ---- the bytes of a name
 

@@ -13,10 +13,11 @@ use Rattle.std.proofs.lemmas.Slice.Eq.{bytes_eq-Decides}
 use Rattle.gt_text.specs.Integer.{value_of}
 use Rattle.gt_script.specs.declared.command.Given.{Given}
 use Rattle.gt_script.specs.declared.command.Given.TheVariants.{Integer, Null, Var}
-use Rattle.gt_script.specs.Texts.{following}
-use Rattle.gt_script.specs.Values.{name_at, digits_at, leads_with_zero, decimal_at, natural_at, negative_at, integer_at, given_at}
+use Rattle.gt_split.specs.Texts.{following, leads_with_zero}
+use Rattle.gt_script.specs.Values.{name_at, given_at}
+use Rattle.gt_split.specs.Numbers.{digits_at, decimal_at, natural_at, negative_at, integer_at}
 use Rattle.gt_script.specs.Language.{AreDigits, IsDecimal, IsNatural, is_decimal, is_hexadecimal, IsInteger, is_positive, is_negative, variable_text, IsValue, is_null, is_variable, is_integer}
-use Rattle.gt_script.proofs.Options.{bind_some, map_or_some, passed, chosen}
+use Rattle.gt_split.proofs.Options.{bind_some, map_or_some, passed, chosen}
 use Rattle.gt_script.proofs.NamesSpelled.{after_taken, name_taken, name_again}
 
 -- ---- digits

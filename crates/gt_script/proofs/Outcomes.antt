@@ -4,7 +4,7 @@ use Rattle.std.proofs.lemmas.Bool.Decides.{nat_tests}
 use Rattle.std.proofs.lemmas.List.{append-nil, length-append}
 use Rattle.gt_script.specs.declared.command.Line.{Line}
 use Rattle.gt_script.specs.declared.stop.ScriptStop.TheVariants.{ScriptSyntax, ScriptTooLong}
-use Rattle.gt_script.specs.Texts.{lines_of}
+use Rattle.gt_split.specs.Texts.{lines_of}
 use Rattle.gt_script.specs.Scanning.{line_at, Outcome, with_line, outcome_step, outcome_from, outcome_of}
 
 -- lines read before, and the outcome of what follows

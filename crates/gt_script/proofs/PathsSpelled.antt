@@ -11,12 +11,13 @@ use Rattle.std.proofs.lemmas.List.Folds.{list_all-append}
 use Rattle.gt_script.specs.declared.command.Route.{Route}
 use Rattle.gt_script.specs.declared.command.Hop.{Hop}
 use Rattle.gt_script.specs.declared.command.Hop.TheVariants.{Name, Index}
-use Rattle.gt_script.specs.Texts.{◌>>=◌, following, before}
-use Rattle.gt_script.specs.Values.{name_at, decimal_at}
+use Rattle.gt_split.specs.Texts.{◌>>=◌, following, before}
+use Rattle.gt_script.specs.Values.{name_at}
+use Rattle.gt_split.specs.Numbers.{decimal_at}
 use Rattle.gt_script.specs.Steps.{begins_step, cut_steps, index_at, hop_at, hops_at}
 use Rattle.gt_script.specs.Paths.{route_at, path_at}
 use Rattle.gt_script.specs.Language.{IsName, IsDecimal, AreSteps, no_steps, field_first, element_first, IsPath}
-use Rattle.gt_script.proofs.Options.{bind_some, map_or_some}
+use Rattle.gt_split.proofs.Options.{bind_some, map_or_some}
 use Rattle.gt_script.proofs.NamesSpelled.{dark, dark_dot, dark_bracket, name_dark, dark_lacks, after_taken, before_taken, before_again, name_taken, name_again, name_not_dollar}
 use Rattle.gt_script.proofs.NumbersSpelled.{decimal_taken, decimal_again, mapped_some}
 

@@ -5,7 +5,7 @@ use Rattle.std.proofs.lemmas.List.{append-nil}
 use Rattle.gt_script.specs.declared.command.Line.{Line}
 use Rattle.gt_script.specs.declared.stop.ScriptStop.{ScriptStop}
 use Rattle.gt_script.specs.declared.stop.ScriptStop.TheVariants.{Memory, ScriptSyntax, ScriptTooLong}
-use Rattle.gt_script.specs.Texts.{lines_of}
+use Rattle.gt_split.specs.Texts.{lines_of}
 use Rattle.gt_script.specs.Language.{IsRefused}
 use Rattle.gt_script.specs.Outcome.{Say, nothing, passed_over, said, Parsed, IsScriptStop, IsOutcome}
 use Rattle.gt_script.specs.Scanning.{line_at, Outcome, with_line, outcome_step, outcome_from, outcome_of, IsOutcomeUnlessMemory}

@@ -1,64 +1,29 @@
 -- The texts of steps, one after another.
-use Rattle.std.proofs.Common.{◌≡◌, ◌≢◌, ◌≤◌, cond, eqb, take, length, ℕ, ◌<◌, Bool, true, false, List, [], ◌∷◌, ◌++◌, Option, Some, None, IsTrue, codes, encode_utf8_all, refl, sym, ap, subst, ◌∙◌, arith}
+use Rattle.std.proofs.Common.{◌≡◌, ◌≢◌, ◌≤◌, cond, eqb, take, length, ℕ, Bool, true, false, List, [], ◌∷◌, ◌++◌, Option, Some, None, IsTrue, codes, encode_utf8_all, refl, sym, ap, subst, ◌∙◌}
 use Rattle.std.specs.Prelude.{◌&&◌, is_some}
-use Rattle.std.specs.List.{list_all}
-use Rattle.std.specs.Char.{is_digit}
-use Rattle.std.specs.Str.{IsUtf8, IsAscii, all_scalars, bytes_eq}
+use Rattle.std.specs.Str.{bytes_eq}
 use Rattle.std.specs.Option.{option_map, option_map_or}
 use Rattle.std.specs.Cmp.Lexicographic.{pointwise}
-use Rattle.std.proofs.lemmas.Bool.{and_parts, false_from_ne_true, eqb-true}
+use Rattle.std.proofs.lemmas.Bool.{false_from_ne_true, eqb-true}
 use Rattle.std.proofs.lemmas.List.{length-take-le}
 use Rattle.std.proofs.lemmas.Bool.Decides.{same_from_decides}
 use Rattle.std.proofs.lemmas.Slice.Eq.{bytes_eq-Decides}
-use Rattle.std.proofs.lemmas.Str.{IsUtf8-append, IsUtf8-from_ascii, encodes_same}
-use Rattle.std.proofs.lemmas.Str.Ascii.{IsAscii-nil, IsAscii-cons}
+use Rattle.std.proofs.lemmas.Str.{encodes_same}
 use Rattle.gt_script.specs.declared.command.Hop.{Hop}
 use Rattle.gt_script.specs.declared.command.Hop.TheVariants.{Name, Index}
-use Rattle.gt_script.specs.Texts.{◌>>=◌, following, before}
-use Rattle.gt_script.specs.Values.{name_at, decimal_at}
+use Rattle.gt_split.specs.Texts.{◌>>=◌, following, before}
+use Rattle.gt_script.specs.Values.{name_at}
+use Rattle.gt_split.specs.Numbers.{decimal_at}
 use Rattle.gt_script.specs.Steps.{cut_steps, index_at, hop_at, hops_at, AreStepsIn, steps_in, steps_or, steps_at}
 use Rattle.gt_script.specs.SameSteps.{same_step}
-use Rattle.gt_script.specs.Language.{IsName, AreSteps, no_steps, field_first, element_first}
-use Rattle.gt_script.proofs.Options.{bind_some}
+use Rattle.gt_script.specs.Language.{AreSteps}
+use Rattle.gt_split.proofs.Options.{bind_some}
 use Rattle.gt_script.proofs.NamesSpelled.{name_taken}
 use Rattle.gt_script.proofs.NumbersSpelled.{mapped_some}
 use Rattle.gt_script.proofs.Walks.{place, cut_front}
 use Rattle.gt_script.proofs.PathsSpelled.{joined, cut_joined, steps_again, steps_taken}
 
--- ---- they are UTF-8
-
-digit_low : (c : ℕ) → is_digit c 10 ≡ true → c < 128
-digit_low c h = grind arith
-
-digits_ascii : (text : List ℕ) → list_all (λ c. is_digit c 10) text ≡ true → IsAscii text
-digits_ascii [] h = IsAscii-nil
-digits_ascii (c ∷ cs) h = let p = and_parts (is_digit c 10) (list_all (λ c. is_digit c 10) cs) h in IsAscii-cons c cs (digit_low c p.0) (digits_ascii cs p.1)
-
-one_ascii : (c : ℕ) → c < 128 → IsUtf8 (c ∷ [])
-one_ascii c h = IsUtf8-from_ascii (c ∷ []) (IsAscii-cons c [] h IsAscii-nil)
-
-scalars_of : (name : List ℕ) → IsName name → all_scalars name ≡ true
-scalars_of [] h = absurd h
-scalars_of (c ∷ cs) h = h.0
-
-spelled_utf8 : (text : List ℕ) (hops : List Hop) → AreSteps text hops → IsUtf8 text
-spelled_utf8 text hops no_steps = IsUtf8-from_ascii [] IsAscii-nil
-spelled_utf8 text hops (field_first {rest = rest} {hops = more} name is after) =
-    IsUtf8-append (codes ".") (encode_utf8_all name ++ rest) (one_ascii 46 (omega arith))
-    (IsUtf8-append (encode_utf8_all name) rest (name, (scalars_of name is, refl)) (spelled_utf8 rest more after))
-spelled_utf8 text hops (element_first {rest = rest} {hops = more} digits number is after) =
-    IsUtf8-append (codes "[") (digits ++ (codes "]" ++ rest)) (one_ascii 91 (omega arith))
-    (IsUtf8-append digits (codes "]" ++ rest) (IsUtf8-from_ascii digits (digits_ascii digits is.digits.1))
-    (IsUtf8-append (codes "]") rest (one_ascii 93 (omega arith)) (spelled_utf8 rest more after)))
-
-utf8_where : (text : List ℕ) (read : Option (List Hop)) → hops_at (cut_steps text).1 ≡ read → (cut_steps text).0 ≡ [] → IsTrue (is_some read) → IsUtf8 text
-utf8_where text None e begins h = absurd (cc)
-utf8_where text (Some hops) e begins h =
-    let whole : text ≡ joined (cut_steps text).1 = cut_joined text ∙ ap (λ (front : List ℕ). front ++ joined (cut_steps text).1) begins in
-    subst IsUtf8 (sym whole) (spelled_utf8 (joined (cut_steps text).1) hops (steps_taken (cut_steps text).1 hops e))
-
-pub steps_utf8 : (text : List ℕ) → AreStepsIn text → IsUtf8 text
-steps_utf8 text h = utf8_where text _ refl h.0 h.1
+-- ---- what they are
 
 known : (read : Option (List Hop)) → IsTrue (is_some read) → Some (steps_or read) ≡ read
 known None h = absurd (cc)
@@ -83,12 +48,15 @@ pub steps_whole : (text : List ℕ) → (cut_steps text).0 ≡ [] → hops_at (c
 unfolding steps_at
 steps_whole text e = rw e refl
 
-pub none_whole : (text : List ℕ) → (cut_steps text).0 ≡ [] → false ≡ is_some (hops_at (cut_steps text).1) → None ≡ steps_at text
-none_whole text e h = unknown (hops_at (cut_steps text).1) h ∙ steps_whole text e
+pub none_read : (text : List ℕ) → false ≡ is_some (hops_at (cut_steps text).1) → None ≡ hops_at (cut_steps text).1
+none_read text h = unknown (hops_at (cut_steps text).1) h
   where
     unknown : (read : Option (List Hop)) → false ≡ is_some read → None ≡ read
     unknown None h = refl
     unknown (Some hops) h = absurd (cc)
+
+pub none_whole : (text : List ℕ) → (cut_steps text).0 ≡ [] → false ≡ is_some (hops_at (cut_steps text).1) → None ≡ steps_at text
+none_whole text e h = none_read text h ∙ steps_whole text e
 
 -- what is spelled as steps is read as those
 pub steps_read : (text : List ℕ) (hops : List Hop) → AreSteps text hops → steps_at text ≡ Some hops

@@ -10,9 +10,9 @@ use lib.Utf8.{scalar, scalar_cases, next, encode}
 use Rattle.gt_script.specs.declared.command.Line.{Line}
 use Rattle.gt_script.specs.declared.command.Command.{Command}
 use Rattle.gt_script.specs.declared.command.Command.TheVariants.{Text}
-use Rattle.gt_script.specs.declared.pieces.Piece.{Piece}
-use Rattle.gt_script.specs.declared.pieces.Piece.TheVariants.{Plain, Quoted}
-use Rattle.gt_script.specs.Cutting.{escape_of}
+use Rattle.gt_split.specs.declared.pieces.Piece.{Piece}
+use Rattle.gt_split.specs.declared.pieces.Piece.TheVariants.{Plain, Quoted}
+use Rattle.gt_split.specs.Texts.{escape_of}
 use Rattle.gt_script.specs.Language.{AreQuoted, no_bytes, byte_itself, escaped, IsWord, is_plain, is_quoted, AreWords, no_words, blank_first, word_first, IsForm, is_string, IsLine}
 use Rattle.gt_script.specs.Outcome.{Say, nothing, passed_over, said, Parsed}
 

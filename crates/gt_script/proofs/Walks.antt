@@ -2,7 +2,7 @@
 use Rattle.std.proofs.Common.{◌≡◌, ℕ, suc, ◌+◌, Bool, true, false, not, List, [], ◌∷◌, take, drop, Option, Some, None, refl, sym, ap, subst, ◌∙◌, arith}
 use Rattle.std.specs.List.{prefix_len}
 use Rattle.gt_script.specs.declared.command.Hop.{Hop}
-use Rattle.gt_script.specs.Texts.{◌>>=◌}
+use Rattle.gt_split.specs.Texts.{◌>>=◌}
 use Rattle.gt_script.specs.Values.{name_at}
 use Rattle.gt_script.specs.Steps.{begins_step, cut_steps, hops_at}
 use Rattle.gt_script.specs.Paths.{route_at}

@@ -4,13 +4,13 @@ use Rattle.std.specs.List.{list_all}
 use Rattle.std.proofs.lemmas.Bool.{eqb-true, eqb-false, ne_eqb, and_parts, not-true}
 use Rattle.std.proofs.lemmas.Option.{cond_some, same_Some}
 use Rattle.std.proofs.lemmas.List.{take-append-drop, take_at, drop_at, nil_from_length}
-use Rattle.gt_script.specs.declared.pieces.Piece.{Piece}
-use Rattle.gt_script.specs.declared.pieces.Piece.TheVariants.{Plain, Quoted}
-use Rattle.gt_script.specs.Texts.{◌>>=◌}
-use Rattle.gt_script.specs.Cutting.{is_blank, without_blanks, escape_of, quoted_at, ends_word, quoted_word_at, plain_len, word_at, words_within, words_of}
+use Rattle.gt_split.specs.declared.pieces.Piece.{Piece}
+use Rattle.gt_split.specs.declared.pieces.Piece.TheVariants.{Plain, Quoted}
+use Rattle.gt_split.specs.Texts.{◌>>=◌, is_blank, escape_of, ends_word}
+use Rattle.gt_split.specs.Cutting.{without_blanks, quoted_at, quoted_word_at, plain_len, word_at, words_within, words_of}
 use Rattle.gt_script.specs.Language.{AreQuoted, no_bytes, byte_itself, escaped, IsWord, is_plain, is_quoted, AreWords, no_words, blank_first, word_first}
-use Rattle.gt_script.proofs.Options.{bind_some, chosen}
-use Rattle.gt_script.proofs.Cuts.{others, blanks_once, without_blanks-shorter, word_at-shorter, words_of-blanks, words_of-step}
+use Rattle.gt_split.proofs.Options.{bind_some, chosen}
+use Rattle.gt_split.proofs.Cuts.{others, blanks_once, without_blanks-shorter, word_at-shorter, words_of-blanks, words_of-step}
 
 -- ---- what stands between quotes
 

@@ -5,10 +5,11 @@ use Rattle.std.specs.Str.{bytes_eq}
 use Rattle.gt_script.specs.declared.command.Line.{Line}
 use Rattle.gt_script.specs.declared.command.Command.{Command}
 use Rattle.gt_script.specs.declared.command.Command.TheVariants.{New, Array, Text, Block, Set, Get, Drop, Print, Put, Find, Collect, CollectForce, Save, Load, Tables, Heap, Stats}
-use Rattle.gt_script.specs.declared.pieces.Piece.{Piece}
-use Rattle.gt_script.specs.declared.pieces.Piece.TheVariants.{Plain, Quoted}
-use Rattle.gt_script.specs.Texts.{◌>>=◌, following}
-use Rattle.gt_script.specs.Values.{name_at, variable_at, type_at, integer_at, given_at, file_at}
+use Rattle.gt_split.specs.declared.pieces.Piece.{Piece}
+use Rattle.gt_split.specs.declared.pieces.Piece.TheVariants.{Plain, Quoted}
+use Rattle.gt_split.specs.Texts.{◌>>=◌, following}
+use Rattle.gt_script.specs.Values.{name_at, variable_at, type_at, given_at, file_at}
+use Rattle.gt_split.specs.Numbers.{integer_at}
 use Rattle.gt_script.specs.Paths.{path_at}
 
 -- $v T

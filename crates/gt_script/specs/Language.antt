@@ -15,10 +15,9 @@ use Rattle.gt_script.specs.declared.command.Hop.{Hop}
 use Rattle.gt_script.specs.declared.command.Hop.TheVariants.{Name, Index}
 use Rattle.gt_script.specs.declared.command.Given.{Given}
 use Rattle.gt_script.specs.declared.command.Given.TheVariants.{Integer, Null, Var}
-use Rattle.gt_script.specs.declared.pieces.Piece.{Piece}
-use Rattle.gt_script.specs.declared.pieces.Piece.TheVariants.{Plain, Quoted}
-use Rattle.gt_script.specs.Cutting.{is_blank, escape_of, ends_word}
-use Rattle.gt_script.specs.Values.{leads_with_zero}
+use Rattle.gt_split.specs.declared.pieces.Piece.{Piece}
+use Rattle.gt_split.specs.declared.pieces.Piece.TheVariants.{Plain, Quoted}
+use Rattle.gt_split.specs.Texts.{is_blank, escape_of, ends_word, leads_with_zero}
 
 -- ---- words
 

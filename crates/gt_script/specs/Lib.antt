@@ -1,5 +1,3 @@
-pub mod Texts
-pub mod Cutting
 pub mod Values
 pub mod Steps
 pub mod SameSteps
@@ -8,4 +6,3 @@ pub mod Commands
 pub mod Language
 pub mod Outcome
 pub mod Scanning
-pub mod Integers

@@ -3,7 +3,7 @@ use Rattle.std.specs.Prelude.{◌≡◌, ℕ, suc, ◌≤◌, ◌<◌, List, [],
 use Rattle.gt_script.specs.declared.command.Line.{Line}
 use Rattle.gt_script.specs.declared.stop.ScriptStop.{ScriptStop}
 use Rattle.gt_script.specs.declared.stop.ScriptStop.TheVariants.{Memory, ScriptSyntax, ScriptTooLong}
-use Rattle.gt_script.specs.Texts.{lines_of}
+use Rattle.gt_split.specs.Texts.{lines_of}
 use Rattle.gt_script.specs.Language.{IsLine, IsPassedOver, IsRefused}
 
 -- the texts say these lines in order; those that are passed over say none

@@ -2,7 +2,7 @@
 use Rattle.std.specs.Prelude.{ℕ, Bool, true, false, codes, List, Option, Some}
 use Rattle.std.specs.Option.{option_map_or}
 use Rattle.gt_script.specs.declared.command.Route.{Route}
-use Rattle.gt_script.specs.Texts.{◌>>=◌, following}
+use Rattle.gt_split.specs.Texts.{◌>>=◌, following}
 use Rattle.gt_script.specs.Values.{name_at}
 use Rattle.gt_script.specs.Steps.{cut_steps, hops_at}
 

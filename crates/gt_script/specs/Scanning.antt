@@ -1,26 +1,15 @@
 -- Reading a script line by line. Of these words the laws cite `line_at` alone.
-use Rattle.std.specs.Prelude.{◌≡◌, ℕ, suc, ◌==◌, nat_le, if◌then◌else◌, List, [], ◌∷◌, length, Option, Some, None, Result, Ok, Err}
+use Rattle.std.specs.Prelude.{◌≡◌, ℕ, suc, ◌==◌, if◌then◌else◌, List, [], ◌∷◌, Option, Some, None, Result, Ok, Err}
 use Rattle.std.specs.Option.{option_map}
 use Rattle.std.specs.Str.{is_utf8}
 use Rattle.std.specs.Str.Lines.{strip_carriage_return}
 use Rattle.gt_script.specs.declared.command.Line.{Line}
 use Rattle.gt_script.specs.declared.stop.ScriptStop.{ScriptStop}
 use Rattle.gt_script.specs.declared.stop.ScriptStop.TheVariants.{Memory, ScriptSyntax, ScriptTooLong}
-use Rattle.gt_script.specs.declared.pieces.Piece.{Piece}
-use Rattle.gt_script.specs.Texts.{◌>>=◌, lines_of}
-use Rattle.gt_script.specs.Cutting.{words_of}
+use Rattle.gt_split.specs.Texts.{◌>>=◌, lines_of}
+use Rattle.gt_split.specs.Cutting.{words_of}
 use Rattle.gt_script.specs.Commands.{line_of}
 use Rattle.gt_script.specs.Language.{is_passed_over}
-
--- words, where they are at most four, as many as the longest form of a command has
-abbrev pub few : Option (List Piece) → Option (List Piece)
-few found = do
-  words ← found
-  if nat_le (length words) 4 then Some words else None
-
--- the words of a line, where they are at most four
-abbrev pub few_of : List ℕ → Option (List Piece)
-few_of text = few (words_of text)
 
 -- the line that a text is, where it is one
 unfoldable pub spoken_at : List ℕ → Option Line

@@ -3,8 +3,9 @@ use Rattle.std.specs.Prelude.{◌≡◌, IsTrue, ℕ, Bool, ◌||◌, ◌==◌, 
 use Rattle.std.specs.Option.{option_map, option_map_or}
 use Rattle.gt_script.specs.declared.command.Hop.{Hop}
 use Rattle.gt_script.specs.declared.command.Hop.TheVariants.{Name, Index}
-use Rattle.gt_script.specs.Texts.{◌>>=◌, following, before}
-use Rattle.gt_script.specs.Values.{name_at, decimal_at}
+use Rattle.gt_split.specs.Texts.{◌>>=◌, following, before}
+use Rattle.gt_script.specs.Values.{name_at}
+use Rattle.gt_split.specs.Numbers.{decimal_at}
 
 -- a step begins with . (46) or [ (91)
 unfoldable pub begins_step : ℕ → Bool

@@ -4,10 +4,9 @@ ghost use Rattle.gt_script.specs.Commands.{collect_at, save_at, load_at, tables_
 
 use crate::Command;
 use crate::naming::file_name;
-use crate::numbers::integer;
-use crate::pieces::Piece;
 use crate::place_forms::place_command;
 use crate::source::Source;
+use gt_split::{Piece, integer};
 use std::alloc::AllocError;
 
 /// The command that a first word and the words after it are.

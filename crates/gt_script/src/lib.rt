@@ -4,19 +4,12 @@
 
 mod command;
 mod copies;
-mod front;
 mod heap_forms;
-mod integers;
 pub mod laws;
 mod naming;
-mod numbers;
 mod parsing;
-mod parts;
-mod pieces;
 mod place_forms;
-mod quotes;
 mod routes;
-mod slices;
 mod source;
 mod statements;
 mod steps;
@@ -24,7 +17,7 @@ mod stop;
 mod variable_forms;
 
 pub use command::{Command, Given, Hop, Line, Route, TypeName};
-pub use integers::Number;
+pub use gt_split::Number;
 pub use laws::{
     lines_are_of_bytes, lines_as_spelled, one_outcome, steps_as_spelled, words_as_spelled,
 };

@@ -7,9 +7,8 @@ ghost use Rattle.gt_text.specs.Identifier.{continues_identifier_of};
 ghost use Rattle.gt_script.specs.Values.{is_identifier_of, variable_at, named_type, type_at, file_at};
 
 use crate::TypeName;
-use crate::front::front;
-use crate::slices::{Quoted, Slice};
 use crate::source::Source;
+use gt_split::{Quoted, Slice, front};
 use gt_text::{continues_identifier, starts_identifier};
 use gt_types::Word;
 use std::alloc::AllocError;
@@ -107,20 +106,17 @@ fn named_type(source: &Source, star: bool, name: &Slice<'_>) -> Result<Option<Ty
 pub fn file_name(source: &Source, quoted: &Quoted) -> Result<Option<Word>, AllocError>
     ensures { IfOk result (λ found. found ≡ file_at quoted.now) }
 {
-    file_at(source, quoted.place(), quoted.bytes().as_slice())
+    file_at(source, quoted.place(), quoted.text())
 }
 
-// The same of its bytes and the place at which they are expected.
+// The same of its text and the place at which it is expected.
 #[tactic(auto, unfolding(crate::specs::Values::file_at))]
-fn file_at(source: &Source, place: usize, text: &[u8]) -> Result<Option<Word>, AllocError>
+fn file_at(source: &Source, place: usize, text: &str) -> Result<Option<Word>, AllocError>
     ensures { IfOk result (λ found. found ≡ file_at text.now) }
 {
-    if text.is_empty() || has_zero(text) {
+    if text.is_empty() || has_zero(text.as_bytes()) {
         return Ok(None);
     }
-    let Ok(text) = str::from_utf8(text) else {
-        return Ok(None);
-    };
     Ok(Some(source.word(place, text)?))
 }
 

@@ -6,12 +6,10 @@ ghost use Rattle.gt_script.specs.Outcome.{Parsed, IsScriptStop};
 ghost use Rattle.gt_script.specs.Scanning.{outcome_of, IsOutcomeUnlessMemory};
 
 use crate::Line;
-use crate::parts::first_line;
-use crate::pieces::Piece;
-use crate::slices::Slice;
 use crate::source::Source;
 use crate::statements::{Known, read_line};
 use crate::stop::{MAX_COMMANDS, ScriptStop};
+use gt_split::{Piece, first_line};
 use gt_types::List;
 use std::alloc::Global;
 
@@ -60,12 +58,12 @@ fn utf8_front(text: &[u8]) -> (&str, Known)
 {
     match str::from_utf8(text) {
         Ok(all) => (all, Known::All),
-        Err(error) => (text_of(text, error.valid_up_to()), Known::Nothing),
+        Err(error) => (front_of(text, error.valid_up_to()), Known::Nothing),
     }
 }
 
 // The text of so many bytes.
-fn text_of(bytes: &[u8], len: usize) -> &str {
+fn front_of(bytes: &[u8], len: usize) -> &str {
     let Some(front) = bytes.get(..len) else {
         return "";
     };
@@ -88,10 +86,10 @@ fn read_script<'a>(
     let mut rest = text;
     while !rest.is_empty() {
         let (line, after) = first_line(rest);
-        let line = Slice::of(line, text.len().saturating_sub(rest.len()));
+        let place = text.len().saturating_sub(rest.len());
         number += 1;
         rest = after;
-        let Some(said) = read_line(source, words, known, &line)? else {
+        let Some(said) = read_line(source, words, known, place, line)? else {
             return Err(ScriptStop::ScriptSyntax { line: number });
         };
         let Some(line) = said else {

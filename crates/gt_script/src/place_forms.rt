@@ -4,10 +4,10 @@ ghost use Rattle.gt_script.specs.Commands.{set_at, print_at, put_at, find_at, pl
 
 use crate::Command;
 use crate::naming::variable;
-use crate::pieces::Piece;
 use crate::routes::{path, read_value};
 use crate::source::Source;
 use crate::variable_forms::variable_command;
+use gt_split::Piece;
 use std::alloc::AllocError;
 
 /// The command that a first word and the words after it are, where it is none of the whole heap.

@@ -2,14 +2,14 @@
 ghost use Rattle.std.specs.Prelude.{◌≡◌, IfOk};
 ghost use Rattle.std.specs.Option.{option_map};
 ghost use Rattle.gt_script.specs.declared.command.Given.TheVariants.{Integer, Var};
-ghost use Rattle.gt_script.specs.Values.{name_at, integer_at, given_at};
+ghost use Rattle.gt_script.specs.Values.{name_at, given_at};
+ghost use Rattle.gt_split.specs.Numbers.{integer_at};
 ghost use Rattle.gt_script.specs.Paths.{route_at, path_at};
 
-use crate::numbers::integer;
-use crate::slices::Slice;
 use crate::source::Source;
 use crate::steps::{Steps, step_place};
 use crate::{Given, Route};
+use gt_split::{Slice, integer};
 use std::alloc::AllocError;
 
 // The path that a word is.

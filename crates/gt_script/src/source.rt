@@ -4,8 +4,7 @@ ghost use Rattle.std.specs.Str.{chars};
 ghost use Rattle.gt_script.specs.Values.{name_at};
 
 use crate::naming::{is_ascii_name, is_identifier};
-use crate::quotes::escape;
-use crate::slices::Slice;
+use gt_split::{Slice, escape};
 use gt_types::Word;
 use memchr::memchr;
 use std::alloc::{AllocError, Global};
@@ -47,14 +46,14 @@ impl Source {
     pub fn name(&self, slice: &Slice<'_>) -> Result<Option<Word>, AllocError>
         ensures name { IfOk result (λ found. found ≡ name_at slice.now) }
     {
-        let Some(name) = name_in(slice.bytes()) else {
+        let Some(name) = name_in(slice.text()) else {
             return Ok(None);
         };
         Ok(Some(self.word(slice.place(), name)?))
     }
 }
 
-// Where a byte of a script stands.
+// Where a character of a script stands.
 #[derive(Clone, Copy)]
 enum Side {
     Outside,
@@ -64,65 +63,69 @@ enum Side {
 
 // A text in which each quoted word stands as it is meant, with so many blanks after it as it has escapes.
 fn meant_text(alloc: Global, text: &str) -> Result<RcStr, AllocError> {
-    let mut meant = Vec::new(alloc);
+    let mut meant = String::new(alloc);
     let mut side = Side::Outside;
     let mut escapes: usize = 0;
-    for byte in text.as_bytes() {
-        side = match (side, *byte) {
-            (Side::Quoted, b'\\') => {
+    for c in text.chars() {
+        side = match (side, c) {
+            (Side::Quoted, '\\') => {
                 escapes = escapes.saturating_add(1);
                 Side::Escaped
             }
-            (Side::Quoted, b'"') | (Side::Quoted | Side::Escaped, b'\n') => {
+            (Side::Quoted, '"') | (Side::Quoted | Side::Escaped, '\n') => {
                 push_blanks(&mut meant, escapes)?;
                 escapes = 0;
-                meant.push(*byte)?;
+                meant.push(c)?;
                 Side::Outside
             }
-            (Side::Outside, b'"') => {
-                meant.push(b'"')?;
+            (Side::Outside, '"') => {
+                meant.push('"')?;
                 Side::Quoted
             }
             (Side::Escaped, letter) => {
-                meant.push(escape(letter).unwrap_or(letter))?;
+                meant.push(meaning(letter))?;
                 Side::Quoted
             }
-            (side, byte) => {
-                meant.push(byte)?;
+            (side, c) => {
+                meant.push(c)?;
                 side
             }
         };
     }
-    RcStr::from_str(alloc, str::from_utf8(meant.as_slice()).unwrap_or(text))
+    RcStr::from_str(alloc, meant.as_str())
+}
+
+// The character that one after a backslash means, or itself where it means nothing.
+fn meaning(letter: char) -> char {
+    match u8::try_from(letter) {
+        Ok(letter) => char::from(escape(letter).unwrap_or(letter)),
+        Err(_) => letter,
+    }
 }
 
 // Adds so many blanks.
-fn push_blanks(text: &mut Vec<u8>, count: usize) -> Result<(), AllocError> {
+fn push_blanks(text: &mut String, count: usize) -> Result<(), AllocError> {
     for _ in 0..count {
-        text.push(b' ')?;
+        text.push(' ')?;
     }
     Ok(())
 }
 
-// The name that bytes are.
+// The name that a text is.
 #[inline(always)]
-pub fn name_in(bytes: &[u8]) -> Option<&str>
-    ensures name { MatchOption result (name_at bytes.now ≡ None) (λ text. name_at bytes.now ≡ Some (chars text.now)) }
+pub fn name_in(text: &str) -> Option<&str>
+    ensures name { MatchOption result (name_at text.now ≡ None) (λ name. name_at text.now ≡ Some (chars name.now)) }
 {
-    if is_ascii_name(bytes) {
-        // ASCII is UTF-8.
-        return Some(unsafe { str::from_utf8_unchecked(bytes) });
+    if is_ascii_name(text.as_bytes()) {
+        return Some(text);
     }
-    any_name(bytes)
+    any_name(text)
 }
 
 // The same of any characters.
-fn any_name(bytes: &[u8]) -> Option<&str>
-    ensures name { MatchOption result (name_at bytes.now ≡ None) (λ text. name_at bytes.now ≡ Some (chars text.now)) }
+fn any_name(text: &str) -> Option<&str>
+    ensures name { MatchOption result (name_at text.now ≡ None) (λ name. name_at text.now ≡ Some (chars name.now)) }
 {
-    let Ok(text) = str::from_utf8(bytes) else {
-        return None;
-    };
     if is_identifier(text) {
         Some(text)
     } else {

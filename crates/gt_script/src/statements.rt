@@ -1,23 +1,20 @@
 // What a line of a script says.
-ghost use Rattle.std.specs.Prelude.{◌≡◌, true, false, List, codes, IfOk};
+ghost use Rattle.std.specs.Prelude.{◌≡◌, true, false, List, codes, IfOk, MatchOption};
 ghost use Rattle.std.specs.Option.{option_map_or};
 ghost use Rattle.std.specs.List.{list_all};
 ghost use Rattle.std.specs.Str.{IsUtf8, is_utf8};
 ghost use Rattle.std.specs.Str.Lines.{strip_carriage_return};
-ghost use Rattle.gt_script.specs.declared.pieces.Piece.{Piece};
+ghost use Rattle.gt_split.specs.declared.pieces.Piece.{Piece};
 ghost use Rattle.gt_script.specs.declared.statements.Known.TheVariants.{All};
-ghost use Rattle.gt_script.specs.Texts.{following};
-ghost use Rattle.gt_script.specs.Cutting.{is_blank};
+ghost use Rattle.gt_split.specs.Texts.{following, is_blank};
 ghost use Rattle.gt_script.specs.Commands.{form_at, line_of};
 ghost use Rattle.gt_script.specs.Language.{is_comment_of, is_passed_over};
 ghost use Rattle.gt_script.specs.Scanning.{spoken_at, said_at, line_at};
 
 use crate::Line;
-use crate::front::front;
 use crate::heap_forms::command;
-use crate::pieces::{Piece, is_blank, read_words};
-use crate::slices::Slice;
 use crate::source::Source;
+use gt_split::{Piece, Slice, front, is_blank, read_words};
 use std::alloc::AllocError;
 
 /// What of a script is known to be UTF-8: all of it, or nothing, so that each line is tested.
@@ -27,31 +24,24 @@ pub enum Known {
     Nothing,
 }
 
-// Whether a text is UTF-8.
-fn is_utf8(text: &[u8]) -> bool
-    ensures { result ≡ is_utf8 text.now }
-{
-    let Ok(_) = str::from_utf8(text) else {
-        return false;
-    };
-    true
-}
-
-/// What a line says: None where it is refused, and no line in it where it is passed over. A line of a script that is known to be UTF-8
-/// is not tried again.
+/// What a line that is expected at a place says: None where it is refused, and no line in it where it is passed over. A line of a script
+/// that is known to be UTF-8 is not tried again.
 #[tactic(auto, unfolding(crate::specs::Scanning::line_at))]
 #[inline(always)]
 pub fn read_line<'a>(
     source: &Source,
     words: &mut Vec<Piece<'a>>,
     known: Known,
-    text: &Slice<'a>,
+    place: usize,
+    bytes: &'a [u8],
 ) -> Result<Option<Option<Line>>, AllocError>
-    requires { known ≡ All → IsUtf8 text.now }
-    ensures { IfOk result (λ found. found ≡ line_at text.now) }
+    requires { known ≡ All → IsUtf8 bytes.now }
+    ensures { IfOk result (λ found. found ≡ line_at bytes.now) }
 {
-    let line = Slice::of(without_return(text.bytes()), text.place());
-    read_text(source, words, known, &line)
+    match text_of(known, without_return(bytes)) {
+        None => Ok(None),
+        Some(text) => read_text(source, words, &Slice::of(text, place)),
+    }
 }
 
 // A line without its carriage return.
@@ -65,40 +55,45 @@ fn without_return(text: &[u8]) -> &[u8]
     }
 }
 
-// The same of a text without its carriage return.
+// The text that bytes are, where they are UTF-8, which may be known.
+#[inline(always)]
+fn text_of(known: Known, bytes: &[u8]) -> Option<&str>
+    requires { known ≡ All → IsUtf8 bytes.now }
+    ensures { MatchOption result (is_utf8 bytes.now ≡ false) (λ text. text.now ≡ bytes.now) }
+{
+    match known {
+        // All of the script is UTF-8.
+        Known::All => Some(unsafe { str::from_utf8_unchecked(bytes) }),
+        Known::Nothing => decode(bytes),
+    }
+}
+
+// The text that bytes are, where they are UTF-8.
+fn decode(bytes: &[u8]) -> Option<&str>
+    ensures { MatchOption result (is_utf8 bytes.now ≡ false) (λ text. text.now ≡ bytes.now) }
+{
+    let Ok(text) = str::from_utf8(bytes) else {
+        return None;
+    };
+    Some(text)
+}
+
+// What a text without its carriage return says.
 #[tactic(auto, unfolding(crate::specs::Scanning::said_at))]
 #[inline(always)]
 fn read_text<'a>(
     source: &Source,
     words: &mut Vec<Piece<'a>>,
-    known: Known,
     text: &Slice<'a>,
 ) -> Result<Option<Option<Line>>, AllocError>
-    requires { known ≡ All → IsUtf8 text.now }
     ensures { IfOk result (λ found. found ≡ said_at text.now) }
 {
-    let bytes = text.bytes();
-    if !is_readable(known, bytes) {
-        return Ok(None);
-    }
-    if is_passed_over(bytes) {
+    if is_passed_over(text.text().as_bytes()) {
         return Ok(Some(None));
     }
     match read_command(source, words, text)? {
         None => Ok(None),
         Some(line) => Ok(Some(Some(line))),
-    }
-}
-
-// Whether a text is UTF-8, which may be known.
-#[inline(always)]
-fn is_readable(known: Known, text: &[u8]) -> bool
-    requires { known ≡ All → IsUtf8 text.now }
-    ensures { result ≡ is_utf8 text.now }
-{
-    match known {
-        Known::All => true,
-        Known::Nothing => is_utf8(text),
     }
 }
 
@@ -148,7 +143,7 @@ fn read_command<'a>(
 }
 
 // The line that words are.
-#[tactic(auto, unfolding(crate::specs::Commands::line_of, crate::specs::Texts::following))]
+#[tactic(auto, unfolding(crate::specs::Commands::line_of, gt_split::specs::Texts::following))]
 #[inline(always)]
 fn line(source: &Source, words: &[Piece<'_>]) -> Result<Option<Line>, AllocError>
     ensures { IfOk result (λ found. found ≡ line_of words.now) }
@@ -164,7 +159,7 @@ fn line(source: &Source, words: &[Piece<'_>]) -> Result<Option<Line>, AllocError
 }
 
 // Whether a first word makes its line quiet, and the word without the mark of that.
-#[tactic(auto, unfolding(crate::specs::Texts::following))]
+#[tactic(auto, unfolding(gt_split::specs::Texts::following))]
 #[inline(always)]
 fn verb_of(word: &[u8]) -> (bool, &[u8])
     ensures { (words : List Piece) → form_at result.0 words result.1.now ≡ option_map_or (form_at true words) (following (codes "@") word.now) (form_at false words word.now) }

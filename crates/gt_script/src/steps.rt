@@ -4,18 +4,17 @@ ghost use Rattle.std.specs.List.{prefix_len};
 ghost use Rattle.std.specs.Cmp.{partial_equiv_from_equiv};
 ghost use Rattle.std.specs.Cmp.Lexicographic.{pointwise, lists_equiv, lists_per};
 ghost use Rattle.std.specs.Option.{option_map};
+ghost use Rattle.std.specs.Str.{IsUtf8};
 ghost use Rattle.gt_script.specs.declared.command.Hop.{Hop};
 ghost use Rattle.gt_script.specs.declared.command.Hop.TheVariants.{Name, Index};
-ghost use Rattle.gt_script.specs.Texts.{following};
+ghost use Rattle.gt_split.specs.Texts.{following};
 ghost use Rattle.gt_script.specs.Values.{name_at};
 ghost use Rattle.gt_script.specs.Steps.{begins_step, cut_steps, index_at, hop_at, hops_at, steps_at, AreStepsIn, steps_in};
 ghost use Rattle.gt_script.specs.SameSteps.{same_step, same_step_equiv};
 
 use crate::Hop;
-use crate::front::front;
-use crate::numbers::decimal;
-use crate::slices::Slice;
 use crate::source::{Source, name_in};
+use gt_split::{Slice, after_byte, decimal, front};
 use gt_types::{Copied, Word};
 use std::alloc::{AllocError, Global};
 use std::marker::Model;
@@ -44,11 +43,10 @@ impl Steps {
     pub fn parse(alloc: Global, text: &str) -> Result<Option<Steps>, AllocError>
         ensures steps { IfOk result (λ found. found ≡ steps_at text.now) }
     {
-        let bytes = text.as_bytes();
-        if step_place(bytes) != 0 {
+        if step_place(text.as_bytes()) != 0 {
             return Ok(None);
         }
-        if !are_steps(bytes) {
+        if !are_steps(text) {
             return Ok(None);
         }
         Ok(Some(Steps {
@@ -61,9 +59,10 @@ impl Steps {
         requires begins { (cut_steps slice.now).0 ≡ [] }
         ensures steps { IfOk result (λ found. found ≡ hops_at (cut_steps slice.now).1) }
     {
-        let Some(text) = steps_text(slice.bytes()) else {
+        let text = slice.text();
+        if !are_steps(text) {
             return Ok(None);
-        };
+        }
         Ok(Some(Steps {
             text: source.word(slice.place(), text)?,
         }))
@@ -73,10 +72,9 @@ impl Steps {
     pub fn hops(&self) -> Hops<'_>
         ensures steps { result ≡ self.now }
     {
-        let rest = self.text.as_str().as_bytes();
         Hops {
             text: &self.text,
-            rest,
+            rest: self.text.as_str(),
         }
     }
 }
@@ -95,10 +93,7 @@ impl PartialEq for Steps {
     ghost laws = { lists_per (partial_equiv_from_equiv same_step_equiv) };
 
     fn eq(&self, other: &Steps) -> bool {
-        are_same(
-            self.text.as_str().as_bytes(),
-            other.text.as_str().as_bytes(),
-        )
+        are_same(self.text.as_str(), other.text.as_str())
     }
 }
 
@@ -110,7 +105,7 @@ impl Eq for Steps {
 #[derive(Drop)]
 pub struct Hops<'a> {
     text: &'a Word,
-    rest: &'a [u8],
+    rest: &'a str,
 }
 
 impl<'a> Model for Hops<'a> {
@@ -163,37 +158,33 @@ pub fn step_place(text: &[u8]) -> usize
 
 // The text of the first step of a text that begins with one, and what stands after it.
 #[inline(always)]
-fn first_step(text: &[u8]) -> Option<(&[u8], &[u8])>
+fn first_step(text: &str) -> Option<(&str, &str)>
     requires begins { (cut_steps text.now).0 ≡ [] }
     ensures first { MatchOption result (text.now ≡ []) (λ r. cut_steps text.now ≡ ([], r.0.now ∷ (cut_steps r.1.now).1)) }
     ensures after { MatchOption result (text.now ≡ []) (λ r. (cut_steps r.1.now).0 ≡ []) }
     ensures shorter { MatchOption result (text.now ≡ []) (λ r. length r.1.now < length text.now) }
+    ensures utf8 { MatchOption result (text.now ≡ []) (λ r. IsUtf8 r.1.now) }
 {
-    let Some((_, others)) = front(text) else {
+    let Some((_, others)) = front(text.as_bytes()) else {
         return None;
     };
     Some(text.split_at(1 + step_place(others)))
 }
 
 // The step that a text is. Its name is expected to stand in a word, one byte after a place.
-#[tactic(auto, unfolding(crate::specs::Steps::hop_at, crate::specs::Texts::following))]
+#[tactic(auto, unfolding(crate::specs::Steps::hop_at))]
 #[inline(always)]
-fn hop_of(alloc: Global, word: &Word, place: usize, step: &[u8]) -> Result<Option<Hop>, AllocError>
+fn hop_of(alloc: Global, word: &Word, place: usize, step: &str) -> Result<Option<Hop>, AllocError>
     ensures { IfOk result (λ found. found ≡ hop_at step.now) }
 {
-    match step {
-        [b'.', name @ ..] => field_of(alloc, word, place.saturating_add(1), name),
-        _ => Ok(index(step)),
+    match after_byte(step, b'.') {
+        Some(name) => field_of(alloc, word, place.saturating_add(1), name),
+        None => Ok(index(step.as_bytes())),
     }
 }
 
 // The step to the field of this name.
-fn field_of(
-    alloc: Global,
-    word: &Word,
-    place: usize,
-    name: &[u8],
-) -> Result<Option<Hop>, AllocError>
+fn field_of(alloc: Global, word: &Word, place: usize, name: &str) -> Result<Option<Hop>, AllocError>
     ensures { IfOk result (λ found. found ≡ option_map Name (name_at name.now)) }
 {
     let Some(name) = name_in(name) else {
@@ -212,7 +203,7 @@ fn index(text: &[u8]) -> Option<Hop>
 }
 
 // The place of the element to which a step leads.
-#[tactic(auto, unfolding(crate::specs::Steps::index_at, crate::specs::Texts::following, crate::specs::Texts::before))]
+#[tactic(auto, unfolding(crate::specs::Steps::index_at, gt_split::specs::Texts::following, gt_split::specs::Texts::before))]
 fn place_in(text: &[u8]) -> Option<u64>
     ensures { option_map Index result ≡ index_at text.now }
 {
@@ -222,20 +213,20 @@ fn place_in(text: &[u8]) -> Option<u64>
 }
 
 // Whether a text is a step.
-#[tactic(auto, unfolding(crate::specs::Steps::hop_at, crate::specs::Texts::following))]
+#[tactic(auto, unfolding(crate::specs::Steps::hop_at))]
 #[inline(always)]
-fn is_step(text: &[u8]) -> bool
+fn is_step(text: &str) -> bool
     ensures { result ≡ is_some (hop_at text.now) }
 {
-    match text {
-        [b'.', name @ ..] => name_in(name).is_some(),
-        _ => place_in(text).is_some(),
+    match after_byte(text, b'.') {
+        Some(name) => name_in(name).is_some(),
+        None => place_in(text.as_bytes()).is_some(),
     }
 }
 
 // Whether a text that begins with a step is steps.
 #[inline(always)]
-fn are_steps(text: &[u8]) -> bool
+fn are_steps(text: &str) -> bool
     requires { (cut_steps text.now).0 ≡ [] }
     ensures { result ≡ is_some (hops_at (cut_steps text.now).1) }
 {
@@ -249,35 +240,11 @@ fn are_steps(text: &[u8]) -> bool
     true
 }
 
-// The text of bytes that begin with a step, where they are steps.
-#[inline(always)]
-fn steps_text(bytes: &[u8]) -> Option<&str>
-    requires { (cut_steps bytes.now).0 ≡ [] }
-    ensures { MatchOption result (hops_at (cut_steps bytes.now).1 ≡ None) (λ text. (text.now ≡ bytes.now) × IsTrue (is_some (hops_at (cut_steps bytes.now).1))) }
-{
-    if !are_steps(bytes) {
-        return None;
-    }
-    // Steps are UTF-8.
-    Some(unsafe { str::from_utf8_unchecked(bytes) })
-}
-
-// The name of the field to which a step leads.
-#[tactic(auto, unfolding(crate::specs::Texts::following))]
-fn field_in(step: &[u8]) -> Option<&[u8]>
-    ensures { option_map (λ name. name.now) result ≡ following (codes ".") step.now }
-{
-    match step {
-        [b'.', name @ ..] => Some(name),
-        _ => None,
-    }
-}
-
 // Whether two steps are the same: names have the same bytes, and elements the same place.
-fn is_same_step(step: &[u8], other: &[u8]) -> bool
+fn is_same_step(step: &str, other: &str) -> bool
     ensures { (hop another : Hop) → hop_at step.now ≡ Some hop → hop_at other.now ≡ Some another → result ≡ same_step hop another }
 {
-    match (field_in(step), field_in(other)) {
+    match (after_byte(step, b'.'), after_byte(other, b'.')) {
         (Some(name), Some(other)) => name == other,
         (None, None) => is_same_element(step, other),
         _ => false,
@@ -285,17 +252,17 @@ fn is_same_step(step: &[u8], other: &[u8]) -> bool
 }
 
 // The same of steps to elements.
-fn is_same_element(step: &[u8], other: &[u8]) -> bool
+fn is_same_element(step: &str, other: &str) -> bool
     ensures { (hop another : Hop) → index_at step.now ≡ Some hop → index_at other.now ≡ Some another → result ≡ same_step hop another }
 {
-    match (place_in(step), place_in(other)) {
+    match (place_in(step.as_bytes()), place_in(other.as_bytes())) {
         (Some(place), Some(other)) => place == other,
         _ => false,
     }
 }
 
 // Whether two texts are the same steps.
-fn are_same(text: &[u8], other: &[u8]) -> bool
+fn are_same(text: &str, other: &str) -> bool
     requires steps { AreStepsIn text.now }
     requires others { AreStepsIn other.now }
     ensures { result ≡ pointwise same_step (steps_in text.now) (steps_in other.now) }

@@ -4,11 +4,9 @@ ghost use Rattle.gt_script.specs.Commands.{new_at, plain_new_at, sized_new_at, a
 
 use crate::Command;
 use crate::naming::{type_name, variable};
-use crate::numbers::integer;
-use crate::pieces::Piece;
 use crate::routes::path;
-use crate::slices::Slice;
 use crate::source::Source;
+use gt_split::{Piece, Slice, integer};
 use gt_types::Copied;
 use std::alloc::AllocError;
 

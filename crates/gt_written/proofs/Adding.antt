@@ -9,7 +9,7 @@ use Rattle.std.proofs.lemmas.List.Splits.{slice_split-cons_no, length-slice_spli
 use Rattle.std.proofs.lemmas.Str.{IsUtf8-from_ascii}
 use Rattle.std.proofs.lemmas.Str.Ascii.{IsAscii-nil, IsAscii-cons}
 use Rattle.gt_script.specs.declared.command.Line.{Line}
-use Rattle.gt_script.specs.Texts.{without_empty_last, lines_of}
+use Rattle.gt_split.specs.Texts.{without_empty_last, lines_of}
 use Rattle.gt_script.specs.Language.{IsSpelled, IsLine}
 use Rattle.gt_script.specs.Outcome.{Say, said}
 

@@ -11,9 +11,9 @@ use Rattle.gt_digits.specs.Digits.{decimal}
 use Rattle.gt_script.specs.declared.command.Command.{Command}
 use Rattle.gt_script.specs.declared.command.Command.TheVariants.{CollectForce, Heap, Stats}
 use Rattle.gt_script.specs.declared.command.Given.TheVariants.{Integer, Var}
-use Rattle.gt_script.specs.declared.pieces.Piece.{Piece}
-use Rattle.gt_script.specs.declared.pieces.Piece.TheVariants.{Plain}
-use Rattle.gt_script.specs.Cutting.{is_blank}
+use Rattle.gt_split.specs.declared.pieces.Piece.{Piece}
+use Rattle.gt_split.specs.declared.pieces.Piece.TheVariants.{Plain}
+use Rattle.gt_split.specs.Texts.{is_blank}
 use Rattle.gt_script.specs.Language.{IsName, IsPlain, IsTyped, is_variable, is_integer, is_positive, is_decimal, field_first, no_steps, IsPath, AreWords, no_words, blank_first, word_first, is_plain, IsForm, is_new, is_set, is_get, is_collect_force, is_heap, is_stats, IsSpelled}
 use Rattle.gt_written.specs.Lines.{quiet_line, loud_line, node_type, field_path, head_path, new_line, key_line, next_line, other_line, head_line, get_line}
 use Rattle.gt_written.proofs.Adding.{is_inner, Adds, adds_line}

@@ -10,8 +10,7 @@ use Rattle.std.proofs.lemmas.List.{length-map}
 use Rattle.std.proofs.lemmas.Int.Digits.{digits_value_is, all_below_base_digits_of, number_digits_of, first_digits_of, length-digits_of_step}
 use Rattle.gt_text.specs.Integer.{value_of}
 use Rattle.gt_digits.specs.Digits.{decimal}
-use Rattle.gt_script.specs.Cutting.{is_blank}
-use Rattle.gt_script.specs.Values.{leads_with_zero}
+use Rattle.gt_split.specs.Texts.{is_blank, leads_with_zero}
 use Rattle.gt_script.specs.Language.{IsPlain, IsDecimal}
 use Rattle.gt_written.proofs.Adding.{is_inner}
 

@@ -6,7 +6,7 @@ use Rattle.std.proofs.lemmas.List.{length-append}
 use Rattle.gt_digits.specs.Digits.{decimal}
 use Rattle.gt_generated.specs.Generated.{garbage_text, link_text, node_text, script_text}
 use Rattle.gt_script.specs.declared.command.Line.{Line}
-use Rattle.gt_script.specs.Texts.{lines_of}
+use Rattle.gt_split.specs.Texts.{lines_of}
 use Rattle.gt_script.specs.Outcome.{Say, nothing, Parsed}
 use Rattle.gt_written.specs.Lines.{new_line, key_line, next_line, other_line, head_line, get_line, link_lines, garbage_lines, node_lines, last_lines, script_lines}
 use Rattle.gt_written.proofs.Adding.{Adds, adds_none, adds_both, adds_either}

@@ -1,8 +1,10 @@
-use Rattle.gt_script.proofs.Decoding.{utf8_false, file_unreadable, file_some}
+use Rattle.std.proofs.Common.{◌≡◌, false, ap, ◌∙◌}
+use Rattle.std.specs.Prelude.{◌==◌}
+use Rattle.std.specs.List.{list_any}
+use Rattle.gt_script.proofs.Decoding.{file_some}
 use Rattle.gt_script.proofs.naming.file_at.Goals as goal
 
-pub returns-in_default : goal.returns-in_default
-returns-in_default c = file_unreadable c.args.text.now c.if-is_empty.ensures c.if-has_zero.ensures (utf8_false c.args.text.now c.in_default.ensures.cases.0)
-
 pub returns : goal.returns
-returns c = file_some c.args.text.now c.in-Ok.text.now _ c.if-is_empty.ensures c.if-has_zero.ensures c.in-Ok.ensures.cases.0 c.in-Ok.ensures.cases.1 c.in_ok-word.ensures.word
+returns c =
+    let solid : false ≡ list_any (λ c. c == 0) c.args.text.now = c.if-has_zero.ensures ∙ ap (list_any (λ c. c == 0)) c.as_bytes.ensures.value in
+    file_some c.args.text.now _ c.if-is_empty.ensures solid c.utf8.text c.in_ok-word.ensures.word

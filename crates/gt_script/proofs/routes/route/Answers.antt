@@ -1,6 +1,10 @@
 use Rattle.std.proofs.Common.{◌≡◌, sym, ap, ◌∙◌}
 use Rattle.gt_script.proofs.Walks.{place, route_begins, route_known, route_nameless}
+use Rattle.gt_script.proofs.Boundaries.{start_boundary}
 use Rattle.gt_script.proofs.routes.route.Goals as goal
+
+pub split_at-start-requires : goal.split_at-start-requires
+split_at-start-requires c = record { boundary = start_boundary c.args.text.now c.step_place.result (c.step_place.ensures.place ∙ ap place c.bytes.ensures) }
 
 pub returns-in_default : goal.returns-in_default
 returns-in_default c =

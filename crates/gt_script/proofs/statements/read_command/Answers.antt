@@ -1,9 +1,10 @@
 use Rattle.std.proofs.Common.{◌≡◌, Option, Some, None, ap, subst, ◌∙◌, rules}
 use Rattle.std.specs.Prelude.{IfOk}
 use Rattle.gt_script.specs.declared.command.Line.{Line}
-use Rattle.gt_script.specs.Texts.{◌>>=◌}
+use Rattle.gt_split.specs.Texts.{◌>>=◌}
 use Rattle.gt_script.specs.Commands.{line_of}
-use Rattle.gt_script.specs.Scanning.{few_of, spoken_at}
+use Rattle.gt_split.specs.Cutting.{few_of}
+use Rattle.gt_script.specs.Scanning.{spoken_at}
 use Rattle.gt_script.proofs.ManyWords.{spoken_few}
 use Rattle.gt_script.proofs.statements.read_command.Goals as goal
 

@@ -1,9 +1,0 @@
-use Rattle.std.proofs.Common.{◌≡◌, length}
-use Rattle.gt_script.specs.Cutting.{without_blanks}
-use Rattle.gt_script.proofs.pieces.without_blanks.Given as goal
-
-abbrev pub invariant-blanks : goal.invariant-blanks
-invariant-blanks l = without_blanks l.rest ≡ without_blanks l.text
-
-abbrev pub decreases-blanks : goal.decreases-blanks
-decreases-blanks l = length l.rest

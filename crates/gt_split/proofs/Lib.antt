@@ -1,0 +1,7 @@
+pub mod Options
+mod Digits
+mod Splits
+pub mod Cuts
+mod ManyWords
+mod Quoting
+pub mod Boundaries

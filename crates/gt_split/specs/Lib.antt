@@ -1,0 +1,4 @@
+pub mod Texts
+pub mod Cutting
+pub mod Numbers
+pub mod Integers
