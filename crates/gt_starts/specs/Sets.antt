@@ -1,6 +1,5 @@
 -- Sets of structures.
-use Rattle.std.specs.Prelude.{ℕ}
-use Rattle.gt_starts.specs.declared.sets.StructureSet.{StructureSet}
+use Rattle.std.specs.Prelude.{ℕ, List}
 
 -- a structure is in a set
-pub data IsIn (s : StructureSet) (i : ℕ) : Type 0 where
+pub data IsIn (words : List ℕ) (i : ℕ) : Type 0 where

@@ -1,5 +1,5 @@
--- Ways by the names of fields.
-use Rattle.std.specs.Prelude.{◌≡◌, ℕ, Bool, false, List, [], ◌∷◌, ◌++◌, Option, Some, None, slice_get, if◌then◌else◌}
+-- The names of the fields on the way from a structure to a part of it.
+use Rattle.std.specs.Prelude.{◌≡◌, ℕ, Bool, false, if◌then◌else◌, List, [], ◌∷◌, ◌++◌, Option, Some, None, slice_get}
 use Rattle.gt_types.specs.declared.types.TypeId.{TypeId}
 use Rattle.gt_types.specs.declared.types.Ty.{Ty}
 use Rattle.gt_types.specs.declared.program.Structure.{Structure}
@@ -10,6 +10,10 @@ use Rattle.gt_tree.specs.Scopes.{◌then◌}
 -- the type of the field at a place of a structure
 abbrev pub field_at : Program → TypeId → ℕ → Option Ty
 field_at program node i = slice_get program.structures node.0 then λ s. slice_get s.fields i then λ f. Some f.ty
+
+-- the name of the field at a place of a structure
+abbrev pub name_at : Program → TypeId → ℕ → Option (List ℕ)
+name_at program node i = slice_get program.structures node.0 then λ s. slice_get s.fields i then λ f. Some f.name
 
 -- the structure by value at a place of a structure
 abbrev pub inner_at : Program → TypeId → ℕ → Option TypeId
@@ -23,14 +27,11 @@ is_union_in None = false
 abbrev pub is_union : Program → TypeId → Bool
 is_union program node = is_union_in (slice_get program.structures node.0)
 
--- the name of the field at a place of a structure
-abbrev pub name_at : Program → TypeId → ℕ → Option (List ℕ)
-name_at program node i = slice_get program.structures node.0 then λ s. slice_get s.fields i then λ f. Some f.name
-
--- The way from a structure to a part of it: the names of the fields on it; None where it leads into a union, since what a path reads
--- in a union may lie in each of its members.
+-- The way from a structure to a part of it: the names of the fields on it, as far as one holds a structure by value. There is none where it
+-- leads into a union, since what a path reads in a union may lie in each of its members.
 abbrev pub way_to : Program → Option TypeId → List ℕ → Option (List (List ℕ))
-way_to program (Some node) (i ∷ path) = if is_union program node then None else (name_at program node i then λ name. way_to program (inner_at program node i) path then λ way. Some (name ∷ way))
+way_to program (Some node) (i ∷ path) =
+    if is_union program node then None else (name_at program node i then λ name. way_to program (inner_at program node i) path then λ way. Some (name ∷ way))
 way_to program begin path = Some []
 
 -- a path ends in this name

@@ -7,11 +7,20 @@ ghost use Rattle.std.specs.Prelude.{◌≡◌, ◌↔◌, ◌⊎◌, ℕ, List, 
 use crate::sets::StructureSet;
 use gt_types::{Program, TypeId, Word};
 use std::alloc::{AllocError, Global};
+use std::marker::Model;
 
 /// Paths of names, each with the structures at which it begins.
 #[derive(Drop)]
 pub struct PathSet {
     words: Vec<u64>,
+}
+
+impl Model for PathSet {
+    ghost use Rattle.gt_starts.specs.Paths.{Starts, no_starts};
+
+    ghost Value = { Starts };
+
+    ghost view = { λ s. no_starts s.words.items };
 }
 
 impl PathSet {

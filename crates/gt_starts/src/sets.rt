@@ -3,11 +3,20 @@ ghost use Rattle.gt_starts.specs.Sets.{IsIn};
 ghost use Rattle.std.specs.Prelude.{◌≡◌, ◌↔◌, ◌⊎◌, ℕ, true, IfOk, OnOk};
 
 use std::alloc::{AllocError, Global};
+use std::marker::Model;
 
 /// Structures of a program by their numbers, one bit each.
 #[derive(Drop)]
 pub struct StructureSet {
     words: Vec<u64>,
+}
+
+impl Model for StructureSet {
+    ghost use Rattle.std.specs.Prelude.{ℕ, List};
+
+    ghost Value = { List ℕ };
+
+    ghost view = { λ s. s.words.items };
 }
 
 impl StructureSet {
