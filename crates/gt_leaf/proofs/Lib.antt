@@ -1,4 +1,6 @@
 pub mod Adding
+pub mod Gaining
+pub mod ExprPaths
 pub mod SeekLemmas
 pub mod PlainParts
 pub mod Arounds

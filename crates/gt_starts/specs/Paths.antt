@@ -1,4 +1,4 @@
--- Paths and where they begin.
+-- Paths of names, each with the structures at which it begins.
 use Rattle.std.specs.Prelude.{ℕ, List, []}
 use Rattle.gt_starts.specs.Ways.{EndsIn}
 
@@ -10,7 +10,8 @@ abbrev pub no_starts : List ℕ → Starts
 no_starts words = []
 
 -- a path of these names is kept, which begins at the structure of this number
-pub data BeginsIn (starts : Starts) (names : List (List ℕ)) (begin : ℕ) : Type 0 where
+unfoldable pub BeginsIn : Starts → List (List ℕ) → ℕ → Type 0
+BeginsIn starts names begin = ⊥
 
 -- some path that ends in this name begins there
 abbrev pub EndsFrom : Starts → List ℕ → ℕ → Type 0

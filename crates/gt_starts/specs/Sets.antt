@@ -1,5 +1,7 @@
 -- Sets of structures.
-use Rattle.std.specs.Prelude.{ℕ, List}
+use Rattle.std.specs.Prelude.{◌≡◌, ℕ, true, List}
+use Rattle.gt_bits.specs.Sets.{has}
 
--- a structure is in a set
-pub data IsIn (words : List ℕ) (i : ℕ) : Type 0 where
+-- the structure of this number is in the set with these words: its bit is set
+abbrev pub IsIn : List ℕ → ℕ → Type 0
+IsIn words i = has words i ≡ true

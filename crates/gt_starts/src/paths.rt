@@ -25,6 +25,7 @@ impl Model for PathSet {
 
 impl PathSet {
     /// No paths.
+    #[tactic(auto, unfolding(crate::specs::Paths::BeginsIn))]
     pub fn new(alloc: Global) -> PathSet
         ensures none { (names : List (List ℕ)) (begin : ℕ) → BeginsIn result names begin → ⊥ }
     {
@@ -39,6 +40,7 @@ impl PathSet {
     }
 
     /// Whether a path leads.
+    #[tactic(auto, unfolding(crate::specs::Paths::BeginsIn))]
     pub fn leads(&self, program: &Program, begin: TypeId, path: &[u32], last: &Word) -> bool
         ensures leads { result ≡ true ↔ ((names : List (List ℕ)) × BeginsIn self.now names begin.0 × LeadsAlong (way_to program.now (Some begin) path.now) last.now names) }
     {
@@ -46,6 +48,7 @@ impl PathSet {
     }
 
     /// Whether some path ends in a name.
+    #[tactic(auto, unfolding(crate::specs::Paths::BeginsIn))]
     pub fn ends(&self, last: &Word) -> bool
         ensures ends { result ≡ true ↔ ((begin : ℕ) × EndsFrom self.now last.now begin) }
     {

