@@ -1,9 +1,9 @@
 -- What sets have, word by word.
-use Rattle.std.proofs.Common.{◌≡◌, ◌≢◌, ◌⊎◌, ◌↔◌, ℕ, suc, ◌+◌, ◌/◌, ◌%◌, ◌<◌, ◌≤◌, ◌==◌, true, false, List, length, max, get_or, set, replicate, inl, inr, refl, sym, ap, ap₂, subst, ◌∙◌, arith, eq-eqb}
+use Rattle.std.proofs.Common.{◌≡◌, ◌≢◌, ◌⊎◌, ◌↔◌, ℕ, suc, ◌+◌, ◌/◌, ◌%◌, ◌<◌, ◌≤◌, ◌==◌, true, false, List, length, max, get_or, set, replicate, inl, inr, refl, sym, ap, ap₂, subst, ◌∙◌, arith, rules, eq-eqb}
 use Rattle.std.specs.Prelude.{bit_or}
 use Rattle.std.specs.Int.{bit_at}
 use Rattle.std.proofs.lemmas.Bool.{eqb-true, cases_eq, cases_lt}
-use Rattle.std.proofs.lemmas.List.{get_or-set_same, get_or-set_other, get_or_past, get_or-replicate}
+use Rattle.std.proofs.lemmas.List.{get_or-set_same, get_or-set_other, get_or_past, get_or-replicate, length-replicate}
 use Rattle.std.proofs.lemmas.Nat.Bits.{bit_at-zero, bit_at_or, bit_at-lt}
 use Rattle.gt_starts.specs.Sets.{IsIn}
 
@@ -32,7 +32,8 @@ pub joined-next : (old others words : List ℕ) (k : ℕ) → AreJoined old othe
 joined-next old others words k are within = record {
   len = search (rules, are.len);
   below = λ n low. elim (cases_eq n k) [
-    | inl e ↦ ?
+    | inl e ↦ subst (λ m. get_or (set words k (bit_or (get_or words k 0) (get_or others k 0))) m 0 ≡ bit_or (get_or old m 0) (get_or others m 0)) (sym e)
+      (get_or-set_same words k _ 0 within ∙ ap (λ w. bit_or w (get_or others k 0)) (are.above k (omega arith)))
     | inr other ↦ get_or-set_other words k n _ 0 other ∙ are.below n (omega (arith, low, other))
   ];
   above = λ n high. get_or-set_other words k n _ 0 (λ e. absurd (omega (arith, high, e))) ∙ are.above n (omega (arith, high));
@@ -52,5 +53,15 @@ joined-in old others new are same i =
     ]
 
 -- no number is in a set of words that are 0
-pub none-in : (n i : ℕ) → ¬ IsIn (replicate n 0) i
-none-in n i h = ?
+pub none-in : (words : List ℕ) → ((n : ℕ) → get_or words n 0 ≡ 0) → (i : ℕ) → ¬ IsIn words i
+none-in words zeros i h =
+    let set : bit_at (get_or words (i / 64) 0) (i % 64) ≡ 1 = eqb-true (bit_at (get_or words (i / 64) 0) (i % 64)) 1 h in
+    let clear : bit_at (get_or words (i / 64) 0) (i % 64) ≡ 0 = ap (λ w. bit_at w (i % 64)) (zeros (i / 64)) ∙ bit_at-zero (i % 64) in
+    absurd (omega (arith, set, clear))
+
+-- each of so many words that are equal is this word
+pub words-at : (n k word : ℕ) → get_or (replicate n word) k word ≡ word
+words-at n k word = elim (cases_lt k n) [
+  | inl low ↦ get_or-replicate n k word word low
+  | inr past ↦ get_or_past (replicate n word) k word (subst (λ m. m ≤ k) (sym (length-replicate n word)) past)
+]
