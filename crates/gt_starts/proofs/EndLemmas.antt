@@ -1,6 +1,5 @@
 -- In which names paths end.
-use Rattle.std.proofs.Common.{◌≡◌, ◌≢◌, ◌⊎◌, ◌↔◌, ℕ, zero, suc, ◌+◌, ◌-◌, ◌<◌, ◌≤◌, length, get_or, arith, Bool, true, List, [], ◌∷◌, ◌++◌, Option, Some, None, inl, inr, refl, sym, ap, subst, ◌∙◌}
-use Rattle.gt_starts.specs.Sets.{IsIn}
+use Rattle.std.proofs.Common.{◌≡◌, ◌≢◌, ◌↔◌, ℕ, zero, suc, ◌+◌, ◌-◌, ◌<◌, ◌≤◌, length, get_or, arith, Bool, true, List, [], ◌∷◌, ◌++◌, Option, Some, None, inl, inr, refl, sym, ap, subst, ◌∙◌}
 use Rattle.gt_starts.specs.Ways.{EndsIn, LeadsAlong}
 use Rattle.gt_starts.specs.Paths.{Starts, BeginsIn, EndsFrom, AreEndsOf}
 use Rattle.gt_starts.proofs.StartLemmas.{Adds, AreSame}
@@ -38,31 +37,34 @@ no_names (name ∷ names) none = absurd (omega (arith, none))
 module _ (starts ends : Starts) (are : AreEndsOf starts ends) where
   -- where the paths begin as they did, so do those of one name
   pub ends_same : (new_starts new_ends : Starts) → AreSame starts new_starts → AreSame ends new_ends → AreEndsOf new_starts new_ends
-  ends_same new_starts new_ends paths names last begin =
-      (λ h. let old = (are last begin).0 ((names (last ∷ []) begin).0 h) in (old.0, old.1, (paths old.0 begin).1 old.2),
-      λ h. (names (last ∷ []) begin).1 ((are last begin).1 (h.0, h.1, (paths h.0 begin).0 h.2)))
+  ends_same new_starts new_ends paths names last begin = (
+    λ h. let old = (are last begin).0 ((names (last ∷ []) begin).0 h) in (old.0, old.1, (paths old.0 begin).1 old.2),
+    λ h. (names (last ∷ []) begin).1 ((are last begin).1 (h.0, h.1, (paths h.0 begin).0 h.2)),
+  )
 
   module _ (new_starts : Starts) (names : List (List ℕ)) (more : List ℕ) (paths : Adds starts new_starts names more) where
     -- a path is added, and that of its last name
     pub ends_added : (new_ends : Starts) (end : List ℕ) → EndsIn end names → Adds ends new_ends (end ∷ []) more → AreEndsOf new_starts new_ends
-    ends_added new_ends end at singles last begin =
-        (λ h. elim ((singles (last ∷ []) begin).0 h) [
-          | inl old ↦ let from = (are last begin).0 old in (from.0, from.1, (paths from.0 begin).1 (inl from.2))
-          | inr m ↦ let same : end ≡ last = cc in (names, subst (λ name. EndsIn name names) same at, (paths names begin).1 (inr (refl, m.1)))
-        ],
-        λ h. (singles (last ∷ []) begin).1 (elim ((paths h.0 begin).0 h.2) [
-          | inl old ↦ inl ((are last begin).1 (h.0, h.1, old))
-          | inr m ↦ let same : last ≡ end = same_end names last end (subst (EndsIn last) m.0 h.1) at in inr (ap (λ name. name ∷ []) same, m.1)
-        ]))
+    ends_added new_ends end at singles last begin = (
+      λ h. elim ((singles (last ∷ []) begin).0 h) [
+        | inl old ↦ let from = (are last begin).0 old in (from.0, from.1, (paths from.0 begin).1 (inl from.2))
+        | inr m ↦ let same : end ≡ last = cc in (names, subst (λ name. EndsIn name names) same at, (paths names begin).1 (inr (refl, m.1)))
+      ],
+      λ h. (singles (last ∷ []) begin).1 (elim ((paths h.0 begin).0 h.2) [
+        | inl old ↦ inl ((are last begin).1 (h.0, h.1, old))
+        | inr m ↦ let same : last ≡ end = same_end names last end (subst (EndsIn last) m.0 h.1) at in inr (ap (λ name. name ∷ []) same, m.1)
+      ]),
+    )
 
     -- a path without names is added
     pub ends_kept : names ≡ [] → AreEndsOf new_starts ends
-    ends_kept none last begin =
-        (λ h. let from = (are last begin).0 h in (from.0, from.1, (paths from.0 begin).1 (inl from.2)),
-        λ h. elim ((paths h.0 begin).0 h.2) [
-          | inl old ↦ (are last begin).1 (h.0, h.1, old)
-          | inr m ↦ absurd (not_empty h.1.0 last (sym (m.0 ∙ none) ∙ h.1.1))
-        ])
+    ends_kept none last begin = (
+      λ h. let from = (are last begin).0 h in (from.0, from.1, (paths from.0 begin).1 (inl from.2)),
+      λ h. elim ((paths h.0 begin).0 h.2) [
+        | inl old ↦ (are last begin).1 (h.0, h.1, old)
+        | inr m ↦ absurd (not_empty h.1.0 last (sym (m.0 ∙ none) ∙ h.1.1))
+      ],
+    )
 
   -- where a union lies on the way, the paths that end in the name may lead there
   pub leads_hidden : (way : Option (List (List ℕ))) (last : List ℕ) (begin : ℕ) (b : Bool) → way ≡ None → (b ≡ true ↔ BeginsIn ends (last ∷ []) begin)

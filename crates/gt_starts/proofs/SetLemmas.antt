@@ -1,5 +1,5 @@
 -- What sets have, word by word.
-use Rattle.std.proofs.Common.{◌≡◌, ◌≢◌, ◌⊎◌, ◌↔◌, ℕ, suc, ◌+◌, ◌/◌, ◌%◌, ◌<◌, ◌≤◌, ◌==◌, true, false, List, length, max, get_or, set, replicate, inl, inr, refl, sym, ap, ap₂, subst, ◌∙◌, arith, rules, eq-eqb}
+use Rattle.std.proofs.Common.{◌≡◌, ◌⊎◌, ◌↔◌, ℕ, suc, ◌/◌, ◌%◌, ◌<◌, ◌≤◌, ◌==◌, true, List, length, max, get_or, set, replicate, inl, inr, refl, sym, ap, ap₂, subst, ◌∙◌, arith, rules, eq-eqb}
 use Rattle.std.specs.Prelude.{bit_or}
 use Rattle.std.specs.Int.{bit_at}
 use Rattle.std.proofs.lemmas.Bool.{eqb-true, cases_eq, cases_lt}
@@ -11,11 +11,13 @@ use Rattle.gt_starts.specs.Sets.{IsIn}
 max-bit : (a b : ℕ) → a < 2 → b < 2 → (max a b == 1) ≡ true ↔ (((a == 1) ≡ true) ⊎ ((b == 1) ≡ true))
 max-bit a b low less = elim (cases_eq a 1) [
   | inl e ↦ (λ _. inl (eq-eqb a 1 e), λ _. eq-eqb (max a b) 1 (omega (arith, e, less)))
-  | inr n ↦ (λ h. inr (eq-eqb b 1 (omega (arith, eqb-true (max a b) 1 h, n, low, less))),
+  | inr n ↦ (
+    λ h. inr (eq-eqb b 1 (omega (arith, eqb-true (max a b) 1 h, n, low, less))),
     λ either. elim either [
       | inl h ↦ absurd (n (eqb-true a 1 h))
       | inr h ↦ eq-eqb (max a b) 1 (omega (arith, eqb-true b 1 h, low))
-    ])
+    ],
+  )
 ]
 
 -- each word below k is joined with that of others, and no word from k on is changed
@@ -33,7 +35,7 @@ joined-next old others words k are within = record {
   len = search (rules, are.len);
   below = λ n low. elim (cases_eq n k) [
     | inl e ↦ subst (λ m. get_or (set words k (bit_or (get_or words k 0) (get_or others k 0))) m 0 ≡ bit_or (get_or old m 0) (get_or others m 0)) (sym e)
-      (get_or-set_same words k _ 0 within ∙ ap (λ w. bit_or w (get_or others k 0)) (are.above k (omega arith)))
+        (get_or-set_same words k _ 0 within ∙ ap (λ w. bit_or w (get_or others k 0)) (are.above k (omega arith)))
     | inr other ↦ get_or-set_other words k n _ 0 other ∙ are.below n (omega (arith, low, other))
   ];
   above = λ n high. get_or-set_other words k n _ 0 (λ e. absurd (omega (arith, high, e))) ∙ are.above n (omega (arith, high));
@@ -49,7 +51,7 @@ joined-in old others new are same i =
     word = elim (cases_lt (i / 64) (length old)) [
       | inl low ↦ are.below (i / 64) low
       | inr past ↦ are.above (i / 64) past ∙ get_or_past old (i / 64) 0 past
-        ∙ sym (ap₂ bit_or (get_or_past old (i / 64) 0 past) (get_or_past others (i / 64) 0 (omega (arith, past, same))))
+          ∙ sym (ap₂ bit_or (get_or_past old (i / 64) 0 past) (get_or_past others (i / 64) 0 (omega (arith, past, same))))
     ]
 
 -- no number is in a set of words that are 0

@@ -13,8 +13,8 @@ use std::alloc::{AllocError, Global};
 use std::array;
 use std::marker::Model;
 
-/// Paths of names, each with the structures at which it begins. Each path is kept once, with one bit for each structure. Contracts see the
-/// paths with these sets.
+/// Paths of names, each with the structures at which it begins. Each path is kept once, with one bit for each structure: it takes 512 bytes
+/// besides its names, and so does each name in which paths end. Contracts see the paths with these sets.
 #[derive(Drop)]
 pub struct PathSet {
     alloc: Global,
@@ -45,7 +45,7 @@ impl PathSet {
         }
     }
 
-    /// Adds a path that begins at each of these structures. Its only error is out of memory.
+    /// Adds a path that begins at each of these structures. Its time grows with the path alone. Its only error is out of memory.
     pub fn add(&mut self, names: &[Word], begins: &StructureSet) -> Result<(), AllocError>
         ensures added { OnOk result ((path : List (List ℕ)) (begin : ℕ) → BeginsIn self.new path begin ↔ (BeginsIn self.old path begin ⊎ ((path ≡ names.now) × IsIn begins.now begin))) }
     {

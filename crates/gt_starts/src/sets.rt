@@ -54,8 +54,8 @@ impl StructureSet {
         gt_bits::has(&self.words, id)
     }
 
-    /// Whether there is any structure. It takes no memory, and constant time.
-    pub fn any(&self) -> bool
+    // Whether there is any structure. It takes no memory, and constant time.
+    pub(crate) fn any(&self) -> bool
         ensures some { result ≡ true ↔ ((i : ℕ) × IsIn self.now i) }
     {
         gt_bits::next(&self.words, 0).is_some()

@@ -24,11 +24,11 @@ invariant_of-self-2 c =
     elim c.if-names-lt1.branch [
       | in_default w ↦ subst (λ inside. AreEndsOf new inside.ends) (sym w.self-inside-is) (ends_kept c.self.inside.paths c.self.inside.ends c.self.invariant new names more adds (no_names names w.in_default.len_below))
       | in-len1-up+in_ok-keep-2 w ↦
-        let last = w.last-item.result in
-        let single : Adds w.keep-in-len1-up.new.self w.begin_at.new.self (last ∷ []) more = subst (λ path. Adds w.keep-in-len1-up.new.self w.begin_at.new.self path more) w.one-end.ensures w.begin_at.ensures.added in
-        let singles : Adds c.self.inside.ends w.begin_at.new.self (last ∷ []) more = adds_after c.self.inside.ends w.keep-in-len1-up.new.self w.begin_at.new.self (last ∷ []) more w.keep-in-len1-up.ensures.same single in
-        subst (λ inside. AreEndsOf new inside.ends) (sym w.self-inside-is)
-        (ends_added c.self.inside.paths c.self.inside.ends c.self.invariant new names more adds w.begin_at.new.self last (last_of names last w.in-len1-up.len_at_least w.last-item.is) singles)
+          let last = w.last-item.result in
+          let single : Adds w.keep-in-len1-up.new.self w.begin_at.new.self (last ∷ []) more = subst (λ path. Adds w.keep-in-len1-up.new.self w.begin_at.new.self path more) w.one-end.ensures w.begin_at.ensures.added in
+          let singles : Adds c.self.inside.ends w.begin_at.new.self (last ∷ []) more = adds_after c.self.inside.ends w.keep-in-len1-up.new.self w.begin_at.new.self (last ∷ []) more w.keep-in-len1-up.ensures.same single in
+          subst (λ inside. AreEndsOf new inside.ends) (sym w.self-inside-is)
+          (ends_added c.self.inside.paths c.self.inside.ends c.self.invariant new names more adds w.begin_at.new.self last (last_of names last w.in-len1-up.len_at_least w.last-item.is) singles)
     ]
 
 pub returns : goal.returns
