@@ -27,8 +27,8 @@ is_union_in None = false
 abbrev pub is_union : Program → TypeId → Bool
 is_union program node = is_union_in (slice_get program.structures node.0)
 
--- The way from a structure to a part of it: the names of the fields on it, as far as one holds a structure by value. There is none where it
--- leads into a union, since what a path reads in a union may lie in each of its members.
+-- The way from a structure to a part of it: the names of the fields on it, as far as these hold structures by value. It is None where it
+-- leads into a union, since what a path reads in a union may lie in each of its members, or where a field is missing.
 abbrev pub way_to : Program → Option TypeId → List ℕ → Option (List (List ℕ))
 way_to program (Some node) (i ∷ path) =
     if is_union program node then None else (name_at program node i then λ name. way_to program (inner_at program node i) path then λ way. Some (name ∷ way))
