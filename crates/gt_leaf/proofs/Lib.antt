@@ -1,6 +1,7 @@
 pub mod Adding
 pub mod Gaining
 pub mod ExprPaths
+pub mod BeginSets
 pub mod SeekLemmas
 pub mod PlainParts
 pub mod Arounds

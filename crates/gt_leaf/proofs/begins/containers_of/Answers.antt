@@ -1,9 +1,7 @@
-use Rattle.std.proofs.Common.{rules, ◌≡◌, ◌↔◌, ℕ, Contains, IfOk, ◌+◌, ◌-◌, ◌*◌, ◌<◌, ◌≤◌, length, ◌/◌, ◌%◌, Bool, true, false, nat_eq, nat_lt, List, [], ◌∷◌, ◌++◌, slice_index_or, slice_set, bit_and, bit_or, Fits, w8, w32, w64, Bor, MutBor}
-use Rattle.gt_leaf.specs.Seeking.{IsContainer, IsOuter}
-use Rattle.gt_paths.specs.Containers.{AreContainersOf}
-use Rattle.gt_starts.specs.Sets.{IsIn}
+use Rattle.gt_leaf.proofs.BeginSets.{if-ok, set-containers}
 use Rattle.gt_leaf.proofs.begins.containers_of.Goals as goal
 
--- src/begins.rt:34:1
 pub returns : goal.returns
-returns c = ?
+returns c = record {
+  containers = if-ok c.set_of.result (λ words these. set-containers c.args.program.now c.args.containers.now c.args.node words c.of.result.now c.requires.containers c.of.ensures.containers these) c.set_of.ensures.these;
+}

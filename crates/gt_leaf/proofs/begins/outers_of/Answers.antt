@@ -1,9 +1,12 @@
-use Rattle.std.proofs.Common.{rules, ◌≡◌, ◌↔◌, ℕ, Contains, IfOk, ◌+◌, ◌-◌, ◌*◌, ◌<◌, ◌≤◌, length, ◌/◌, ◌%◌, Bool, true, false, nat_eq, nat_lt, List, [], ◌∷◌, ◌++◌, slice_index_or, slice_set, bit_and, bit_or, Fits, w8, w32, w64, Bor, MutBor}
-use Rattle.gt_leaf.specs.Seeking.{IsContainer, IsOuter}
-use Rattle.gt_paths.specs.Containers.{AreContainersOf}
-use Rattle.gt_starts.specs.Sets.{IsIn}
+use Rattle.std.proofs.Common.{ℕ, List, nat_eq, ap, subst, sym, ◌∙◌}
+use Rattle.indexmap.specs.IndexSet.{insert_key}
+use Rattle.gt_paths.specs.Climbs.{AreAbove}
+use Rattle.gt_leaf.proofs.BeginSets.{if-ok, set-outers}
 use Rattle.gt_leaf.proofs.begins.outers_of.Goals as goal
 
--- src/begins.rt:47:1
 pub returns : goal.returns
-returns c = ?
+returns c =
+    let above = subst (λ (ks : List ℕ). AreAbove c.args.program.now ks c.in_ok-above.above.keys) (c.in_ok-insert.ensures.keys ∙ ap (λ (ks : List ℕ). insert_key nat_eq ks c.args.node) c.new-from.ensures.empty) c.in_ok-above.ensures.above in
+    record {
+      outers = if-ok c.set_of.result (λ words these. set-outers c.args.program.now c.args.node words c.as_slice.result.now (subst (AreAbove c.args.program.now _) (sym c.as_slice.ensures) above) these) c.set_of.ensures.these;
+    }

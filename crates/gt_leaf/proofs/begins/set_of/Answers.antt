@@ -1,17 +1,15 @@
-use Rattle.std.proofs.Common.{rules, ◌≡◌, ◌↔◌, ℕ, Contains, IfOk, ◌+◌, ◌-◌, ◌*◌, ◌<◌, ◌≤◌, length, ◌/◌, ◌%◌, Bool, true, false, nat_eq, nat_lt, List, [], ◌∷◌, ◌++◌, slice_index_or, slice_set, bit_and, bit_or, Fits, w8, w32, w64, Bor, MutBor}
-use Rattle.gt_leaf.specs.Seeking.{IsContainer, IsOuter}
-use Rattle.gt_paths.specs.Containers.{AreContainersOf}
-use Rattle.gt_starts.specs.Sets.{IsIn}
+use Rattle.std.proofs.Common.{arith}
+use Rattle.gt_leaf.proofs.BeginSets.{set-none, set-next, set-all}
+use Rattle.gt_leaf.proofs.Gaining.{item-at}
 use Rattle.gt_leaf.proofs.begins.set_of.Goals as goal
 
--- src/begins.rt:27:5
 pub loop-id-init : goal.loop-id-init
-loop-id-init c = ?
+loop-id-init c = set-none c.in_ok-set.set c.args.ids.now c.in_ok-set.ensures.empty
 
--- src/begins.rt:27:5
 pub loop-id-preserved : goal.loop-id-preserved
-loop-id-preserved c = ?
+loop-id-preserved c =
+    set-next c.loop-id.set c.insert.new.self c.args.ids.now c.loop-id.id-index c.id-item.result (item-at c.args.ids.now c.loop-id.id-index c.id-item.result c.loop-id-test.true c.id-item.is) c.loop-id.invariant
+    c.in_ok-insert.ensures.added
 
--- src/begins.rt:23:1
 pub returns : goal.returns
-returns c = ?
+returns c = record { these = set-all c.loop-id.set c.args.ids.now c.loop-id.id-index (omega (arith, c.loop-id-test.false)) c.loop-id.invariant }
