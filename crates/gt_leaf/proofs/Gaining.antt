@@ -15,6 +15,9 @@ gains-none a more none = record { each = λ names begin. either-none (none names
 pub gains-both : (a b c m n k : PathStarts) → Gains a b m → Gains b c n → ((names : List (List ℕ)) (begin : ℕ) → k names begin ↔ (m names begin ⊎ n names begin)) → Gains a c k
 gains-both a b c m n k p q both = record { each = λ names begin. either-both (q.each names begin) (p.each names begin) (both names begin) }
 
+pub gains-all : (a b c : PathStarts) {m n : PathStarts} → Gains a b m → Gains b c n → Gains a c (λ names begin. m names begin ⊎ n names begin)
+gains-all a b c {m} {n} p q = gains-both a b c m n (λ names begin. m names begin ⊎ n names begin) p q (λ names begin. (λ h. h, λ h. h))
+
 pub gains-same : (a b m k : PathStarts) → Gains a b m → ((names : List (List ℕ)) (begin : ℕ) → m names begin ↔ k names begin) → Gains a b k
 gains-same a b m k p same = record { each = λ names begin. either-same (p.each names begin) (same names begin) }
 

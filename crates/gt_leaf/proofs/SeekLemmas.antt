@@ -1,5 +1,5 @@
 -- The paths that are added are those of the program's expressions.
-use Rattle.std.proofs.Common.{◌≡◌, ℕ, true, false, List, [], ◌∷◌, ◌++◌, refl, ap, sym, subst, ◌∙◌, ◌⊎◌, Option, Some, None, inl, inr}
+use Rattle.std.proofs.Common.{◌≡◌, ℕ, false, List, [], refl, ap, sym, subst, ◌∙◌, ◌⊎◌, Option, Some, inl, inr}
 use Rattle.std.specs.Prelude.{◌↔◌, Contains, filter_map, option_to_list, slice_get}
 use Rattle.gt_types.specs.declared.expressions.Base.{Base}
 use Rattle.gt_types.specs.declared.expressions.Base.TheVariants.{Here, Outer, Outermost}
@@ -10,25 +10,19 @@ use Rattle.gt_types.specs.declared.types.Ty.TheVariants as ty
 use Rattle.gt_types.specs.declared.program.Field.{Field}
 use Rattle.gt_types.specs.declared.program.Structure.{Structure}
 use Rattle.gt_types.specs.declared.program.Program.{Program}
-use Rattle.gt_types.specs.Paths.{Way, paths_of, own_expressions}
+use Rattle.gt_types.specs.Paths.{paths_of}
 use Rattle.gt_types.specs.Shapes.{innermost, count_of}
 use Rattle.gt_paths.specs.Numbers.{numbered}
-use Rattle.gt_leaf.specs.Seeking.{same_base, PathsOf, PathsOfSome, PathsOfCounts, PathsOfOwn, desc_in, PathsOfRoots, PathsInside, PathsOutermost, PathsOfAll, AllInside, AllOutermost, structure_names}
+use Rattle.gt_leaf.specs.Seeking.{PathStarts, Gains, IsOne, PathsOf, PathsOfSome, PathsOfCounts, PathsOfOwn, desc_in, PathsOfDescs, PathsOfUnion, PathsOfUnions, PathsOfRoots, IsContainer, IsOuter, PathsInside, PathsOutermost, PathsOfAll, AllInside, AllOutermost, structure_names}
 use Rattle.gt_leaf.specs.Unread.{BeginsAt, HasPath}
 use Rattle.gt_leaf.proofs.Alongs.{Contains-only}
 use Rattle.gt_leaf.proofs.Quiet.{quiet, own-quiet, desc-quiet}
-use Rattle.gt_leaf.proofs.Members.{nothing, first, first-or-later, contains-append, filter-contains}
+use Rattle.gt_leaf.proofs.Gaining.{gains-both, gains-all, gains-same}
+use Rattle.gt_leaf.proofs.Members.{first, contains-append, filter-contains}
 
 -- ---- the expressions of a structure
 
-pub some-from : (base : Base) (begins : ℕ → Type 0) (o : Option Expr) (e : Expr) (names : List (List ℕ)) (begin : ℕ) → o ≡ Some e → PathsOf base begins e names begin ↔ PathsOfSome base begins o names begin
-some-from base begins o e names begin is =
-    (λ p. (e, is, p), λ (d, h, p). let same : e ≡ d = cc in subst (λ x. PathsOf base begins x names begin) (sym same) p)
-
-pub none-of : (base : Base) (begins : ℕ → Type 0) (o : Option Expr) (names : List (List ℕ)) (begin : ℕ) → o ≡ None → ¬ PathsOfSome base begins o names begin
-none-of base begins o names begin is (e, h, p) = absurd (cc)
-
-pub own-split : (base : Base) (begins : ℕ → Type 0) (s : Structure) (names : List (List ℕ)) (begin : ℕ) → PathsOfOwn base begins s names begin ↔ (PathsOfCounts base begins s.fields names begin ⊎ PathsOfSome base begins s.desc names begin)
+own-split : (base : Base) (begins : ℕ → Type 0) (s : Structure) (names : List (List ℕ)) (begin : ℕ) → PathsOfOwn base begins s names begin ↔ (PathsOfCounts base begins s.fields names begin ⊎ PathsOfSome base begins s.desc names begin)
 own-split base begins s names begin = (there, back)
   where
     counts : List Expr
@@ -114,3 +108,69 @@ module _ (program : Program) where
   pub none-outermost : (node : ℕ) (s : Structure) → structure_names s ≡ false → (names : List (List ℕ)) (begin : ℕ) → ¬ PathsOutermost program node s names begin
   none-outermost node s none names begin (inl (e, c, (there, around))) = quiet e (own-quiet s none e c) (Outermost, names) there refl
   none-outermost node s none names begin (inr (f, c, (e, d, (there, around)))) = quiet e (desc-quiet s none f e c d) (Outermost, names) there refl
+
+-- ---- what is added together
+
+same-begins : (base : Base) (a b : ℕ → Type 0) (e : Expr) → ((i : ℕ) → a i ↔ b i) → (names : List (List ℕ)) (begin : ℕ) → PathsOf base a e names begin ↔ PathsOf base b e names begin
+same-begins base a b e same names begin = (λ (c, h). (c, (same begin).0 h), λ (c, h). (c, (same begin).1 h))
+
+own-begins : (base : Base) (a b : ℕ → Type 0) (s : Structure) → ((i : ℕ) → a i ↔ b i) → (names : List (List ℕ)) (begin : ℕ) → PathsOfOwn base a s names begin ↔ PathsOfOwn base b s names begin
+own-begins base a b s same names begin = (λ (e, c, p). (e, c, (same-begins base a b e same names begin).0 p), λ (e, c, p). (e, c, (same-begins base a b e same names begin).1 p))
+
+descs-begins : (base : Base) (a b : ℕ → Type 0) (fields : List Field) → ((i : ℕ) → a i ↔ b i) → (names : List (List ℕ)) (begin : ℕ) → PathsOfDescs base a fields names begin ↔ PathsOfDescs base b fields names begin
+descs-begins base a b fields same names begin =
+    (λ (f, c, (e, d, p)). (f, c, (e, d, (same-begins base a b e same names begin).0 p)), λ (f, c, (e, d, p)). (f, c, (e, d, (same-begins base a b e same names begin).1 p)))
+
+counts-begins : (base : Base) (a b : ℕ → Type 0) (fields : List Field) → ((i : ℕ) → a i ↔ b i) → (names : List (List ℕ)) (begin : ℕ) → PathsOfCounts base a fields names begin ↔ PathsOfCounts base b fields names begin
+counts-begins base a b fields same names begin =
+    (λ (f, c, (e, d, p)). (f, c, (e, d, (same-begins base a b e same names begin).0 p)), λ (f, c, (e, d, p)). (f, c, (e, d, (same-begins base a b e same names begin).1 p)))
+
+pub gains-own : (base : Base) (begins : ℕ → Type 0) (s : Structure) (x y z : PathStarts) → Gains x y (PathsOfCounts base begins s.fields) → Gains y z (PathsOfSome base begins s.desc) → Gains x z (PathsOfOwn base begins s)
+gains-own base begins s x y z p q = gains-both x y z (PathsOfCounts base begins s.fields) (PathsOfSome base begins s.desc) (PathsOfOwn base begins s) p q (own-split base begins s)
+
+pub gains-some : (base : Base) (a b : ℕ → Type 0) (o : Option Expr) (e : Expr) (x y : PathStarts) → o ≡ Some e → ((i : ℕ) → a i ↔ b i) → Gains x y (PathsOf base a e) → Gains x y (PathsOfSome base b o)
+gains-some base a b o e x y is same p = gains-same x y (PathsOf base a e) (PathsOfSome base b o) p (λ names begin. (there names begin, back names begin))
+  where
+    there : (names : List (List ℕ)) (begin : ℕ) → PathsOf base a e names begin → PathsOfSome base b o names begin
+    there names begin h = (e, is, (same-begins base a b e same names begin).0 h)
+
+    back : (names : List (List ℕ)) (begin : ℕ) → PathsOfSome base b o names begin → PathsOf base a e names begin
+    back names begin (d, h, q) = let one : e ≡ d = cc in subst (λ z. PathsOf base a z names begin) (sym one) ((same-begins base a b d same names begin).1 q)
+
+-- the paths of a `desc`, which begin at its union
+pub gains-union : (base : Base) (union : TypeId) (desc : Option Expr) (type : Ty) (x y : PathStarts) → type ≡ ty.Node union desc → Gains x y (PathsOfSome base (IsOne union.0) desc) → Gains x y (PathsOfUnion base type)
+gains-union base union desc type x y is p = gains-same x y (PathsOfSome base (IsOne union.0) desc) (PathsOfUnion base type) p (λ names begin. (there names begin, back names begin))
+  where
+    there : (names : List (List ℕ)) (begin : ℕ) → PathsOfSome base (IsOne union.0) desc names begin → PathsOfUnion base type names begin
+    there names begin (e, h, q) = (union, e, is ∙ ap (ty.Node union) h, q)
+
+    back : (names : List (List ℕ)) (begin : ℕ) → PathsOfUnion base type names begin → PathsOfSome base (IsOne union.0) desc names begin
+    back names begin (other, e, h, (c, at)) =
+        let node : ty.Node union desc ≡ ty.Node other (Some e) = sym is ∙ h in
+        let one : union ≡ other = cc in
+        let same_desc : desc ≡ Some e = cc in
+        (e, same_desc, (c, at ∙ ap (λ (n : TypeId). n.0) (sym one)))
+
+pub gains-structure : (program : Program) (node : ℕ) (s : Structure) (here outers : ℕ → Type 0) (x y z u v : PathStarts) → ((i : ℕ) → here i ↔ (i ≡ node)) → ((i : ℕ) → outers i ↔ IsContainer program node i)
+    → Gains x y (PathsOfOwn Here here s) → Gains y z (PathsOfDescs Outer here s.fields) → Gains z u (PathsOfUnions Here s.fields) → Gains u v (PathsOfCounts Outer outers s.fields) → Gains x v (PathsInside program node s)
+gains-structure program node s here outers x y z u v at around p q r t =
+    let own = gains-same x y (PathsOfOwn Here here s) (PathsOfOwn Here (IsOne node) s) p (own-begins Here here (IsOne node) s at) in
+    let descs = gains-same y z (PathsOfDescs Outer here s.fields) (PathsOfDescs Outer (IsOne node) s.fields) q (descs-begins Outer here (IsOne node) s.fields at) in
+    let counts = gains-same u v (PathsOfCounts Outer outers s.fields) (PathsOfCounts Outer (IsContainer program node) s.fields) t (counts-begins Outer outers (IsContainer program node) s.fields around) in
+    gains-all x u v (gains-all x z u (gains-all x y z own descs) r) counts
+
+pub gains-outer_structure : (program : Program) (node : ℕ) (s : Structure) (outers : ℕ → Type 0) (x y z : PathStarts) → ((i : ℕ) → outers i ↔ IsOuter program node i)
+    → Gains x y (PathsOfOwn Outermost outers s) → Gains y z (PathsOfDescs Outermost outers s.fields) → Gains x z (PathsOutermost program node s)
+gains-outer_structure program node s outers x y z around p q =
+    let own = gains-same x y (PathsOfOwn Outermost outers s) (PathsOfOwn Outermost (IsOuter program node) s) p (own-begins Outermost outers (IsOuter program node) s around) in
+    let descs = gains-same y z (PathsOfDescs Outermost outers s.fields) (PathsOfDescs Outermost (IsOuter program node) s.fields) q (descs-begins Outermost outers (IsOuter program node) s.fields around) in
+    gains-all x y z own descs
+
+both-ways : {A B : Type 0} → A ↔ B → B ↔ A
+both-ways f = (f.1, f.0)
+
+pub gains-inside : (program : Program) (x y z : PathStarts) → Gains x y (PathsOfAll (PathsInside program) program.structures) → Gains y z (PathsOfRoots Here program.roots) → Gains x z (AllInside program)
+gains-inside program x y z p q = gains-same x z (AddedInside program) (AllInside program) (gains-all x y z p q) (λ names begin. both-ways (inside-same program names begin))
+
+pub gains-outermost : (program : Program) (x y z : PathStarts) → Gains x y (PathsOfAll (PathsOutermost program) program.structures) → Gains y z (PathsOfRoots Outermost program.roots) → Gains x z (AllOutermost program)
+gains-outermost program x y z p q = gains-same x z (AddedOutermost program) (AllOutermost program) (gains-all x y z p q) (λ names begin. both-ways (outermost-same program names begin))

@@ -55,9 +55,13 @@ PathsOfDescs base begins fields names begin = (f : Field) × Contains fields f �
 
 -- ---- the paths of a `desc`, which begin at its union
 
+-- one structure
+abbrev pub IsOne : ℕ → ℕ → Type 0
+IsOne node i = i ≡ node
+
 -- those of the `desc` that a type gives to a union
 abbrev pub PathsOfUnion : Base → Ty → PathStarts
-PathsOfUnion base type names begin = (union : TypeId) × (e : Expr) × (type ≡ ty.Node union (Some e)) × PathsOf base (λ i. i ≡ union.0) e names begin
+PathsOfUnion base type names begin = (union : TypeId) × (e : Expr) × (type ≡ ty.Node union (Some e)) × PathsOf base (IsOne union.0) e names begin
 
 -- those of fields
 abbrev pub PathsOfUnions : Base → List Field → PathStarts
@@ -80,7 +84,7 @@ IsOuter program node i = MayBeOutermost program (numbered node) (numbered i)
 -- the paths from `%h` and `%1` of the expressions in a structure
 abbrev pub PathsInside : Program → ℕ → Structure → PathStarts
 PathsInside program node s names begin =
-    ((PathsOfOwn Here (λ i. i ≡ node) s names begin ⊎ PathsOfDescs Outer (λ i. i ≡ node) s.fields names begin) ⊎ PathsOfUnions Here s.fields names begin) ⊎ PathsOfCounts Outer (IsContainer program node) s.fields names begin
+    ((PathsOfOwn Here (IsOne node) s names begin ⊎ PathsOfDescs Outer (IsOne node) s.fields names begin) ⊎ PathsOfUnions Here s.fields names begin) ⊎ PathsOfCounts Outer (IsContainer program node) s.fields names begin
 
 -- those from `%0`
 abbrev pub PathsOutermost : Program → ℕ → Structure → PathStarts

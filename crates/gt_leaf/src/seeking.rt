@@ -1,5 +1,5 @@
 // The paths of expressions, with the structures at which they begin.
-ghost use Rattle.gt_leaf.specs.Seeking.{same_base, Gains, PathsOf, PathsOfSome, PathsOfCounts, PathsOfOwn, PathsOfDescs, PathsOfUnion, PathsOfUnions, PathsOfRoots, PathsInside, PathsOutermost, PathsOfAll, AllInside, AllOutermost};
+ghost use Rattle.gt_leaf.specs.Seeking.{same_base, Gains, IsOne, PathsOf, PathsOfSome, PathsOfCounts, PathsOfOwn, PathsOfDescs, PathsOfUnion, PathsOfUnions, PathsOfRoots, PathsInside, PathsOutermost, PathsOfAll, AllInside, AllOutermost};
 ghost use Rattle.gt_paths.specs.Containers.{AreContainersOf};
 ghost use Rattle.gt_starts.specs.Paths.{BeginsIn};
 ghost use Rattle.gt_starts.specs.Sets.{IsIn};
@@ -13,7 +13,7 @@ use crate::naming::structure_names;
 use crate::types::{count_of, desc_in, innermost};
 use gt_paths::Containers;
 use gt_starts::{PathSet, StructureSet};
-use gt_types::{Base, Expr, Field, Program, Root, Structure, Ty};
+use gt_types::{Base, Expr, Field, Program, Root, Structure, Ty, TypeId};
 use std::alloc::{AllocError, Global};
 
 fn is_same(a: Base, b: Base) -> bool
@@ -114,18 +114,31 @@ fn add_descs(
     Ok(())
 }
 
-// Those of the `desc` that a type gives to a union, which begin at the union.
+// Those of the `desc` of a union, which begin at the union.
+fn add_at(
+    paths: &mut PathSet,
+    alloc: Global,
+    base: Base,
+    union: TypeId,
+    desc: Option<&Expr>,
+) -> Result<(), AllocError>
+    ensures added { OnOk result (Gains (BeginsIn paths.old) (BeginsIn paths.new) (PathsOfSome base (IsOne union.0) (option_copied desc.entry))) }
+{
+    match desc {
+        Some(desc) => {
+            let begins = only(alloc, union.0)?;
+            add_expr(paths, base, &begins, desc)
+        }
+        None => Ok(()),
+    }
+}
+
+// So for the `desc` that a type gives to a union.
 fn add_union(paths: &mut PathSet, alloc: Global, base: Base, ty: &Ty) -> Result<(), AllocError>
     ensures added { OnOk result (Gains (BeginsIn paths.old) (BeginsIn paths.new) (PathsOfUnion base (innermost ty.now))) }
 {
     match innermost(ty) {
-        Ty::Node {
-            id,
-            desc: Some(desc),
-        } => {
-            let begins = only(alloc, id.0)?;
-            add_expr(paths, base, &begins, desc)
-        }
+        Ty::Node { id, desc } => add_at(paths, alloc, base, *id, desc.as_ref()),
         _ => Ok(()),
     }
 }
