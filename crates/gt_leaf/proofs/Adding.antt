@@ -1,6 +1,6 @@
 -- What is added to lists of things, step by step.
-use Rattle.std.proofs.Common.{◌≡◌, ℕ, zero, suc, ◌+◌, List, [], ◌∷◌, refl, sym, subst, ◌⊎◌, arith, Some, inl, inr}
-use Rattle.std.specs.Prelude.{◌↔◌, Contains, fold, slice_get}
+use Rattle.std.proofs.Common.{List, ◌⊎◌, inl, inr}
+use Rattle.std.specs.Prelude.{◌↔◌, Contains}
 
 -- ---- what is there, or what is added
 

@@ -168,7 +168,7 @@ module _ {program : Program} (settled : Settled program) where
   reads-new : {h : Holder} {path : List ℕ} (top : Option Enclosing) (node : TypeId) (desc : Option Expr) (v w n : Tree) → Swap program (none_around top) h (ty.Node node desc) path v w → Reshapes program (ty.Node node desc) w n → AllReadSame program top node v n
   reads-new {h} {path} top node desc v w n swap r =
       λ base begins steps leads read.
-    reads-swapped settled leads.1 leads.2 base node steps read (none_around top) path (way_to program (Some node) path) (stands-itself top (node, way_to program (Some node) path) base begins) (whole-way steps (way_to program (Some node) path)) h desc v w swap ∙ reads-kept settled leads.1 leads.2 desc w n r
+      reads-swapped settled leads.1 leads.2 base node steps read (none_around top) path (way_to program (Some node) path) (stands-itself top (node, way_to program (Some node) path) base begins) (whole-way steps (way_to program (Some node) path)) h desc v w swap ∙ reads-kept settled leads.1 leads.2 desc w n r
 
   pub alone-swap : {planes : List Plane} {around : Around} {s : Scope} {h : Holder} {active : Bool} {bit : ℕ} {type : Ty} {tree : Tree} {path : List ℕ} {p : Part} → PartLies program planes s h active bit type tree path p → (top : Option Enclosing) (leaf : Tree) → StandsAlone program around p leaf
       → Covers around p.active (structures_from program (none_around top) (Some type) path) → Swap program (none_around top) h type path tree (with_part tree path leaf)

@@ -19,7 +19,7 @@ use Rattle.gt_leaf.specs.Collecting.{roots_of_all}
 use Rattle.gt_leaf.specs.Seeking.{PathStarts, Gains, AllInside, AllOutermost}
 use Rattle.gt_leaf.specs.Tables.{IsTableOf}
 use Rattle.gt_leaf.specs.Around.{LeadsFrom, SomeLead, TopLeads}
-use Rattle.gt_leaf.specs.Unread.{Enclosing, Around, none_around, outermost_in, with_structure, with_itself, root_at, part_at, structures_from, structures_on, structures_in_statics, IsReadName, IsReadRoot, IsUnread}
+use Rattle.gt_leaf.specs.Unread.{Enclosing, Around, none_around, outermost_in, with_structure, with_itself, part_at, structures_from, IsReadName, IsReadRoot, IsUnread}
 use Rattle.gt_leaf.proofs.RootLemmas.{roots-read}
 use Rattle.gt_leaf.proofs.Members.{nothing, first, later, first-or-later, found-there, there-found}
 

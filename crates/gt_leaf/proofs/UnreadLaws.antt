@@ -1,5 +1,5 @@
 -- Where a leaf is replaced that no expression reads, the value with it fits.
-use Rattle.std.proofs.Common.{◌≡◌, ℕ, zero, suc, true, List, refl, ap, sym, subst, ◌∙◌, Some, None}
+use Rattle.std.proofs.Common.{◌≡◌, ℕ, zero, suc, List, refl, ap, sym, subst, ◌∙◌, Some, None}
 use Rattle.std.specs.Prelude.{All, Contains}
 use Rattle.std.proofs.lemmas.List.Elements.{All-map, All-weaker, All-contains_itself}
 use Rattle.gt_types.specs.declared.types.Ty.{Ty}
@@ -15,7 +15,7 @@ use Rattle.gt_tree.specs.Fits.{StaticsFit, root_types}
 use Rattle.gt_tree.proofs.PathParts.{get-map}
 use Rattle.gt_value.specs.declared.places.Holder.{Holder}
 use Rattle.gt_value.specs.declared.places.Holder.TheVariants as lies_in
-use Rattle.gt_leaf.specs.Unread.{Around, none_around, structures_on, structures_in_statics, IsUnread, UnreadElementsFit, UnreadStaticsFit}
+use Rattle.gt_leaf.specs.Unread.{Around, none_around, structures_on, structures_in_statics, UnreadElementsFit, UnreadStaticsFit}
 use Rattle.gt_leaf.proofs.Arounds.{covers-same, IsUnreadInside, static-covers}
 use Rattle.gt_leaf.proofs.Swaps.{OneSwaps, put-swaps}
 use Rattle.gt_leaf.proofs.SwapReads.{number-swap}

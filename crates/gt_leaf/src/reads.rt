@@ -25,9 +25,9 @@ pub struct Reads {
 }
 
 impl Reads {
-    /// The table of a program. Its time and memory are linear in the program's size, where each path counts 512 bytes. Besides, for each
-    /// structure with a path from `%0`, the structures that contain it at some depth are climbed to, each containment once. Its only error
-    /// is out of memory, which it also says of more structures than any program has.
+    /// The table of a program. It takes memory linear in the program's size: 512 bytes for each distinct path, and for each name in which
+    /// one ends. So is its time, and besides, for each structure with a path from `%0`, those that contain it at some depth are climbed to,
+    /// each containment once. Its only error is out of memory, which it also says of more structures than any program has.
     pub fn of(alloc: Global, program: &Program) -> Result<Reads, AllocError>
         ensures table { IfOk result (λ t. IsTableOf program.now t) }
     {

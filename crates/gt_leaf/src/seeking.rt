@@ -269,10 +269,5 @@ pub fn add_outermost(
     ensures added { OnOk result (Gains (BeginsIn paths.old) (BeginsIn paths.new) (AllOutermost program.now)) }
 {
     add_outer_structures(paths, alloc, program, containers)?;
-    add_roots(
-        paths,
-        alloc,
-        Base::Outermost,
-        program.roots.as_slice(),
-    )
+    add_roots(paths, alloc, Base::Outermost, program.roots.as_slice())
 }

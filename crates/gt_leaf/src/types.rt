@@ -46,7 +46,10 @@ pub fn desc_in(ty: &Ty) -> Option<&Expr>
     ensures { option_copied result ≡ desc_in (innermost ty.now) }
 {
     match innermost(ty) {
-        Ty::Node { desc: Some(desc), .. } => Some(desc),
+        Ty::Node {
+            desc: Some(desc),
+            ..
+        } => Some(desc),
         _ => None,
     }
 }
