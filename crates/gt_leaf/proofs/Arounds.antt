@@ -1,5 +1,5 @@
 -- The structures around a leaf: those on a path have those on its rest among them; and a leaf that is unread inside some is so inside fewer.
-use Rattle.std.proofs.Common.{◌≡◌, ℕ, Bool, true, false, List, [], ◌∷◌, refl, ap, sym, subst, ◌∙◌, Option, Some, None, inl, inr}
+use Rattle.std.proofs.Common.{◌≡◌, ◌⊎◌, ℕ, Bool, true, false, List, [], ◌∷◌, refl, ap, sym, subst, ◌∙◌, Option, Some, None, inl, inr}
 use Rattle.std.specs.Prelude.{Contains, slice_get}
 use Rattle.gt_types.specs.declared.expressions.Base.{Base}
 use Rattle.gt_types.specs.declared.expressions.Base.TheVariants.{Here, Outer, Outermost}
@@ -21,12 +21,13 @@ use Rattle.gt_tree.proofs.FixedValues.{in-array, in-tail}
 use Rattle.gt_value.specs.declared.places.Holder.{Holder}
 use Rattle.gt_value.specs.declared.places.Holder.TheVariants as lies_in
 use Rattle.gt_value.specs.Places.{Part, StaticPartLies}
-use Rattle.gt_leaf.specs.Unread.{Enclosing, Around, route, none_around, outermost_in, with_enclosing, elem_of, part_at, root_at, with_structure, with_itself, structures_from, structures_on, structures_in_statics, StandsAround, MayStandAround, IsUnread}
+use Rattle.gt_starts.specs.Ways.{way_to, EndsIn, LeadsAlong}
+use Rattle.gt_leaf.specs.Unread.{Enclosing, Around, none_around, outermost_in, with_enclosing, elem_of, part_at, root_at, with_structure, with_itself, structures_from, structures_on, structures_in_statics, StandsAround, HasPath, number_name, IsReadRoot, IsUnread}
 use Rattle.gt_leaf.proofs.Members.{first, later, first-or-later}
 
--- what stands around a part may stand around a leaf
+-- what stands around a part stands around a leaf, or the leaf is hidden in a union without an active member
 pub record Covers (around : Around) (active : Bool) (inner : Around) : Type 0 where
-  pub each : (base : Base) (outer : Enclosing) → StandsAround inner base outer → MayStandAround around active base outer
+  pub each : (base : Base) (outer : Enclosing) → StandsAround inner base outer → (active ≡ false) ⊎ StandsAround around base outer
 
 -- those around a leaf may stand around it
 pub covers-same : (around inner : Around) (active : Bool) → inner ≡ around → Covers around active inner
@@ -36,11 +37,26 @@ covers-same around inner active e = record { each = λ base b c. inr (subst (λ 
 pub covers-all : (around inner : Around) (active : Bool) → active ≡ false → Covers around active inner
 covers-all around inner active e = record { each = λ base b c. inl e }
 
--- what is unread inside some structures is so inside fewer
-pub unread-inside : (program : Program) (h : Holder) (around inner : Around) (active : Bool) → Covers around active inner → IsUnread program around active h → IsUnread program inner true h
+-- some path that ends in the name of the number at a place of a structure may lead to it from a structure around it
+abbrev pub LeadsInside : Program → Around → TypeId → ℕ → Type 0
+LeadsInside program around node i =
+    (last : List ℕ) × (number_name program node i ≡ Some last) × (base : Base) × (outer : Enclosing) × StandsAround around base outer × (names : List (List ℕ)) × HasPath program base outer.0 names × LeadsAlong outer.1 last names × EndsIn last names
+
+-- no path does that leads to a leaf that lies in this
+abbrev pub IsUnreadInside : Program → Around → Holder → Type 0
+IsUnreadInside program around lies_in.Element = Unit {0}
+IsUnreadInside program around (lies_in.Root i) = ¬ IsReadRoot program i
+IsUnreadInside program around (lies_in.Field node i) = ¬ LeadsInside program around node i
+
+-- so it is with a leaf that is unread inside more structures
+pub unread-inside : (program : Program) (h : Holder) (around inner : Around) (active : Bool) → Covers around active inner → IsUnread program around active h → IsUnreadInside program inner h
 unread-inside program lies_in.Element around inner active covers unread = unread
 unread-inside program (lies_in.Root i) around inner active covers unread = unread
-unread-inside program (lies_in.Field node i) around inner active covers unread = λ (base, outer, stands, read). elim stands [ inl e ↦ absurd (cc) | inr c ↦ unread (base, outer, covers.each base outer c, read) ]
+unread-inside program (lies_in.Field node i) around inner true covers unread = λ (last, named, base, outer, stands, names, has, leads, ends). elim (covers.each base outer stands) [
+  | inl e ↦ absurd (cc)
+  | inr c ↦ unread (last, named, (base, outer, c, (names, has, leads)))
+]
+unread-inside program (lies_in.Field node i) around inner false covers unread = λ (last, named, base, outer, stands, names, has, leads, ends). unread (last, named, (base, (outer.0, None), refl, (names, has, ends)))
 
 -- ---- more structures around a part
 
@@ -68,7 +84,7 @@ more-stand few many more Outermost outer e = sym more.outermost ∙ e
 
 -- the outermost structure around the parts of one
 abbrev pub begun : Program → Option Enclosing → TypeId → List ℕ → Option Enclosing
-begun program top node path = Some (outermost_in top (node, route program (Some node) path))
+begun program top node path = Some (outermost_in top (node, way_to program (Some node) path))
 
 -- ---- the structures on a path
 
@@ -84,7 +100,7 @@ module _ (program : Program) where
   -- more structures around the value are more around its parts
   with-more : (type : Ty) (path : List ℕ) (few many : Around) → IsMore few many → IsMore (with_itself program few type path) (with_itself program many type path)
   with-more (ty.Node node desc) path few many more =
-      let outer : Enclosing = (node, route program (Some node) path) in
+      let outer : Enclosing = (node, way_to program (Some node) path) in
       record {
         structures = λ b c. elim (first-or-later outer b few.structures c) [ inl is ↦ subst (Contains (outer ∷ many.structures)) is (first outer many.structures) | inr d ↦ later outer b many.structures (more.structures b d) ];
         outermost = ap (λ o. Some (outermost_in o outer)) more.outermost;
@@ -121,7 +137,7 @@ module _ (program : Program) where
         → Covers around active (structures_from program (none_around (begun program top node (i ∷ path))) (Some f.ty) path)
     field-covers top node desc s f i path has get covers =
         let inside = inside-covers (none_around top) node desc s f i path has get covers in
-        let outer : Enclosing = (node, route program (Some node) (i ∷ path)) in
+        let outer : Enclosing = (node, way_to program (Some node) (i ∷ path)) in
         let alone = none_around (begun program top node (i ∷ path)) in
         let within = with_structure program (none_around top) node (i ∷ path) in
         let more = from-more (Some f.ty) path alone within (record { structures = λ x d. later outer x [] d; outermost = refl }) in

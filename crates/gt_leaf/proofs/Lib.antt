@@ -1,12 +1,12 @@
-pub mod Eaches
 pub mod Adding
-pub mod FirstNames
-pub mod PathWalks
+pub mod Gaining
+pub mod ExprPaths
+pub mod BeginSets
 pub mod SeekLemmas
 pub mod PlainParts
 pub mod Arounds
 pub mod Swaps
-pub mod RouteSteps
+pub mod WaySteps
 pub mod SwapReads
 pub mod Alongs
 pub mod SwapScopes
@@ -14,7 +14,6 @@ pub mod Refits
 pub mod UnreadLaws
 pub mod Members
 pub mod RootLemmas
-pub mod OuterLists
 pub mod Quiet
 pub mod TableLemmas
 pub mod LeafTypes

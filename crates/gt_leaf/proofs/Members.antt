@@ -1,7 +1,7 @@
--- Elements of lists: of one to which another is added where it is new, of those of each of several, and at the same places of two.
-use Rattle.std.proofs.Common.{◌≡◌, ℕ, zero, suc, ◌||◌, Bool, true, false, Option, None, List, [], ◌∷◌, ◌++◌, map, refl, ap, sym, subst, ◌∙◌, ◌⊎◌, arith, Some, inl, inr, if◌then◌else◌}
-use Rattle.std.specs.Prelude.{◌↔◌, Contains, flat_map, filter_map, slice_get}
-use Rattle.std.specs.List.{list_any, cons_option, AllZip}
+-- Elements of lists: of one to which another is added where it is new, and of those of each of several.
+use Rattle.std.proofs.Common.{◌≡◌, ℕ, zero, suc, ◌||◌, Bool, true, false, Option, None, List, [], ◌∷◌, ◌++◌, refl, ap, sym, subst, ◌∙◌, ◌⊎◌, arith, Some, inl, inr, if◌then◌else◌}
+use Rattle.std.specs.Prelude.{◌↔◌, Contains, flat_map, filter_map}
+use Rattle.std.specs.List.{list_any, cons_option}
 use Rattle.std.proofs.lemmas.List.Elements.{Contains-append_left, Contains-append_right, Contains-append_cases, Contains-push, Contains-push_cases}
 use Rattle.std.proofs.lemmas.List.Folds.{list_any-from_Any}
 
@@ -95,21 +95,3 @@ module _ {X Y : Type 0} where
   pub filter-contains : (h : X → Option Y) (xs : List X) (y : Y) → Contains (filter_map h xs) y ↔ ((x : X) × Contains xs x × (h x ≡ Some y))
   filter-contains h [] y = (λ c. absurd (nothing y c), λ (x, c, e). absurd (nothing x c))
   filter-contains h (x ∷ xs) y = filter-step h x xs y (filter-contains h xs y)
-
--- ---- two lists, place by place
-
-pub zip-map : {X Y : Type 0} (R : X → Y → Type 0) (f : X → Y) (xs : List X) → ((x : X) → R x (f x)) → AllZip R xs (map f xs)
-zip-map R f [] all = tt
-zip-map R f (x ∷ xs) all = (all x, zip-map R f xs all)
-
-pub zip-at : {X Y : Type 0} (R : X → Y → Type 0) (xs : List X) (ys : List Y) (i : ℕ) (x : X) → AllZip R xs ys → slice_get xs i ≡ Some x → (y : Y) × (slice_get ys i ≡ Some y) × R x y
-zip-at R [] ys i x h e = absurd (cc)
-zip-at R (z ∷ zs) [] i x h e = absurd h
-zip-at R (z ∷ zs) (y ∷ ys) zero x h e = let is : z ≡ x = cc in (y, refl, subst (λ w. R w y) is h.0)
-zip-at R (z ∷ zs) (y ∷ ys) (suc i) x h e = zip-at R zs ys i x h.1 e
-
-pub zip-from : {X Y : Type 0} (R : X → Y → Type 0) (xs : List X) (ys : List Y) (i : ℕ) (y : Y) → AllZip R xs ys → slice_get ys i ≡ Some y → (x : X) × (slice_get xs i ≡ Some x) × R x y
-zip-from R xs [] i y h e = absurd (cc)
-zip-from R [] (w ∷ ys) i y h e = absurd h
-zip-from R (x ∷ xs) (w ∷ ys) zero y h e = let is : w ≡ y = cc in (x, refl, subst (R x) is h.0)
-zip-from R (x ∷ xs) (w ∷ ys) (suc i) y h e = zip-from R xs ys i y h.1 e

@@ -32,10 +32,12 @@ use Rattle.gt_value.specs.declared.places.LeafContent.{LeafContent}
 use Rattle.gt_value.specs.declared.places.LeafContent.TheVariants as content
 use Rattle.gt_value.specs.declared.places.LeafKind.{LeafKind}
 use Rattle.gt_value.specs.Places.{Part, PartLies, IsContentOf, leaf_kind}
-use Rattle.gt_leaf.specs.Unread.{Enclosing, Around, none_around, route, structures_from, IsUnread, MayReplace}
+use Rattle.gt_starts.specs.Ways.{way_to}
+use Rattle.gt_leaf.specs.Unread.{Enclosing, Around, none_around, structures_from, IsUnread, MayReplace}
 use Rattle.gt_leaf.specs.Writing.{LeafFits, has_word}
 use Rattle.gt_leaf.proofs.Arounds.{Covers, covers-all, begun, stands-itself, field-covers, array-covers, tail-covers}
 use Rattle.gt_leaf.proofs.Swaps.{Swap, swapped, with-member}
+use Rattle.gt_leaf.proofs.WaySteps.{whole-way}
 use Rattle.gt_leaf.proofs.SwapReads.{reads-swapped}
 use Rattle.gt_leaf.proofs.Alongs.{Along, Contains-get}
 use Rattle.gt_leaf.proofs.SwapScopes.{AllReadSame, ScopesSame, inside-same, not-outermost, same-count}
@@ -165,7 +167,8 @@ pub record FitsThere (program : Program) (a : Trees) (blocks : Blocks) (capacity
 module _ {program : Program} (settled : Settled program) where
   reads-new : {h : Holder} {path : List ℕ} (top : Option Enclosing) (node : TypeId) (desc : Option Expr) (v w n : Tree) → Swap program (none_around top) h (ty.Node node desc) path v w → Reshapes program (ty.Node node desc) w n → AllReadSame program top node v n
   reads-new {h} {path} top node desc v w n swap r =
-      λ base begins steps leads read. reads-swapped settled leads.1 leads.2 base node (λ along. along) read (none_around top) path (stands-itself top (node, route program (Some node) path) base begins) h desc v w swap ∙ reads-kept settled leads.1 leads.2 desc w n r
+      λ base begins steps leads read.
+      reads-swapped settled leads.1 leads.2 base node steps read (none_around top) path (way_to program (Some node) path) (stands-itself top (node, way_to program (Some node) path) base begins) (whole-way steps (way_to program (Some node) path)) h desc v w swap ∙ reads-kept settled leads.1 leads.2 desc w n r
 
   pub alone-swap : {planes : List Plane} {around : Around} {s : Scope} {h : Holder} {active : Bool} {bit : ℕ} {type : Ty} {tree : Tree} {path : List ℕ} {p : Part} → PartLies program planes s h active bit type tree path p → (top : Option Enclosing) (leaf : Tree) → StandsAlone program around p leaf
       → Covers around p.active (structures_from program (none_around top) (Some type) path) → Swap program (none_around top) h type path tree (with_part tree path leaf)

@@ -7,13 +7,11 @@ use Rattle.gt_types.specs.declared.expressions.Expr.{Expr, roll-Expr}
 use Rattle.gt_types.specs.declared.expressions.Expr.TheFolds.{fold-roll-Expr, ind-Expr, map-Expr}
 use Rattle.gt_types.specs.declared.expressions.Expr.TheOpen as node
 use Rattle.gt_types.specs.declared.expressions.Expr.TheOpen.{Expr-F}
-use Rattle.gt_types.specs.declared.types.TypeId.{TypeId}
-use Rattle.gt_types.specs.declared.types.Ty.TheVariants as ty
 use Rattle.gt_types.specs.declared.program.Field.{Field}
 use Rattle.gt_types.specs.declared.program.Structure.{Structure}
 use Rattle.gt_types.specs.Paths.{Way, paths_of, paths_step, own_expressions}
 use Rattle.gt_types.specs.Shapes.{innermost, count_of}
-use Rattle.gt_leaf.specs.Seeking.{same_base, names_step, names_outermost, option_names, given_names, field_names, fields_name, structure_names}
+use Rattle.gt_leaf.specs.Seeking.{same_base, names_step, names_outermost, option_names, desc_in, field_names, fields_name, structure_names}
 use Rattle.gt_leaf.proofs.Alongs.{Contains-only}
 use Rattle.gt_leaf.proofs.Members.{nothing, first-or-later, contains-append, filter-contains}
 
@@ -75,8 +73,8 @@ module _ (s : Structure) (none : structure_names s ≡ false) where
   desc-none : option_names s.desc ≡ false
   desc-none = (neither (option_names s.desc) (fields_name s.fields) none).0
 
-  field-none : (f : Field) → Contains s.fields f → (option_names (count_of f.ty) ≡ false) × (given_names (innermost f.ty) ≡ false)
-  field-none f c = neither (option_names (count_of f.ty)) (given_names (innermost f.ty)) ((fold-quiet s.fields false (neither (option_names s.desc) (fields_name s.fields) none).1).1 f c)
+  field-none : (f : Field) → Contains s.fields f → (option_names (count_of f.ty) ≡ false) × (option_names (desc_in (innermost f.ty)) ≡ false)
+  field-none f c = neither (option_names (count_of f.ty)) (option_names (desc_in (innermost f.ty))) ((fold-quiet s.fields false (neither (option_names s.desc) (fields_name s.fields) none).1).1 f c)
 
   pub own-quiet : (e : Expr) → Contains (own_expressions s) e → names_outermost e ≡ false
   own-quiet e c = elim ((contains-append (filter_map (λ (f : Field). count_of f.ty) s.fields) (option_to_list s.desc) e).0 c) [
@@ -84,5 +82,5 @@ module _ (s : Structure) (none : structure_names s ≡ false) where
     | inr d ↦ option-quiet s.desc e (Contains-only s.desc e d) desc-none
   ]
 
-  pub given-quiet : (f : Field) (union : TypeId) (e : Expr) → Contains s.fields f → innermost f.ty ≡ ty.Node union (Some e) → names_outermost e ≡ false
-  given-quiet f union e c is = sym (ap given_names is) ∙ (field-none f c).1
+  pub desc-quiet : (f : Field) (e : Expr) → Contains s.fields f → desc_in (innermost f.ty) ≡ Some e → names_outermost e ≡ false
+  desc-quiet f e c is = option-quiet (desc_in (innermost f.ty)) e is (field-none f c).1

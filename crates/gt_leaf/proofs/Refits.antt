@@ -24,9 +24,11 @@ use Rattle.gt_tree.proofs.Fitting.{fits-struct, fits-member, fits-common, fits-a
 use Rattle.gt_tree.proofs.PathParts.{get-map}
 use Rattle.gt_value.specs.declared.places.Holder.{Holder}
 use Rattle.gt_value.specs.Places.{Part, PartLies}
-use Rattle.gt_leaf.specs.Unread.{Enclosing, Around, none_around, route, structures_from, IsUnread, MayReplace}
+use Rattle.gt_starts.specs.Ways.{way_to}
+use Rattle.gt_leaf.specs.Unread.{Enclosing, Around, none_around, structures_from, IsUnread, MayReplace}
 use Rattle.gt_leaf.proofs.Arounds.{Covers, covers-all, begun, stands-itself, field-covers, array-covers, tail-covers}
 use Rattle.gt_leaf.proofs.Swaps.{Swap, swapped, with-member}
+use Rattle.gt_leaf.proofs.WaySteps.{whole-way}
 use Rattle.gt_leaf.proofs.SwapReads.{reads-swapped}
 use Rattle.gt_leaf.proofs.Alongs.{Along, Contains-get}
 use Rattle.gt_leaf.proofs.SwapScopes.{AllReadSame, ScopesSame, inside-same, not-outermost, same-count, same-desc}
@@ -55,7 +57,8 @@ plain-leaf p leaf may e = elim may.2 [ inl active ↦ absurd (cc) | inr plain �
 
 reads : {program : Program} {h : Holder} {path : List ℕ} → Settled program → (top : Option Enclosing) (node : TypeId) (desc : Option Expr) (v w : Tree) → Swap program (none_around top) h (ty.Node node desc) path v w → AllReadSame program top node v w
 reads {program} {h} {path} settled top node desc v w swap =
-    λ base begins steps leads read. reads-swapped settled leads.1 leads.2 base node (λ along. along) read (none_around top) path (stands-itself top (node, route program (Some node) path) base begins) h desc v w swap
+    λ base begins steps leads read.
+    reads-swapped settled leads.1 leads.2 base node steps read (none_around top) path (way_to program (Some node) path) (stands-itself top (node, way_to program (Some node) path) base begins) (whole-way steps (way_to program (Some node) path)) h desc v w swap
 
 self-same : {program : Program} {s t : Scope} (node : TypeId) (v : Tree) → ScopesSame program s t → ScopesSame program (inside s node v) (inside t node v)
 self-same node v same = inside-same None node v v same (λ none. refl) (λ base begins steps leads read. refl)

@@ -1,5 +1,5 @@
 -- Paths that end in numbers that expressions read find the same numbers in two values that differ in a leaf that none reads.
-use Rattle.std.proofs.Common.{◌≡◌, ℕ, zero, suc, Bool, true, false, cond, IsTrue, List, [], ◌∷◌, refl, ap, sym, subst, ◌∙◌, Option, Some, None, inr}
+use Rattle.std.proofs.Common.{◌≡◌, ℕ, zero, suc, Bool, true, false, cond, IsTrue, List, [], ◌∷◌, refl, ap, sym, subst, ◌∙◌, Option, Some, None, if◌then◌else◌}
 use Rattle.std.specs.Prelude.{slice_get}
 use Rattle.gt_types.specs.declared.expressions.Base.{Base}
 use Rattle.gt_types.specs.declared.expressions.Expr.{Expr}
@@ -23,20 +23,20 @@ use Rattle.gt_tree.proofs.PathParts.{get-map}
 use Rattle.gt_tree.proofs.WriteReads.{named-place, step-taken, read-desc, node-type, first-types}
 use Rattle.gt_value.specs.declared.places.Holder.{Holder}
 use Rattle.gt_value.specs.declared.places.Holder.TheVariants as lies_in
-use Rattle.gt_leaf.specs.Unread.{Enclosing, Around, with_structure, route, route_of, StandsAround, ReadsFrom, IsUnread, EndsAt}
-use Rattle.gt_leaf.proofs.Arounds.{stands-within}
-use Rattle.gt_leaf.proofs.RouteSteps.{names-stop, names-step, names-end, places-stop, places-step, places-end}
-use Rattle.gt_leaf.proofs.Swaps.{Swap, OneSwaps}
-
--- The number in which a path of names ends from a structure on is one that expressions read from where the path began, along what this makes
--- of the route from that structure on.
-abbrev pub EndRead : Program → Base → TypeId → (List ℕ → List ℕ) → TypeId → List (List ℕ) → Type 0
-EndRead program base begin whole node names = (end : TypeId) (i : ℕ) (s : Structure) (f : Field) → HasStructure program end s → slice_get s.fields i ≡ Some f → is_number f.ty ≡ true → EndsAt program node names end i
-    → ReadsFrom program base begin (whole (route_of program (Some node) names)) end i
+use Rattle.gt_starts.specs.Ways.{way_to}
+use Rattle.gt_leaf.specs.Unread.{Enclosing, Around, with_structure, StandsAround, HasPath, name_of_number, number_name}
+use Rattle.gt_leaf.proofs.Arounds.{stands-within, IsUnreadInside}
+use Rattle.gt_leaf.proofs.WaySteps.{with_first, ways-stop, ways-step, ways-end, OnWay, way-goes, way-stops, way-ends}
+use Rattle.gt_leaf.proofs.Swaps.{Swap, OneSwaps, swap-place}
 
 -- ---- numbers
 
-pub number-swap : {program : Program} {around : Around} {h : Holder} {type : Ty} {path : List ℕ} {o n : Tree} → Swap program around h type path o n → ¬ IsUnread program around true h → number_at o ≡ number_at n
+-- a number has the name of its field
+name-of-number : (program : Program) (node : TypeId) (s : Structure) → HasStructure program node s → (i : ℕ) (f : Field) → slice_get s.fields i ≡ Some f → is_number f.ty ≡ true → number_name program node i ≡ Some f.name
+name-of-number program node s has i f get number =
+    ap (λ o. o then λ (x : Structure). slice_get x.fields i then name_of_number) has ∙ ap (λ o. o then name_of_number) get ∙ ap (λ b. if b then Some f.name else None) number
+
+pub number-swap : {program : Program} {around : Around} {h : Holder} {type : Ty} {path : List ℕ} {o n : Tree} → Swap program around h type path o n → ¬ IsUnreadInside program around h → number_at o ≡ number_at n
 number-swap (Swap.replaced unread a b plain) read = absurd (read unread)
 number-swap (Swap.in_struct h u one) read = refl
 number-swap (Swap.in_member h u g swap) read = refl
@@ -57,7 +57,7 @@ data Kept (program : Program) (c : TypeId) (around : Around) : Option Tree → O
 kept-outside : {program : Program} {c : TypeId} {around : Around} (node : TypeId) (path : List ℕ) {x y : Option Tree} → Kept program c (with_structure program around node path) x y → Kept program c around x y
 kept-outside node path Kept.kept_same = Kept.kept_same
 kept-outside {program} {around} node path (Kept.kept_swap inner grows swap) =
-    Kept.kept_swap inner (record { each = λ base b d. grows.each base b (stands-within around (node, route program (Some node) path) base b d) }) swap
+    Kept.kept_swap inner (record { each = λ base b d. grows.each base b (stands-within around (node, way_to program (Some node) path) base b d) }) swap
 
 -- a path of names reads the same from a structure inside these in two values that differ so
 abbrev ReadsOn : Program → TypeId → Around → List (List ℕ) → Type 0
@@ -172,10 +172,10 @@ module _ {program : Program} (settled : Settled program) where
 
   -- ---- a path
 
-  pub reads-swapped : {node : TypeId} {steps : List (List ℕ)} {type : Ty} → Leads program by_name node steps type → IsTrue (is_number type) → (base : Base) (begin : TypeId) (whole : List ℕ → List ℕ) → EndRead program base begin whole node steps
-      → (around : Around) (path : List ℕ) → StandsAround (with_structure program around node path) base (begin, whole (route program (Some node) path)) → (h : Holder) (desc : Option Expr) (o n : Tree)
+  pub reads-swapped : {node : TypeId} {steps : List (List ℕ)} {type : Ty} → Leads program by_name node steps type → IsTrue (is_number type) → (base : Base) (begin : TypeId) (all : List (List ℕ)) → HasPath program base begin all
+      → (around : Around) (path : List ℕ) (way : Option (List (List ℕ))) → StandsAround (with_structure program around node path) base (begin, way) → OnWay all way steps (way_to program (Some node) path) → (h : Holder) (desc : Option Expr) (o n : Tree)
       → Swap program around h (ty.Node node desc) path o n → read_path program steps (ty.Node node None) o ≡ read_path program steps (ty.Node node None) n
-  reads-swapped (last_step {node} {x = name} {s} {f} has name_is may) number base begin whole read around path inside h desc o n r = go s.is_union refl
+  reads-swapped (last_step {node} {x = name} {s} {f} has name_is may) number base begin all exists around path way inside on h desc o n r = go s.is_union refl
     where
       go : (b : Bool) → s.is_union ≡ b → read_path program (name ∷ []) (ty.Node node None) o ≡ read_path program (name ∷ []) (ty.Node node None) n
       go true union = let c = may.common union in let none = ap is_number c.2 in absurd (cc)
@@ -184,52 +184,47 @@ module _ {program : Program} (settled : Settled program) where
           let place = found.0 in
           let within = with_structure program around node path in
           let at = field-swap node desc s f place has struct found.2 r in
-          let is_read = λ (e : at.k ≡ place) (unread : IsUnread program within true (lies_in.Field node place)).
-          let one : route program (Some node) path ≡ route_of program (Some node) (name ∷ []) = ap (route program (Some node)) (at.path_is ∙ ap (λ k. k ∷ at.rest) e)
-          ∙ places-end program node place at.rest s f has struct found.2 number
-          ∙ sym (names-end program node name place s f has struct found.1 found.2 number) in
-          unread (base, (begin, whole (route_of program (Some node) (name ∷ []))), inr (subst (λ x. StandsAround within base (begin, whole x)) one inside), read node place s f has found.2 number (EndsAt.at_last (s, has, found.1, found.2))) in
+          let is_read = λ (e : at.k ≡ place) (unread : IsUnreadInside program within (lies_in.Field node place)).
+          let left : way_to program (Some node) path ≡ Some (f.name ∷ []) = ap (way_to program (Some node)) (at.path_is ∙ ap (λ k. k ∷ at.rest) e) ∙ ways-end program node s has place at.rest f struct found.2 number in
+          let ends = way-ends all way f.name (subst (OnWay all way (f.name ∷ [])) left (subst (λ x. OnWay all way (x ∷ []) (way_to program (Some node) path)) (sym name_is) on)) in
+          unread (f.name, name-of-number program node s has place f found.2 number, base, (begin, way), inside, all, exists, ends.0, ends.1) in
           ap (λ x. x then λ next. read_path program [] next.type next.value) (step-taken program node s f name place false o has struct found.1 found.2)
           ∙ field-then [] within (lies_in.Field node place) f.ty at.k place at.rest (λ p q e swap. number-swap swap (is_read e)) at.swap
           ∙ sym (ap (λ x. x then λ next. read_path program [] next.type next.value) (step-taken program node s f name place false n has struct found.1 found.2))
-  reads-swapped (next_step {node} {next} {x = name} {xs = names} {s} {f} {desc = inner} {type} has name_is may is rest) number base begin whole read around path inside h desc o n r =
-      go (λ w after deeper p c. reads-swapped rest number base begin w after deeper p c) s.is_union refl
+  reads-swapped (next_step {node} {next} {x = name} {xs = names} {s} {f} {desc = inner} {type} has name_is may is rest) number base begin all exists around path way inside on h desc o n r =
+      go (λ deeper p c left. reads-swapped rest number base begin all exists deeper p way c left) s.is_union refl
     where
-      -- a route goes on behind a struct, and no further behind a union
-      after : (w : List ℕ → List ℕ) (b : Bool) → s.is_union ≡ b → whole (route_of program (Some node) (name ∷ names)) ≡ w (route_of program (Some next) names) → EndRead program base begin w next names
-      after w b e same = λ end i t g there get is_number_there ends.
-          let found = named-place program settled node s f name has may.there name_is in
-          subst (λ along. ReadsFrom program base begin along end i) same (read end i t g there get is_number_there (EndsAt.at_next (s, has, found.1, found.2) is ends))
-
-      go : ((w : List ℕ → List ℕ) → EndRead program base begin w next names → (deeper : Around) (p : List ℕ) → StandsAround (with_structure program deeper next p) base (begin, w (route program (Some next) p)) → (k : Holder) (d : Option Expr) (x y : Tree)
+      go : ((deeper : Around) (p : List ℕ) → StandsAround (with_structure program deeper next p) base (begin, way) → OnWay all way names (way_to program (Some next) p) → (k : Holder) (d : Option Expr) (x y : Tree)
           → Swap program deeper k (ty.Node next d) p x y → read_path program names (ty.Node next None) x ≡ read_path program names (ty.Node next None) y) → (b : Bool) → s.is_union ≡ b → read_path program (name ∷ names) (ty.Node node None) o ≡ read_path program (name ∷ names) (ty.Node node None) n
       go walk true union =
           let c = may.common union in
           let common : IsCommon program s next = let named_so : ty.Node c.0 c.1 ≡ ty.Node next inner = sym c.2 ∙ is in let same : c.0 ≡ next = cc in subst (IsCommon program s) same c.3 in
           let found = named-place program settled node s f name has may.there name_is in
-          let within = with_structure program around node path in
-          let stopped = subst (λ x. StandsAround within base (begin, whole x)) (places-stop program node path s has union) inside in
-          let read_on = after (λ x. whole []) true union (ap whole (names-stop program node (name ∷ names) s has union)) in
+          let at = swap-place r in
+          let stopped : way_to program (Some node) path ≡ None = ap (way_to program (Some node)) at.2 ∙ ways-stop program node s has at.0 at.1 union in
+          let left = subst (OnWay all way (name ∷ names)) stopped on in
           ap (λ x. x then λ next. read_path program names next.type next.value) (step-taken program node s f name found.0 true o has union found.1 found.2)
           ∙ subst (λ t. (member_of program s t o then λ next. read_path program names next.type next.value) ≡ (member_of program s t n then λ next. read_path program names next.type next.value)) (sym is)
-          (union-read node desc s next inner names o n has common (λ deeper p grows. walk (λ x. whole []) read_on deeper p (stands-within deeper (next, route program (Some next) p) base (begin, whole []) (grows.each base (begin, whole []) stopped))) r)
+          (union-read node desc s next inner names o n has common
+          (λ deeper p grows. walk deeper p (stands-within deeper (next, way_to program (Some next) p) base (begin, way) (grows.each base (begin, way) inside)) (way-stops all way name names (way_to program (Some next) p) left)) r)
           ∙ sym (ap (λ x. x then λ next. read_path program names next.type next.value) (step-taken program node s f name found.0 true n has union found.1 found.2))
       go walk false struct =
           let found = named-place program settled node s f name has may.there name_is in
           let place = found.0 in
           let within = with_structure program around node path in
           let at = field-swap node desc s f place has struct found.2 r in
-          let read_on = after (λ x. whole (place ∷ x)) false struct
-          (ap whole (names-step program node name names place s f has struct found.1 found.2 ∙ ap (λ t. place ∷ route_of program (itself t) names) is)) in
-          let goes_on = λ (e : at.k ≡ place). subst (λ x. StandsAround within base (begin, whole x)) (ap (route program (Some node)) (at.path_is ∙ ap (λ k. k ∷ at.rest) e)
-          ∙ places-step program node place at.rest s f has struct found.2
-          ∙ ap (λ t. place ∷ route program (itself t) at.rest) is) inside in
+          let goes_on = λ (e : at.k ≡ place).
+          let step : way_to program (Some node) path ≡ with_first name (way_to program (Some next) at.rest) = ap (way_to program (Some node)) (at.path_is ∙ ap (λ k. k ∷ at.rest) e)
+          ∙ ways-step program node s has place at.rest f struct found.2
+          ∙ ap (λ x. with_first x (way_to program (itself f.ty) at.rest)) name_is
+          ∙ ap (λ t. with_first name (way_to program (itself t) at.rest)) is in
+          way-goes all way name names (way_to program (Some next) at.rest) (subst (OnWay all way (name ∷ names)) step on) in
           ap (λ x. x then λ next. read_path program names next.type next.value) (step-taken program node s f name place false o has struct found.1 found.2)
           ∙ field-then names within (lies_in.Field node place) f.ty at.k place at.rest
           (λ p q e k.
           ap (λ t. read_path program names t p) is
           ∙ read-desc program names next inner p
-          ∙ walk (λ x. whole (place ∷ x)) read_on within at.rest (stands-within within (next, route program (Some next) at.rest) base (begin, whole (place ∷ route program (Some next) at.rest)) (goes_on e)) (lies_in.Field node place) inner p q
+          ∙ walk within at.rest (stands-within within (next, way_to program (Some next) at.rest) base (begin, way) inside) (goes_on e) (lies_in.Field node place) inner p q
           (subst (λ t. Swap program within (lies_in.Field node place) t at.rest p q) is k)
           ∙ sym (ap (λ t. read_path program names t q) is ∙ read-desc program names next inner q))
           at.swap

@@ -20,14 +20,13 @@ use Rattle.gt_tree.specs.Fits.{desc_value}
 use Rattle.gt_tree.specs.PathLaws.{LeadsInScope}
 use Rattle.gt_tree.proofs.PathExprs.{worth-same}
 use Rattle.gt_tree.proofs.FixedExprs.{roots-worth}
-use Rattle.gt_leaf.specs.Unread.{Enclosing, BeginsAt, IsReadRoot}
-use Rattle.gt_leaf.proofs.SwapReads.{EndRead}
+use Rattle.gt_leaf.specs.Unread.{Enclosing, HasPath, IsReadRoot}
 use Rattle.gt_leaf.proofs.Alongs.{Along, IsMet, count-met, desc-met}
 
 -- paths from a base that expressions read lead to the same numbers in two values of a structure
 abbrev pub ReadSame : Program → Base → TypeId → Tree → Tree → Type 0
 ReadSame program base node v w =
-    (steps : List (List ℕ)) → LeadsToNumber program node steps → EndRead program base node (λ along. along) node steps → read_path program steps (ty.Node node None) v ≡ read_path program steps (ty.Node node None) w
+    (steps : List (List ℕ)) → LeadsToNumber program node steps → HasPath program base node steps → read_path program steps (ty.Node node None) v ≡ read_path program steps (ty.Node node None) w
 
 -- so do all that may begin at the structure, where this is known to be the outermost one: from `%0` none else
 abbrev pub AllReadSame : Program → Option Enclosing → TypeId → Tree → Tree → Type 0
@@ -72,22 +71,17 @@ module _ {program : Program} where
     roots = p.roots;
   }
 
-  -- ---- the numbers in which paths end
-
-  end-read : (e : Expr) (base : Base) (begin : TypeId) (names : List (List ℕ)) → BeginsAt program e base begin → Contains (paths_of e) (base, names) → EndRead program base begin (λ along. along) begin names
-  end-read e base begin names begins c = λ end i s f has get number ends. record { s = s; f = f; has = has; get = get; number = number; e = e; names = names; begins = begins; there = c; ends = ends; takes = refl }
-
   -- ---- what is read
 
-  base-same : {base : Base} {x y : Option Held} → HeldSame program base x y → (steps : List (List ℕ)) → ((held : Held) → x ≡ Some held → LeadsToNumber program held.node steps) → ((held : Held) → x ≡ Some held → EndRead program base held.node (λ along. along) held.node steps)
+  base-same : {base : Base} {x y : Option Held} → HeldSame program base x y → (steps : List (List ℕ)) → ((held : Held) → x ≡ Some held → LeadsToNumber program held.node steps) → ((held : Held) → x ≡ Some held → HasPath program base held.node steps)
       → (x then λ held. read_path program steps (ty.Node held.node None) held.value) ≡ (y then λ held. read_path program steps (ty.Node held.node None) held.value)
   base-same HeldSame.neither steps leads read = refl
   base-same (HeldSame.both {node} {v} {w} r) steps leads read = r steps (leads (record { node = node; value = v }) refl) (read (record { node = node; value = v }) refl)
 
   leaf-same : (s t : Scope) (e : Expr) → ScopesSame program s t → IsMet program s e → (path : Way) → LeadsInScope program s path → Contains (paths_of e) path → leaf_in program s path.0 path.1 ≡ leaf_in program t path.0 path.1
-  leaf-same s t e p met (Here, steps) leads c = base-same p.here steps leads (λ held is. end-read e Here held.node steps (met.begins.here held is) c)
-  leaf-same s t e p met (Outer, steps) leads c = base-same p.outer steps leads (λ held is. end-read e Outer held.node steps (met.begins.outer held is) c)
-  leaf-same s t e p met (Outermost, steps) leads c = base-same p.outermost steps leads (λ held is. end-read e Outermost held.node steps (met.begins.outermost held is) c)
+  leaf-same s t e p met (Here, steps) leads c = base-same p.here steps leads (λ held is. (e, met.begins.here held is, c))
+  leaf-same s t e p met (Outer, steps) leads c = base-same p.outer steps leads (λ held is. (e, met.begins.outer held is, c))
+  leaf-same s t e p met (Outermost, steps) leads c = base-same p.outermost steps leads (λ held is. (e, met.begins.outermost held is, c))
 
   pub eval-same : (s t : Scope) (e : Expr) → ScopesSame program s t → IsMet program s e → eval_in program s e ≡ eval_in program t e
   eval-same s t e p met =

@@ -23,13 +23,13 @@ use Rattle.gt_value.specs.declared.places.Holder.{Holder}
 use Rattle.gt_value.specs.declared.places.Holder.TheVariants as lies_in
 use Rattle.gt_value.specs.Places.{Part, PartLies}
 use Rattle.gt_leaf.specs.Unread.{Around, with_structure, structures_from, IsUnread}
-use Rattle.gt_leaf.proofs.Arounds.{Covers, covers-all, unread-inside, inside-covers}
+use Rattle.gt_leaf.proofs.Arounds.{Covers, covers-all, IsUnreadInside, unread-inside, inside-covers}
 use Rattle.gt_leaf.proofs.PlainParts.{inactive}
 
 mutual
   -- two values of a type that lies in this, inside these structures, differ in the one leaf at a path, which no expression reads
   pub data Swap (program : Program) : Around → Holder → Ty → List ℕ → Tree → Tree → Type 0 where
-    replaced : {around : Around} {h : Holder} {type : Ty} {a b : Tree} → IsUnread program around true h → IsTrue (is_leaf a) → IsTrue (is_leaf b) → is_structure type ≡ false → Swap program around h type [] a b
+    replaced : {around : Around} {h : Holder} {type : Ty} {a b : Tree} → IsUnreadInside program around h → IsTrue (is_leaf a) → IsTrue (is_leaf b) → is_structure type ≡ false → Swap program around h type [] a b
     in_struct : {around : Around} {h : Holder} {node : TypeId} {desc : Option Expr} {s : Structure} {i : ℕ} {path : List ℕ} {old new : Trees} → HasStructure program node s → s.is_union ≡ false
         → OneSwaps program (with_structure program around node (i ∷ path)) (lies_in.Field node) (types_of s.fields) i path old new → Swap program around h (ty.Node node desc) (i ∷ path) (Rec old) (Rec new)
     in_member : {around : Around} {h : Holder} {node : TypeId} {desc : Option Expr} {s : Structure} {i : ℕ} {path : List ℕ} {f : Field} {old new : Tree} → HasStructure program node s → s.is_union ≡ true
@@ -89,3 +89,11 @@ module _ {program : Program} {planes : List Plane} {around : Around} where
       Swap.in_common has common (swapped lies (with_structure program inner node (i ∷ path)) leaf unread (covers-all _ _ _ (inactive lies refl)) a b plain)
   swapped (PartLies.array {n} {type} {elem} e there lies) inner leaf unread covers a b plain = Swap.in_row (array-type type elem n e)
   swapped (PartLies.tail {length} {type} {elem} e there lies) inner leaf unread covers a b plain = Swap.in_row (tail-type type elem length e)
+
+-- values of a structure differ at some place of it
+pub swap-place : {program : Program} {around : Around} {h : Holder} {node : TypeId} {desc : Option Expr} {path : List ℕ} {a b : Tree} → Swap program around h (ty.Node node desc) path a b → (i : ℕ) × (rest : List ℕ) × (path ≡ i ∷ rest)
+swap-place (Swap.replaced unread a b plain) = absurd (cc)
+swap-place (Swap.in_struct {i} {path} has struct one) = (i, path, refl)
+swap-place (Swap.in_member {i} {path} has union get swap) = (i, path, refl)
+swap-place (Swap.in_common {i} {path} has common swap) = (i, path, refl)
+swap-place (Swap.in_row plain) = absurd (cc)

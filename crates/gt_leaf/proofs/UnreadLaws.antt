@@ -1,5 +1,5 @@
 -- Where a leaf is replaced that no expression reads, the value with it fits.
-use Rattle.std.proofs.Common.{◌≡◌, ℕ, zero, suc, true, List, refl, ap, sym, subst, ◌∙◌, Some, None}
+use Rattle.std.proofs.Common.{◌≡◌, ℕ, zero, suc, List, refl, ap, sym, subst, ◌∙◌, Some, None}
 use Rattle.std.specs.Prelude.{All, Contains}
 use Rattle.std.proofs.lemmas.List.Elements.{All-map, All-weaker, All-contains_itself}
 use Rattle.gt_types.specs.declared.types.Ty.{Ty}
@@ -15,8 +15,8 @@ use Rattle.gt_tree.specs.Fits.{StaticsFit, root_types}
 use Rattle.gt_tree.proofs.PathParts.{get-map}
 use Rattle.gt_value.specs.declared.places.Holder.{Holder}
 use Rattle.gt_value.specs.declared.places.Holder.TheVariants as lies_in
-use Rattle.gt_leaf.specs.Unread.{Around, none_around, structures_on, structures_in_statics, IsUnread, UnreadElementsFit, UnreadStaticsFit}
-use Rattle.gt_leaf.proofs.Arounds.{covers-same, static-covers}
+use Rattle.gt_leaf.specs.Unread.{Around, none_around, structures_on, structures_in_statics, UnreadElementsFit, UnreadStaticsFit}
+use Rattle.gt_leaf.proofs.Arounds.{covers-same, IsUnreadInside, static-covers}
 use Rattle.gt_leaf.proofs.Swaps.{OneSwaps, put-swaps}
 use Rattle.gt_leaf.proofs.SwapReads.{number-swap}
 use Rattle.gt_leaf.proofs.Alongs.{Along, Contains-get}
@@ -31,7 +31,7 @@ unread-elements program planes settled blocks statics kind capacity value leaf p
 
 -- ---- the static record
 
-pub root-swap : {program : Program} {around : Around} {at : ℕ → Holder} {types : List Ty} {k : ℕ} {path : List ℕ} {olds news : Trees} → OneSwaps program around at types k path olds news → (i : ℕ) → ¬ IsUnread program around true (at i) → (tree_at olds i then number_at) ≡ (tree_at news i then number_at)
+pub root-swap : {program : Program} {around : Around} {at : ℕ → Holder} {types : List Ty} {k : ℕ} {path : List ℕ} {olds news : Trees} → OneSwaps program around at types k path olds news → (i : ℕ) → ¬ IsUnreadInside program around (at i) → (tree_at olds i then number_at) ≡ (tree_at news i then number_at)
 root-swap (OneSwaps.at_first swap) zero read = number-swap swap read
 root-swap (OneSwaps.at_first swap) (suc i) read = refl
 root-swap (OneSwaps.at_later one) zero read = refl

@@ -1,27 +1,18 @@
 -- No promise: the type of a leaf, by what it lies in.
-use Rattle.std.specs.Prelude.{◌≡◌, ℕ, Bool, false, Option, Some, None, slice_get}
+use Rattle.std.specs.Prelude.{◌≡◌, ℕ, Option, Some, slice_get}
 use Rattle.gt_types.specs.declared.types.TypeId.{TypeId}
 use Rattle.gt_types.specs.declared.types.Ty.{Ty}
 use Rattle.gt_types.specs.declared.program.Program.{Program}
-use Rattle.gt_types.specs.Shapes.{innermost, is_number}
+use Rattle.gt_types.specs.Shapes.{innermost}
 use Rattle.gt_tree.specs.Scopes.{◌then◌}
 use Rattle.gt_value.specs.declared.places.Holder.{Holder}
 use Rattle.gt_value.specs.declared.places.Holder.TheVariants as lies_in
 use Rattle.gt_value.specs.declared.places.Place.{Place}
 use Rattle.gt_value.specs.Places.{Part, leaf_kind, length_there}
-use Rattle.gt_leaf.specs.Unread.{field_at}
 
 -- the type of a field, of which an array has its elements
 abbrev pub field_type : Program → TypeId → ℕ → Option Ty
 field_type program node i = slice_get program.structures node.0 then λ s. slice_get s.fields i then λ f. Some (innermost f.ty)
-
--- the field at a place of a structure is there, and is one number
-abbrev pub is_some_number : Option Ty → Bool
-is_some_number (Some type) = is_number type
-is_some_number None = false
-
-abbrev pub is_number_at : Program → TypeId → ℕ → Bool
-is_number_at program node i = is_some_number (field_at program node i)
 
 -- so for a root
 abbrev pub root_type : Program → ℕ → Option Ty

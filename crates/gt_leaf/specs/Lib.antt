@@ -2,10 +2,8 @@ pub mod Unread
 pub mod Tables
 pub mod Collecting
 pub mod Seeking
-pub mod Alike
 pub mod HeldTypes
 pub mod Writing
 pub mod Verdicts
 pub mod Around
-pub mod Outers
 pub mod KnownPlaces

@@ -1,7 +1,5 @@
 -- Which leaves no expression reads, and what follows for writing them.
 use Rattle.std.specs.Prelude.{◌≡◌, ◌⊎◌, ℕ, Bool, ◌∷◌, List, [], Option, Some, None, true, false, IsTrue, Contains, option_to_list, slice_get, if◌then◌else◌}
-use Rattle.std.specs.List.{position_from}
-use Rattle.std.specs.Str.{bytes_eq}
 use Rattle.gt_types.specs.declared.expressions.Base.{Base}
 use Rattle.gt_types.specs.declared.expressions.Base.TheVariants.{Here, Outer, Outermost}
 use Rattle.gt_types.specs.declared.expressions.Expr.{Expr}
@@ -18,7 +16,7 @@ use Rattle.gt_types.specs.declared.program.Field.{Field}
 use Rattle.gt_types.specs.declared.program.Root.{Root as RootOf}
 use Rattle.gt_types.specs.declared.program.Program.{Program}
 use Rattle.gt_types.specs.Shapes.{innermost, is_number, count_of}
-use Rattle.gt_types.specs.Contains.{HasStructure, ContainsStructure, ContainsAtDepth, itself}
+use Rattle.gt_types.specs.Contains.{HasStructure, ContainsStructure, ContainsAtDepth}
 use Rattle.gt_types.specs.Paths.{paths_of, roots_of, own_expressions}
 use Rattle.gt_layout.specs.declared.planes.Plane.{Plane}
 use Rattle.gt_layout.specs.declared.planes.FieldSpot.{FieldSpot}
@@ -30,6 +28,7 @@ use Rattle.gt_tree.specs.FixedLaws.{MayHold}
 use Rattle.gt_value.specs.declared.places.Holder.{Holder}
 use Rattle.gt_value.specs.declared.places.Holder.TheVariants as lies_in
 use Rattle.gt_value.specs.Places.{Part, PartLies, StaticPartLies}
+use Rattle.gt_starts.specs.Ways.{field_at, way_to, LeadsAlong}
 
 -- ---- what expressions read
 
@@ -78,67 +77,15 @@ pub data BeginsAt (program : Program) (e : Expr) : Base → TypeId → Type 0 wh
       → MayBeOutermost program node outer → BeginsAt program e Outermost outer
   root_outermost : {r : RootOf} {union : TypeId} → Contains program.roots r → innermost r.ty ≡ ty.Node union (Some e) → BeginsAt program e Outermost union
 
--- a name picks the first field of this name in a structure: its place, and the field
-abbrev pub Picks : Program → TypeId → List ℕ → ℕ → Field → Type 0
-Picks program node name i f =
-    (s : Structure) × HasStructure program node s × (position_from (λ g. bytes_eq g.name name) 0 s.fields ≡ Some i) × (slice_get s.fields i ≡ Some f)
+-- ---- which paths may lead to a leaf
 
--- A path of names ends, from a structure on, in the field at a place of a structure. Each name but the last picks a structure by value,
--- in which the next one picks.
-pub data EndsAt (program : Program) : TypeId → List (List ℕ) → TypeId → ℕ → Type 0 where
-  at_last : {node : TypeId} {name : List ℕ} {i : ℕ} {f : Field} → Picks program node name i f → EndsAt program node (name ∷ []) node i
-  at_next : {node next end : TypeId} {name : List ℕ} {names : List (List ℕ)} {i j : ℕ} {f : Field} {desc : Option Expr} → Picks program node name j f → f.ty ≡ ty.Node next desc
-      → EndsAt program next names end i → EndsAt program node (name ∷ names) end i
+-- some expression has a path of these names from this base that begins at a structure
+abbrev pub HasPath : Program → Base → TypeId → List (List ℕ) → Type 0
+HasPath program base begin names = (e : Expr) × BeginsAt program e base begin × Contains (paths_of e) (base, names)
 
--- the type of the field at a place of a structure
-abbrev pub field_at : Program → TypeId → ℕ → Option Ty
-field_at program node i = slice_get program.structures node.0 then λ s. slice_get s.fields i then λ f. Some f.ty
-
--- the structure by value at a place of a structure
-abbrev pub inner_at : Program → TypeId → ℕ → Option TypeId
-inner_at program node i = field_at program node i then itself
-
-abbrev pub is_union_in : Option Structure → Bool
-is_union_in (Some s) = s.is_union
-is_union_in None = false
-
--- a structure is a union
-abbrev pub is_union : Program → TypeId → Bool
-is_union program node = is_union_in (slice_get program.structures node.0)
-
--- the place of the first field of a name in a structure
-abbrev pub place_of : Program → TypeId → List ℕ → Option ℕ
-place_of program node name = slice_get program.structures node.0 then λ s. position_from (λ g. bytes_eq g.name name) 0 s.fields
-
--- a place, where there is one, and those that follow it
-abbrev pub onward : Option ℕ → (ℕ → List ℕ) → List ℕ
-onward (Some i) rest = i ∷ rest i
-onward None rest = []
-
--- The route of a path of names, from a structure on: the places of the fields that the names pick, as far as the first union. What a
--- path reads in a union may lie at other places in each of its members.
-abbrev pub route_of : Program → Option TypeId → List (List ℕ) → List ℕ
-route_of program (Some node) (name ∷ names) = if is_union program node then [] else onward (place_of program node name) (λ i. route_of program (inner_at program node i) names)
-route_of program begin names = []
-
--- the same of a path of places
-abbrev pub route : Program → Option TypeId → List ℕ → List ℕ
-route program (Some node) (i ∷ path) = if is_union program node then [] else i ∷ route program (inner_at program node i) path
-route program begin path = []
-
--- some path from this base that begins at a structure takes this route, and ends in the number at a place of a structure
-pub record ReadsFrom (program : Program) (base : Base) (begin : TypeId) (along : List ℕ) (node : TypeId) (i : ℕ) : Type 0 where
-  pub s : Structure
-  pub f : Field
-  pub has : HasStructure program node s
-  pub get : slice_get s.fields i ≡ Some f
-  pub number : is_number f.ty ≡ true
-  pub e : Expr
-  pub names : List (List ℕ)
-  pub begins : BeginsAt program e base begin
-  pub there : Contains (paths_of e) (base, names)
-  pub ends : EndsAt program begin names node i
-  pub takes : route_of program (Some begin) names ≡ along
+-- one of them may lead this way to a leaf of this name
+abbrev pub ReadsFrom : Program → Base → TypeId → Option (List (List ℕ)) → List ℕ → Type 0
+ReadsFrom program base begin way last = (names : List (List ℕ)) × HasPath program base begin names × LeadsAlong way last names
 
 -- ---- the structures around a leaf
 
@@ -156,9 +103,9 @@ abbrev pub part_at : Program → Ty → ℕ → Option Ty
 part_at program (ty.Node node desc) i = field_at program node i
 part_at program type i = elem_of (out-Ty type)
 
--- a structure around a leaf, and the route of the rest of the path from it on
+-- a structure around a leaf, and the way from it to the leaf
 abbrev pub Enclosing : Type 0
-Enclosing = TypeId × List ℕ
+Enclosing = TypeId × Option (List (List ℕ))
 
 -- The structures around a leaf: from the innermost array on the way inwards, from the inside out; and the outermost of all, where there is
 -- one.
@@ -181,7 +128,7 @@ with_enclosing around outer = record { structures = outer ∷ around.structures;
 
 -- with a structure from which this path leads on
 abbrev pub with_structure : Program → Around → TypeId → List ℕ → Around
-with_structure program around node path = with_enclosing around (node, route program (Some node) path)
+with_structure program around node path = with_enclosing around (node, way_to program (Some node) path)
 
 -- Those around a part of a value of this type, where these are around the value, and this path leads on: with the structure itself,
 -- where it is one. An array has none around its elements but the outermost one, since no path of an expression leads into an array.
@@ -203,20 +150,33 @@ abbrev pub structures_in_statics : Program → List ℕ → Around
 structures_in_statics program [] = none_around None
 structures_in_statics program (i ∷ path) = structures_on program (root_at program i) path
 
--- a structure stands around a leaf, with this route to it: for paths from `%0` the outermost one does, for others each
+-- a structure stands around a leaf, with this way to it: for paths from `%0` the outermost one does, for others each
 abbrev pub StandsAround : Around → Base → Enclosing → Type 0
 StandsAround around Outermost outer = around.outermost ≡ Some outer
 StandsAround around base outer = Contains around.structures outer
 
--- a structure may stand around a leaf so: it does, or some union around the leaf has no active member, which hides what is inside it
+-- A structure may stand around a leaf so: it does; or, where some union around the leaf has no active member, which hides what is inside
+-- it, each may, and nothing is known of the way.
 abbrev pub MayStandAround : Around → Bool → Base → Enclosing → Type 0
-MayStandAround around active base outer = (active ≡ false) ⊎ StandsAround around base outer
+MayStandAround around true base outer = StandsAround around base outer
+MayStandAround around false base outer = outer.1 ≡ None
 
 -- ---- what is read
 
--- expressions read the number at a place of a structure, inside these: from a structure around it, along the route from that one to it
+-- expressions may read a leaf of this name inside these structures: some path may lead to it from one that may stand around it
+abbrev pub IsReadName : Program → Around → Bool → List ℕ → Type 0
+IsReadName program around active last = (base : Base) × (outer : Enclosing) × MayStandAround around active base outer × ReadsFrom program base outer.0 outer.1 last
+
+abbrev pub name_of_number : Field → Option (List ℕ)
+name_of_number f = if is_number f.ty then Some f.name else None
+
+-- the name of the number at a place of a structure
+abbrev pub number_name : Program → TypeId → ℕ → Option (List ℕ)
+number_name program node i = slice_get program.structures node.0 then λ s. slice_get s.fields i then name_of_number
+
+-- expressions may read the number at a place of a structure, inside these
 abbrev pub IsReadField : Program → Around → Bool → TypeId → ℕ → Type 0
-IsReadField program around active node i = (base : Base) × (outer : Enclosing) × MayStandAround around active base outer × ReadsFrom program base outer.0 outer.1 node i
+IsReadField program around active node i = (last : List ℕ) × (number_name program node i ≡ Some last) × IsReadName program around active last
 
 -- some expression of the program names this root
 abbrev pub IsReadRoot : Program → ℕ → Type 0

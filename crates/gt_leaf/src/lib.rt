@@ -3,16 +3,12 @@
 //! `judge_leaf` and `judge_static_leaf` say so without the write, and `judge_leaf_at` where the place of the leaf is known.
 #![tactic(auto)]
 
-mod fields;
-mod index;
+mod begins;
 pub mod laws;
 mod naming;
-mod outers;
 mod places;
-mod readings;
 mod reads;
 mod roots;
-mod routes;
 mod seeking;
 mod types;
 mod writing;

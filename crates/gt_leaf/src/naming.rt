@@ -1,10 +1,9 @@
 // Which structures have paths from `%0` in their expressions.
-ghost use Rattle.gt_leaf.specs.Seeking.{names_outermost, option_names, given_names, field_names, fields_name, structure_names};
-ghost use Rattle.gt_types.specs.Shapes.{count_of, innermost};
-ghost use Rattle.std.specs.Prelude.{◌≡◌};
+ghost use Rattle.gt_leaf.specs.Seeking.{names_outermost, option_names, field_names, fields_name, structure_names};
+ghost use Rattle.std.specs.Prelude.{◌≡◌, option_copied};
 
-use crate::types::innermost;
-use gt_types::{Base, Expr, Field, PtrKind, Structure, Ty};
+use crate::types::{count_of, desc_in};
+use gt_types::{Base, Expr, Field, Structure};
 
 // Whether an expression has a path from `%0`.
 fn names_outermost(e: &Expr) -> bool
@@ -21,8 +20,8 @@ fn names_outermost(e: &Expr) -> bool
     }
 }
 
-fn option_names(e: &Option<Expr>) -> bool
-    ensures { result ≡ option_names e.now }
+fn option_names(e: Option<&Expr>) -> bool
+    ensures { result ≡ option_names (option_copied e.entry) }
 {
     match e {
         Some(e) => names_outermost(e),
@@ -30,35 +29,11 @@ fn option_names(e: &Option<Expr>) -> bool
     }
 }
 
-// Whether the length in a type has one.
-fn count_names(ty: &Ty) -> bool
-    ensures { result ≡ option_names (count_of ty.now) }
-{
-    match ty {
-        Ty::Str(Some(count)) => names_outermost(count),
-        Ty::Ptr {
-            kind: PtrKind::Length(count),
-            ..
-        } => names_outermost(count),
-        Ty::Tail { len, .. } => names_outermost(len),
-        _ => false,
-    }
-}
-
-// Whether the `desc` that a type gives to a union has one.
-fn given_names(ty: &Ty) -> bool
-    ensures { result ≡ given_names (innermost ty.now) }
-{
-    match innermost(ty) {
-        Ty::Node { desc, .. } => option_names(desc),
-        _ => false,
-    }
-}
-
+// Whether the length in a field or its `desc` has one.
 fn field_names(f: &Field) -> bool
     ensures { result ≡ field_names f.now }
 {
-    count_names(&f.ty) || given_names(&f.ty)
+    option_names(count_of(&f.ty)) || option_names(desc_in(&f.ty))
 }
 
 fn fields_name(fields: &[Field]) -> bool
@@ -75,5 +50,5 @@ fn fields_name(fields: &[Field]) -> bool
 pub fn structure_names(s: &Structure) -> bool
     ensures { result ≡ structure_names s.now }
 {
-    option_names(&s.desc) || fields_name(s.fields.as_slice())
+    option_names(s.desc.as_ref()) || fields_name(s.fields.as_slice())
 }

@@ -1,4 +1,4 @@
-// Distinct places of roots or of structures.
+// Distinct places of roots.
 ghost use Rattle.gt_leaf.specs.Collecting.{with_place};
 ghost use Rattle.std.specs.List.{list_any};
 ghost use Rattle.std.specs.Prelude.{◌≡◌, [], nat_eq, OnOk};
@@ -7,7 +7,7 @@ use indexmap::IndexSet;
 use std::alloc::{AllocError, Global};
 use std::marker::Model;
 
-/// Distinct places of roots or of structures. Whether a place is one of them is found in constant time. Contracts see their list.
+/// Distinct places of roots. Whether a place is one of them is found in constant time. Contracts see their list.
 #[derive(Drop)]
 pub struct PlaceSet {
     places: IndexSet<u32>,
@@ -31,25 +31,11 @@ impl PlaceSet {
         }
     }
 
-    /// The places of a set.
-    pub fn of(places: IndexSet<u32>) -> PlaceSet
-        ensures places { result ≡ places.keys }
-    {
-        PlaceSet { places }
-    }
-
     /// Whether a place is one of them. It takes no memory.
     pub fn has(&self, place: u32) -> bool
         ensures there { result ≡ list_any (nat_eq place) self.now }
     {
         self.places.contains(&place)
-    }
-
-    /// The places, in the order in which they were added.
-    pub fn as_slice(&self) -> &[u32]
-        ensures places { result.now ≡ self.now }
-    {
-        self.places.as_slice()
     }
 
     /// Adds a place, where it is new. Its only error is out of memory.

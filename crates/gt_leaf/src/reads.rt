@@ -1,52 +1,55 @@
-// Which fields and roots the expressions of a program read.
-ghost use Rattle.gt_leaf.specs.Seeking.{same_place};
+// Which paths and roots the expressions of a program read.
 ghost use Rattle.gt_leaf.specs.Tables.{IsTableOf};
-ghost use Rattle.gt_leaf.specs.Around.{from_there, any_around, any_with_itself, outermost_reads};
-ghost use Rattle.gt_leaf.specs.Unread.{structures_on, structures_in_statics, IsUnread};
-ghost use Rattle.std.specs.List.{list_any};
-ghost use Rattle.std.specs.Prelude.{◌≡◌, ◌↔◌, ◌||◌, ◌&&◌, not, IsTrue, IfOk, false, option_copied};
+ghost use Rattle.gt_leaf.specs.Around.{SomeLead, TopLeads};
+ghost use Rattle.gt_leaf.specs.Unread.{Around, none_around, with_itself, structures_from, structures_on, structures_in_statics, IsReadName, IsUnread};
+ghost use Rattle.gt_starts.specs.Paths.{BeginsIn};
+ghost use Rattle.gt_types.specs.declared.limits.TheConstants.{MAX_STRUCTURES as MOST};
+ghost use Rattle.std.specs.Prelude.{◌≡◌, ◌≤◌, ◌↔◌, IsTrue, IfOk, true, None, length, option_copied};
 
-use crate::fields::{FieldPlace, FieldSet};
-use crate::index::Index;
 use crate::places::PlaceSet;
-use crate::readings::ReadingSet;
-use crate::routes::route_on;
-use crate::types::{is_number_at, part_at, root_at};
-use gt_types::{Program, Ty};
+use crate::seeking::{add_inside, add_outermost};
+use crate::types::{number_name, part_at, root_at};
+use gt_paths::Containers;
+use gt_starts::PathSet;
+use gt_types::{MAX_STRUCTURES, Program, Ty, Word};
 use gt_value::{Holder, Place};
 use std::alloc::{AllocError, Global};
 
-/// Which fields and roots the expressions of a program read: the numbers in which paths end, with the structures at which these begin
-/// and their routes from there, those from `%0` apart; and roots. It has an entry for each path of an expression and each structure at
-/// which the path begins.
+/// What the expressions of a program read: their paths, each with the structures at which it begins, those from `%0` apart; and roots. A
+/// path is kept once, with one bit for each structure that a program may have, which takes 512 bytes.
 #[derive(Drop)]
 pub struct Reads {
-    ended: FieldSet,
-    inside: ReadingSet,
-    outermost: ReadingSet,
+    inside: PathSet,
+    outermost: PathSet,
     roots: PlaceSet,
 }
 
 impl Reads {
-    /// The table of a program. Its time is linear in the program's size; in the fields of a structure, once for each structure that holds
-    /// it by value and, where it has a path from `%0`, once for each that contains it at some depth, with the containments among these;
-    /// and in the entries. So it is not linear where many structures contain one with many paths from `%1` or `%0`: the entries are then
-    /// the product of the two numbers. Its only error is out of memory.
+    /// The table of a program. It takes memory linear in the program's size: 512 bytes for each distinct path, and for each name in which
+    /// one ends. So is its time, and besides, for each structure with a path from `%0`, those that contain it at some depth are climbed to,
+    /// each containment once. Its only error is out of memory, which it also says of more structures than any program has.
     pub fn of(alloc: Global, program: &Program) -> Result<Reads, AllocError>
         ensures table { IfOk result (λ t. IsTableOf program.now t) }
     {
-        let index = Index::of(alloc, program)?;
-        let mut inside = ReadingSet::new(alloc);
-        inside.seek_all(alloc, &index)?;
-        let mut outermost = ReadingSet::new(alloc);
-        outermost.seek_outermost(&index)?;
-        let mut ended = FieldSet::new(alloc);
-        ended.add_fields(inside.as_slice())?;
-        ended.add_fields(outermost.as_slice())?;
+        if program.structures.len() > MAX_STRUCTURES {
+            return Err(AllocError);
+        }
+        Reads::of_few(alloc, program)
+    }
+
+    // So of a program with no more structures than a program may have.
+    fn of_few(alloc: Global, program: &Program) -> Result<Reads, AllocError>
+        requires few { length program.now.structures ≤ MOST }
+        ensures table { IfOk result (λ t. IsTableOf program.now t) }
+    {
+        let containers = Containers::of_program(alloc, program)?;
+        let mut inside = PathSet::new(alloc);
+        add_inside(&mut inside, alloc, program, &containers)?;
+        let mut outermost = PathSet::new(alloc);
+        add_outermost(&mut outermost, alloc, program, &containers)?;
         let mut roots = PlaceSet::new(alloc);
         roots.add_named(program)?;
         Ok(Reads {
-            ended,
             inside,
             outermost,
             roots,
@@ -54,9 +57,9 @@ impl Reads {
     }
 
     /// Whether no expression reads the leaf at a place, at a path from a value of the type `ty`. It takes no memory. What is no number
-    /// is not looked up. Where no path of an expression ends in the leaf's field, one look-up says so. Else the route from each
-    /// structure on the path is looked up, which ends at the next array: its time grows with the path, for each step at most by the
-    /// depth `MAX_DEPTH` to which structures nest.
+    /// is not looked up. Else the way to the leaf from each structure on the path is looked up, which ends at the next array: its time
+    /// grows with the path, for each step at most by the depth `MAX_DEPTH` to which structures nest. Where a union around the leaf has no
+    /// active member, the name of the leaf's field is looked up alone.
     pub fn is_unread(&self, program: &Program, ty: Option<&Ty>, path: &[u32], place: Place) -> bool
         ensures unread { IsTableOf program.now self.now → IsTrue result ↔ IsUnread program.now (structures_on program.now (option_copied ty.entry) path.now) place.active place.holder }
     {
@@ -66,16 +69,10 @@ impl Reads {
             Holder::Field {
                 structure,
                 place: i,
-            } => {
-                if !is_number_at(program, structure, i) {
-                    return true;
-                }
-                let field = FieldPlace {
-                    structure: structure.0 as usize,
-                    place: i as usize,
-                };
-                !self.is_read(program, ty, path, place.active, field)
-            }
+            } => match number_name(program, structure, i) {
+                Some(name) => !self.is_read(program, ty, path, place.active, name),
+                None => true,
+            },
         }
     }
 
@@ -89,32 +86,34 @@ impl Reads {
         }
     }
 
-    // Whether a field is read from a structure around it along the route from there.
+    // Whether expressions may read a leaf of this name at a path.
     fn is_read(
         &self,
         program: &Program,
         ty: Option<&Ty>,
         path: &[u32],
         active: bool,
-        field: FieldPlace,
+        name: &Word,
     ) -> bool
-        ensures { result ≡ list_any (same_place field) self.now.ended && (not active || (outermost_reads self.now field program.now (option_copied ty.entry) path.now || any_around (from_there self.now field) program.now false (option_copied ty.entry) path.now)) }
+        ensures read { IsTableOf program.now self.now → (result ≡ true) ↔ IsReadName program.now (structures_on program.now (option_copied ty.entry) path.now) active name.now }
     {
-        self.ended.has(field)
-            && (!active
-                || (self.is_read_outermost(program, ty, path, field)
-                    || self.is_read_around(program, ty, path, field, false)))
+        if active {
+            self.is_read_outermost(program, ty, path, name)
+                || self.is_read_around(program, ty, path, name, false)
+        } else {
+            self.inside.ends(name) || self.outermost.ends(name)
+        }
     }
 
-    // Whether a path from `%0` reads a field from the outermost structure around the part at a path.
+    // Whether a path from `%0` may lead to a leaf of this name from the outermost structure around the part at a path.
     fn is_read_outermost(
         &self,
         program: &Program,
         ty: Option<&Ty>,
         path: &[u32],
-        field: FieldPlace,
+        name: &Word,
     ) -> bool
-        ensures { result ≡ outermost_reads self.now field program.now (option_copied ty.entry) path.now }
+        ensures read { (result ≡ true) ↔ TopLeads (BeginsIn self.now.outermost) name.now (structures_from program.now (none_around None) (option_copied ty.entry) path.now).outermost }
     {
         let Some(ty) = ty else {
             return false;
@@ -123,24 +122,22 @@ impl Reads {
             return false;
         };
         match ty {
-            Ty::Node { id, .. } => {
-                self.outermost
-                    .has(id.0 as usize, field, route_on(program, *id, path))
-            }
-            _ => self.is_read_outermost(program, part_at(program, ty, *i), rest, field),
+            Ty::Node { id, .. } => self.outermost.leads(program, *id, path, name),
+            _ => self.is_read_outermost(program, part_at(program, ty, *i), rest, name),
         }
     }
 
-    // Whether a field is read from a structure around the part at a path, where it is read from one around the value or not.
+    // Whether a path from `%h` or `%1` may lead to a leaf of this name from a structure around the part at a path, where one may from those
+    // around the value or not.
     fn is_read_around(
         &self,
         program: &Program,
         ty: Option<&Ty>,
         path: &[u32],
-        field: FieldPlace,
+        name: &Word,
         is_read: bool,
     ) -> bool
-        ensures { result ≡ any_around (from_there self.now field) program.now is_read (option_copied ty.entry) path.now }
+        ensures read { (around : Around) → ((is_read ≡ true) ↔ SomeLead (BeginsIn self.now.inside) name.now around.structures) → (result ≡ true) ↔ SomeLead (BeginsIn self.now.inside) name.now (structures_from program.now around (option_copied ty.entry) path.now).structures }
     {
         let Some(ty) = ty else {
             return is_read;
@@ -148,28 +145,23 @@ impl Reads {
         let [i, rest @ ..] = path else {
             return is_read;
         };
-        let is_read = self.is_read_in(program, ty, path, field, is_read);
-        self.is_read_around(program, part_at(program, ty, *i), rest, field, is_read)
+        let is_read = self.is_read_in(program, ty, path, name, is_read);
+        self.is_read_around(program, part_at(program, ty, *i), rest, name, is_read)
     }
 
-    // Whether a field is read from a structure around the part at a path from a value of a type, where it is read from one around
-    // the value or not. From outside an array none is read in its elements.
+    // So from a structure around the parts of a value. From outside an array none leads into its elements.
     fn is_read_in(
         &self,
         program: &Program,
         ty: &Ty,
         path: &[u32],
-        field: FieldPlace,
+        name: &Word,
         is_read: bool,
     ) -> bool
-        ensures { result ≡ any_with_itself (from_there self.now field) program.now is_read ty.now path.now }
+        ensures read { (around : Around) → ((is_read ≡ true) ↔ SomeLead (BeginsIn self.now.inside) name.now around.structures) → (result ≡ true) ↔ SomeLead (BeginsIn self.now.inside) name.now (with_itself program.now around ty.now path.now).structures }
     {
         match ty {
-            Ty::Node { id, .. } => {
-                self.inside
-                    .has(id.0 as usize, field, route_on(program, *id, path))
-                    || is_read
-            }
+            Ty::Node { id, .. } => self.inside.leads(program, *id, path, name) || is_read,
             _ => false,
         }
     }

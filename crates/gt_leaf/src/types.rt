@@ -1,10 +1,12 @@
 // The type of a leaf, by what it lies in, and of parts on the way to it.
 ghost use Rattle.std.specs.Prelude.{◌≡◌, option_copied};
-ghost use Rattle.gt_types.specs.Shapes.{innermost, is_number};
-ghost use Rattle.gt_leaf.specs.HeldTypes.{field_type, root_type, held_type, is_number_at};
-ghost use Rattle.gt_leaf.specs.Unread.{field_at, inner_at, root_at, part_at};
+ghost use Rattle.gt_types.specs.Shapes.{count_of, innermost, is_number};
+ghost use Rattle.gt_starts.specs.Ways.{field_at};
+ghost use Rattle.gt_leaf.specs.HeldTypes.{field_type, root_type, held_type};
+ghost use Rattle.gt_leaf.specs.Seeking.{desc_in};
+ghost use Rattle.gt_leaf.specs.Unread.{number_name, root_at, part_at};
 
-use gt_types::{Program, Ty, TypeId};
+use gt_types::{Expr, Program, PtrKind, Ty, TypeId, Word};
 use gt_value::Holder;
 
 /// What an array has as elements, through arrays of arrays.
@@ -22,6 +24,34 @@ pub fn is_number(ty: &Ty) -> bool
     ensures { result ≡ is_number ty.now }
 {
     matches!(ty, Ty::Num(_) | Ty::Bits { .. })
+}
+
+/// The length in a type.
+pub fn count_of(ty: &Ty) -> Option<&Expr>
+    ensures { option_copied result ≡ count_of ty.now }
+{
+    match ty {
+        Ty::Str(Some(count)) => Some(count),
+        Ty::Ptr {
+            kind: PtrKind::Length(count),
+            ..
+        } => Some(count),
+        Ty::Tail { len, .. } => Some(len),
+        _ => None,
+    }
+}
+
+/// The `desc` that a type gives to a union.
+pub fn desc_in(ty: &Ty) -> Option<&Expr>
+    ensures { option_copied result ≡ desc_in (innermost ty.now) }
+{
+    match innermost(ty) {
+        Ty::Node {
+            desc: Some(desc),
+            ..
+        } => Some(desc),
+        _ => None,
+    }
 }
 
 // The type of the field at a place of a structure.
@@ -65,23 +95,16 @@ fn field_at<'a>(program: &'a Program, id: TypeId, i: u32) -> Option<&'a Ty>
     Some(&field.ty)
 }
 
-/// Whether the field at a place of a structure is a number. It takes no memory.
-pub fn is_number_at(program: &Program, id: TypeId, i: u32) -> bool
-    ensures { result ≡ is_number_at program.now id i }
+/// The name of the number at a place of a structure. It takes no memory.
+pub fn number_name<'a>(program: &'a Program, id: TypeId, i: u32) -> Option<&'a Word>
+    ensures { option_copied result ≡ number_name program.now id i }
 {
-    match field_at(program, id, i) {
-        Some(ty) => is_number(ty),
-        None => false,
-    }
-}
-
-/// The structure by value at a place of a structure. It takes no memory.
-pub fn inner_at(program: &Program, id: TypeId, i: u32) -> Option<TypeId>
-    ensures { result ≡ inner_at program.now id i }
-{
-    match field_at(program, id, i)? {
-        Ty::Node { id, .. } => Some(*id),
-        _ => None,
+    let structure = program.structures.get(id.0 as usize)?;
+    let field = structure.fields.get(i as usize)?;
+    if is_number(&field.ty) {
+        Some(&field.name)
+    } else {
+        None
     }
 }
 

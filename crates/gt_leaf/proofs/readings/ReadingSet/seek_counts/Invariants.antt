@@ -1,6 +1,0 @@
-use Rattle.std.proofs.Common.{◌≡◌, take}
-use Rattle.gt_leaf.specs.Seeking.{seek_counts}
-use Rattle.gt_leaf.proofs.readings.ReadingSet.seek_counts.Given as goal
-
-abbrev pub invariant-loop-f : goal.invariant-loop-f
-invariant-loop-f l = l.self ≡ seek_counts l.index.program.now l.index.names l.start (take l.f-index l.fields) l.fn.self

@@ -1,0 +1,10 @@
+use Rattle.gt_types.specs.declared.expressions.Base.TheVariants.{Here}
+use Rattle.gt_types.specs.declared.program.Field.{Field}
+use Rattle.gt_types.specs.Shapes.{innermost}
+use Rattle.gt_leaf.specs.Seeking.{Gains, PathsOfUnion}
+use Rattle.gt_starts.specs.Paths.{BeginsIn}
+use Rattle.gt_leaf.proofs.Gaining.{Before}
+use Rattle.gt_leaf.proofs.seeking.add_unions.Given as goal
+
+abbrev pub invariant-loop-f : goal.invariant-loop-f
+invariant-loop-f l = Gains (BeginsIn l.fn.paths) (BeginsIn l.paths) (Before (λ i (f : Field). PathsOfUnion Here (innermost f.ty)) l.fields l.f-index)

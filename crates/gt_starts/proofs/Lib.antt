@@ -1,0 +1,4 @@
+pub mod SetLemmas
+pub mod StartLemmas
+pub mod EndLemmas
+pub mod WayLemmas

@@ -1,0 +1,5 @@
+pub mod Sets
+pub mod Ways
+pub mod Paths
+pub mod Names
+pub mod Alike
