@@ -54,7 +54,7 @@ pub no_step : (program : Program) (node : TypeId) (place : ℕ) (s : Structure) 
     → Decides b (MayStep program s f) → b ≡ false → (type : Ty) → ¬ StepsAt program node place type
 no_step program node place s f b there at decides fails type steps = not_from_Decides b decides fails (step_of program node place s f type there at steps).0
 
-one_type : (program : Program) (node : TypeId) (place : ℕ) (t u : Ty) → StepsAt program node place t → StepsAt program node place u → t ≡ u
+pub one_type : (program : Program) (node : TypeId) (place : ℕ) (t u : Ty) → StepsAt program node place t → StepsAt program node place u → t ≡ u
 one_type program node place t u (s, f, there, at, may, same) other = sym same ∙ (step_of program node place s f u there at other).1
 
 -- ---- by name
@@ -102,7 +102,7 @@ from_named program node step rest (s, place, f, there, at, (name, (type, stepped
     let own = step_of program node place s f type there at stepped in
     leads_on program node s f step rest there own.0 name (subst (GoesOn program rest) (sym own.1) goes)
 
-by_named : (program : Program) (node : TypeId) (step : List ℕ) (rest : List (List ℕ)) (b : Bool) → Decides b (NamedGoesOn program node step rest)
+pub by_named : (program : Program) (node : TypeId) (step : List ℕ) (rest : List (List ℕ)) (b : Bool) → Decides b (NamedGoesOn program node step rest)
     → Decides b (LeadsToNumber program node (step ∷ rest))
 by_named program node step rest b decides = (
   λ e. from_named program node step rest (decides.0 e),
@@ -202,6 +202,19 @@ pub named_at : (program : Program) (node : TypeId) (step : List ℕ) (rest : Lis
 named_at program node step rest place b distinct found decides =
     let at = found_at program node step place (slice_get program.structures node.0) refl found in
     (λ e. to_named_at program node at.0 step rest place at.1 at.2 (decides.0 e), λ goes. decides.1 (from_named_at program node at.0 step rest place distinct at.1 at.2 goes))
+
+-- a path leads on from this place
+pub to_step : (program : Program) (node : TypeId) (step : List ℕ) (rest : List (List ℕ)) (place : ℕ) → Distinct program → Some place ≡ bind (slice_get program.structures node.0) (place_in step)
+    → LeadsToNumber program node (step ∷ rest) → PlaceGoesOn program node rest place
+to_step program node step rest place distinct found leads =
+    let at = found_at program node step place (slice_get program.structures node.0) refl found in
+    from_named_at program node at.0 step rest place distinct at.1 at.2 (to_named program node (step ∷ rest) leads.0 step rest leads.1 leads.2 refl)
+
+pub from_step : (program : Program) (node : TypeId) (step : List ℕ) (rest : List (List ℕ)) (place : ℕ) → Distinct program → Some place ≡ bind (slice_get program.structures node.0) (place_in step)
+    → PlaceGoesOn program node rest place → LeadsToNumber program node (step ∷ rest)
+from_step program node step rest place distinct found goes =
+    let at = found_at program node step place (slice_get program.structures node.0) refl found in
+    from_named program node step rest (to_named_at program node at.0 step rest place at.1 at.2 goes)
 
 -- ---- by place
 

@@ -22,7 +22,7 @@ use Rattle.gt_paths.specs.declared.containers.Containers.{Containers}
 use Rattle.gt_paths.specs.Checks.{Checked, inner_of}
 use Rattle.gt_paths.specs.Containers.{AreContainersOf, containers_of}
 use Rattle.gt_paths.specs.Numbers.{numbered}
-use Rattle.gt_paths.specs.OuterPaths.{AllLead, AreAnswers, AreStarts, path_cmp}
+use Rattle.gt_paths.specs.OuterPaths.{AllLead, ArePathAnswers, AreStarts, path_cmp}
 use Rattle.gt_paths.specs.Places.{PathAt}
 use Rattle.gt_paths.proofs.Walks.{all_splits, each_of_one, goes}
 
@@ -43,22 +43,26 @@ exact_lists R exact (x ∷ xs) (y ∷ ys) e = tied_first R exact x y xs ys (exac
 exact_paths : CmpEqualImpliesEq path_cmp
 exact_paths = exact_lists (slice_cmp nat_cmp) exact_bytes
 
-some_is : (a b : Bool) → Some a ≡ Some b → a ≡ b
+some_is : {X : Type 0} (a b : X) → Some a ≡ Some b → a ≡ b
 some_is a b e = cc
+
+-- what is right of each key of a map is right of each key of the map with one more
+pub kept_more : {K X : Type 0} (R : K → K → Ordering) → CmpEqualImpliesEq R → (P : K → X → Type 0) (old new : BTreeMap K X) (own key : K) (value : X)
+    → ((q : K) → get R new q ≡ cond (is_at (R own) q) (Some value) (get R old q)) → own ≡ key → ((k : K) (x : X) → get R old k ≡ Some x → P k x)
+    → P key value → (k : K) (x : X) → get R new k ≡ Some x → P k x
+kept_more R exact P old new own key value updates same right holds q x there = by (R own q) refl (sym (updates q) ∙ there)
+  where
+    by : (o : Ordering) → R own q ≡ o → cond (is_eq o) (Some value) (get R old q) ≡ Some x → P q x
+    by Less is e = right q x e
+    by Equal is e = subst (P q) (some_is value x e) (subst (λ k. P k value) (sym same ∙ exact own q is) holds)
+    by Greater is e = right q x e
 
 -- one more
 pub answers_more : (program : Program) (starts : List ℕ) (answers more : BTreeMap (List (List ℕ)) Bool) (path steps : List (List ℕ)) (leads : Bool)
-    → ((q : List (List ℕ)) → get path_cmp more q ≡ cond (is_at (path_cmp path) q) (Some leads) (get path_cmp answers q)) → path ≡ steps → AreAnswers program starts answers
-    → Decides leads (AllLead program starts steps) → AreAnswers program starts more
-answers_more program starts answers more path steps leads updates same are decides q told there =
-    by (path_cmp path q) refl (sym (updates q) ∙ there)
-  where
-    by : (o : Ordering) → path_cmp path q ≡ o → cond (is_eq o) (Some leads) (get path_cmp answers q) ≡ Some told → Decides told (AllLead program starts q)
-    by Less is e = are q told e
-    by Equal is e =
-        subst (λ (b : Bool). Decides b (AllLead program starts q)) (some_is leads told e)
-        (subst (λ (p : List (List ℕ)). Decides leads (AllLead program starts p)) (sym same ∙ exact_paths path q is) decides)
-    by Greater is e = are q told e
+    → ((q : List (List ℕ)) → get path_cmp more q ≡ cond (is_at (path_cmp path) q) (Some leads) (get path_cmp answers q)) → path ≡ steps → ArePathAnswers program starts answers
+    → Decides leads (AllLead program starts steps) → ArePathAnswers program starts more
+answers_more program starts answers more path steps leads updates same are decides =
+    kept_more path_cmp exact_paths (λ q b. Decides b (AllLead program starts q)) answers more path steps leads updates same are decides
 
 -- ---- structures that are listed
 

@@ -13,3 +13,4 @@ pub mod Trails
 pub mod Meetings
 pub mod Odd
 pub mod Firsts
+pub mod Reaching

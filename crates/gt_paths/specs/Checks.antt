@@ -1,10 +1,10 @@
 -- What checks of the paths of a structure are about, and what they know.
-use Rattle.std.specs.Prelude.{ℕ, Bool, List, Option, IfSome, IsTrue}
-use Rattle.std.specs.BTreeMap.{BTreeMap}
+use Rattle.std.specs.Prelude.{Bool, List, Option, IfSome, IsTrue}
 use Rattle.gt_types.specs.declared.types.TypeId.{TypeId}
 use Rattle.gt_types.specs.declared.program.Program.{Program}
 use Rattle.gt_types.specs.Paths.{Inner}
 use Rattle.gt_paths.specs.declared.indexes.PathIndex.{PathIndex}
+use Rattle.gt_paths.specs.declared.outer_paths.Answers.{Answers}
 use Rattle.gt_paths.specs.declared.outer_paths.Outermost.{Outermost}
 use Rattle.gt_paths.specs.Numbers.{mark_at}
 use Rattle.gt_paths.specs.Containers.{containers_of}
@@ -27,7 +27,7 @@ abbrev pub inner_of : Checked → Inner
 inner_of c node = IsTrue (mark_at c.inner node.0)
 
 -- the answers are those for the structures that contain this one, and for those that are outermost for it
-pub record HasAnswers (program : Program) (index : PathIndex) (node : TypeId) (answers : BTreeMap (List (List ℕ)) Bool) (outermost : Option Outermost) : Type 0 where
+pub record HasAnswers (program : Program) (index : PathIndex) (node : TypeId) (answers : Answers) (outermost : Option Outermost) : Type 0 where
   pub index_on : IsIndexOn program index
   pub for_containers : AreAnswers program (containers_of index.containers node.0) answers
   pub around : IfSome outermost (IsAround program index node)

@@ -1,5 +1,5 @@
 -- No promise: one step of a path, and what follows it.
-use Rattle.std.specs.Prelude.{◌≡◌, ◌⊎◌, ℕ, Bool, IsTrue, List, [], Option, Some, Any, slice_get}
+use Rattle.std.specs.Prelude.{◌≡◌, ◌≢◌, ◌⊎◌, ℕ, Bool, IsTrue, List, [], ◌∷◌, Option, None, Some, Any, slice_get}
 use Rattle.gt_types.specs.declared.expressions.Base.{Base}
 use Rattle.gt_types.specs.declared.expressions.Expr.{Expr}
 use Rattle.gt_types.specs.declared.types.TypeId.{TypeId}
@@ -53,3 +53,13 @@ GoesOnNamed program node step rest place f = (f.name ≡ step) × PlaceGoesOn pr
 abbrev pub NamedGoesOn : Program → TypeId → List ℕ → List (List ℕ) → Type 0
 NamedGoesOn program node step rest =
     (s : Structure) × (place : ℕ) × (f : Field) × HasStructure program node s × (slice_get s.fields place ≡ Some f) × GoesOnNamed program node step rest place f
+
+-- the rest of a path leads to a number from the structure to which its first name leads, if there is one
+abbrev pub NextLeads : Program → Option TypeId → List (List ℕ) → Type 0
+NextLeads program (Some next) rest = LeadsToNumber program next rest
+NextLeads program None rest = ⊥
+
+-- this is the structure by value to which a name leads from another, or it leads to none
+abbrev pub IsNext : Program → TypeId → List ℕ → Option TypeId → Type 0
+IsNext program node name next =
+    (rest : List (List ℕ)) → rest ≢ [] → (LeadsToNumber program node (name ∷ rest) → NextLeads program next rest) × (NextLeads program next rest → LeadsToNumber program node (name ∷ rest))

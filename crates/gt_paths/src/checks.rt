@@ -10,11 +10,10 @@ ghost use Rattle.gt_paths.specs.Places.{PathAt};
 use crate::expressions::{has_no_roots, has_operators};
 use crate::indexes::PathIndex;
 use crate::names::is_name;
-use crate::outer_paths::{Outermost, each_leads};
+use crate::outer_paths::{Answers, Outermost, each_leads};
 use crate::steps::leads_to_number;
 use gt_types::{Base, Expr, List, Program, TypeId, Word};
 use std::alloc::{AllocError, Global};
-use std::collections::BTreeMap;
 use std::marker::Model;
 
 fn are_steps(steps: &[Word]) -> bool
@@ -33,16 +32,18 @@ enum PathOption {
 }
 
 /// The paths in the options of one structure. A path that begins at the structure itself, or at a union of a field, is walked wherever
-/// it stands, which takes about as long as its text; any other is walked once from each structure at which it may begin, however often it
-/// stands. Contracts see the program, its inner structures and the structure.
+/// it stands, which takes about as long as its text; any other is looked at once, however often it
+/// stands. Of the paths with one first name, the first takes each structure at which they may begin, and each is walked from the distinct
+/// structures to which that name leads; where some structure of the program has two fields of one name, each is walked from each structure
+/// at which it may begin. Contracts see the program, its inner structures and the structure.
 #[derive(Drop)]
 pub struct PathChecks<'a> {
     alloc: Global,
     program: &'a Program,
     index: &'a PathIndex,
     node: TypeId,
-    // Of paths, whether they lead to numbers from each structure that contains this one.
-    answers: BTreeMap<List<Word>, bool>,
+    // Of the paths that begin at each structure that contains this one.
+    answers: Answers,
     // The outermost structures, which are looked for at the first path that begins there.
     outermost: Option<Outermost>,
 }
@@ -78,7 +79,7 @@ impl<'a> PathChecks<'a> {
             program,
             index,
             node,
-            answers: BTreeMap::new(alloc),
+            answers: Answers::new(alloc),
             outermost: None,
         }
     }

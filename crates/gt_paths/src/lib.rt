@@ -8,6 +8,7 @@ mod commons;
 mod containers;
 mod distinct;
 mod expressions;
+mod frontiers;
 mod indexes;
 mod inner;
 mod names;

@@ -1,5 +1,5 @@
 // Paths that begin at several structures: at each that contains one, or at each that is outermost for it.
-ghost use Rattle.std.specs.Prelude.{◌≡◌, IfOk, IfSome, filter, not};
+ghost use Rattle.std.specs.Prelude.{◌≡◌, ℕ, IfOk, IfSome, filter, not};
 ghost use Rattle.std.specs.Bool.{Decides};
 ghost use Rattle.gt_types.specs.declared.expressions.Base.TheVariants.{Outermost as FromOutermost};
 ghost use Rattle.gt_types.specs.Paths.{PathFitsBeside};
@@ -9,34 +9,43 @@ ghost use Rattle.gt_paths.specs.OuterPaths.{AllLead, AreAnswers, AreStarts};
 ghost use Rattle.gt_paths.specs.Around.{IsAround};
 
 use crate::climbing::climb;
+use crate::frontiers::walk;
 use crate::indexes::PathIndex;
-use crate::steps::leads_to_number;
 use gt_types::{Copied, List, Program, TypeId, Word};
 use indexmap::IndexSet;
 use std::alloc::{AllocError, Global};
 use std::collections::BTreeMap;
 
-// Whether a path leads to a number from each of these structures.
-fn all_lead(program: &Program, index: &PathIndex, starts: &[u32], steps: &[Word]) -> bool
-    requires index { IsIndexOn program.now index.now }
-    ensures { Decides result (AllLead program.now starts.now steps.now) }
-{
-    for start in starts {
-        if !leads_to_number(program, index, TypeId(*start), steps) {
-            return false;
-        }
-    }
-    true
+/// What is kept of paths that begin at several structures, so that each path is looked at once, and the structures are taken once for each
+/// first name.
+#[derive(Drop)]
+pub struct Answers {
+    // Of paths, whether they lead to numbers from each of the structures.
+    paths: BTreeMap<List<Word>, bool>,
+    // Of first names, the distinct structures by value to which they lead; None where one leads to none from some structure.
+    firsts: BTreeMap<Word, Option<List<u32>>>,
 }
 
-/// Whether a path leads to a number from each of these structures. It is walked where it has no answer yet, and has one from then on.
-/// Its only error is out of memory.
+impl Answers {
+    /// No path was looked at. It takes no memory.
+    pub fn new(alloc: Global) -> Answers
+        ensures answers { (program : Program) (starts : List ℕ) → AreAnswers program starts result }
+    {
+        Answers {
+            paths: BTreeMap::new(alloc),
+            firsts: BTreeMap::new(alloc),
+        }
+    }
+}
+
+/// Whether a path leads to a number from each of these structures. A path that has no answer yet is walked from each structure to which
+/// its first name leads, and has one from then on. Its only error is out of memory.
 pub fn each_leads(
     alloc: Global,
     program: &Program,
     index: &PathIndex,
     starts: &[u32],
-    answers: &mut BTreeMap<List<Word>, bool>,
+    answers: &mut Answers,
     steps: &List<Word>,
 ) -> Result<bool, AllocError>
     requires index { IsIndexOn program.now index.now }
@@ -44,12 +53,13 @@ pub fn each_leads(
     ensures decides { IfOk result (λ r. Decides r (AllLead program.now starts.now steps.now)) }
     ensures answers { AreAnswers program.now starts.now answers.new }
 {
-    if let Some(leads) = answers.get(steps).copied() {
+    if let Some(leads) = answers.paths.get(steps).copied() {
         return Ok(leads);
     }
-    let leads = all_lead(program, index, starts, steps.as_slice());
+    let firsts = &mut answers.firsts;
+    let leads = walk(alloc, program, index, starts, firsts, steps.as_slice())?;
     let path = steps.copy(alloc)?;
-    answers.insert(path, leads)?;
+    answers.paths.insert(path, leads)?;
     Ok(leads)
 }
 
@@ -86,7 +96,7 @@ fn outermost_of(
 #[derive(Drop)]
 pub struct Outermost {
     starts: List<u32>,
-    answers: BTreeMap<List<Word>, bool>,
+    answers: Answers,
 }
 
 impl Outermost {
@@ -103,7 +113,7 @@ impl Outermost {
         let starts = outermost_of(alloc, program, index, node)?;
         Ok(Outermost {
             starts: List::of(starts),
-            answers: BTreeMap::new(alloc),
+            answers: Answers::new(alloc),
         })
     }
 

@@ -1,13 +1,13 @@
 // Where paths lead.
-ghost use Rattle.std.specs.Prelude.{◌≡◌, MatchOption};
+ghost use Rattle.std.specs.Prelude.{◌≡◌, true, MatchOption};
 ghost use Rattle.std.specs.Bool.{Decides};
 ghost use Rattle.gt_types.specs.declared.types.Ty.{Ty};
 ghost use Rattle.gt_types.specs.Paths.{LeadsToNumber, LeadsToOwnPointer};
 ghost use Rattle.gt_paths.specs.Indexes.{IsIndexOn};
-ghost use Rattle.gt_paths.specs.Steps.{GoesOn, GoesOnNamed, LeadsToPointer, NamedGoesOn, PlaceGoesOn, PointerGoesOn, PointsTo, StepsAt};
+ghost use Rattle.gt_paths.specs.Steps.{GoesOn, GoesOnNamed, IsNext, LeadsToPointer, NamedGoesOn, PlaceGoesOn, PointerGoesOn, PointsTo, StepsAt};
 
 use crate::indexes::PathIndex;
-use crate::structures::{is_number, structure_of};
+use crate::structures::{is_number, itself, structure_of};
 use gt_types::{Field, Program, PtrKind, Target, Ty, TypeId, Word};
 
 // The type of the field at a place of a structure, where a path may go to it.
@@ -131,6 +131,22 @@ fn goes_on(program: &Program, index: &PathIndex, ty: &Ty, rest: &[Word]) -> bool
         Ty::Node { id, .. } => leads_to_number(program, index, *id, rest),
         _ => false,
     }
+}
+
+/// The structure by value to which a name leads from a structure, where no structure has two fields of one name.
+pub fn next_structure(
+    program: &Program,
+    index: &PathIndex,
+    node: TypeId,
+    name: &Word,
+) -> Option<TypeId>
+    requires index { IsIndexOn program.now index.now }
+    requires distinct { index.now.distinct ≡ true }
+    ensures next { IsNext program.now node name.now result }
+{
+    let place = index.place(node, name)?;
+    let ty = field_to(program, index, node, place as usize)?;
+    itself(ty)
 }
 
 // ---- by place

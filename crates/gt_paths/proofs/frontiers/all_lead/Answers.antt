@@ -2,7 +2,7 @@ use Rattle.std.proofs.Common.{ℕ}
 use Rattle.gt_types.specs.Paths.{LeadsToNumber}
 use Rattle.gt_paths.specs.Numbers.{numbered}
 use Rattle.gt_paths.proofs.Lists.{all_further, all_seen, one_lacks}
-use Rattle.gt_paths.proofs.outer_paths.all_lead.Goals as goal
+use Rattle.gt_paths.proofs.frontiers.all_lead.Goals as goal
 
 pub loop-start-preserved : goal.loop-start-preserved
 loop-start-preserved c =

@@ -1,0 +1,12 @@
+use Rattle.std.proofs.Common.{ℕ, List, sym, subst}
+use Rattle.gt_paths.specs.Indexes.{inner_in}
+use Rattle.gt_paths.specs.OuterPaths.{AreStarts}
+use Rattle.gt_paths.proofs.outer_paths.Outermost.of.Goals as goal
+
+pub returns : goal.returns
+returns c = record {
+  around = record {
+    starts = subst (λ (starts : List ℕ). AreStarts (inner_in c.args.index.now) c.args.program.now c.args.node starts) (sym c.of.ensures.items) c.in_ok-starts.ensures.starts;
+    answers = c.new.ensures.answers c.args.program.now c.of.result;
+  };
+}
