@@ -34,7 +34,8 @@ use Rattle.gt_next.specs.Leaves.{is_in_range}
 use Rattle.gt_next.specs.declared.answer.Why.TheVariants.{OutOfRange}
 use Rattle.gt_routes.proofs.SpotParts.{value-same}
 use Rattle.gt_writes.specs.SpotWrites.{LeafSuits, SpotTakes}
-use Rattle.gt_asking.specs.Judging.{is_idle, is_beyond, IsFixedIn, IsIdleAt, SuitsAs, RefusesLeaf}
+use Rattle.gt_writes.specs.declared.found.Target.{Target}
+use Rattle.gt_asking.specs.Judging.{is_idle, is_beyond, IsFixedIn, IsIdleAt, IsNamed, SuitsAs, RefusesLeaf}
 
 of-same : (a b : ℕ) → Of a ≡ Of b → a ≡ b
 of-same a b e = cc
@@ -67,19 +68,20 @@ fixed-none heap address owner is none = (λ e. absurd (cc), back)
         let here = subst (λ i. object_of heap.graph.objects i ≡ Some x) (sym ids) found in
         absurd (cc)
 
-pub suits-some : (heap : Heap) (address : ℕ) (type : Ty) (known : Known) (r : Bool) → IsKnownAt heap.graph.objects address (Some known) → Decides r (kind_named type ≡ Some (kind_of known.kind)) → Decides r (SuitsAs heap.graph.objects type (content.To address))
-suits-some heap address type known r (o, there, k) d = (λ e. (o, there, d.0 e ∙ ap Some (sym k.kind)), back)
-  where
-    back : SuitsAs heap.graph.objects type (content.To address) → r ≡ true
-    back (x, found, names) =
-        let same : x ≡ o = some-same (object_of heap.graph.objects address) x o found there in
-        d.1 (names ∙ ap (λ (y : Object). Some y.kind) same ∙ ap Some k.kind)
+pub suits-named : (there : List Object) (id : ℕ) (type : Ty) (t : Target) (r : Bool) → IsNamed there (content.To id) (Some t) → Decides r (kind_named type ≡ Some (kind_of t.known.kind)) → Decides r (SuitsAs there type (content.To id))
+suits-named there id type t r (at, o) d =
+    let here : object_of there id ≡ Some o.0 = subst (λ i. object_of there i ≡ Some o.0) at o.1 in
+    (λ e. (o.0, here, d.0 e ∙ ap Some (sym o.2.kind)), λ su. d.1 (su.2 ∙ ap (λ (y : Object). Some y.kind) (some-same (object_of there id) su.0 o.0 su.1 here) ∙ ap Some o.2.kind))
 
-pub suits-none : (heap : Heap) (address : ℕ) (type : Ty) → object_of heap.graph.objects address ≡ None → Decides false (SuitsAs heap.graph.objects type (content.To address))
-suits-none heap address type none = (λ e. absurd (cc), back)
+pub suits-none : (there : List Object) (id : ℕ) (type : Ty) → object_of there id ≡ None → Decides false (SuitsAs there type (content.To id))
+suits-none there id type none = (λ e. absurd (cc), back)
   where
-    back : SuitsAs heap.graph.objects type (content.To address) → false ≡ true
+    back : SuitsAs there type (content.To id) → false ≡ true
     back (x, found, names) = absurd (cc)
+
+-- what is known of the object that a leaf names
+pub named-known : (heap : Heap) (id : ℕ) (known : Known) → IsKnownAt heap.graph.objects id (Some known) → IsNamed heap.graph.objects (content.To id) (Some (record { addr = id; known = known }))
+named-known heap id known is = (refl, is)
 
 not-not : (a b : Bool) → a ≡ not b → not a ≡ b
 not-not a true e = ap not e

@@ -1,10 +1,15 @@
 -- No promise: which leaves may be written at the end of a path, as the functions inside the crate tell it.
-use Rattle.std.specs.Prelude.{◌≡◌, ℕ, Bool, true, false, not, ◌&&◌, List, Some, IsTrue, ◌⊎◌}
+use Rattle.std.specs.Prelude.{◌≡◌, ℕ, Bool, true, false, not, ◌&&◌, List, Option, Some, None, IsTrue, ◌⊎◌}
 use Rattle.gt_types.specs.declared.types.Ty.{Ty}
 use Rattle.gt_types.specs.declared.program.Program.{Program}
 use Rattle.gt_types.specs.Shapes.{is_pointer}
+use Rattle.gt_tree.specs.Trees.{is_word}
 use Rattle.gt_tree.specs.Blocks.{Chars}
 use Rattle.gt_tree.specs.Scopes.{Typed}
+use Rattle.gt_value.specs.declared.cursors.Cursor.{Cursor}
+use Rattle.gt_value.specs.declared.places.Place.{Place}
+use Rattle.gt_value.specs.Places.{Part, IsPlaceOfPart}
+use Rattle.gt_value.specs.Cursors.{Frame, IsAt}
 use Rattle.gt_value.specs.declared.places.LeafContent.{LeafContent}
 use Rattle.gt_value.specs.declared.places.LeafContent.TheVariants as content
 use Rattle.gt_graph.specs.Objects.{Object, object_of}
@@ -19,6 +24,8 @@ use Rattle.gt_script.specs.declared.command.Route.{Route}
 use Rattle.gt_next.specs.States.{State, meaning}
 use Rattle.gt_next.specs.Paths.{Leads, RefusesPath}
 use Rattle.gt_next.specs.Leaves.{takes_numbers, is_in_range, kind_named}
+use Rattle.gt_writes.specs.declared.found.Target.{Target}
+use Rattle.gt_writes.specs.FoundLeaves.{IsTarget}
 
 -- a number is beyond the range of a type
 abbrev pub is_beyond : Ty → LeafContent → Bool
@@ -38,6 +45,21 @@ abbrev pub SuitsAs : List Object → Ty → LeafContent → Type 0
 SuitsAs objects type (content.Num n) = takes_numbers type ≡ true
 SuitsAs objects type content.Null = is_pointer type ≡ true
 SuitsAs objects type (content.To id) = (o : Object) × (object_of objects id ≡ Some o) × (kind_named type ≡ Some o.kind)
+
+-- the place of the leaf at which a cursor stands
+abbrev pub IsLeafOf : Cursor → Place → Type 0
+IsLeafOf c place = (at : Frame) (value : Part) (path : List ℕ) (there : IsAt at c value path) → IsPlaceOfPart at.program at.space at.addr there.p place
+
+-- what a cursor tells of the leaf at which it stands: its place, or that it stands at none
+abbrev pub IsLeafTold : Cursor → Option Place → Type 0
+IsLeafTold c (Some place) = IsLeafOf c place
+IsLeafTold c None = (at : Frame) (value : Part) (path : List ℕ) (there : IsAt at c value path) → is_word there.p.tree ≡ false
+
+-- what is known of the object that a leaf names; nothing where it names none
+abbrev pub IsNamed : List Object → LeafContent → Option Target → Type 0
+IsNamed objects (content.To id) (Some t) = (t.addr ≡ id) × IsTarget objects t
+IsNamed objects (content.To id) None = object_of objects id ≡ None
+IsNamed objects leaf t = t ≡ None
 
 -- a leaf suits the value at a spot
 abbrev pub IsSuitedAt : Program → Heap → Spot → LeafContent → Type 0

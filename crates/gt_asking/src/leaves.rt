@@ -1,27 +1,31 @@
 // Which leaves may be written at the end of a path.
-ghost use Rattle.std.specs.Prelude.{◌≡◌, ◌&&◌, Some, None, not, option_map};
+ghost use Rattle.std.specs.Prelude.{◌≡◌, ◌&&◌, List, Some, None, Ok, Err, IfOk, not, option_map};
 ghost use Rattle.std.specs.Bool.{Decides};
 ghost use Rattle.gt_types.specs.Shapes.{is_pointer};
 ghost use Rattle.gt_tree.specs.Blocks.{Chars};
 ghost use Rattle.gt_value.specs.Names.{kind_of};
+ghost use Rattle.gt_graph.specs.Objects.{Object};
 ghost use Rattle.gt_graph.specs.Good.{Heap};
 ghost use Rattle.gt_objects.specs.Holding.{IsHeapOf};
 ghost use Rattle.gt_elements.specs.Elements.{owner_of};
 ghost use Rattle.gt_next.specs.Leaves.{takes_numbers, is_in_range, kind_named};
 ghost use Rattle.gt_next.specs.declared.answer.Why.{Why};
-ghost use Rattle.gt_routes.specs.Reaching.{spot_of, IsEndAt, IsFirstIn, IsValueAt};
+ghost use Rattle.gt_routes.specs.Reaching.{spot_of, IsEndAt, IsFirstIn, EndsInFirst, IsValueAt};
 ghost use Rattle.gt_schema.specs.Schemas.{IsSchema};
+ghost use Rattle.gt_writes.specs.declared.found.Found.{Found};
+ghost use Rattle.gt_writes.specs.FoundLeaves.{IsFoundAt};
 ghost use Rattle.gt_writes.specs.SpotWrites.{SpotTakes};
-ghost use Rattle.gt_asking.specs.Judging.{is_beyond, is_idle, IsFixedIn, SuitsAs, RefusesLeaf};
+ghost use Rattle.gt_asking.specs.Judging.{is_beyond, is_idle, IsFixedIn, IsLeafTold, IsNamed, SuitsAs, RefusesLeaf};
 
-use gt_elements::Owner;
+use gt_elements::{Element, Owner};
 use gt_fit::{has_room, number_fits};
 use gt_next::Why;
 use gt_objects::Objects;
 use gt_routes::{End, Reached};
 use gt_schema::Schema;
-use gt_types::{PtrKind, Target, Ty};
-use gt_value::{BlockKind, Cursor, LeafContent};
+use gt_types::{PtrKind, Target as Named, Ty};
+use gt_value::{BlockKind, Cursor, LeafContent, Place};
+use gt_writes::{Found, Target};
 
 // ---- types
 
@@ -67,9 +71,9 @@ fn kind_named(ty: &Ty) -> Option<BlockKind>
     match ty {
         Ty::Str(_) => Some(BlockKind::Chars),
         Ty::Ptr { target, kind, .. } => match target {
-            Some(Target::Node(node)) => Some(BlockKind::Nodes(*node)),
-            Some(Target::Pointers(node)) => Some(BlockKind::Pointers(*node)),
-            Some(Target::Strings) => Some(BlockKind::Strings),
+            Some(Named::Node(node)) => Some(BlockKind::Nodes(*node)),
+            Some(Named::Pointers(node)) => Some(BlockKind::Pointers(*node)),
+            Some(Named::Strings) => Some(BlockKind::Strings),
             None => match kind {
                 PtrKind::Atomic => Some(BlockKind::Raw),
                 PtrKind::Plain | PtrKind::Length(_) | PtrKind::Undef => None,
@@ -127,16 +131,30 @@ fn is_fixed(schema: &Schema, objects: &Objects, to: &Reached<'_>) -> bool
     }
 }
 
-// Whether a leaf suits a type, but for the range of a number.
-fn suits(schema: &Schema, objects: &Objects, ty: &Ty, leaf: LeafContent) -> bool
+// What is known of the object that a leaf names.
+fn target_of(schema: &Schema, objects: &Objects, leaf: LeafContent) -> Option<Target>
     requires ready { (heap : Heap) × IsHeapOf schema.now.program schema.now.layouts objects.now heap }
-    ensures suits { (heap : Heap) → IsHeapOf schema.now.program schema.now.layouts objects.now heap → Decides result (SuitsAs heap.graph.objects ty.now leaf) }
+    ensures named { (heap : Heap) → IsHeapOf schema.now.program schema.now.layouts objects.now heap → IsNamed heap.graph.objects leaf result }
+{
+    let _ = schema;
+    match leaf {
+        LeafContent::To(addr) => match objects.known(addr) {
+            Some(known) => Some(Target { addr, known }),
+            None => None,
+        },
+        LeafContent::Num(_) | LeafContent::Null => None,
+    }
+}
+
+// Whether a leaf suits a type, but for the range of a number, where this is known of the object that it names.
+fn suits(ty: &Ty, leaf: LeafContent, target: Option<Target>) -> bool
+    ensures suits { (objects : List Object) → IsNamed objects leaf target → Decides result (SuitsAs objects ty.now leaf) }
 {
     match leaf {
         LeafContent::Num(_) => takes_numbers(ty),
         LeafContent::Null => is_pointer(ty),
-        LeafContent::To(addr) => match objects.known(addr) {
-            Some(known) => names_kind(ty, known.kind),
+        LeafContent::To(_) => match target {
+            Some(target) => names_kind(ty, target.known.kind),
             None => false,
         },
     }
@@ -149,42 +167,74 @@ fn is_idle_if(pointer: bool, active: bool) -> bool
     pointer && !active
 }
 
-// Whether a pointer lies in a common structure while no member of its union is active.
-fn is_idle(schema: &Schema, objects: &Objects, to: &Reached<'_>, at: Cursor<'_>) -> bool
-    requires ready { (heap : Heap) × IsHeapOf schema.now.program schema.now.layouts objects.now heap }
-    requires value { (heap : Heap) → IsHeapOf schema.now.program schema.now.layouts objects.now heap → IsValueAt schema.now.program schema.now.layouts objects.now heap (spot_of to.now) at }
-    ensures idle { (heap : Heap) → IsHeapOf schema.now.program schema.now.layouts objects.now heap → result ≡ is_idle heap (spot_of to.now) at.entry.ty.now }
+// Whether a pointer lies in a common structure while no member of its union is active, where this is told of its place.
+fn is_idle(
+    schema: &Schema,
+    objects: &Objects,
+    to: &Reached<'_>,
+    at: &Cursor<'_>,
+    place: Option<Place>,
+) -> bool
+    requires value { (heap : Heap) → IsHeapOf schema.now.program schema.now.layouts objects.now heap → IsValueAt schema.now.program schema.now.layouts objects.now heap (spot_of to.now) at.now }
+    requires told { IsLeafTold at.now place }
+    ensures idle { (heap : Heap) → IsHeapOf schema.now.program schema.now.layouts objects.now heap → result ≡ is_idle heap (spot_of to.now) at.now.ty.now }
 {
-    match at.leaf() {
+    let _ = schema;
+    let _ = objects;
+    let _ = to;
+    match place {
         Some(place) => is_idle_if(is_pointer(at.ty()), place.active),
         None => false,
     }
 }
 
-/// Why a leaf may not be written where a path leads; None where it may.
-pub fn judge(schema: &Schema, objects: &Objects, to: &Reached<'_>, leaf: LeafContent) -> Option<Why>
+// Where a leaf was found, if the element is known in which it lies.
+fn found_in(first: Option<Element>, place: Option<Place>, target: Option<Target>) -> Option<Found>
+    ensures found { (f : Found) → result ≡ Some f → (first ≡ Some f.element) × (place ≡ Some f.place) × (target ≡ f.target) }
+{
+    match (first, place) {
+        (Some(element), Some(place)) => Some(Found {
+            element,
+            place,
+            target,
+        }),
+        _ => None,
+    }
+}
+
+/// Whether a leaf may be written where a path leads, and where it lies then, if the element is known in which it does; or why it may not.
+pub fn judge(
+    schema: &Schema,
+    objects: &Objects,
+    to: &Reached<'_>,
+    leaf: LeafContent,
+) -> Result<Option<Found>, Why>
     requires schema { IsSchema schema.now }
     requires ready { (heap : Heap) × IsHeapOf schema.now.program schema.now.layouts objects.now heap }
     requires end { (heap : Heap) → IsHeapOf schema.now.program schema.now.layouts objects.now heap → IsEndAt schema.now.program schema.now.layouts objects.now heap (spot_of to.now) to.now.end }
     requires first { (heap : Heap) → IsHeapOf schema.now.program schema.now.layouts objects.now heap → IsFirstIn schema.now.program schema.now.layouts objects.now heap to.now }
-    ensures takes { result ≡ None → (heap : Heap) → IsHeapOf schema.now.program schema.now.layouts objects.now heap → SpotTakes schema.now.program heap.graph (spot_of to.now) leaf }
-    ensures refused { (why : Why) → result ≡ Some why → (heap : Heap) → IsHeapOf schema.now.program schema.now.layouts objects.now heap → RefusesLeaf schema.now.program heap (spot_of to.now) leaf why }
+    requires inside { EndsInFirst schema.now.program schema.now.layouts objects.now to.now }
+    ensures takes { IfOk result (λ found. (heap : Heap) → IsHeapOf schema.now.program schema.now.layouts objects.now heap → SpotTakes schema.now.program heap.graph (spot_of to.now) leaf) }
+    ensures found { IfOk result (λ found. (f : Found) → found ≡ Some f → (heap : Heap) → IsHeapOf schema.now.program schema.now.layouts objects.now heap → IsFoundAt schema.now.program schema.now.layouts objects.now heap (owner_of to.now.owner) to.now.places.items f) }
+    ensures refused { (why : Why) → result ≡ Err why → (heap : Heap) → IsHeapOf schema.now.program schema.now.layouts objects.now heap → RefusesLeaf schema.now.program heap (spot_of to.now) leaf why }
 {
-    let at = match to.end {
-        End::Object => return Some(Why::WrongType),
+    let at = match &to.end {
+        End::Object => return Err(Why::WrongType),
         End::Value(at) => at,
     };
-    if is_idle(schema, objects, to, at) {
-        return Some(Why::Inactive);
+    let place = at.leaf();
+    if is_idle(schema, objects, to, at, place) {
+        return Err(Why::Inactive);
     }
     if is_fixed(schema, objects, to) {
-        return Some(Why::WrongType);
+        return Err(Why::WrongType);
     }
-    if !suits(schema, objects, at.ty(), leaf) {
-        return Some(Why::WrongType);
+    let target = target_of(schema, objects, leaf);
+    if !suits(at.ty(), leaf, target) {
+        return Err(Why::WrongType);
     }
     if is_beyond(at.ty(), leaf) {
-        return Some(Why::OutOfRange);
+        return Err(Why::OutOfRange);
     }
-    None
+    Ok(found_in(to.first, place, target))
 }

@@ -10,7 +10,6 @@ ghost use Rattle.gt_next.specs.Spots.{spot};
 ghost use Rattle.gt_next.specs.Paths.{Leads};
 ghost use Rattle.gt_next.specs.Leaves.{IsUnboundValue};
 ghost use Rattle.gt_next.specs.Next.{NextSet};
-ghost use Rattle.gt_routes.specs.Reaching.{spot_of, IsEndAt, IsFirstIn, EndsInFirst};
 ghost use Rattle.gt_routes.specs.declared.steps.WalkFail.TheVariants.{Refused};
 ghost use Rattle.gt_session.specs.Sessions.{Goes, IsAsBefore, IsSession, KeepsBytes, StandsFor};
 ghost use Rattle.gt_writes.specs.declared.found.Found.{Found};
@@ -22,9 +21,7 @@ use crate::leaves::judge;
 use crate::paths::reach;
 use gt_elements::Owner;
 use gt_next::{Answer, Why};
-use gt_objects::Objects;
-use gt_routes::{End, Places, Reached, WalkFail};
-use gt_schema::Schema;
+use gt_routes::{Places, Reached, WalkFail};
 use gt_script::{Given, Route};
 use gt_session::Session;
 use gt_value::{LeafContent, ValueFail};
@@ -54,28 +51,6 @@ fn leaf_given(s: &Session, value: &Given) -> Option<LeafContent>
     }
 }
 
-// Where the leaf at the end of a path lies, if the element is known in which it does.
-fn find_leaf(schema: &Schema, objects: &Objects, to: &Reached<'_>) -> Option<Found>
-    requires ready { (heap : Heap) × IsHeapOf schema.now.program schema.now.layouts objects.now heap }
-    requires end { (heap : Heap) → IsHeapOf schema.now.program schema.now.layouts objects.now heap → IsEndAt schema.now.program schema.now.layouts objects.now heap (spot_of to.now) to.now.end }
-    requires first { (heap : Heap) → IsHeapOf schema.now.program schema.now.layouts objects.now heap → IsFirstIn schema.now.program schema.now.layouts objects.now heap to.now }
-    requires inside { EndsInFirst schema.now.program schema.now.layouts objects.now to.now }
-    ensures found { (f : Found) → result ≡ Some f → (heap : Heap) → IsHeapOf schema.now.program schema.now.layouts objects.now heap → IsFoundAt schema.now.program schema.now.layouts objects.now heap (owner_of to.now.owner) to.now.places.items f }
-{
-    let _ = schema;
-    let _ = objects;
-    let Some(element) = to.first else {
-        return None;
-    };
-    let End::Value(at) = to.end else {
-        return None;
-    };
-    match at.leaf() {
-        Some(place) => Some(Found { element, place }),
-        None => None,
-    }
-}
-
 // Where a path leads, if a leaf may be written there.
 fn take_aim(alloc: Global, s: &Session, path: &Route, leaf: LeafContent) -> Result<Aim, WalkFail>
     requires session { IsSession s.now }
@@ -89,9 +64,8 @@ fn take_aim(alloc: Global, s: &Session, path: &Route, leaf: LeafContent) -> Resu
         Err(stop) => return Err(stop),
     };
     match judge(&s.schema, &s.objects, &to, leaf) {
-        Some(why) => Err(WalkFail::Refused(why)),
-        None => {
-            let found = find_leaf(&s.schema, &s.objects, &to);
+        Err(why) => Err(WalkFail::Refused(why)),
+        Ok(found) => {
             let Reached { owner, places, .. } = to;
             Ok(Aim {
                 owner,

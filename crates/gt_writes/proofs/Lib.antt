@@ -7,3 +7,4 @@ mod AtElement
 mod StaticsReplaced
 mod AnewStatics
 mod AtRoot
+mod Targets

@@ -16,11 +16,13 @@ ghost use Rattle.gt_next.specs.Spots.{spot};
 ghost use Rattle.gt_schema.specs.Schemas.{IsSchema};
 ghost use Rattle.gt_writes.specs.SpotWrites.{SpotTakes, IsWrittenAt, MisfitsAt};
 ghost use Rattle.gt_writes.specs.declared.found.Found.{Found};
-ghost use Rattle.gt_writes.specs.FoundLeaves.{LeafLiesAt, LiesInElement};
+ghost use Rattle.gt_writes.specs.declared.found.Target.{Target};
+ghost use Rattle.gt_writes.specs.FoundLeaves.{IsTarget, LeafLiesAt, LiesInElement};
 ghost use Rattle.gt_writes.specs.Rewriting.{IsElementRewritten, StandsIn, ElementMisfits, MayPutIn, IsInActive};
 
-use crate::found::Found;
+use crate::found::{Found, Target};
 use crate::leaves::{is_word_at, leaf_value, only_active};
+use crate::names::NamesBeside;
 use gt_assign::assign;
 use gt_elements::{Element, Names, element};
 use gt_leaf::{LeafVerdict, judge_leaf, judge_leaf_at};
@@ -113,6 +115,7 @@ fn judge_found(
     ty: &Ty,
     path: &[u32],
     place: Place,
+    target: Option<Target>,
     leaf: LeafContent,
 ) -> LeafVerdict
     requires schema { IsSchema schema.now }
@@ -121,6 +124,7 @@ fn judge_found(
     requires inside { IsRoomFor schema.now.program schema.now.layouts element.capacity ty.now objects.now.space element.addr }
     requires stands { (heap : Heap) → IsHeapOf schema.now.program schema.now.layouts objects.now heap → (value : Tree) × StandsIn schema.now.program schema.now.layouts heap element.capacity ty.now objects.now.space element.addr value }
     requires place { LeafLiesAt schema.now.program schema.now.layouts element.capacity ty.now objects.now.space element.addr path.now place }
+    requires target { (t : Target) → target ≡ Some t → (heap : Heap) → IsHeapOf schema.now.program schema.now.layouts objects.now heap → IsTarget heap.graph.objects t }
     ensures in_place { (other : Place) → result ≡ InPlace other → (heap : Heap) (value : Tree) → IsHeapOf schema.now.program schema.now.layouts objects.now heap → StandsIn schema.now.program schema.now.layouts heap element.capacity ty.now objects.now.space element.addr value
         → MayPutIn schema.now.program schema.now.layouts heap element.capacity ty.now element.addr value path.now leaf objects.now.space other }
     ensures active { (other : Place) → result ≡ InPlace other → IsInActive other leaf }
@@ -128,7 +132,7 @@ fn judge_found(
         → IsContentOf leaf tree → ElementMisfits schema.now.program heap element.capacity ty.now value path.now tree }
 {
     let _ = element;
-    let names = Names::of(objects);
+    let names = NamesBeside::of(objects, target);
     let verdict = judge_leaf_at(
         &schema.program,
         &schema.reads,
@@ -157,6 +161,7 @@ fn judge_element(
     requires inside { IsRoomFor schema.now.program schema.now.layouts element.capacity ty.now objects.now.space element.addr }
     requires stands { (heap : Heap) → IsHeapOf schema.now.program schema.now.layouts objects.now heap → (value : Tree) × StandsIn schema.now.program schema.now.layouts heap element.capacity ty.now objects.now.space element.addr value }
     requires found { (f : Found) → found ≡ Some f → LeafLiesAt schema.now.program schema.now.layouts element.capacity ty.now objects.now.space element.addr path.now f.place }
+    requires target { (f : Found) → found ≡ Some f → (t : Target) → f.target ≡ Some t → (heap : Heap) → IsHeapOf schema.now.program schema.now.layouts objects.now heap → IsTarget heap.graph.objects t }
     ensures in_place { (place : Place) → result ≡ InPlace place → (heap : Heap) (value : Tree) → IsHeapOf schema.now.program schema.now.layouts objects.now heap → StandsIn schema.now.program schema.now.layouts heap element.capacity ty.now objects.now.space element.addr value
         → MayPutIn schema.now.program schema.now.layouts heap element.capacity ty.now element.addr value path.now leaf objects.now.space place }
     ensures active { (place : Place) → result ≡ InPlace place → IsInActive place leaf }
@@ -164,7 +169,16 @@ fn judge_element(
         → IsContentOf leaf tree → ElementMisfits schema.now.program heap element.capacity ty.now value path.now tree }
 {
     match found {
-        Some(there) => judge_found(schema, objects, element, ty, path, there.place, leaf),
+        Some(there) => judge_found(
+            schema,
+            objects,
+            element,
+            ty,
+            path,
+            there.place,
+            there.target,
+            leaf,
+        ),
         None => judge_sought(schema, objects, element, ty, path, leaf),
     }
 }
@@ -205,6 +219,7 @@ pub fn write_in_object(
     requires may { (heap : Heap) → IsHeapOf schema.now.program schema.now.layouts objects.old heap → SpotTakes schema.now.program heap.graph (spot (Of addr) (place ∷ rest.now)) leaf }
     requires found { (f : Found) → found ≡ Some f → (heap : Heap) → IsHeapOf schema.now.program schema.now.layouts objects.old heap → IsElementAt schema.now.program schema.now.layouts heap objects.old.space addr place (Some f.element) }
     requires lies { (f : Found) → found ≡ Some f → LiesInElement schema.now.program schema.now.layouts objects.old.space f.element rest.now f.place }
+    requires target { (f : Found) → found ≡ Some f → (t : Target) → f.target ≡ Some t → (heap : Heap) → IsHeapOf schema.now.program schema.now.layouts objects.old heap → IsTarget heap.graph.objects t }
     ensures written { OnOk result ((heap : Heap) → IsHeapOf schema.now.program schema.now.layouts objects.old heap → IsWrittenAt schema.now.program schema.now.layouts heap (Of addr) (place ∷ rest.now) leaf objects.new) }
     ensures shape { result ≡ Err Shape → (heap : Heap) → IsHeapOf schema.now.program schema.now.layouts objects.old heap → MisfitsAt schema.now.program heap (Of addr) (place ∷ rest.now) leaf }
     ensures unchanged { OnErr result (objects.new ≡ objects.old) }

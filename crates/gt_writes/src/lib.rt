@@ -4,8 +4,9 @@
 mod elements;
 mod found;
 mod leaves;
+mod names;
 mod roots;
 mod writing;
 
-pub use found::Found;
+pub use found::{Found, Target};
 pub use writing::write;

@@ -1,18 +1,16 @@
-use Rattle.std.proofs.Common.{◌≡◌, subst, inr}
+use Rattle.std.proofs.Common.{◌≡◌, ap, ◌∙◌, subst, inr}
+use Rattle.std.specs.Prelude.{Err}
 use Rattle.gt_routes.specs.declared.steps.WalkFail.TheVariants.{Refused}
 use Rattle.gt_routes.specs.Reaching.{spot_of}
 use Rattle.gt_asking.specs.Judging.{RefusesLeaf}
 use Rattle.gt_asking.proofs.setting.take_aim.Goals as goal
 
-pub returns-in-Some-clause-refused : goal.returns-in-Some-clause-refused
-returns-in-Some-clause-refused c why e told s st =
-    let inner : Refused c.in-Some.why ≡ Refused why = cc in
-    let same : c.in-Some.why ≡ why = cc in
+pub returns-in-Err-judge-clause-refused : goal.returns-in-Err-judge-clause-refused
+returns-in-Err-judge-clause-refused c why e told s st =
+    let inner : Refused c.in-Err-judge.why ≡ Refused why = cc in
+    let same : c.in-Err-judge.why ≡ why = cc in
     inr (
       spot_of c.in-Ok.to,
       c.in-Ok.ensures.leads told s st,
-      subst (RefusesLeaf c.args.s.now.schema.program s.heap (spot_of c.in-Ok.to) c.args.leaf) same (c.judge.ensures.refused c.in-Some.why c.in-Some.is s.heap st.holds.heap),
+      subst (RefusesLeaf c.args.s.now.schema.program s.heap (spot_of c.in-Ok.to) c.args.leaf) same (c.judge.ensures.refused c.in-Err-judge.why c.in-Err-judge.is s.heap st.holds.heap),
     )
-
-pub returns-in-None-clause-takes : goal.returns-in-None-clause-takes
-returns-in-None-clause-takes c heap is = c.judge.ensures.takes c.in-None.is heap is

@@ -22,3 +22,16 @@ returns-clause-misfit c = λ e heap value tree is s means new assigns.
     (c.judge_leaf_at-verdict.ensures.misfit (c.only_active.ensures.misfit e) schema.layouts heap.graph.statics c.args.element.capacity objects.space c.args.element.addr value
     (record { laid = c.requires.schema.laid; inside = c.requires.inside; stands = beside_by same refl s; at = c.requires.place heap.graph.statics value (stands-for s) })).1 tree new means
     (subst (λ bs. Assigns schema.program bs heap.graph.statics c.args.element.capacity c.args.ty.now value c.args.path.now tree new) (sym same) assigns)
+
+pub of-names-requires : goal.of-names-requires
+of-names-requires c = record {
+  ready = (
+    c.args.schema.now.program,
+    c.args.schema.now.layouts,
+    c.requires.ready.0,
+    c.requires.schema.settled,
+    c.requires.schema.laid,
+    c.requires.ready.1,
+    λ t e. c.requires.target t e c.requires.ready.0 c.requires.ready.1,
+  );
+}

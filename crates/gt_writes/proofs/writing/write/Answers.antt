@@ -37,3 +37,6 @@ pub write_in_object-requires-clause-lies : goal.write_in_object-requires-clause-
 write_in_object-requires-clause-lies c = λ f known.
     let there = c.requires.found f known c.requires.ready.0 c.requires.ready.1 in
     subst (λ r. LiesInElement c.args.schema.now.program c.args.schema.now.layouts c.args.objects.now.space f.element r f.place) (rest_same _ _ _ _ (sym there.first.path_is ∙ split-path c.args.path.now c.in-len1-up.len_at_least)) there.lies
+
+pub write_in_object-requires-clause-target : goal.write_in_object-requires-clause-target
+write_in_object-requires-clause-target c = λ f known t is heap holds. (c.requires.found f known heap holds).target t is
