@@ -90,8 +90,9 @@ fn longer_leads(
     Ok(leads)
 }
 
-/// Whether a path leads to a number from each of these structures. Where no structure has two fields of one name, they are taken once for
-/// each first name of longer paths. Its only error is out of memory.
+/// Whether a path leads to a number from each of these structures. They are taken once for each path of one name, and once for each first
+/// name of longer paths, of which the rest is walked from each distinct structure to which that name leads. Where a structure of the
+/// program has two fields of one name, they are taken once for each path. Its only error is out of memory.
 pub fn walk(
     alloc: Global,
     program: &Program,

@@ -38,8 +38,8 @@ impl Answers {
     }
 }
 
-/// Whether a path leads to a number from each of these structures. A path that has no answer yet is walked from each structure to which
-/// its first name leads, and has one from then on. Its only error is out of memory.
+/// Whether a path leads to a number from each of these structures. A path that has no answer yet is walked, from each structure to which
+/// its first name leads where that is known, and has one from then on. Its only error is out of memory.
 pub fn each_leads(
     alloc: Global,
     program: &Program,
