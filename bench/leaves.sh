@@ -1,7 +1,7 @@
 #!/usr/bin/env bash
 # Times writes of one leaf in place, by the program leaf_table, which is built first: elements of the array at the end of a structure, once of 64
 # elements and once of 65,536, each write at another one, spread over the array; and a number of which expressions read the field from another structure,
-# so that its routes are looked up, beside one that no expression reads. The time of a run without a write is taken off. A write takes O(path), whatever
+# so that the ways to it are looked up, beside one that no expression reads. The time of a run without a write is taken off. A write takes O(path), whatever
 # the size of the block. Run by hand, from any folder.
 . "$(dirname "$0")/shared.sh"
 (cd "$root/crates/leaf_table" && quiet rt run </dev/null)
