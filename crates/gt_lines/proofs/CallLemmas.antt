@@ -1,5 +1,5 @@
 -- Calls of a sink that go on by one answer.
-use Rattle.std.proofs.Common.{◌≡◌, ◌≢◌, ℕ, ◌+◌, ◌<◌, ◌==◌, Bool, true, false, List, [], ◌∷◌, ◌++◌, length, get_or, refl, sym, ap, subst, ◌∙◌, append_assoc, append-nil, Some, Result, Ok, Err, inl, inr, arith}
+use Rattle.std.proofs.Common.{◌≡◌, ◌≢◌, ℕ, ◌+◌, ◌<◌, ◌==◌, Bool, true, false, List, [], ◌∷◌, ◌++◌, length, get_or, refl, sym, ap, subst, ◌∙◌, append_assoc, append-nil, Some, Ok, Err, inl, inr, arith}
 use Rattle.std.specs.Prelude.{slice_get}
 use Rattle.std.proofs.lemmas.Bool.{false≢true}
 use Rattle.std.proofs.lemmas.Option.{slice_get-get_or}
@@ -9,7 +9,7 @@ use Rattle.gt_io.specs.declared.fail.WriteFail.TheVariants as fails
 use Rattle.gt_script.specs.declared.command.Line.{Line}
 use Rattle.gt_next.specs.declared.answer.Answer.{Answer}
 use Rattle.gt_next.specs.Texts.{text_of}
-use Rattle.gt_lines.specs.Calls.{WriteOf, one_called, called, AreWritten, IsNotWritten, LastFails, LastUncalled, LineCalls, SinkCalls}
+use Rattle.gt_lines.specs.Calls.{WriteOf, one_called, called, AreWritten, IsNotWritten, LastFails, LineCalls, SinkCalls}
 use Rattle.gt_lines.specs.declared.lines.LineStop.{LineStop}
 use Rattle.gt_lines.specs.declared.lines.LineStop.TheVariants.{NoAnswer, NoText, NotWritten}
 use Rattle.gt_lines.specs.declared.lines.LinesEnd.TheVariants.{SinkFailed, NoMemory}
@@ -50,13 +50,13 @@ called-more (l ∷ ls) [] line answer within at = append-nil-called ls ∙ ap (�
     append-nil-called : (ls : List Line) → one_called (text_of l answer) ++ called ls [] ≡ one_called (text_of l answer)
     append-nil-called [] = append-nil (one_called (text_of l answer))
     append-nil-called (m ∷ ms) = append-nil (one_called (text_of l answer))
-called-more (l ∷ ls) (a ∷ as) line answer within at =
-    ap (λ x. one_called (text_of l a) ++ x) (called-more ls as line answer (omega (arith, within)) at) ∙ sym (append_assoc (one_called (text_of l a)) (called ls as) (one_called (text_of line answer)))
+called-more (l ∷ ls) (a ∷ bs) line answer within at =
+    ap (λ x. one_called (text_of l a) ++ x) (called-more ls bs line answer (omega (arith, within)) at) ∙ sym (append_assoc (one_called (text_of l a)) (called ls bs) (one_called (text_of line answer)))
 
 -- texts were written, and then more
 written-append : {K : Type 0} (write : WriteOf K) (old mid new : K) (texts more : List (List ℕ)) → AreWritten write old texts mid → AreWritten write mid more new → AreWritten write old (texts ++ more) new
-written-append write old mid new [] more so then = subst (λ k. AreWritten write k more new) so then
-written-append write old mid new (text ∷ texts) more so then = (so.0, so.1, written-append write so.0 mid new texts more so.2 then)
+written-append write old mid new [] more so after = subst (λ k. AreWritten write k more new) so after
+written-append write old mid new (text ∷ texts) more so after = (so.0, so.1, written-append write so.0 mid new texts more so.2 after)
 
 -- the line at a place
 line-at : (lines : List Line) (i : ℕ) (line : Line) → i < length lines → line ≡ get_or lines i line → slice_get lines i ≡ Some line
