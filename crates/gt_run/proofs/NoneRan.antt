@@ -1,5 +1,5 @@
 -- Where no command ran, the status and the answers show it.
-use Rattle.std.proofs.Common.{◌≡◌, ◌≤◌, ◌⊎◌, ℕ, List, [], Option, inl, inr, arith}
+use Rattle.std.proofs.Common.{◌≡◌, ◌≤◌, ◌⊎◌, ℕ, List, [], inl, inr, arith}
 use Rattle.gt_front.specs.declared.refusal.Refusal.{Refusal}
 use Rattle.gt_front.specs.declared.refusal.Refusal.TheVariants.{Words, Header, Script, NotBuilt, File as InFile}
 use Rattle.gt_next.specs.declared.answer.Answer.{Answer}

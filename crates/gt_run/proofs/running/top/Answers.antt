@@ -42,7 +42,7 @@ returns-in-Ok-clause-ended g c =
 pub returns-in-Ok-clause-unused : goal.returns-in-Ok-clause-unused
 returns-in-Ok-clause-unused g c =
     let its = returns-in-Ok-clause-ended g c in
-    Ends-unanswered c.args.words.now (g.F.Files.told c.args.files.now) its.0 _ c.run_ready.result c.run_ready.new.space its.2
+    Ends-unanswered c.args.words.now (g.F.Files.told c.args.files.now) its.0 (output g.K.Sink.writes g.K.Sink.written c.args.out.now c.run_ready.new.out) c.run_ready.result c.run_ready.new.space its.2
 
 pub returns-in-Ok-clause-read : goal.returns-in-Ok-clause-read
 returns-in-Ok-clause-read g c = λ ran.
@@ -53,7 +53,7 @@ returns-in-Ok-clause-read g c = λ ran.
 pub returns-in-Ok-clause-stopped : goal.returns-in-Ok-clause-stopped
 returns-in-Ok-clause-stopped g c =
     let its = returns-in-Ok-clause-ended g c in
-    Ends-stopped g.F.Files.reads c.args.words.now (g.F.Files.told c.args.files.now) c.args.files.now c.run_ready.new.files its.0 _ c.run_ready.result c.run_ready.new.space its.1 its.2
+    Ends-stopped g.F.Files.reads c.args.words.now (g.F.Files.told c.args.files.now) c.args.files.now c.run_ready.new.files its.0 (output g.K.Sink.writes g.K.Sink.written c.args.out.now c.run_ready.new.out) c.run_ready.result c.run_ready.new.space its.1 its.2
 
 pub returns-in-Ok-clause-complete : goal.returns-in-Ok-clause-complete
 returns-in-Ok-clause-complete g c = λ well no_file no_sink.
@@ -61,7 +61,7 @@ returns-in-Ok-clause-complete g c = λ well no_file no_sink.
     let before = g.F.Files.told c.args.files.now in
     let its = returns-in-Ok-clause-ended g c in
     let file_rose : (word : ℕ) → c.run_ready.result.refusal ≡ Some (InFile word Fault) → Rose (g.F.Files.faults c.args.files.now) (g.F.Files.faults c.run_ready.new.files) = search rules in
-    Ends-well words before its.0 _ c.run_ready.result c.run_ready.new.space _ _ (refused_well script.one_outcome headers.no_fault words before well) no_file no_sink
+    Ends-well words before its.0 (output g.K.Sink.writes g.K.Sink.written c.args.out.now c.run_ready.new.out) c.run_ready.result c.run_ready.new.space _ _ (refused_well script.one_outcome headers.no_fault words before well) no_file no_sink
     file_rose c.run_ready.ensures.cause its.2
 
 pub returns-in-Ok-clause-refused : goal.returns-in-Ok-clause-refused
@@ -70,7 +70,7 @@ returns-in-Ok-clause-refused g c = λ held texts refusal told first known no_fil
     let its = returns-in-Ok-clause-ended g c in
     let file_rose : (word : ℕ) → c.run_ready.result.refusal ≡ Some (InFile word Fault) → Rose (g.F.Files.faults c.args.files.now) (g.F.Files.faults c.run_ready.new.files) = search rules in
     let E : Option Held → Type 0 = λ told. Ends words told its.0 (output g.K.Sink.writes g.K.Sink.written c.args.out.now c.run_ready.new.out) c.run_ready.result c.run_ready.new.space in
-    Ends-refused laws.one_refusal laws.no_run words held texts refusal its.0 _ c.run_ready.result c.run_ready.new.space first known (subst E told its.2)
+    Ends-refused laws.one_refusal laws.no_run words held texts refusal its.0 (output g.K.Sink.writes g.K.Sink.written c.args.out.now c.run_ready.new.out) c.run_ready.result c.run_ready.new.space first known (subst E told its.2)
     (λ word is. no_file (file_rose word is))
 
 pub returns-in-Err-Memory-clause-read : goal.returns-in-Err-Memory-clause-read
@@ -107,7 +107,7 @@ returns-in-Err-Refused-clause-read g c = λ ran.
 
 pub returns-in-Err-Refused-clause-stopped : goal.returns-in-Err-Refused-clause-stopped
 returns-in-Err-Refused-clause-stopped g c =
-    Ends-stopped g.F.Files.reads c.args.words.now (g.F.Files.told c.args.files.now) c.args.files.now c.prepare.new.files (was_read g c) _ c.refused_outcome.result c.args.space.now
+    Ends-stopped g.F.Files.reads c.args.words.now (g.F.Files.told c.args.files.now) c.args.files.now c.prepare.new.files (was_read g c) (output g.K.Sink.writes g.K.Sink.written c.args.out.now c.refused_outcome.new.out) c.refused_outcome.result c.args.space.now
     (halts g c).3 (refused_ends g c)
 
 pub returns-in-Err-Refused-clause-failed : goal.returns-in-Err-Refused-clause-failed
@@ -118,7 +118,7 @@ returns-in-Err-Refused-clause-complete g c = λ well no_file no_sink.
     let words = c.args.words.now in
     let before = g.F.Files.told c.args.files.now in
     let file_rose : (word : ℕ) → c.refused_outcome.result.refusal ≡ Some (InFile word Fault) → Rose (g.F.Files.faults c.args.files.now) (g.F.Files.faults c.prepare.new.files) = search rules in
-    Ends-well words before (was_read g c) _ c.refused_outcome.result c.args.space.now _ _ (refused_well script.one_outcome headers.no_fault words before well) no_file no_sink
+    Ends-well words before (was_read g c) (output g.K.Sink.writes g.K.Sink.written c.args.out.now c.refused_outcome.new.out) c.refused_outcome.result c.args.space.now _ _ (refused_well script.one_outcome headers.no_fault words before well) no_file no_sink
     file_rose c.refused_outcome.ensures.cause (refused_ends g c)
 
 pub returns-in-Err-Refused-clause-refused : goal.returns-in-Err-Refused-clause-refused
@@ -126,5 +126,5 @@ returns-in-Err-Refused-clause-refused g c = λ held texts refusal told first kno
     let words = c.args.words.now in
     let file_rose : (word : ℕ) → c.refused_outcome.result.refusal ≡ Some (InFile word Fault) → Rose (g.F.Files.faults c.args.files.now) (g.F.Files.faults c.prepare.new.files) = search rules in
     let E : Option Held → Type 0 = λ told. Ends words told (was_read g c) (output g.K.Sink.writes g.K.Sink.written c.args.out.now c.refused_outcome.new.out) c.refused_outcome.result c.args.space.now in
-    Ends-refused laws.one_refusal laws.no_run words held texts refusal (was_read g c) _ c.refused_outcome.result c.args.space.now first known (subst E told (refused_ends g c))
+    Ends-refused laws.one_refusal laws.no_run words held texts refusal (was_read g c) (output g.K.Sink.writes g.K.Sink.written c.args.out.now c.refused_outcome.new.out) c.refused_outcome.result c.args.space.now first known (subst E told (refused_ends g c))
     (λ word is. no_file (file_rose word is))
