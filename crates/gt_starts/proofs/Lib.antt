@@ -1,4 +1,3 @@
-pub mod SetLemmas
 pub mod StartLemmas
 pub mod EndLemmas
 pub mod WayLemmas

@@ -4,7 +4,7 @@ use Rattle.std.specs.Prelude.{is_some}
 use Rattle.std.specs.Str.{bytes_eq}
 use Rattle.std.specs.Cmp.Lexicographic.{pointwise}
 use Rattle.std.specs.Map.{lookup}
-use Rattle.gt_starts.specs.Sets.{IsIn}
+use Rattle.gt_sets.specs.Sets.{IsIn}
 use Rattle.gt_starts.specs.Paths.{Starts, BeginsIn}
 use Rattle.gt_starts.specs.Alike.{names-decides}
 

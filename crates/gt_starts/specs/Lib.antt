@@ -1,4 +1,3 @@
-pub mod Sets
 pub mod Ways
 pub mod Paths
 pub mod Names

@@ -3,7 +3,7 @@ use Rattle.std.specs.Prelude.{◌≡◌, ◌↔◌, ℕ, List, [], ◌∷◌, So
 use Rattle.std.specs.Str.{bytes_eq}
 use Rattle.std.specs.Cmp.Lexicographic.{pointwise}
 use Rattle.std.specs.Map.{lookup}
-use Rattle.gt_starts.specs.Sets.{IsIn}
+use Rattle.gt_sets.specs.Sets.{IsIn}
 use Rattle.gt_starts.specs.Ways.{EndsIn}
 
 -- paths of names, each with the set of the structures at which it begins

@@ -3,12 +3,12 @@ ghost use Rattle.std.specs.Prelude.{◌≡◌, ◌⊎◌, ◌↔◌, ℕ, List, 
 ghost use Rattle.std.specs.Str.{bytes_eq};
 ghost use Rattle.std.specs.Cmp.Lexicographic.{pointwise};
 ghost use Rattle.std.specs.Map.{lookup};
-ghost use Rattle.gt_starts.specs.Sets.{IsIn};
+ghost use Rattle.gt_sets.specs.Sets.{IsIn};
 ghost use Rattle.gt_starts.specs.Paths.{BeginsIn};
 ghost use Rattle.gt_starts.specs.Names.{names_of};
 
 use crate::names::{Names, PathNames};
-use crate::sets::StructureSet;
+use gt_sets::StructureSet;
 use gt_types::Word;
 use indexmap::IndexMap;
 use std::alloc::{AllocError, Global};

@@ -5,8 +5,6 @@
 mod begins;
 mod names;
 mod paths;
-mod sets;
 mod ways;
 
 pub use paths::PathSet;
-pub use sets::StructureSet;

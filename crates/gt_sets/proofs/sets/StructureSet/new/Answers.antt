@@ -1,6 +1,6 @@
 use Rattle.std.proofs.Common.{◌≡◌, replicate, rules, ap, get_or, ◌∙◌}
-use Rattle.gt_starts.proofs.SetLemmas.{none-in, words-at}
-use Rattle.gt_starts.proofs.sets.StructureSet.new.Goals as goal
+use Rattle.gt_sets.proofs.SetLemmas.{none-in, words-at}
+use Rattle.gt_sets.proofs.sets.StructureSet.new.Goals as goal
 
 pub returns : goal.returns
 returns c =

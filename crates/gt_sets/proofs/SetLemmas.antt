@@ -5,7 +5,7 @@ use Rattle.std.specs.Int.{bit_at}
 use Rattle.std.proofs.lemmas.Bool.{eqb-true, cases_eq, cases_lt}
 use Rattle.std.proofs.lemmas.List.{get_or-set_same, get_or-set_other, get_or_past, get_or-replicate, length-replicate}
 use Rattle.std.proofs.lemmas.Nat.Bits.{bit_at-zero, bit_at_or, bit_at-lt}
-use Rattle.gt_starts.specs.Sets.{IsIn}
+use Rattle.gt_sets.specs.Sets.{IsIn}
 
 -- the greater of two bits is set where one of them is
 max-bit : (a b : ℕ) → a < 2 → b < 2 → (max a b == 1) ≡ true ↔ (((a == 1) ≡ true) ⊎ ((b == 1) ≡ true))

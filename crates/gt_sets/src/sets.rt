@@ -1,6 +1,7 @@
 // Sets of structures.
 ghost use Rattle.std.specs.Prelude.{◌≡◌, ◌⊎◌, ◌↔◌, ℕ, true, length, IfOk, OnOk};
-ghost use Rattle.gt_starts.specs.Sets.{IsIn};
+ghost use Rattle.gt_bits.specs.Sets.{IsNext};
+ghost use Rattle.gt_sets.specs.Sets.{IsIn};
 
 use gt_types::MAX_STRUCTURES;
 use std::alloc::{AllocError, Global};
@@ -17,7 +18,7 @@ pub struct StructureSet {
 
 impl Model for StructureSet {
     ghost use Rattle.std.specs.Prelude.{◌≡◌, ℕ, List, length};
-    ghost use Rattle.gt_starts.specs.declared.sets.TheConstants.{WORDS};
+    ghost use Rattle.gt_sets.specs.declared.sets.TheConstants.{WORDS};
 
     ghost Value = { List ℕ };
 
@@ -54,11 +55,18 @@ impl StructureSet {
         gt_bits::has(&self.words, id)
     }
 
-    // Whether there is any structure. It takes no memory, and constant time.
-    pub(crate) fn any(&self) -> bool
+    /// The first structure of the set whose number is not below `from`. It takes no memory, and at most 64 words are looked at.
+    pub fn next(&self, from: u32) -> Option<u32>
+        ensures next { IsNext self.now from result }
+    {
+        gt_bits::next(&self.words, from)
+    }
+
+    /// Whether there is any structure. It takes no memory, and at most 64 words are looked at.
+    pub fn any(&self) -> bool
         ensures some { result ≡ true ↔ ((i : ℕ) × IsIn self.now i) }
     {
-        gt_bits::next(&self.words, 0).is_some()
+        self.next(0).is_some()
     }
 
     /// Adds the structures of another set. It takes no memory, and constant time: 64 words are joined.

@@ -1,6 +1,6 @@
 use Rattle.std.proofs.Common.{◌≡◌, length, subst, arith}
-use Rattle.gt_starts.proofs.SetLemmas.{AreJoined, joined-in}
-use Rattle.gt_starts.proofs.sets.join.Goals as goal
+use Rattle.gt_sets.proofs.SetLemmas.{AreJoined, joined-in}
+use Rattle.gt_sets.proofs.sets.join.Goals as goal
 
 pub returns-clause-joined : goal.returns-clause-joined
 returns-clause-joined c =

@@ -1,0 +1,6 @@
+//! Sets of structures of a program, by their numbers.
+#![tactic(auto)]
+
+mod sets;
+
+pub use sets::StructureSet;
