@@ -1,13 +1,17 @@
 // Which leaves may be written at the end of a path.
 ghost use Rattle.std.specs.Prelude.{◌≡◌, ◌&&◌, List, Some, None, Ok, Err, IfOk, not, option_map};
 ghost use Rattle.std.specs.Bool.{Decides};
+ghost use Rattle.gt_types.specs.declared.program.Program.{Program};
 ghost use Rattle.gt_types.specs.Shapes.{is_pointer};
+ghost use Rattle.gt_layout.specs.declared.planes.Layouts.{Layouts};
 ghost use Rattle.gt_tree.specs.Blocks.{Chars};
 ghost use Rattle.gt_value.specs.Names.{kind_of};
 ghost use Rattle.gt_graph.specs.Objects.{Object};
 ghost use Rattle.gt_graph.specs.Good.{Heap};
 ghost use Rattle.gt_objects.specs.Holding.{IsHeapOf};
+ghost use Rattle.gt_objects.specs.declared.objects.Objects.{Objects};
 ghost use Rattle.gt_elements.specs.Elements.{owner_of};
+ghost use Rattle.gt_next.specs.Spots.{Spot};
 ghost use Rattle.gt_next.specs.Leaves.{takes_numbers, is_in_range, kind_named};
 ghost use Rattle.gt_next.specs.declared.answer.Why.{Why};
 ghost use Rattle.gt_routes.specs.Reaching.{spot_of, IsEndAt, IsFirstIn, EndsInFirst, IsValueAt};
@@ -132,11 +136,10 @@ fn is_fixed(schema: &Schema, objects: &Objects, to: &Reached<'_>) -> bool
 }
 
 // What is known of the object that a leaf names.
-fn target_of(schema: &Schema, objects: &Objects, leaf: LeafContent) -> Option<Target>
-    requires ready { (heap : Heap) × IsHeapOf schema.now.program schema.now.layouts objects.now heap }
-    ensures named { (heap : Heap) → IsHeapOf schema.now.program schema.now.layouts objects.now heap → IsNamed heap.graph.objects leaf result }
+fn target_of(objects: &Objects, leaf: LeafContent) -> Option<Target>
+    requires ready { (program : Program) × (layouts : Layouts) × (heap : Heap) × IsHeapOf program layouts objects.now heap }
+    ensures named { (program : Program) (layouts : Layouts) (heap : Heap) → IsHeapOf program layouts objects.now heap → IsNamed heap.graph.objects leaf result }
 {
-    let _ = schema;
     match leaf {
         LeafContent::To(addr) => match objects.known(addr) {
             Some(known) => Some(Target { addr, known }),
@@ -168,20 +171,10 @@ fn is_idle_if(pointer: bool, active: bool) -> bool
 }
 
 // Whether a pointer lies in a common structure while no member of its union is active, where this is told of its place.
-fn is_idle(
-    schema: &Schema,
-    objects: &Objects,
-    to: &Reached<'_>,
-    at: &Cursor<'_>,
-    place: Option<Place>,
-) -> bool
-    requires value { (heap : Heap) → IsHeapOf schema.now.program schema.now.layouts objects.now heap → IsValueAt schema.now.program schema.now.layouts objects.now heap (spot_of to.now) at.now }
+fn is_idle(at: &Cursor<'_>, place: Option<Place>) -> bool
     requires told { IsLeafTold at.now place }
-    ensures idle { (heap : Heap) → IsHeapOf schema.now.program schema.now.layouts objects.now heap → result ≡ is_idle heap (spot_of to.now) at.now.ty.now }
+    ensures idle { (program : Program) (layouts : Layouts) (objects : Objects) (heap : Heap) (there : Spot) → IsValueAt program layouts objects heap there at.now → result ≡ is_idle heap there at.now.ty.now }
 {
-    let _ = schema;
-    let _ = objects;
-    let _ = to;
     match place {
         Some(place) => is_idle_if(is_pointer(at.ty()), place.active),
         None => false,
@@ -223,13 +216,13 @@ pub fn judge(
         End::Value(at) => at,
     };
     let place = at.leaf();
-    if is_idle(schema, objects, to, at, place) {
+    if is_idle(at, place) {
         return Err(Why::Inactive);
     }
     if is_fixed(schema, objects, to) {
         return Err(Why::WrongType);
     }
-    let target = target_of(schema, objects, leaf);
+    let target = target_of(objects, leaf);
     if !suits(at.ty(), leaf, target) {
         return Err(Why::WrongType);
     }

@@ -64,19 +64,19 @@ pub fn common_step<'a>(
     program: &Program,
     layouts: &Layouts,
     fields: &FieldNames,
-    at: Cursor<'a>,
+    at: &Cursor<'a>,
     node: TypeId,
     name: &Word,
 ) -> Result<Step<'a>, Why>
     requires settled { Settled program.now }
     requires laid { IsLaidOut program.now layouts.now }
     requires fields { AreNamesOf program.now.structures fields.now }
-    requires stands { IsIn program.now at }
-    requires node { (desc : Option Expr) × (at.ty.now ≡ Node node desc) }
+    requires stands { IsIn program.now at.now }
+    requires node { (desc : Option Expr) × (at.now.ty.now ≡ Node node desc) }
     requires a_union { (s : Structure) → HasStructure program.now node s → s.is_union ≡ true }
-    requires inactive { (frame : Frame) (value : Part) (path : List ℕ) (here : StandsAt frame value path at) → frame.program ≡ program.now → IsInactive frame.program here.here.p.tree node name.now }
-    ensures leads { IfOk result (λ to. LeadsFrom program.now at.entry (Name name.now) to) }
-    ensures refused { (why : Why) → result ≡ Err why → RefusedFrom program.now at.entry (Name name.now) why }
+    requires inactive { (frame : Frame) (value : Part) (path : List ℕ) (here : StandsAt frame value path at.now) → frame.program ≡ program.now → IsInactive frame.program here.here.p.tree node name.now }
+    ensures leads { IfOk result (λ to. LeadsFrom program.now at.now (Name name.now) to) }
+    ensures refused { (why : Why) → result ≡ Err why → RefusedFrom program.now at.now (Name name.now) why }
 {
     let Some(place) = place_of_field(program, fields, node, name) else {
         unreachable!()

@@ -49,17 +49,17 @@ pub fn name_step<'a>(
     program: &Program,
     layouts: &Layouts,
     fields: &FieldNames,
-    at: Cursor<'a>,
+    at: &Cursor<'a>,
     node: TypeId,
     name: &Word,
 ) -> Result<Step<'a>, Why>
     requires settled { Settled program.now }
     requires laid { IsLaidOut program.now layouts.now }
     requires fields { AreNamesOf program.now.structures fields.now }
-    requires stands { IsIn program.now at }
-    requires node { (desc : Option Expr) × (at.ty.now ≡ Node node desc) }
-    ensures leads { IfOk result (λ to. LeadsFrom program.now at.entry (Name name.now) to) }
-    ensures refused { (why : Why) → result ≡ Err why → RefusedFrom program.now at.entry (Name name.now) why }
+    requires stands { IsIn program.now at.now }
+    requires node { (desc : Option Expr) × (at.now.ty.now ≡ Node node desc) }
+    ensures leads { IfOk result (λ to. LeadsFrom program.now at.now (Name name.now) to) }
+    ensures refused { (why : Why) → result ≡ Err why → RefusedFrom program.now at.now (Name name.now) why }
 {
     let Some(structure) = program.structures.get(node.0 as usize) else {
         unreachable!()
@@ -79,15 +79,15 @@ pub fn local_step<'a>(
     program: &Program,
     layouts: &Layouts,
     fields: &FieldNames,
-    at: Cursor<'a>,
+    at: &Cursor<'a>,
     hop: &Hop,
 ) -> Result<Step<'a>, Why>
     requires settled { Settled program.now }
     requires laid { IsLaidOut program.now layouts.now }
     requires fields { AreNamesOf program.now.structures fields.now }
-    requires stands { IsIn program.now at }
-    ensures leads { IfOk result (λ to. LeadsFrom program.now at.entry hop.now to) }
-    ensures refused { (why : Why) → result ≡ Err why → RefusedFrom program.now at.entry hop.now why }
+    requires stands { IsIn program.now at.now }
+    ensures leads { IfOk result (λ to. LeadsFrom program.now at.now hop.now to) }
+    ensures refused { (why : Why) → result ≡ Err why → RefusedFrom program.now at.now hop.now why }
 {
     match hop {
         Hop::Index(place) => {

@@ -68,10 +68,10 @@ fn is_pointer(ty: &Ty) -> bool
 }
 
 // The address that a pointer holds; None where it is null.
-fn target(space: &Space, at: Cursor<'_>) -> Option<u64>
-    requires stands { (frame : Frame) × (value : Part) × (path : List ℕ) × StandsAt frame value path at × (frame.space ≡ space.now) }
-    requires pointer { is_pointer at.ty.now ≡ true }
-    ensures target { (frame : Frame) (value : Part) (path : List ℕ) (here : StandsAt frame value path at.entry) → frame.space ≡ space.now → MatchOption result (here.here.p.tree ≡ Null) (λ address. here.here.p.tree ≡ To address) }
+fn target(space: &Space, at: &Cursor<'_>) -> Option<u64>
+    requires stands { (frame : Frame) × (value : Part) × (path : List ℕ) × StandsAt frame value path at.now × (frame.space ≡ space.now) }
+    requires pointer { is_pointer at.now.ty.now ≡ true }
+    ensures target { (frame : Frame) (value : Part) (path : List ℕ) (here : StandsAt frame value path at.now) → frame.space ≡ space.now → MatchOption result (here.here.p.tree ≡ Null) (λ address. here.here.p.tree ≡ To address) }
 {
     let Some(place) = at.leaf() else {
         return None;
@@ -83,7 +83,7 @@ fn target(space: &Space, at: Cursor<'_>) -> Option<u64>
     }
 }
 
-// Goes to the element at a place of an object of which this is known, and gives a cursor there.
+// Goes to the element at a place of an object of which this is known, and gives a cursor there. Where the path ends is left to the caller.
 fn enter<'a>(
     schema: &'a Schema,
     objects: &'a Objects,
@@ -97,7 +97,6 @@ fn enter<'a>(
     requires known { (heap : Heap) → IsHeapOf schema.now.program schema.now.layouts objects.now heap → IsKnownAt heap.graph.objects address (Some known) }
     requires below { place < known.count }
     ensures cursor { IfOk result (λ at. (heap : Heap) → IsHeapOf schema.now.program schema.now.layouts objects.now heap → IsElementEnd schema.now.program schema.now.layouts objects.now heap address place at) }
-    ensures end { IfOk result (λ at. reached.new.end ≡ Value at) }
     ensures spot { IfOk result (λ at. spot_of reached.new ≡ spot (Of address) (place ∷ [])) }
     ensures first { IfOk result (λ at. (heap : Heap) → IsHeapOf schema.now.program schema.now.layouts objects.now heap → IsFirstIn schema.now.program schema.now.layouts objects.now heap reached.new) }
     ensures inside { IfOk result (IsInFirst schema.now.program schema.now.layouts objects.now reached.new.first reached.new.places.items) }
@@ -121,7 +120,6 @@ fn enter<'a>(
     };
     reached.owner = Owner::Object(address);
     reached.first = Some(element);
-    reached.end = End::Value(at);
     Ok(at)
 }
 
@@ -191,7 +189,10 @@ fn index_step<'a>(
         return Err(WalkFail::Refused(Why::BadIndex));
     }
     match enter(schema, objects, reached, address, known, place as u32) {
-        Ok(_) => Ok(()),
+        Ok(at) => {
+            reached.end = End::Value(at);
+            Ok(())
+        }
         Err(stop) => Err(stop),
     }
 }
@@ -201,14 +202,14 @@ fn value_step<'a>(
     schema: &'a Schema,
     objects: &'a Objects,
     reached: &mut Reached<'a>,
-    at: Cursor<'a>,
+    at: &Cursor<'a>,
     hop: &Hop,
 ) -> Result<(), WalkFail>
     requires schema { IsSchema schema.now }
     requires ready { (heap : Heap) × IsHeapOf schema.now.program schema.now.layouts objects.now heap }
-    requires stands { (heap : Heap) → IsHeapOf schema.now.program schema.now.layouts objects.now heap → IsValueAt schema.now.program schema.now.layouts objects.now heap (spot_of reached.old) at }
+    requires stands { (heap : Heap) → IsHeapOf schema.now.program schema.now.layouts objects.now heap → IsValueAt schema.now.program schema.now.layouts objects.now heap (spot_of reached.old) at.now }
     requires first { (heap : Heap) → IsHeapOf schema.now.program schema.now.layouts objects.now heap → IsFirstIn schema.now.program schema.now.layouts objects.now heap reached.old }
-    requires inside { IsInFirst schema.now.program schema.now.layouts objects.now reached.old.first reached.old.places.items at }
+    requires inside { IsInFirst schema.now.program schema.now.layouts objects.now reached.old.first reached.old.places.items at.now }
     ensures leads { OnOk result ((heap : Heap) → IsHeapOf schema.now.program schema.now.layouts objects.now heap → LeadsWithin schema.now.program schema.now.layouts objects.now heap (spot_of reached.old) hop.now reached.new) }
     ensures first { OnOk result ((heap : Heap) → IsHeapOf schema.now.program schema.now.layouts objects.now heap → IsFirstIn schema.now.program schema.now.layouts objects.now heap reached.new) }
     ensures inside { OnOk result (EndsInFirst schema.now.program schema.now.layouts objects.now reached.new) }
@@ -259,7 +260,7 @@ fn single_step<'a>(
         return Err(WalkFail::Refused(Why::WrongType));
     }
     match enter(schema, objects, reached, address, known, 0) {
-        Ok(at) => value_step(schema, objects, reached, at, hop),
+        Ok(at) => value_step(schema, objects, reached, &at, hop),
         Err(stop) => Err(stop),
     }
 }
@@ -314,9 +315,9 @@ fn step<'a>(
         }
     };
     if !is_pointer(at.ty()) {
-        return value_step(schema, objects, reached, at, hop);
+        return value_step(schema, objects, reached, &at, hop);
     }
-    match target(objects.space(), at) {
+    match target(objects.space(), &at) {
         Some(address) => object_step(schema, objects, reached, address, hop),
         None => Err(WalkFail::Refused(Why::NullStep)),
     }

@@ -63,12 +63,12 @@ pub fn add_places(places: &mut Places, step: &Step<'_>) -> Result<(), AllocError
 }
 
 /// A step by a number in an array: to the element at this place. It is refused where there is no such element.
-pub fn element_step<'a>(program: &Program, at: Cursor<'a>, place: u64) -> Result<Step<'a>, Why>
+pub fn element_step<'a>(program: &Program, at: &Cursor<'a>, place: u64) -> Result<Step<'a>, Why>
     requires settled { Settled program.now }
-    requires stands { IsIn program.now at }
-    requires row { is_some_type (element_of at.ty.now) ≡ true }
-    ensures leads { IfOk result (λ to. (frame : Frame) (value : Part) (path : List ℕ) (here : StandsAt frame value path at.entry) → frame.program ≡ program.now → StepsTo frame value path at.entry (Index place) to.at (along to) here) }
-    ensures refused { (why : Why) → result ≡ Err why → (frame : Frame) (value : Part) (path : List ℕ) (here : StandsAt frame value path at.entry) → frame.program ≡ program.now → RefusesIn frame.program (typed here.here.p.type here.here.p.tree) (Index place) why }
+    requires stands { IsIn program.now at.now }
+    requires row { is_some_type (element_of at.now.ty.now) ≡ true }
+    ensures leads { IfOk result (λ to. (frame : Frame) (value : Part) (path : List ℕ) (here : StandsAt frame value path at.now) → frame.program ≡ program.now → StepsTo frame value path at.now (Index place) to.at (along to) here) }
+    ensures refused { (why : Why) → result ≡ Err why → (frame : Frame) (value : Part) (path : List ℕ) (here : StandsAt frame value path at.now) → frame.program ≡ program.now → RefusesIn frame.program (typed here.here.p.type here.here.p.tree) (Index place) why }
 {
     let _ = program;
     if place >= at.count() as u64 {
@@ -84,17 +84,17 @@ pub fn element_step<'a>(program: &Program, at: Cursor<'a>, place: u64) -> Result
 pub fn field_step<'a>(
     program: &Program,
     fields: &FieldNames,
-    at: Cursor<'a>,
+    at: &Cursor<'a>,
     node: TypeId,
     name: &Word,
 ) -> Result<Step<'a>, Why>
     requires settled { Settled program.now }
     requires fields { AreNamesOf program.now.structures fields.now }
-    requires stands { IsIn program.now at }
-    requires node { (desc : Option Expr) × (at.ty.now ≡ Node node desc) }
+    requires stands { IsIn program.now at.now }
+    requires node { (desc : Option Expr) × (at.now.ty.now ≡ Node node desc) }
     requires no_union { (s : Structure) → HasStructure program.now node s → s.is_union ≡ false }
-    ensures leads { IfOk result (λ to. (frame : Frame) (value : Part) (path : List ℕ) (here : StandsAt frame value path at.entry) → frame.program ≡ program.now → StepsTo frame value path at.entry (Name name.now) to.at (along to) here) }
-    ensures refused { (why : Why) → result ≡ Err why → (frame : Frame) (value : Part) (path : List ℕ) (here : StandsAt frame value path at.entry) → frame.program ≡ program.now → RefusesIn frame.program (typed here.here.p.type here.here.p.tree) (Name name.now) why }
+    ensures leads { IfOk result (λ to. (frame : Frame) (value : Part) (path : List ℕ) (here : StandsAt frame value path at.now) → frame.program ≡ program.now → StepsTo frame value path at.now (Name name.now) to.at (along to) here) }
+    ensures refused { (why : Why) → result ≡ Err why → (frame : Frame) (value : Part) (path : List ℕ) (here : StandsAt frame value path at.now) → frame.program ≡ program.now → RefusesIn frame.program (typed here.here.p.type here.here.p.tree) (Name name.now) why }
 {
     let Some(place) = place_of_field(program, fields, node, name) else {
         return Err(Why::NoField);
@@ -110,18 +110,18 @@ pub fn field_step<'a>(
 pub fn member_step<'a>(
     program: &Program,
     fields: &FieldNames,
-    at: Cursor<'a>,
+    at: &Cursor<'a>,
     node: TypeId,
     name: &Word,
 ) -> Result<Option<Step<'a>>, Why>
     requires settled { Settled program.now }
     requires fields { AreNamesOf program.now.structures fields.now }
-    requires stands { IsIn program.now at }
-    requires node { (desc : Option Expr) × (at.ty.now ≡ Node node desc) }
+    requires stands { IsIn program.now at.now }
+    requires node { (desc : Option Expr) × (at.now.ty.now ≡ Node node desc) }
     requires a_union { (s : Structure) → HasStructure program.now node s → s.is_union ≡ true }
-    ensures leads { (to : Step) → result ≡ Ok (Some to) → (frame : Frame) (value : Part) (path : List ℕ) (here : StandsAt frame value path at.entry) → frame.program ≡ program.now → StepsTo frame value path at.entry (Name name.now) to.at (along to) here }
-    ensures inactive { result ≡ Ok None → (frame : Frame) (value : Part) (path : List ℕ) (here : StandsAt frame value path at.entry) → frame.program ≡ program.now → IsInactive frame.program here.here.p.tree node name.now }
-    ensures refused { (why : Why) → result ≡ Err why → (frame : Frame) (value : Part) (path : List ℕ) (here : StandsAt frame value path at.entry) → frame.program ≡ program.now → RefusesIn frame.program (typed here.here.p.type here.here.p.tree) (Name name.now) why }
+    ensures leads { (to : Step) → result ≡ Ok (Some to) → (frame : Frame) (value : Part) (path : List ℕ) (here : StandsAt frame value path at.now) → frame.program ≡ program.now → StepsTo frame value path at.now (Name name.now) to.at (along to) here }
+    ensures inactive { result ≡ Ok None → (frame : Frame) (value : Part) (path : List ℕ) (here : StandsAt frame value path at.now) → frame.program ≡ program.now → IsInactive frame.program here.here.p.tree node name.now }
+    ensures refused { (why : Why) → result ≡ Err why → (frame : Frame) (value : Part) (path : List ℕ) (here : StandsAt frame value path at.now) → frame.program ≡ program.now → RefusesIn frame.program (typed here.here.p.type here.here.p.tree) (Name name.now) why }
 {
     let Some(place) = place_of_field(program, fields, node, name) else {
         return Err(Why::NoField);

@@ -15,16 +15,16 @@ returns-then-is_idle-clause-refused c why e heap is =
     let v = subst (IsEndAt schema.program schema.layouts c.args.objects.now heap (spot_of c.args.to.now)) c.in-Value.is (c.requires.end heap is) in
     let same : Inactive ≡ why = cc in
     subst (RefusesLeaf schema.program heap (spot_of c.args.to.now) c.args.leaf) same
-    (idle-refused schema.program schema.layouts c.args.objects.now heap (spot_of c.args.to.now) c.in-Value.at v (sym (c.is_idle.ensures.idle heap is) ∙ c.if-is_idle.true))
+    (idle-refused schema.program schema.layouts c.args.objects.now heap (spot_of c.args.to.now) c.in-Value.at v (sym (c.is_idle.ensures.idle schema.program schema.layouts c.args.objects.now heap (spot_of c.args.to.now) v) ∙ c.if-is_idle.true))
 
 pub returns-then-is_beyond-clause-refused : goal.returns-then-is_beyond-clause-refused
 returns-then-is_beyond-clause-refused c why e heap is =
     let schema = c.args.schema.now in
     let v = subst (IsEndAt schema.program schema.layouts c.args.objects.now heap (spot_of c.args.to.now)) c.in-Value.is (c.requires.end heap is) in
     let same : OutOfRange ≡ why = cc in
-    let suits = (c.suits.ensures.suits heap.graph.objects (c.target_of-target.ensures.named heap is)).0 c.if-not-suits.false in
+    let suits = (c.suits.ensures.suits heap.graph.objects (c.target_of-target.ensures.named schema.program schema.layouts heap is)).0 c.if-not-suits.false in
     subst (RefusesLeaf schema.program heap (spot_of c.args.to.now) c.args.leaf) same
-    (beyond-refused schema.program schema.layouts c.args.objects.now heap (spot_of c.args.to.now) c.in-Value.at v c.args.leaf (sym (c.is_idle.ensures.idle heap is) ∙ c.if-is_idle.false)
+    (beyond-refused schema.program schema.layouts c.args.objects.now heap (spot_of c.args.to.now) c.in-Value.at v c.args.leaf (sym (c.is_idle.ensures.idle schema.program schema.layouts c.args.objects.now heap (spot_of c.args.to.now) v) ∙ c.if-is_idle.false)
     (subst (λ t. SuitsAs heap.graph.objects t c.args.leaf) c.ty.ensures suits) (not_from_Decides c.is_fixed.result (c.is_fixed.ensures.fixed heap is) c.if-is_fixed.false)
     (ap (λ t. is_beyond t c.args.leaf) (sym c.ty-2.ensures) ∙ sym c.is_beyond.ensures ∙ c.if-is_beyond.true))
 
@@ -32,8 +32,8 @@ pub returns-clause-takes : goal.returns-clause-takes
 returns-clause-takes c heap is =
     let schema = c.args.schema.now in
     let v = subst (IsEndAt schema.program schema.layouts c.args.objects.now heap (spot_of c.args.to.now)) c.in-Value.is (c.requires.end heap is) in
-    let suits = (c.suits.ensures.suits heap.graph.objects (c.target_of-target.ensures.named heap is)).0 c.if-not-suits.false in
-    takes-there schema.program schema.layouts c.args.objects.now heap (spot_of c.args.to.now) c.in-Value.at v c.args.leaf (sym (c.is_idle.ensures.idle heap is) ∙ c.if-is_idle.false)
+    let suits = (c.suits.ensures.suits heap.graph.objects (c.target_of-target.ensures.named schema.program schema.layouts heap is)).0 c.if-not-suits.false in
+    takes-there schema.program schema.layouts c.args.objects.now heap (spot_of c.args.to.now) c.in-Value.at v c.args.leaf (sym (c.is_idle.ensures.idle schema.program schema.layouts c.args.objects.now heap (spot_of c.args.to.now) v) ∙ c.if-is_idle.false)
     (subst (λ t. SuitsAs heap.graph.objects t c.args.leaf) c.ty.ensures suits) (not_from_Decides c.is_fixed.result (c.is_fixed.ensures.fixed heap is) c.if-is_fixed.false)
     (ap (λ t. is_beyond t c.args.leaf) (sym c.ty-2.ensures) ∙ sym c.is_beyond.ensures ∙ c.if-is_beyond.false)
 
@@ -42,11 +42,6 @@ leaf-place-requires c =
     let schema = c.args.schema.now in
     let v = subst (IsEndAt schema.program schema.layouts c.args.objects.now c.requires.ready.0 (spot_of c.args.to.now)) c.in-Value.is (c.requires.end c.requires.ready.0 c.requires.ready.1) in
     record { stands = record { at = v.frame; value = v.value; path = v.path; is = v.here.here } }
-
-pub is_idle-requires-clause-value : goal.is_idle-requires-clause-value
-is_idle-requires-clause-value c heap is =
-    let schema = c.args.schema.now in
-    subst (IsEndAt schema.program schema.layouts c.args.objects.now heap (spot_of c.args.to.now)) c.in-Value.is (c.requires.end heap is)
 
 pub is_idle-requires-clause-told : goal.is_idle-requires-clause-told
 is_idle-requires-clause-told c = leaf-told c.in-Value.at c.leaf-place.result c.leaf-place.ensures.leaf
@@ -59,4 +54,4 @@ returns-clause-found c f e heap is =
     let leaf = subst (IsLeafTold c.in-Value.at) parts.1 (leaf-told c.in-Value.at c.leaf-place.result c.leaf-place.ensures.leaf) in
     found-there schema.program schema.layouts c.args.objects.now heap (owner_of to.owner) to.places.items c.in-Value.at f (c.requires.first heap is f.element parts.0)
     (c.requires.inside c.in-Value.at c.in-Value.is f.element parts.0) leaf
-    (λ t known. named-target heap.graph.objects c.args.leaf t (subst (IsNamed heap.graph.objects c.args.leaf) (parts.2 ∙ known) (c.target_of-target.ensures.named heap is)))
+    (λ t known. named-target heap.graph.objects c.args.leaf t (subst (IsNamed heap.graph.objects c.args.leaf) (parts.2 ∙ known) (c.target_of-target.ensures.named schema.program schema.layouts heap is)))

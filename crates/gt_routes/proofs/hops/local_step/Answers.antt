@@ -10,23 +10,23 @@ use Rattle.gt_routes.proofs.hops.local_step.Goals as goal
 
 pub returns-then-not-has_elements-clause-refused : goal.returns-then-not-has_elements-clause-refused
 returns-then-not-has_elements-clause-refused c why e =
-    let none : is_some_type (element_of c.args.at.ty.now) ≡ false = ap (λ t. is_some_type (element_of t)) (sym c.ty.ensures) ∙ sym c.has_elements.ensures ∙ c.if-not-has_elements.true in
-    refused-by c.args.program.now c.args.at c.args.hop.now WrongType why e
-    (subst (λ h. RefusedFrom c.args.program.now c.args.at h WrongType) (sym c.in-Index.is) (index-from c.args.program.now c.args.at c.in-Index.place none))
+    let none : is_some_type (element_of c.args.at.now.ty.now) ≡ false = ap (λ t. is_some_type (element_of t)) (sym c.ty.ensures) ∙ sym c.has_elements.ensures ∙ c.if-not-has_elements.true in
+    refused-by c.args.program.now c.args.at.now c.args.hop.now WrongType why e
+    (subst (λ h. RefusedFrom c.args.program.now c.args.at.now h WrongType) (sym c.in-Index.is) (index-from c.args.program.now c.args.at.now c.in-Index.place none))
 
 pub returns-else-not-has_elements-clause-leads : goal.returns-else-not-has_elements-clause-leads
 returns-else-not-has_elements-clause-leads c =
-    subst (λ h. IfOk c.element_step.result (λ to. LeadsFrom c.args.program.now c.args.at h to)) (sym c.in-Index.is) c.element_step.ensures.leads
+    subst (λ h. IfOk c.element_step.result (λ to. LeadsFrom c.args.program.now c.args.at.now h to)) (sym c.in-Index.is) c.element_step.ensures.leads
 
 pub returns-else-not-has_elements-clause-refused : goal.returns-else-not-has_elements-clause-refused
 returns-else-not-has_elements-clause-refused c why e =
-    subst (λ h. RefusedFrom c.args.program.now c.args.at h why) (sym c.in-Index.is) (c.element_step.ensures.refused why e)
+    subst (λ h. RefusedFrom c.args.program.now c.args.at.now h why) (sym c.in-Index.is) (c.element_step.ensures.refused why e)
 
 pub returns-in-Some-clause-refused : goal.returns-in-Some-clause-refused
-returns-in-Some-clause-refused c why e = subst (λ h. RefusedFrom c.args.program.now c.args.at h why) (sym c.in-Name.is) (c.name_step.ensures.refused why e)
+returns-in-Some-clause-refused c why e = subst (λ h. RefusedFrom c.args.program.now c.args.at.now h why) (sym c.in-Name.is) (c.name_step.ensures.refused why e)
 
 pub returns-in-None-clause-refused : goal.returns-in-None-clause-refused
 returns-in-None-clause-refused c why e =
-    let none : itself c.args.at.ty.now ≡ None = ap itself (sym c.ty-in-Name.ensures) ∙ sym c.structure_of.ensures ∙ c.in-None.is in
-    refused-by c.args.program.now c.args.at c.args.hop.now WrongType why e
-    (subst (λ h. RefusedFrom c.args.program.now c.args.at h WrongType) (sym c.in-Name.is) (name-from c.args.program.now c.args.at c.in-Name.name none))
+    let none : itself c.args.at.now.ty.now ≡ None = ap itself (sym c.ty-in-Name.ensures) ∙ sym c.structure_of.ensures ∙ c.in-None.is in
+    refused-by c.args.program.now c.args.at.now c.args.hop.now WrongType why e
+    (subst (λ h. RefusedFrom c.args.program.now c.args.at.now h WrongType) (sym c.in-Name.is) (name-from c.args.program.now c.args.at.now c.in-Name.name none))

@@ -17,7 +17,7 @@ returns-in-Err-clause-refused c why e = let same : c.in-Err.why ≡ why = cc in 
 pub unreachable-requires : goal.unreachable-requires
 unreachable-requires c =
     let s = c.requires.stands in
-    let there = structure-there s.at s.value s.path c.args.at s.stands (subst Settled (sym s.program_is) c.requires.settled) c.args.node c.requires.node.0 c.requires.node.1 in
+    let there = structure-there s.at s.value s.path c.args.at.now s.stands (subst Settled (sym s.program_is) c.requires.settled) c.args.node c.requires.node.0 c.requires.node.1 in
     let has = subst (λ x. HasStructure x c.args.node there.0) s.program_is there.1 in
     let none = c.in_default.ensures.item in
     cc

@@ -4,7 +4,7 @@ use Rattle.gt_routes.proofs.Targets.{pointer-leaf, null-content, to-content, num
 use Rattle.gt_routes.proofs.reaching.target.Goals as goal
 
 pub returns-in_default : goal.returns-in_default
-returns-in_default c = record { target = λ frame value path here e. absurd (pointer-leaf frame value path c.args.at here c.requires.pointer (c.in_default.ensures.leaf frame value path here.here)) }
+returns-in_default c = record { target = λ frame value path here e. absurd (pointer-leaf frame value path c.args.at.now here c.requires.pointer (c.in_default.ensures.leaf frame value path here.here)) }
 
 pub read_leaf-requires-clause-from_start : goal.read_leaf-requires-clause-from_start
 read_leaf-requires-clause-from_start c =
@@ -37,5 +37,5 @@ returns-in-Num c = record {
   target = λ frame value path here e.
       let is = c.in-Some.ensures.leaf frame value path here.here in
       let holds = subst (λ r. IsContentOf (content_at r c.in-Some.place) here.here.p.tree) e is.holds in
-      absurd (number-content frame value path c.args.at here c.requires.pointer c.in-Num.field-0 (subst (λ x. IsContentOf x here.here.p.tree) (sym c.read_leaf.ensures.content ∙ c.in-Num.is) holds));
+      absurd (number-content frame value path c.args.at.now here c.requires.pointer c.in-Num.field-0 (subst (λ x. IsContentOf x here.here.p.tree) (sym c.read_leaf.ensures.content ∙ c.in-Num.is) holds));
 }

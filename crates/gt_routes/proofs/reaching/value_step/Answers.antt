@@ -33,7 +33,7 @@ returns-clause-leads c heap is =
     let steps = c.in-Ok.ensures.leads v.frame v.value v.path v.here v.program_is in
     let items : c.add_places.new.places.items ≡ c.args.reached.now.places.items ++ places = c.in-Ok-add_places.ensures.added in
     let spots : spot (owner_of c.args.reached.now.owner) c.add_places.new.places.items ≡ further at places = ap (spot (owner_of c.args.reached.now.owner)) items in
-    let value = value-further program c.args.schema.now.layouts c.args.objects.now heap at c.args.at c.in-Ok.step.at c.args.hop.now places c.requires.schema.settled v steps in
+    let value = value-further program c.args.schema.now.layouts c.args.objects.now heap at c.args.at.now c.in-Ok.step.at c.args.hop.now places c.requires.schema.settled v steps in
     record {
       t = typed p.type p.tree;
       path = places;
@@ -53,4 +53,4 @@ returns-clause-inside c =
     let schema = c.args.schema.now in
     let step = c.in-Ok.step in
     same-end schema.program schema.layouts c.args.objects.now c.args.reached.now.first c.add_places.new.places.items step.at
-    (inside-further schema.program schema.layouts c.args.objects.now c.args.reached.now.first c.args.reached.now.places.items c.add_places.new.places.items c.args.at c.args.hop.now step c.in-Ok.ensures.leads c.in-Ok-add_places.ensures.added c.requires.inside)
+    (inside-further schema.program schema.layouts c.args.objects.now c.args.reached.now.first c.args.reached.now.places.items c.add_places.new.places.items c.args.at.now c.args.hop.now step c.in-Ok.ensures.leads c.in-Ok-add_places.ensures.added c.requires.inside)

@@ -15,19 +15,19 @@ pub returns-in_default-clause-refused : goal.returns-in_default-clause-refused
 returns-in_default-clause-refused c why e frame value path here p =
     let node = c.requires.node in
     let settled = subst Settled (sym p) c.requires.settled in
-    let s = structure-there frame value path c.args.at here settled c.args.node node.0 node.1 in
+    let s = structure-there frame value path c.args.at.now here settled c.args.node node.0 node.1 in
     let has = subst (λ program. HasStructure program c.args.node s.0) p s.1 in
     let found = place-is c.args.program.now c.args.node s.0 c.args.name.now None has c.in_default.ensures.place in
     let same : NoField ≡ why = cc in
     subst (λ w. RefusesIn frame.program (typed here.here.p.type here.here.p.tree) (Name c.args.name.now) w) same
-    (field-refused frame value path c.args.at here settled c.args.node node.0 node.1 s.0 c.args.name.now s.1 found)
+    (field-refused frame value path c.args.at.now here settled c.args.node node.0 node.1 s.0 c.args.name.now s.1 found)
 
 pub returns-in_default-member-clause-inactive : goal.returns-in_default-member-clause-inactive
 returns-in_default-member-clause-inactive c e frame value path here p =
     let node = c.requires.node in
     let settled = subst Settled (sym p) c.requires.settled in
     let place = c.in-Some.place in
-    let s = structure-there frame value path c.args.at here settled c.args.node node.0 node.1 in
+    let s = structure-there frame value path c.args.at.now here settled c.args.node node.0 node.1 in
     let has = subst (λ program. HasStructure program c.args.node s.0) p s.1 in
     let found = place-is c.args.program.now c.args.node s.0 c.args.name.now (Some place) has c.in-Some.ensures.place in
     let member = c.in_default-member.ensures.member frame value path here.here in
@@ -38,7 +38,7 @@ returns-then-member-place-clause-inactive c e frame value path here p =
     let node = c.requires.node in
     let settled = subst Settled (sym p) c.requires.settled in
     let place = c.in-Some.place in
-    let s = structure-there frame value path c.args.at here settled c.args.node node.0 node.1 in
+    let s = structure-there frame value path c.args.at.now here settled c.args.node node.0 node.1 in
     let has = subst (λ program. HasStructure program c.args.node s.0) p s.1 in
     let found = place-is c.args.program.now c.args.node s.0 c.args.name.now (Some place) has c.in-Some.ensures.place in
     let member = c.in-Some-member.ensures.member frame value path here.here in
@@ -60,24 +60,24 @@ returns-in-Some-step-clause-leads c to e frame value path here p =
     let place = c.in-Some.place in
     let step = c.made.result in
     let made = c.made.ensures.made in
-    let s = structure-there frame value path c.args.at here settled c.args.node node.0 node.1 in
+    let s = structure-there frame value path c.args.at.now here settled c.args.node node.0 node.1 in
     let has = subst (λ program. HasStructure program c.args.node s.0) p s.1 in
     let found = place-is c.args.program.now c.args.node s.0 c.args.name.now (Some place) has c.in-Some.ensures.place in
     let active : member_of here.here.p.tree ≡ Some place = sym (c.in-Some-member.ensures.member frame value path here.here) ∙ ap Some c.if-member-place.false in
-    let steps = member-leads frame value path c.args.at here settled c.args.node node.0 node.1 s.0 s.1 (c.requires.a_union s.0 has) c.args.name.now place found active c.in-Some-step.next
+    let steps = member-leads frame value path c.args.at.now here settled c.args.node node.0 node.1 s.0 s.1 (c.requires.a_union s.0 has) c.args.name.now place found active c.in-Some-step.next
     (c.in-Some-step.ensures.part frame value path here.here) in
     let same : step ≡ to = cc in
-    subst (λ x. StepsTo frame value path c.args.at (Name c.args.name.now) x.at (along x) here) same
-    (subst (λ xs. StepsTo frame value path c.args.at (Name c.args.name.now) step.at xs here) (sym made.places_are)
-    (subst (λ x. StepsTo frame value path c.args.at (Name c.args.name.now) x (place ∷ []) here) (sym made.at_is) steps))
+    subst (λ x. StepsTo frame value path c.args.at.now (Name c.args.name.now) x.at (along x) here) same
+    (subst (λ xs. StepsTo frame value path c.args.at.now (Name c.args.name.now) step.at xs here) (sym made.places_are)
+    (subst (λ x. StepsTo frame value path c.args.at.now (Name c.args.name.now) x (place ∷ []) here) (sym made.at_is) steps))
 
 pub returns-in-None-clause-inactive : goal.returns-in-None-clause-inactive
 returns-in-None-clause-inactive c e frame value path here p =
     let node = c.requires.node in
     let settled = subst Settled (sym p) c.requires.settled in
     let place = c.in-Some.place in
-    let s = structure-there frame value path c.args.at here settled c.args.node node.0 node.1 in
+    let s = structure-there frame value path c.args.at.now here settled c.args.node node.0 node.1 in
     let has = subst (λ program. HasStructure program c.args.node s.0) p s.1 in
     let found = place-is c.args.program.now c.args.node s.0 c.args.name.now (Some place) has c.in-Some.ensures.place in
     let active : member_of here.here.p.tree ≡ Some place = sym (c.in-Some-member.ensures.member frame value path here.here) ∙ ap Some c.if-member-place.false in
-    absurd (member-kept frame value path c.args.at here settled c.args.node node.0 node.1 s.0 s.1 (c.requires.a_union s.0 has) c.args.name.now place found active (c.in-None.ensures.part frame value path here.here))
+    absurd (member-kept frame value path c.args.at.now here settled c.args.node node.0 node.1 s.0 s.1 (c.requires.a_union s.0 has) c.args.name.now place found active (c.in-None.ensures.part frame value path here.here))
