@@ -41,13 +41,13 @@ no-cell result p e h = subst (λ r. IsCell r p) (sym e) h
 
 -- ---- the field of a name
 
-pub named-is : (program : Program) (planes : List Plane) (node : TypeId) (name : List ℕ) (s : Structure) (plane : Plane) (i : ℕ) → HasStructure program node s → slice_get planes node.0 ≡ Some plane
-    → position_from (λ f. bytes_eq f.name name) 0 s.fields ≡ Some i
-    → field_named program planes node name ≡ (slice_get s.fields i then λ f. slice_get plane.fields i then λ spot. Some (place f.ty (begin_at spot)))
-named-is program planes node name s plane i has laid found =
+pub named-is : (program : Program) (planes : List Plane) (node : TypeId) (name : List ℕ) (s : Structure) (plane : Plane) (found : Option ℕ) → HasStructure program node s → slice_get planes node.0 ≡ Some plane
+    → position_from (λ f. bytes_eq f.name name) 0 s.fields ≡ found
+    → field_named program planes node name ≡ (found then λ i. slice_get s.fields i then λ f. slice_get plane.fields i then λ spot. Some (place f.ty (begin_at spot)))
+named-is program planes node name s plane found has laid is =
     ap (λ o. o then λ x. slice_get planes node.0 then λ p. position_from (λ f. bytes_eq f.name name) 0 x.fields then λ k. slice_get x.fields k then λ f. slice_get p.fields k then λ spot. Some (place f.ty (begin_at spot))) has
     ∙ ap (λ o. o then λ p. position_from (λ f. bytes_eq f.name name) 0 s.fields then λ k. slice_get s.fields k then λ f. slice_get p.fields k then λ spot. Some (place f.ty (begin_at spot))) laid
-    ∙ ap (λ o. o then λ k. slice_get s.fields k then λ f. slice_get plane.fields k then λ spot. Some (place f.ty (begin_at spot))) found
+    ∙ ap (λ o. o then λ k. slice_get s.fields k then λ f. slice_get plane.fields k then λ spot. Some (place f.ty (begin_at spot))) is
 
 pub spot-none : (fields : List Field) (spots : List FieldSpot) (i : ℕ) (f : Field) → slice_get fields i ≡ Some f → slice_get spots i ≡ None → (slice_get fields i then λ f. slice_get spots i then λ spot. Some (place f.ty (begin_at spot))) ≡ None
 spot-none fields spots i f has none =

@@ -2,7 +2,8 @@
 ghost use Rattle.std.specs.Prelude.{◌≡◌, ◌<◌, ◌^◌, Some, None, IfSome, MatchOption};
 ghost use Rattle.std.specs.Str.{bytes_eq};
 ghost use Rattle.std.specs.List.{position_from};
-ghost use Rattle.gt_types.specs.Contains.{itself};
+ghost use Rattle.gt_types.specs.declared.program.Structure.{Structure};
+ghost use Rattle.gt_types.specs.Contains.{HasStructure, itself};
 ghost use Rattle.gt_layout.specs.Storages.{bytes_of};
 ghost use Rattle.gt_layout.specs.Places.{begin_at};
 ghost use Rattle.gt_tree.specs.Numbers.{is_signed};
@@ -12,7 +13,7 @@ ghost use Rattle.gt_tables.specs.Building.{IsSource, around_of};
 
 use crate::sources::{Around, Source};
 use gt_layout::FieldSpot;
-use gt_types::{Base, Field, Scalar, Ty, TypeId, Width, Word};
+use gt_types::{Base, Scalar, Ty, TypeId, Width, Word};
 use gt_walk::{Origin, RowLeaf};
 
 // A type at a bit, which is counted from the begin of a structure.
@@ -101,23 +102,25 @@ fn node_of(ty: &Ty) -> Option<TypeId>
     }
 }
 
-// The place of the first field of a name.
-fn find_field(fields: &[Field], name: &Word) -> Option<usize>
-    ensures { result ≡ position_from (λ f. bytes_eq f.name name.now) 0 fields.now }
+// The place of the first field of a name in a structure.
+fn place_of(source: &Source<'_>, node: TypeId, name: &Word) -> Option<u32>
+    requires source { IsSource source.now }
+    ensures { (s : Structure) → HasStructure source.now.program.now node s → result ≡ position_from (λ f. bytes_eq f.name name.now) 0 s.fields }
 {
-    fields.iter().position(|f| f.name == *name)
+    source.layouts.names.place(node, name)
 }
 
 // The field of a name in a structure.
 fn step<'a>(source: &Source<'a>, node: TypeId, name: &Word) -> Option<Cell<'a>>
+    requires source { IsSource source.now }
     ensures is { MatchOption result (field_named source.now.program.now source.now.layouts.now.structures node name.now ≡ None) (λ c. field_named source.now.program.now source.now.layouts.now.structures node name.now ≡ Some (place c.ty.now c.at)) }
     ensures small { IfSome result (λ c. c.at < 2 ^ 36) }
 {
     let structure = source.program.structures.get(node.0 as usize)?;
     let plane = source.layouts.structures.get(node.0 as usize)?;
-    let i = find_field(structure.fields.as_slice(), name)?;
-    let field = structure.fields.get(i)?;
-    let spot = plane.fields.get(i)?;
+    let i = place_of(source, node, name)?;
+    let field = structure.fields.get(i as usize)?;
+    let spot = plane.fields.get(i as usize)?;
     Some(Cell {
         ty: &field.ty,
         at: begin_at(spot),
