@@ -1,3 +1,4 @@
-pub mod StartLemmas
+pub mod BeginLemmas
+pub mod LeadLemmas
+pub mod TrieLemmas
 pub mod EndLemmas
-pub mod WayLemmas
