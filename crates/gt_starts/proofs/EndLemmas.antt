@@ -227,6 +227,28 @@ adds-after old kept new names more same adds path begin = (
   ]),
 )
 
+module _ (old trie : Trie) (was rows was_ends ends : Rows) (grows : Grows old trie) (apart : AreApart trie) (same : AreSame was rows) (same_ends : AreSame was_ends ends)
+    (are : AreEndsOf (starts-of old was) was_ends) (names : List (List ℕ)) (node : ℕ) (row : List (List ℕ)) (more : List ℕ) (at : node_of trie names ≡ Some node) (within : node < length rows)
+    (adds : (begin : ℕ) → IsInSome row begin ↔ (IsInSome (sets_at was node) begin ⊎ IsIn more begin)) where
+  still : AreEndsOf (starts-of trie rows) ends
+  still = ends-still old trie was rows was_ends ends grows apart same same_ends are
+
+  adds-now : (begin : ℕ) → IsInSome row begin ↔ (IsInSome (sets_at rows node) begin ⊎ IsIn more begin)
+  adds-now begin = subst (λ sets. IsInSome row begin ↔ (IsInSome sets begin ⊎ IsIn more begin)) (sym (same node)) (adds begin)
+
+  -- a path is added to those that were there before its node
+  pub path-added : Adds (starts-of old was) (starts-of trie (set rows node row)) names more
+  path-added = adds-after (starts-of old was) (starts-of trie rows) (starts-of trie (set rows node row)) names more (begins-still old trie was rows was_ends ends grows apart same same_ends are)
+      (begins-put trie rows ends names node row more at within adds-now apart still)
+
+  pub ends-without : names ≡ [] → AreEndsOf (starts-of trie (set rows node row)) ends
+  ends-without none = ends-kept trie rows ends names node row more at within adds-now apart still none
+
+  pub ends-with : (end : List ℕ) (number : ℕ) (there : List (List ℕ)) → EndsIn end names → number_of trie end ≡ Some number → number < length ends
+      → ((begin : ℕ) → IsInSome there begin ↔ (IsInSome (sets_at was_ends number) begin ⊎ IsIn more begin)) → AreEndsOf (starts-of trie (set rows node row)) (set ends number there)
+  ends-with end number there is named inside joins = ends-put trie rows ends names node row more at within adds-now apart still end number there is named inside
+      (λ begin. subst (λ sets. IsInSome there begin ↔ (IsInSome sets begin ⊎ IsIn more begin)) (sym (same_ends number)) (joins begin))
+
 -- ---- where a way leads
 
 -- no way is known
@@ -286,3 +308,20 @@ ends-by-number trie ends last begin number b named is = (
 -- no path ends in a name without a number
 pub ends-not : (trie : Trie) (ends : Rows) (last : List ℕ) (begin : ℕ) → None ≡ number_of trie last → ¬ EndsAt trie ends last begin
 ends-not trie ends last begin none h = let two : None ≡ Some h.number = none ∙ h.is in absurd (cc)
+
+module _ (trie : Trie) (rows ends : Rows) (are : AreEndsOf (starts-of trie rows) ends) (last : List ℕ) where
+  -- some path that ends in a name begins anywhere, where the name's number has any sets
+  pub ends-anywhere : (number : ℕ) (b : Bool) → Some number ≡ number_of trie last → (b ≡ true ↔ ((begin : ℕ) × IsInSome (sets_at ends number) begin))
+      → (b ≡ true ↔ ((begin : ℕ) × EndsFrom (starts-of trie rows) last begin))
+  ends-anywhere number b named is = (
+    λ h. let some = is.0 h in (some.0, (are.same last some.0).0 (record { number = number; is = sym named; here = some.1 })),
+    λ h. is.1 (
+      let at = (are.same last h.0).1 h.1 in
+      let two : Some at.number ≡ Some number = sym at.is ∙ sym named in
+      let one : at.number ≡ number = cc in
+      (h.0, subst (λ n. IsInSome (sets_at ends n) h.0) one at.here)
+    ),
+  )
+
+  pub ends-nowhere : None ≡ number_of trie last → (begin : ℕ) → ¬ EndsFrom (starts-of trie rows) last begin
+  ends-nowhere none begin h = ends-not trie ends last begin none ((are.same last begin).1 h)

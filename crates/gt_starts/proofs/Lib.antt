@@ -2,3 +2,4 @@ pub mod BeginLemmas
 pub mod LeadLemmas
 pub mod TrieLemmas
 pub mod EndLemmas
+pub mod WayLemmas

@@ -165,7 +165,7 @@ trie-of trie count nodes steps = record {
 -- ---- names are added
 
 module _ (names more : List (List ℕ)) (steps : List (Step × ℕ)) (count : ℕ) (are : AreMore names more) (is : IsTrie (record { names = names; steps = steps }) count) where
-  more-child : (node : ℕ) (name : List ℕ) → child (record { names = more; steps = steps }) node name ≡ child (record { names = names; steps = steps }) node name
+  pub more-child : (node : ℕ) (name : List ℕ) → child (record { names = more; steps = steps }) node name ≡ child (record { names = names; steps = steps }) node name
   more-child node name = elim (none-or-some (position (λ other. bytes_eq other name) names)) [
     | inr was ↦ taken (position (λ other. bytes_eq other name) more) (λ number. node_at steps (record { from = node; name = number })) was.0 (are.kept name was.0 was.1)
         ∙ sym (taken (position (λ other. bytes_eq other name) names) (λ number. node_at steps (record { from = node; name = number })) was.0 was.1)
@@ -225,6 +225,12 @@ module _ (names : List (List ℕ)) (old new : List (Step × ℕ)) (from number n
     ];
   }
 
+  pub grows-put : Grows (record { names = names; steps = old }) (record { names = names; steps = new })
+  grows-put = record {
+    nodes = λ path node e. lead-kept (child (record { names = names; steps = old })) (child (record { names = names; steps = new })) from name next extends 0 path node e;
+    numbers = λ other i e. e;
+  }
+
   module _ (front : List (List ℕ)) (at : lead (child (record { names = names; steps = old })) 0 front ≡ Some from) (narrow : number < 2 ^ 32) where
     pub trie-put : IsTrie (record { names = names; steps = new }) (suc next)
     trie-put =
@@ -240,12 +246,6 @@ module _ (names : List (List ℕ)) (old new : List (Step × ℕ)) (from number n
               (omega arith, omega arith, subst (λ n. n < 2 ^ 32) two narrow)
         ])
 
-    pub grows-put : Grows (record { names = names; steps = old }) (record { names = names; steps = new })
-    grows-put = record {
-      nodes = λ path node e. lead-kept (child (record { names = names; steps = old })) (child (record { names = names; steps = new })) from name next extends 0 path node e;
-      numbers = λ other i e. e;
-    }
-
 -- ---- from one trie to the next
 
 pub grows-not : (trie : Trie) → Grows trie trie
@@ -257,10 +257,32 @@ grows-then a b c first second = record {
   numbers = λ name number e. second.numbers name number (first.numbers name number e);
 }
 
+-- a child is added to a node of a trie whose names may have grown before
+module _ (old mid : Trie) (names : List (List ℕ)) (steps new : List (Step × ℕ)) (from number next count : ℕ) (name : List ℕ) (view : record { names = names; steps = steps } ≡ mid)
+    (grows : Grows old mid) (children : child mid from name ≡ child old from name) (free : child old from name ≡ None) (named : number_of mid name ≡ Some number)
+    (there : (path : List (List ℕ)) × (node_of old path ≡ Some from)) (is : IsTrie (record { names = names; steps = steps }) next)
+    (puts : Puts steps new (record { from = from; name = number }) next) where
+  own-named : position (λ other. bytes_eq other name) names ≡ Some number
+  own-named = ap (λ (t : Trie). number_of t name) view ∙ named
+
+  own-free : child (record { names = names; steps = steps }) from name ≡ None
+  own-free = ap (λ (t : Trie). child t from name) view ∙ children ∙ free
+
+  pub added-child : child (record { names = names; steps = new }) from name ≡ Some next
+  added-child = child-put names steps new from number next name puts is own-named own-free
+
+  pub added-trie : number < 2 ^ 32 → count ≡ suc next → IsTrie (record { names = names; steps = new }) count
+  added-trie narrow more = subst (IsTrie (record { names = names; steps = new })) (sym more)
+      (trie-put names steps new from number next name puts is own-named own-free there.0 (ap (λ (t : Trie). node_of t there.0) view ∙ grows.nodes there.0 from there.1) narrow)
+
+  pub added-grows : Grows old (record { names = names; steps = new })
+  added-grows = grows-then old (record { names = names; steps = steps }) (record { names = names; steps = new })
+      (subst (Grows old) (sym view) grows) (grows-put names steps new from number next name puts is own-named own-free)
+
 -- ---- the root alone
 
 pub trie-none : (names : List (List ℕ)) (steps : List (Step × ℕ)) → names ≡ [] → steps ≡ [] → IsTrie (record { names = names; steps = steps }) 1
-trie-none names steps none no = subst (λ ns. IsTrie (record { names = ns; steps = steps }) 1) (sym none) (subst (λ ss. IsTrie (record { names = []; steps = ss }) 1) (sym no) (record {
+trie-none names steps none free = subst (λ ns. IsTrie (record { names = ns; steps = steps }) 1) (sym none) (subst (λ ss. IsTrie (record { names = []; steps = ss }) 1) (sym free) (record {
   reached = λ path node e. root path node e;
   left = λ step next e. absurd (cc);
   named = λ step next e. absurd (cc);

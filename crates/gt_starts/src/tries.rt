@@ -72,6 +72,7 @@ impl Trie {
     /// The number of a name, which is added where it is new. Its only error is out of memory.
     pub fn add_name(&mut self, name: &Word) -> Result<usize, AllocError>
         ensures number { IfOk result (λ number. number_of self.new name.now ≡ Some number) }
+        ensures children { (node : ℕ) (other : List ℕ) → child self.new node other ≡ child self.old node other }
         ensures grows { Grows self.old self.new }
         ensures apart { AreApart self.new }
     {

@@ -2,9 +2,9 @@ use Rattle.std.proofs.Common.{◌≡◌, List, ℕ, Ok, Err, Some, sym, subst}
 use Rattle.std.specs.Prelude.{OnOk, OnErr}
 use Rattle.std.specs.declared.result.Result.{Result}
 use Rattle.gt_names.specs.Lists.{with_name}
-use Rattle.gt_starts.specs.Tries.{Trie}
+use Rattle.gt_starts.specs.Tries.{Trie, child}
 use Rattle.gt_starts.specs.Nodes.{Grows, IsTrie}
-use Rattle.gt_starts.proofs.TrieLemmas.{AreMore, more-with, more-same, trie-more, grows-more}
+use Rattle.gt_starts.proofs.TrieLemmas.{AreMore, more-with, more-same, more-child, trie-more, grows-more}
 use Rattle.gt_starts.proofs.tries.Trie.add_name.Goals as goal
 
 -- the names are those that there were, or with one more
@@ -27,3 +27,9 @@ pub returns-clause-apart : goal.returns-clause-apart
 returns-clause-apart c =
     (trie-more c.self.inside.names c.add.new.self c.self.inside.steps.entries c.self.inside.count
     (more-either c.add.result c.self.inside.names c.add.new.self c.args.name.now c.add.ensures.added c.add.ensures.unchanged) c.self.invariant).apart
+
+pub returns-clause-children : goal.returns-clause-children
+returns-clause-children c =
+    subst (λ (old : Trie). (node : ℕ) (other : List ℕ) → child (record { names = c.add.new.self; steps = c.self.inside.steps.entries }) node other ≡ child old node other) c.self.view_is
+    (more-child c.self.inside.names c.add.new.self c.self.inside.steps.entries c.self.inside.count
+    (more-either c.add.result c.self.inside.names c.add.new.self c.args.name.now c.add.ensures.added c.add.ensures.unchanged) c.self.invariant)
