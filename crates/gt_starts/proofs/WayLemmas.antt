@@ -20,8 +20,8 @@ pub way-step : (trie : Trie) (program : Program) (begin : Option TypeId) (node :
     → begin ≡ Some node → path ≡ i ∷ rest → is_union program node ≡ false → name_at program node i ≡ Some name → next ≡ (from then λ n. child trie n name)
     → result ≡ (way_to program (inner_at program node i) rest then λ way. Some (next then λ n. node_from trie n way))
     → result ≡ (way_to program begin path then λ way. Some (from then λ n. node_from trie n way))
-way-step trie program begin node path rest i name from next result here on no named steps is =
+way-step trie program begin node path rest i name from next result here on known named steps is =
     is ∙ ap (λ (o : Option ℕ). way_to program (inner_at program node i) rest then λ way. Some (o then λ n. node_from trie n way)) steps
-    ∙ one-step (child trie) (is_union program node) (name_at program node i) name (way_to program (inner_at program node i) rest) from no named
+    ∙ one-step (child trie) (is_union program node) (name_at program node i) name (way_to program (inner_at program node i) rest) from known named
     ∙ ap (λ (b : Option TypeId). way_to program b (i ∷ rest) then λ way. Some (from then λ n. node_from trie n way)) (sym here)
     ∙ ap (λ (p : List ℕ). way_to program begin p then λ way. Some (from then λ n. node_from trie n way)) (sym on)

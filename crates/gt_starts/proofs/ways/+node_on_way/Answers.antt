@@ -5,6 +5,7 @@ use Rattle.gt_starts.proofs.ways.+node_on_way.Goals as goal
 pub returns : goal.returns
 returns t c =
     let ih = c.node_on_way.ensures in
-    let st = c.step.ensures in
+    let st = c.step-next.ensures in
     let nm = c.in_ok-name_at.ensures in
+    let un = c.if-is_union.ensures in
     ?

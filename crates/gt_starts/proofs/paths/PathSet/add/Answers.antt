@@ -1,4 +1,4 @@
-use Rattle.std.proofs.Common.{◌≡◌, ◌+◌, ◌<◌, ◌≤◌, ℕ, List, [], Ok, Err, length, vec_len, refl, ap, sym, subst, arith, rules}
+use Rattle.std.proofs.Common.{◌≡◌, ◌+◌, ◌<◌, ◌≤◌, ℕ, List, [], Ok, Err, length, set, vec_len, refl, ap, sym, subst, arith, rules}
 use Rattle.std.specs.Prelude.{OnErr}
 use Rattle.std.specs.declared.result.Result.{Result}
 use Rattle.gt_starts.specs.Paths.{Starts}
@@ -51,7 +51,7 @@ invariant_of-self-in_default c =
 pub returns-in_default-clause-added : goal.returns-in_default-clause-added
 returns-in_default-clause-added c =
     let within : c.in_ok-node.field-0 < length c.extended.new.rows.items = search (rules, c.in_ok-here.ensures.room) in
-    subst (λ (old : Starts). Adds old _ c.args.names.now c.args.begins.now.value) c.self.view_is
+    subst (λ (old : Starts). Adds old (starts-of c.add.new.self (set c.extended.new.rows.items c.in_ok-node.field-0 c.in_ok-here.here)) c.args.names.now c.args.begins.now.value) c.self.view_is
     (path-added c.self.inside.trie c.add.new.self c.self.inside.begins.items c.extended.new.rows.items c.self.inside.ends.items c.self.inside.ends.items c.add.ensures.grows c.add.ensures.apart c.extended.ensures.same (λ i. refl) c.self.invariant
     c.args.names.now c.in_ok-node.field-0 c.in_ok-here.here c.args.begins.now.value c.in_ok-node.ensures.node within c.in_ok-here.ensures.added)
 
@@ -66,6 +66,6 @@ invariant_of-self-2 c =
 pub returns-clause-added : goal.returns-clause-added
 returns-clause-added c =
     let within : c.in_ok-node.field-0 < length c.extended.new.rows.items = search (rules, c.in_ok-here.ensures.room) in
-    subst (λ (old : Starts). Adds old _ c.args.names.now c.args.begins.now.value) c.self.view_is
+    subst (λ (old : Starts). Adds old (starts-of c.add_name.new.self (set c.extended.new.rows.items c.in_ok-node.field-0 c.in_ok-here.here)) c.args.names.now c.args.begins.now.value) c.self.view_is
     (path-added c.self.inside.trie c.add_name.new.self c.self.inside.begins.items c.extended.new.rows.items c.self.inside.ends.items c.extended-2.new.rows.items (grows-then c.self.inside.trie c.add.new.self c.add_name.new.self c.add.ensures.grows c.add_name.ensures.grows) c.add_name.ensures.apart c.extended.ensures.same c.extended-2.ensures.same c.self.invariant
     c.args.names.now c.in_ok-node.field-0 c.in_ok-here.here c.args.begins.now.value (c.add_name.ensures.grows.nodes c.args.names.now c.in_ok-node.field-0 c.in_ok-node.ensures.node) within c.in_ok-here.ensures.added)
