@@ -5,7 +5,7 @@ use Rattle.std.proofs.lemmas.Bool.{cases_eq}
 use Rattle.gt_sets.specs.Sets.{IsIn}
 use Rattle.gt_tree.specs.Scopes.{◌then◌}
 use Rattle.gt_starts.specs.Begins.{IsInSome, sets_at}
-use Rattle.gt_starts.specs.Tries.{Trie, number_of, node_of, node_from}
+use Rattle.gt_starts.specs.Tries.{Trie, number_of, node_of}
 use Rattle.gt_starts.specs.Nodes.{AreApart, Grows}
 use Rattle.gt_starts.specs.Ways.{EndsIn, LeadsAlong}
 use Rattle.gt_starts.specs.Paths.{Starts, BeginsIn, EndsFrom}
@@ -270,10 +270,10 @@ module _ (trie : Trie) (rows ends : Rows) (are : AreEndsOf (starts-of trie rows)
       subst (λ o. b ≡ true ↔ ((names : List (List ℕ)) × BeginsIn (starts-of trie rows) names begin × LeadsAlong o last names)) (sym on.1) (
         λ h. (on.0, record { node = node; leads = on.2; here = is.0 h }, refl),
         λ h. is.1 (
-          let two : Some h.1.node ≡ Some node = sym h.1.leads ∙ ap (node_of trie) h.2 ∙ on.2 in
-          let one : h.1.node ≡ node = cc in
-          subst (λ n. IsInSome (sets_at rows n) begin) one h.1.here
-        ),
+            let two : Some h.1.node ≡ Some node = sym h.1.leads ∙ ap (node_of trie) h.2 ∙ on.2 in
+            let one : h.1.node ≡ node = cc in
+            subst (λ n. IsInSome (sets_at rows n) begin) one h.1.here
+            ),
       )
 
   -- no path has these names
@@ -299,10 +299,10 @@ pub ends-by-number : (trie : Trie) (ends : Rows) (last : List ℕ) (begin number
 ends-by-number trie ends last begin number b named is = (
   λ h. record { number = number; is = sym named; here = is.0 h },
   λ h. is.1 (
-    let two : Some h.number ≡ Some number = sym h.is ∙ sym named in
-    let one : h.number ≡ number = cc in
-    subst (λ n. IsInSome (sets_at ends n) begin) one h.here
-  ),
+      let two : Some h.number ≡ Some number = sym h.is ∙ sym named in
+      let one : h.number ≡ number = cc in
+      subst (λ n. IsInSome (sets_at ends n) begin) one h.here
+      ),
 )
 
 -- no path ends in a name without a number
@@ -316,11 +316,11 @@ module _ (trie : Trie) (rows ends : Rows) (are : AreEndsOf (starts-of trie rows)
   ends-anywhere number b named is = (
     λ h. let some = is.0 h in (some.0, (are.same last some.0).0 (record { number = number; is = sym named; here = some.1 })),
     λ h. is.1 (
-      let at = (are.same last h.0).1 h.1 in
-      let two : Some at.number ≡ Some number = sym at.is ∙ sym named in
-      let one : at.number ≡ number = cc in
-      (h.0, subst (λ n. IsInSome (sets_at ends n) h.0) one at.here)
-    ),
+        let at = (are.same last h.0).1 h.1 in
+        let two : Some at.number ≡ Some number = sym at.is ∙ sym named in
+        let one : at.number ≡ number = cc in
+        (h.0, subst (λ n. IsInSome (sets_at ends n) h.0) one at.here)
+        ),
   )
 
   pub ends-nowhere : None ≡ number_of trie last → (begin : ℕ) → ¬ EndsFrom (starts-of trie rows) last begin

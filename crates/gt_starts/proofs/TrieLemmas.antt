@@ -1,9 +1,7 @@
 -- The children of nodes, as names and steps are added.
-use Rattle.std.proofs.Common.{◌≡◌, ◌⊎◌, ℕ, suc, ◌+◌, ◌<◌, ◌≤◌, ◌^◌, Bool, true, false, not, nat_lt, cond, length, length-append, get_or, position, List, [], ◌∷◌, ◌++◌, Option, Some, None, inl, inr, refl, sym, ap, ap₂, subst, ◌∙◌, arith, if◌then◌else◌}
-use Rattle.std.specs.Prelude.{is_some}
-use Rattle.std.specs.List.{list_any, prefix_len, position_or_len}
+use Rattle.std.proofs.Common.{◌≡◌, ◌⊎◌, ℕ, suc, ◌+◌, ◌<◌, ◌≤◌, ◌^◌, Bool, true, false, nat_lt, cond, length, length-append, get_or, position, List, [], ◌∷◌, ◌++◌, Option, Some, None, inl, inr, refl, sym, ap, subst, ◌∙◌, arith, if◌then◌else◌}
+use Rattle.std.specs.List.{list_any, position_or_len}
 use Rattle.std.specs.Str.{bytes_eq}
-use Rattle.std.specs.Map.{lookup}
 use Rattle.std.specs.BTreeMap.{is_at}
 use Rattle.std.specs.Ordering.{nat_cmp, ordering_then, is_eq}
 use Rattle.std.specs.declared.cmp.Ordering.{Ordering}
@@ -19,7 +17,7 @@ use Rattle.gt_names.specs.Lists.{with_name}
 use Rattle.gt_tree.specs.Scopes.{◌then◌}
 use Rattle.gt_starts.specs.declared.tries.Step.{Step}
 use Rattle.gt_starts.specs.Tries.{Trie, step_cmp, number_of, node_at, child, lead, node_of}
-use Rattle.gt_starts.specs.Nodes.{AreApart, IsTrie, Grows}
+use Rattle.gt_starts.specs.Nodes.{IsTrie, Grows}
 use Rattle.gt_starts.proofs.LeadLemmas.{AreNodes, Extends, lead-alike, lead-kept, nodes-extended}
 
 -- ---- numbers of names

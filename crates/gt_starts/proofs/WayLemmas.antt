@@ -1,5 +1,5 @@
 -- One step on the way from a structure to a part of it.
-use Rattle.std.proofs.Common.{◌≡◌, ℕ, Bool, true, false, List, [], ◌∷◌, Option, Some, None, refl, sym, ap, subst, ◌∙◌, if◌then◌else◌}
+use Rattle.std.proofs.Common.{◌≡◌, ◌≤◌, length, get_or, drop, arith, ℕ, Bool, true, false, List, [], ◌∷◌, Option, Some, None, refl, sym, ap, ◌∙◌, if◌then◌else◌}
 use Rattle.gt_types.specs.declared.types.TypeId.{TypeId}
 use Rattle.gt_types.specs.declared.program.Program.{Program}
 use Rattle.gt_tree.specs.Scopes.{◌then◌}
@@ -25,3 +25,12 @@ way-step trie program begin node path rest i name from next result here on known
     ∙ one-step (child trie) (is_union program node) (name_at program node i) name (way_to program (inner_at program node i) rest) from known named
     ∙ ap (λ (b : Option TypeId). way_to program b (i ∷ rest) then λ way. Some (from then λ n. node_from trie n way)) (sym here)
     ∙ ap (λ (p : List ℕ). way_to program begin p then λ way. Some (from then λ n. node_from trie n way)) (sym on)
+
+-- the same, for the first place of a path and those that follow it
+pub way-step-on : (trie : Trie) (program : Program) (begin : Option TypeId) (node : TypeId) (path : List ℕ) (name : List ℕ) (from next : Option ℕ) (result : Option (Option ℕ))
+    → begin ≡ Some node → 1 ≤ length path → is_union program node ≡ false → name_at program node (get_or path 0 0) ≡ Some name → next ≡ (from then λ n. child trie n name)
+    → result ≡ (way_to program (inner_at program node (get_or path 0 0)) (drop 1 path) then λ way. Some (next then λ n. node_from trie n way))
+    → result ≡ (way_to program begin path then λ way. Some (from then λ n. node_from trie n way))
+way-step-on trie program begin node [] name from next result here some known named steps is = absurd (omega (arith, some))
+way-step-on trie program begin node (i ∷ path) name from next result here some known named steps is =
+    way-step trie program begin node (i ∷ path) path i name from next result here refl known named steps is

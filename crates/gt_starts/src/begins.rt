@@ -70,10 +70,7 @@ impl Begins {
 }
 
 // The same sets, with room for one more.
-fn copied(
-    alloc: Global,
-    sets: &[Rc<StructureSet>],
-) -> Result<Vec<Rc<StructureSet>>, AllocError>
+fn copied(alloc: Global, sets: &[Rc<StructureSet>]) -> Result<Vec<Rc<StructureSet>>, AllocError>
     ensures { IfOk result (λ made. map (λ set. set.value) made.items ≡ map (λ set. set.value) sets.now) }
 {
     let mut made = Vec::with_capacity(alloc, sets.len().saturating_add(1))?;
@@ -84,10 +81,7 @@ fn copied(
 }
 
 // One set that has the structures of all of these.
-fn joined(
-    alloc: Global,
-    sets: &[Rc<StructureSet>],
-) -> Result<Vec<Rc<StructureSet>>, AllocError>
+fn joined(alloc: Global, sets: &[Rc<StructureSet>]) -> Result<Vec<Rc<StructureSet>>, AllocError>
     ensures { IfOk result (λ made. (begin : ℕ) → IsInSome (map (λ set. set.value) made.items) begin ↔ IsInSome (map (λ set. set.value) sets.now) begin) }
 {
     let mut whole = StructureSet::new(alloc)?;

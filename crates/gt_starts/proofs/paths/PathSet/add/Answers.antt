@@ -1,4 +1,4 @@
-use Rattle.std.proofs.Common.{◌≡◌, ◌+◌, ◌<◌, ◌≤◌, ℕ, List, [], Ok, Err, length, set, vec_len, refl, ap, sym, subst, arith, rules}
+use Rattle.std.proofs.Common.{◌<◌, Ok, Err, length, set, refl, subst, rules}
 use Rattle.std.specs.Prelude.{OnErr}
 use Rattle.std.specs.declared.result.Result.{Result}
 use Rattle.gt_starts.specs.Paths.{Starts}

@@ -1,9 +1,8 @@
-use Rattle.std.proofs.Common.{◌≡◌, ◌↔◌, ℕ, List, Bool, true, false, Some, Option, sym, ap, subst, ◌∙◌}
+use Rattle.std.proofs.Common.{◌≡◌, ◌↔◌, ℕ, List, true, false, Some, Option, sym, ap, subst, ◌∙◌}
 use Rattle.gt_starts.specs.Begins.{IsInSome, sets_at}
-use Rattle.gt_starts.specs.Ends.{EndsAt}
 use Rattle.gt_starts.specs.Paths.{Starts, BeginsIn}
 use Rattle.gt_starts.specs.Ways.{way_to, LeadsAlong}
-use Rattle.gt_starts.proofs.EndLemmas.{starts-of, leads-known, leads-nowhere, leads-hidden, ends-by-number, ends-not}
+use Rattle.gt_starts.proofs.EndLemmas.{leads-known, leads-nowhere, leads-hidden, ends-by-number, ends-not}
 use Rattle.gt_starts.proofs.paths.PathSet.leads.Goals as goal
 
 -- a path that begins there leads along the way

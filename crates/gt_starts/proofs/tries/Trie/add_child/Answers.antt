@@ -1,4 +1,4 @@
-use Rattle.std.proofs.Common.{◌≡◌, ◌<◌, ◌^◌, ℕ, suc, None, Some, ap, sym, ◌∙◌, arith, rules}
+use Rattle.std.proofs.Common.{◌≡◌, ◌<◌, ◌^◌, suc, None, Some, ap, sym, ◌∙◌, arith, rules}
 use Rattle.gt_names.proofs.NameLists.{absent}
 use Rattle.gt_starts.specs.Tries.{number_of, child}
 use Rattle.gt_starts.proofs.TrieLemmas.{Puts, added-child, added-trie, added-grows}

@@ -1,9 +1,9 @@
-use Rattle.std.proofs.Common.{◌≡◌, List, ℕ, Ok, Err, Some, sym, subst}
+use Rattle.std.proofs.Common.{◌≡◌, List, ℕ, Ok, Err, sym, subst}
 use Rattle.std.specs.Prelude.{OnOk, OnErr}
 use Rattle.std.specs.declared.result.Result.{Result}
 use Rattle.gt_names.specs.Lists.{with_name}
 use Rattle.gt_starts.specs.Tries.{Trie, child}
-use Rattle.gt_starts.specs.Nodes.{Grows, IsTrie}
+use Rattle.gt_starts.specs.Nodes.{Grows}
 use Rattle.gt_starts.proofs.TrieLemmas.{AreMore, more-with, more-same, more-child, trie-more, grows-more}
 use Rattle.gt_starts.proofs.tries.Trie.add_name.Goals as goal
 
