@@ -86,6 +86,7 @@ impl Trie {
         ensures grows { Grows self.old self.new }
         ensures apart { AreApart self.new }
     {
+        // The loop asks that no two paths lead to one node, which the fields say.
         let _ = &self.count;
         let mut node = ROOT;
         for name in names {
