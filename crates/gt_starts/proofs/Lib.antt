@@ -1,3 +1,5 @@
-pub mod StartLemmas
+pub mod BeginLemmas
+pub mod LeadLemmas
+pub mod TrieLemmas
 pub mod EndLemmas
 pub mod WayLemmas

@@ -1,28 +1,36 @@
--- The names on the way from a structure to a part of it.
-use Rattle.std.proofs.Common.{◌≡◌, ℕ, Bool, true, false, List, [], ◌∷◌, Option, Some, None, refl, ap}
-use Rattle.std.specs.Prelude.{is_some, if◌then◌else◌}
+-- One step on the way from a structure to a part of it.
+use Rattle.std.proofs.Common.{◌≡◌, ◌≤◌, length, get_or, drop, arith, ℕ, Bool, true, false, List, [], ◌∷◌, Option, Some, None, refl, sym, ap, ◌∙◌, if◌then◌else◌}
 use Rattle.gt_types.specs.declared.types.TypeId.{TypeId}
 use Rattle.gt_types.specs.declared.program.Program.{Program}
 use Rattle.gt_tree.specs.Scopes.{◌then◌}
 use Rattle.gt_starts.specs.Ways.{name_at, inner_at, is_union, way_to}
-use Rattle.gt_starts.specs.Names.{names_on, in_front}
+use Rattle.gt_starts.specs.Tries.{Trie, child, lead, node_from}
+use Rattle.gt_starts.proofs.LeadLemmas.{Children}
 
-way_step : (union : Bool) (name : Option (List ℕ)) (rest : Option (List (List ℕ))) (names : List (List ℕ)) → (is_some rest ≡ true → rest ≡ Some names)
-    → is_some (if union then None else (name then λ first. rest then λ way. Some (first ∷ way))) ≡ true
-    → (if union then None else (name then λ first. rest then λ way. Some (first ∷ way))) ≡ Some (if union then [] else in_front name names)
-way_step true name rest names known some = absurd (cc)
-way_step false None rest names known some = absurd (cc)
-way_step false (Some first) None names known some = absurd (cc)
-way_step false (Some first) (Some way) names known some = let same : Some way ≡ Some names = known refl in ap (λ w. Some (first ∷ w)) (cc)
+one-step : (c : Children) (union : Bool) (o : Option (List ℕ)) (name : List ℕ) (rest : Option (List (List ℕ))) (from : Option ℕ) → union ≡ false → o ≡ Some name
+    → (rest then λ way. Some ((from then λ n. c n name) then λ n. lead c n way)) ≡ ((if union then None else (o then λ first. rest then λ way. Some (first ∷ way))) then λ way. Some (from then λ n. lead c n way))
+one-step c true o name rest from e is = absurd (cc)
+one-step c false None name rest from e is = absurd (cc)
+one-step c false (Some first) name None from e is = refl
+one-step c false (Some first) name (Some way) None e is = refl
+one-step c false (Some first) name (Some way) (Some n) e is = let same : name ≡ first = cc in ap (λ w. Some (c n w then λ m. lead c m way)) same
 
--- where the way is known, it is that of the names as far as the first union
-pub way_names : (program : Program) (begin : Option TypeId) (path : List ℕ) → is_some (way_to program begin path) ≡ true → way_to program begin path ≡ Some (names_on program begin path)
-way_names program None path some = refl
-way_names program (Some node) [] some = refl
-way_names program (Some node) (i ∷ path) some =
-    way_step (is_union program node) (name_at program node i) (way_to program (inner_at program node i) path) (names_on program (inner_at program node i) path)
-    (way_names program (inner_at program node i) path) some
+-- where the names on the rest of the way lead from a child, those on the way lead from the node
+pub way-step : (trie : Trie) (program : Program) (begin : Option TypeId) (node : TypeId) (path rest : List ℕ) (i : ℕ) (name : List ℕ) (from next : Option ℕ) (result : Option (Option ℕ))
+    → begin ≡ Some node → path ≡ i ∷ rest → is_union program node ≡ false → name_at program node i ≡ Some name → next ≡ (from then λ n. child trie n name)
+    → result ≡ (way_to program (inner_at program node i) rest then λ way. Some (next then λ n. node_from trie n way))
+    → result ≡ (way_to program begin path then λ way. Some (from then λ n. node_from trie n way))
+way-step trie program begin node path rest i name from next result here on known named steps is =
+    is ∙ ap (λ (o : Option ℕ). way_to program (inner_at program node i) rest then λ way. Some (o then λ n. node_from trie n way)) steps
+    ∙ one-step (child trie) (is_union program node) (name_at program node i) name (way_to program (inner_at program node i) rest) from known named
+    ∙ ap (λ (b : Option TypeId). way_to program b (i ∷ rest) then λ way. Some (from then λ n. node_from trie n way)) (sym here)
+    ∙ ap (λ (p : List ℕ). way_to program begin p then λ way. Some (from then λ n. node_from trie n way)) (sym on)
 
-pub no_way : (way : Option (List (List ℕ))) → is_some way ≡ false → way ≡ None
-no_way None none = refl
-no_way (Some way) none = absurd (cc)
+-- the same, for the first place of a path and those that follow it
+pub way-step-on : (trie : Trie) (program : Program) (begin : Option TypeId) (node : TypeId) (path : List ℕ) (name : List ℕ) (from next : Option ℕ) (result : Option (Option ℕ))
+    → begin ≡ Some node → 1 ≤ length path → is_union program node ≡ false → name_at program node (get_or path 0 0) ≡ Some name → next ≡ (from then λ n. child trie n name)
+    → result ≡ (way_to program (inner_at program node (get_or path 0 0)) (drop 1 path) then λ way. Some (next then λ n. node_from trie n way))
+    → result ≡ (way_to program begin path then λ way. Some (from then λ n. node_from trie n way))
+way-step-on trie program begin node [] name from next result here some known named steps is = absurd (omega (arith, some))
+way-step-on trie program begin node (i ∷ path) name from next result here some known named steps is =
+    way-step trie program begin node (i ∷ path) path i name from next result here refl known named steps is

@@ -1,4 +1,6 @@
+pub mod Begins
+pub mod Tries
+pub mod Nodes
 pub mod Ways
 pub mod Paths
-pub mod Names
-pub mod Alike
+pub mod Ends

@@ -1,25 +1,20 @@
 -- Paths of names, each with the structures at which it begins.
-use Rattle.std.specs.Prelude.{◌≡◌, ◌↔◌, ℕ, List, [], ◌∷◌, Some}
-use Rattle.std.specs.Str.{bytes_eq}
-use Rattle.std.specs.Cmp.Lexicographic.{pointwise}
-use Rattle.std.specs.Map.{lookup}
-use Rattle.gt_sets.specs.Sets.{IsIn}
+use Rattle.std.specs.Prelude.{◌≡◌, ℕ, List, Some}
+use Rattle.gt_starts.specs.Begins.{IsInSome, sets_at}
+use Rattle.gt_starts.specs.Tries.{Trie, node_of}
 use Rattle.gt_starts.specs.Ways.{EndsIn}
 
--- paths of names, each with the set of the structures at which it begins
-abbrev pub Starts : Type 0
-Starts = List (List (List ℕ) × List ℕ)
+-- paths of names as nodes, and for each node the sets of the structures at which its path begins
+pub record Starts : Type 0 where
+  pub trie : Trie
+  pub begins : List (List (List ℕ))
 
--- a path of these names is kept, which begins at the structure of this number
+-- these names lead to a node, and one of its sets has the structure of this number
 pub record BeginsIn (starts : Starts) (names : List (List ℕ)) (begin : ℕ) : Type 0 where
-  pub set : List ℕ
-  pub kept : lookup (pointwise bytes_eq names) starts ≡ Some set
-  pub here : IsIn set begin
+  pub node : ℕ
+  pub leads : node_of starts.trie names ≡ Some node
+  pub here : IsInSome (sets_at starts.begins node) begin
 
 -- some path that ends in this name begins there
 abbrev pub EndsFrom : Starts → List ℕ → ℕ → Type 0
 EndsFrom starts last begin = (names : List (List ℕ)) × EndsIn last names × BeginsIn starts names begin
-
--- No promise: paths of one name that begin where those do that end in it.
-abbrev pub AreEndsOf : Starts → Starts → Type 0
-AreEndsOf starts ends = (last : List ℕ) (begin : ℕ) → BeginsIn ends (last ∷ []) begin ↔ EndsFrom starts last begin

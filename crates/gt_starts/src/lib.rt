@@ -3,8 +3,8 @@
 #![tactic(auto)]
 
 mod begins;
-mod names;
 mod paths;
+mod tries;
 mod ways;
 
 pub use paths::PathSet;

@@ -1,37 +1,39 @@
 // Paths of names, each with the structures at which it begins.
-ghost use Rattle.std.specs.Prelude.{◌≡◌, ◌⊎◌, ◌↔◌, ℕ, List, true, Some, OnOk};
+ghost use Rattle.std.specs.Prelude.{◌≡◌, ◌⊎◌, ◌↔◌, ℕ, List, true, Some, OnOk, OnErr};
 ghost use Rattle.gt_sets.specs.Sets.{IsIn};
 ghost use Rattle.gt_starts.specs.Ways.{way_to, LeadsAlong};
 ghost use Rattle.gt_starts.specs.Paths.{BeginsIn, EndsFrom};
 
-use crate::begins::Begins;
-use crate::names::Names;
+use crate::begins::{Begins, any_at, extended, has_at};
+use crate::tries::{ROOT, Trie};
+use crate::ways::node_on_way;
 use gt_sets::StructureSet;
-use crate::ways::has_way;
 use gt_types::{Program, TypeId, Word};
 use std::alloc::{AllocError, Global};
-use std::array;
 use std::marker::Model;
 use std::rc::Rc;
 
-/// Paths of names, each with the structures at which it begins. Each path is kept once, with one bit for each structure: it takes 512 bytes
-/// besides its names, and so does each name in which paths end. Contracts see the paths with these sets.
+/// Paths of names, each with the structures at which it begins. A path takes some 50 bytes for its last name, and 8 bytes for each set that
+/// was added with it, up to eight; where there are more, they are joined into one of 512 bytes. Contracts see the paths with these sets.
 #[derive(Drop)]
 pub struct PathSet {
     alloc: Global,
-    paths: Begins,
-    // Of each name in which paths end, as a path of this one name, where these begin.
-    ends: Begins,
+    trie: Trie,
+    // Of each node where the path to it begins.
+    begins: Vec<Begins>,
+    // Of each name by its number where the paths begin that end in it.
+    ends: Vec<Begins>,
 }
 
 impl Model for PathSet {
-    ghost use Rattle.gt_starts.specs.Paths.{Starts, AreEndsOf};
+    ghost use Rattle.gt_starts.specs.Paths.{Starts};
+    ghost use Rattle.gt_starts.specs.Ends.{AreEndsOf};
 
     ghost Value = { Starts };
 
-    ghost view = { λ p. p.paths };
+    ghost view = { λ p. record { trie = p.trie; begins = p.begins.items } };
 
-    ghost invariant = { λ p. AreEndsOf p.paths p.ends };
+    ghost invariant = { λ p. AreEndsOf (record { trie = p.trie; begins = p.begins.items }) p.ends.items };
 }
 
 impl PathSet {
@@ -41,17 +43,29 @@ impl PathSet {
     {
         PathSet {
             alloc,
-            paths: Begins::new(alloc),
-            ends: Begins::new(alloc),
+            trie: Trie::new(alloc),
+            begins: Vec::new(alloc),
+            ends: Vec::new(alloc),
         }
     }
 
     /// Adds a path that begins at each of these structures. It keeps the set and does not copy it. Its time grows with the path alone. Its
-    /// only error is out of memory.
+    /// only error is out of memory; the paths are then as before.
     pub fn add(&mut self, names: &[Word], begins: &Rc<StructureSet>) -> Result<(), AllocError>
         ensures added { OnOk result ((path : List (List ℕ)) (begin : ℕ) → BeginsIn self.new path begin ↔ (BeginsIn self.old path begin ⊎ ((path ≡ names.now) × IsIn begins.now.value begin))) }
+        ensures unchanged { OnErr result ((path : List (List ℕ)) (begin : ℕ) → BeginsIn self.new path begin ↔ BeginsIn self.old path begin) }
     {
-        Err(AllocError)
+        let node = self.trie.add(names)? as usize;
+        let here = extended(self.alloc, &mut self.begins, node, begins)?;
+        let [.., last] = names else {
+            self.begins[node] = here;
+            return Ok(());
+        };
+        let name = self.trie.add_name(last)?;
+        let there = extended(self.alloc, &mut self.ends, name, begins)?;
+        self.begins[node] = here;
+        self.ends[name] = there;
+        Ok(())
     }
 
     /// Whether a path that begins at a structure may lead from there to the leaf at a path of places, whose field has the name `last`. It
@@ -59,21 +73,23 @@ impl PathSet {
     pub fn leads(&self, program: &Program, begin: TypeId, path: &[u32], last: &Word) -> bool
         ensures leads { result ≡ true ↔ ((names : List (List ℕ)) × BeginsIn self.now names begin.0 × LeadsAlong (way_to program.now (Some begin) path.now) last.now names) }
     {
-        if !has_way(program, Some(begin), path) {
-            return self.ends.has(Names::Listed(array::from_ref(last)), begin.0);
+        match node_on_way(&self.trie, program, Some(begin), path, Some(ROOT)) {
+            Some(Some(node)) => has_at(&self.begins, node as usize, begin.0),
+            Some(None) => false,
+            None => match self.trie.number(last) {
+                Some(name) => has_at(&self.ends, name, begin.0),
+                None => false,
+            },
         }
-        let way = Names::OnWay {
-            program,
-            begin: Some(begin),
-            path,
-        };
-        self.paths.has(way, begin.0)
     }
 
     /// Whether some path that begins anywhere ends in a name. It takes no memory, and its time grows with the name alone.
     pub fn ends(&self, last: &Word) -> bool
         ensures ends { result ≡ true ↔ ((begin : ℕ) × EndsFrom self.now last.now begin) }
     {
-        self.ends.has_any(Names::Listed(array::from_ref(last)))
+        match self.trie.number(last) {
+            Some(name) => any_at(&self.ends, name),
+            None => false,
+        }
     }
 }
