@@ -224,13 +224,7 @@ impl<'a> PathChecks<'a> {
         ensures same { self.new ≡ self.old }
     {
         let found = self.outermost.take();
-        let mut outermost = Outermost::or_of(
-            found,
-            self.alloc,
-            self.program,
-            self.index,
-            self.node,
-        )?;
+        let mut outermost = Outermost::or_of(found, self.alloc, self.index, self.node)?;
         let leads = outermost.lead(self.alloc, self.program, self.index, self.node, steps)?;
         self.outermost = Some(outermost);
         Ok(leads)
