@@ -5,6 +5,7 @@ pub mod ByNumber
 pub mod ByStep
 pub mod Marking
 pub mod Ascents
+pub mod Ancestors
 pub mod Containing
 pub mod Outermost
 pub mod Fitting

@@ -1,78 +1,76 @@
--- The outermost structures, as those above that are not inner.
-use Rattle.std.proofs.Common.{◌≡◌, ◌⊎◌, inl, inr, ℕ, Bool, true, false, not, cond, List, [], ◌∷◌, refl, sym, ap, subst, ◌∙◌, arith}
-use Rattle.std.specs.Prelude.{Contains, filter, IfOk, IsTrue, Result, Ok, Err}
-use Rattle.std.proofs.lemmas.List.Elements.{Contains-append_right, Contains-append_cases}
+-- The outermost structures, as those of a set that are not inner.
+use Rattle.std.proofs.Common.{◌≡◌, ◌⊎◌, inl, inr, ℕ, ◌+◌, ◌<◌, ◌≤◌, ◌↔◌, Bool, true, false, List, Option, Some, slice_get, refl, sym, subst, ◌∙◌, arith, IfSome}
+use Rattle.std.specs.Prelude.{Contains, IsTrue}
+use Rattle.std.specs.declared.alloc.Global.{Global}
+use Rattle.std.specs.declared.rc.Rc.{Rc}
+use Rattle.std.proofs.lemmas.Bool.{cases_lt}
 use Rattle.gt_types.specs.declared.types.TypeId.{TypeId}
 use Rattle.gt_types.specs.declared.program.Program.{Program}
-use Rattle.gt_types.specs.Contains.{ContainsAtDepth}
+use Rattle.gt_sets.specs.Sets.{IsIn}
 use Rattle.gt_paths.specs.declared.indexes.PathIndex.{PathIndex}
-use Rattle.gt_paths.specs.Climbs.{AreAbove}
+use Rattle.gt_paths.specs.declared.outers.Outers.{Outers}
 use Rattle.gt_paths.specs.Indexes.{inner_in}
-use Rattle.gt_paths.specs.Numbers.{mark_at, numbered}
+use Rattle.gt_paths.specs.Numbers.{mark_at}
 use Rattle.gt_paths.specs.OuterPaths.{AreStarts}
-use Rattle.gt_paths.proofs.Ascents.{is_one}
+use Rattle.gt_paths.specs.Outers.{AreOutersOf, IsOuter}
+use Rattle.gt_paths.proofs.Ascents.{last_or_before}
 
-first_or_later : (y x : ℕ) (ys : List ℕ) → Contains (y ∷ ys) x → (x ≡ y) ⊎ Contains ys x
-first_or_later y x ys there = elim (Contains-append_cases (y ∷ []) ys x there) [
-  | inl first ↦ inl (is_one y x first)
-  | inr later ↦ inr later
-]
+-- ---- those of a set that are not marked
 
-chosen : (p : ℕ → Bool) (xs : List ℕ) (x : ℕ) → Contains xs x → p x ≡ true → Contains (filter p xs) x
-chosen p [] x there holds = there
-chosen p (y ∷ ys) x there holds = elim (first_or_later y x ys there) [
-  | inl same ↦
-      let passes : p y ≡ true = ap p (sym same) ∙ holds in
-      subst (λ (b : Bool). Contains (cond b (y ∷ filter p ys) (filter p ys)) x) (sym passes) (0, omega arith, sym same)
-  | inr later ↦ by (p y) (chosen p ys x later holds)
-]
-  where
-    by : (b : Bool) → Contains (filter p ys) x → Contains (cond b (y ∷ filter p ys) (filter p ys)) x
-    by true at = Contains-append_right (y ∷ []) (filter p ys) x at
-    by false at = at
+-- all of them below a number
+abbrev pub AreFree : List Bool → List ℕ → ℕ → List ℕ → Type 0
+AreFree inner set from starts = (i : ℕ) → Contains starts i ↔ ((i < from) × IsIn set i × (mark_at inner i ≡ false))
 
-was_by : (p : ℕ → Bool) (y : ℕ) (ys : List ℕ) (x : ℕ) (b : Bool) → p y ≡ b → (Contains (filter p ys) x → Contains ys x × (p x ≡ true))
-    → Contains (cond b (y ∷ filter p ys) (filter p ys)) x → Contains (y ∷ ys) x × (p x ≡ true)
-was_by p y ys x true is rest at = elim (first_or_later y x (filter p ys) at) [
-  | inl same ↦ ((0, omega arith, sym same), ap p same ∙ is)
-  | inr later ↦ let found = rest later in (Contains-append_right (y ∷ []) ys x found.0, found.1)
-]
-was_by p y ys x false is rest at = let found = rest at in (Contains-append_right (y ∷ []) ys x found.0, found.1)
+pub lacks : {b : Bool} → b ≡ false → b ≡ true → ⊥
+lacks unset is_set = let e : true ≡ false = sym is_set ∙ unset in absurd (cc)
 
-was_there : (p : ℕ → Bool) (xs : List ℕ) (x : ℕ) → Contains (filter p xs) x → Contains xs x × (p x ≡ true)
-was_there p [] x there = absurd (omega (arith, there.1))
-was_there p (y ∷ ys) x there = was_by p y ys x (p y) refl (was_there p ys x) there
+pub none_free : (inner : List Bool) (set starts : List ℕ) → ((i : ℕ) → ¬ Contains starts i) → AreFree inner set 0 starts
+none_free inner set starts none i = (λ listed. absurd (none i listed), λ (below, held, free). absurd (omega (arith, below)))
 
-free : (b : Bool) → ¬ IsTrue b → not b ≡ true
-free true never = absurd (never refl)
-free false never = refl
+-- the next is looked at
+pub free_more : (inner : List Bool) (set : List ℕ) (from id after : ℕ) (old new : List ℕ) → IsIn set id → ((j : ℕ) → from ≤ j → j < id → ¬ IsIn set j) → from ≤ id → after ≡ id + 1
+    → ((i : ℕ) → Contains new i ↔ (Contains old i ⊎ ((i ≡ id) × (mark_at inner i ≡ false)))) → AreFree inner set from old → AreFree inner set after new
+free_more inner set from id after old new there none reached next added before i = (
+  λ listed. elim ((added i).0 listed) [
+    | inl was ↦ let (below, held, free) = (before i).0 was in (omega (arith, below, reached, next), held, free)
+    | inr (same, free) ↦ (omega (arith, same, next), subst (λ (x : ℕ). IsIn set x) (sym same) there, free)
+  ],
+  λ (below, held, free). elim (last_or_before id i (omega (arith, below, next))) [
+    | inl less ↦ elim (cases_lt i from) [
+      | inl old_one ↦ (added i).1 (inl ((before i).1 (old_one, held, free)))
+      | inr past ↦ absurd (none i past less held)
+    ]
+    | inr same ↦ (added i).1 (inr (same, free))
+  ],
+)
 
-inner_no : (b : Bool) → not b ≡ true → ¬ IsTrue b
-inner_no true e p = absurd (cc)
-inner_no false e p = absurd (cc)
+-- none is left
+pub all_free : (inner : List Bool) (set : List ℕ) (from : ℕ) (starts : List ℕ) → ((j : ℕ) → from ≤ j → ¬ IsIn set j) → AreFree inner set from starts
+    → (i : ℕ) → Contains starts i ↔ (IsIn set i × (mark_at inner i ≡ false))
+all_free inner set from starts none before i = (
+  λ listed. let (below, held, free) = (before i).0 listed in (held, free),
+  λ (held, free). elim (cases_lt i from) [
+    | inl old_one ↦ (before i).1 (old_one, held, free)
+    | inr past ↦ absurd (none i past held)
+  ],
+)
 
-pub are_starts : (program : Program) (index : PathIndex) (node : TypeId) (above starts : List ℕ) → AreAbove program (node.0 ∷ []) above
-    → starts ≡ filter (λ id. not (mark_at index.inner id)) above → AreStarts (inner_in index) program node starts
-are_starts program index node above starts found same = record {
-  all = λ outer (free_one, at).
-      subst (λ (xs : List ℕ). Contains xs outer.0) (sym same)
-      (chosen (λ id. not (mark_at index.inner id)) above outer.0 (found.all outer.0 (node.0, (0, omega arith, refl), from outer at))
-      (free (mark_at index.inner outer.0) free_one));
-  only = λ start there.
-      let was = was_there (λ id. not (mark_at index.inner id)) above start (subst (λ (xs : List ℕ). Contains xs start) same there) in
-      (inner_no (mark_at index.inner start) was.1, to start (found.only start was.0));
+-- ---- those around a structure
+
+is_false : (b : Bool) → ¬ IsTrue b → b ≡ false
+is_false true never = absurd (never refl)
+is_false false never = refl
+
+outers_here : (program : Program) (outers : Outers) (node : ℕ) (set : Rc (List ℕ) Global) → AreOutersOf program outers → slice_get outers.sets node ≡ Some set
+    → (i : ℕ) → IsIn set.value i ↔ IsOuter program node i
+outers_here program outers node set are at = subst (λ (o : Option (Rc (List ℕ) Global)). IfSome o (λ s. (i : ℕ) → IsIn s.value i ↔ IsOuter program node i)) at (are.are node)
+
+pub are_starts : (program : Program) (index : PathIndex) (node : TypeId) (set : Rc (List ℕ) Global) (seen starts : List ℕ) → AreOutersOf program index.outers
+    → Some set ≡ slice_get index.outers.sets node.0 → seen ≡ set.value → ((i : ℕ) → Contains starts i ↔ (IsIn seen i × (mark_at index.inner i ≡ false))) → AreStarts (inner_in index) program node starts
+are_starts program index node set seen starts outers at same chosen = record {
+  all = λ outer (free, one). (chosen outer.0).1 ((around outer.0).1 one, is_false (mark_at index.inner outer.0) free);
+  only = λ start there. let (held, free) = (chosen start).0 there in (λ marked. lacks free marked, (around start).0 held);
 }
   where
-    from : (outer : TypeId) → (outer ≡ node) ⊎ ContainsAtDepth program outer node → (outer.0 ≡ node.0) ⊎ ContainsAtDepth program (numbered outer.0) (numbered node.0)
-    from outer (inl e) = inl (ap (λ (t : TypeId). t.0) e)
-    from outer (inr contains) = inr contains
-
-    to : (start : ℕ) → (x : ℕ) × Contains (node.0 ∷ []) x × ((start ≡ x) ⊎ ContainsAtDepth program (numbered start) (numbered x)) → (numbered start ≡ node) ⊎ ContainsAtDepth program (numbered start) node
-    to start (x, at, inl e) = inl (ap numbered (e ∙ is_one node.0 x at))
-    to start (x, at, inr contains) = inr (subst (λ (z : ℕ). ContainsAtDepth program (numbered start) (numbered z)) (is_one node.0 x at) contains)
-
-pub starts_chosen : {V E : Type 0} (program : Program) (index : PathIndex) (node : TypeId) (above seen : List ℕ) (r : Result V E) (items : V → List ℕ)
-    → AreAbove program (node.0 ∷ []) above → seen ≡ above → IfOk r (λ v. items v ≡ filter (λ id. not (mark_at index.inner id)) seen) → IfOk r (λ v. AreStarts (inner_in index) program node (items v))
-starts_chosen program index node above seen (Ok v) items found same chosen =
-    are_starts program index node above (items v) found (chosen ∙ ap (filter (λ id. not (mark_at index.inner id))) same)
-starts_chosen program index node above seen (Err e) items found same chosen = chosen
+    around : (i : ℕ) → IsIn seen i ↔ IsOuter program node.0 i
+    around = subst (λ (words : List ℕ). (i : ℕ) → IsIn words i ↔ IsOuter program node.0 i) (sym same) (outers_here program index.outers node.0 set outers (sym at))

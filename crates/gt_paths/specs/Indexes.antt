@@ -10,13 +10,15 @@ use Rattle.gt_types.specs.Paths.{Inner, IsInner, MayStep}
 use Rattle.gt_fields.specs.FieldNames.{AreNamesOf}
 use Rattle.gt_paths.specs.declared.indexes.PathIndex.{PathIndex}
 use Rattle.gt_paths.specs.Containers.{AreContainersOf}
+use Rattle.gt_paths.specs.Outers.{AreOutersOf}
 use Rattle.gt_paths.specs.Numbers.{mark_at, mark_in}
 
--- an index finds the fields of a program by their names, and knows which structures contain one, and where paths may go
+-- an index finds the fields of a program by their names, and knows which structures contain one, which may be outermost around it, and where paths may go
 pub record IsIndexOn (program : Program) (index : PathIndex) : Type 0 where
   pub names : AreNamesOf program.structures index.names
   pub distinct : index.distinct ≡ true → All (λ s. AllPairs (λ f g. f.name ≢ g.name) s.fields) program.structures
   pub containers : AreContainersOf program index.containers
+  pub outers : AreOutersOf program index.outers
   pub steps : (node : TypeId) (s : Structure) (place : ℕ) (f : Field) → HasStructure program node s → slice_get s.fields place ≡ Some f
       → Decides (mark_in index.steps node.0 place) (MayStep program s f)
 

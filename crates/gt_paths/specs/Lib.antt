@@ -2,6 +2,7 @@ pub mod Results
 pub mod Numbers
 pub mod Containers
 pub mod Climbs
+pub mod Ancestors
 pub mod Outers
 pub mod Indexes
 pub mod Steps

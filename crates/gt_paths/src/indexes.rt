@@ -11,19 +11,21 @@ use crate::commons::step_rows;
 use crate::containers::Containers;
 use crate::distinct::are_distinct;
 use crate::inner::inner_marks;
+use crate::outers::Outers;
 use crate::plain::plain_marks;
 use gt_fields::FieldNames;
 use gt_types::{List, Program, TypeId, Word};
 use std::alloc::{AllocError, Global};
 
-/// What checks of paths look up, made once for a program: fields by name, which structures contain a structure, which are
-/// inner, and common structures.
+/// What checks of paths look up, made once for a program: fields by name, which structures contain a structure, which may be outermost
+/// around it, which are inner, and common structures. It takes 512 bytes for each structure, besides what it takes for each field.
 #[derive(Drop)]
 pub struct PathIndex {
     names: FieldNames,
     // Whether no structure has two fields of one name.
     distinct: bool,
     containers: Containers,
+    outers: Outers,
     // Which structures are inner, by number.
     inner: List<bool>,
     // Whether a path may go to a field, by the number of the structure and the place of the field.
@@ -55,12 +57,14 @@ impl PathIndex {
         let names = FieldNames::of(alloc, program.structures.as_slice())?;
         let distinct = are_distinct(program, &names);
         let containers = Containers::of_program(alloc, program)?;
+        let outers = Outers::of_program(alloc, program, &containers)?;
         let plain = plain_marks(alloc, program, &containers)?;
         let steps = step_rows(alloc, program, &plain)?;
         Ok(PathIndex {
             names,
             distinct,
             containers,
+            outers,
             inner,
             steps,
         })
@@ -92,6 +96,13 @@ impl PathIndex {
         ensures containers { result.now ≡ self.now.containers }
     {
         &self.containers
+    }
+
+    /// Which structures may be outermost around a structure.
+    pub(crate) fn outers(&self) -> &Outers
+        ensures outers { result.now ≡ self.now.outers }
+    {
+        &self.outers
     }
 
     /// Whether the structure of this number is marked as inner.

@@ -22,7 +22,6 @@ mod steps;
 mod structures;
 
 pub use checks::PathChecks;
-pub use climbing::climb;
 pub use containers::Containers;
 pub use indexes::PathIndex;
 pub use outers::Outers;

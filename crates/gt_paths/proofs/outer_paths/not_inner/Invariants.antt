@@ -1,7 +1,9 @@
-use Rattle.std.proofs.Common.{◌≡◌, not, take}
-use Rattle.std.specs.Prelude.{filter}
-use Rattle.gt_paths.specs.Numbers.{mark_at}
+use Rattle.std.proofs.Common.{◌-◌, ◌*◌, length}
+use Rattle.gt_paths.proofs.Outermost.{AreFree}
 use Rattle.gt_paths.proofs.outer_paths.not_inner.Given as goal
 
-abbrev pub invariant-loop-id : goal.invariant-loop-id
-invariant-loop-id l = l.starts.items ≡ filter (λ id. not (mark_at l.index.inner id)) (take l.id-index l.above)
+abbrev pub invariant-ids : goal.invariant-ids
+invariant-ids l = AreFree l.index.inner l.set l.from l.starts.items
+
+abbrev pub decreases-ids : goal.decreases-ids
+decreases-ids l = 64 * length l.set - l.from

@@ -9,5 +9,6 @@ returns-clause-index c = record {
   names = subst (λ (xs : List Structure). AreNamesOf xs c.in_ok-names.names) c.as_slice.ensures.items c.in_ok-names.ensures.names;
   distinct = c.are_distinct-distinct.ensures.distinct;
   containers = c.in_ok-containers.ensures.containers;
+  outers = c.in_ok-outers.ensures.outers;
   steps = rows_are c.args.program.now c.in_ok-steps.steps c.in_ok-steps.ensures.rows;
 }

@@ -5,8 +5,8 @@ use Rattle.gt_paths.proofs.outer_paths.Outermost.of.Goals as goal
 
 pub returns : goal.returns
 returns c = record {
-  around = record {
-    starts = subst (λ (starts : List ℕ). AreStarts (inner_in c.args.index.now) c.args.program.now c.args.node starts) (sym c.of.ensures.items) c.in_ok-starts.ensures.starts;
-    answers = c.new.ensures.answers c.args.program.now c.of.result;
+  around = λ program on. record {
+    starts = subst (λ (starts : List ℕ). AreStarts (inner_in c.args.index.now) program c.args.node starts) (sym c.of.ensures.items) (c.in_ok-starts.ensures.starts program on);
+    answers = c.new.ensures.answers program c.of.result;
   };
 }
