@@ -1,6 +1,6 @@
 -- Sets of the structures at which paths begin.
 use Rattle.std.proofs.Common.{◌≡◌, ℕ, ◌+◌, ◌<◌, ◌≤◌, List, length, refl, ap, sym, subst, ◌∙◌, ◌⊎◌, arith, Option, Some, inl, inr}
-use Rattle.std.specs.Prelude.{◌↔◌, Contains, IfSome, IfOk, Result, Ok, Err, slice_get}
+use Rattle.std.specs.Prelude.{◌↔◌, Contains, IfSome, slice_get}
 use Rattle.std.proofs.lemmas.Bool.{cases_lt}
 use Rattle.std.proofs.lemmas.Option.{slice_get_within, slice_get-get_or, get_or_from_slice_get}
 use Rattle.gt_types.specs.declared.program.Program.{Program}
@@ -10,14 +10,9 @@ use Rattle.gt_paths.specs.Numbers.{numbered}
 use Rattle.gt_sets.specs.Sets.{IsIn}
 use Rattle.gt_leaf.specs.Seeking.{IsContainer}
 
--- what follows of what is made
-pub if-ok : {A E : Type 0} {P Q : A → Type 0} (r : Result A E) → ((a : A) → P a → Q a) → IfOk r P → IfOk r Q
-if-ok (Ok a) f p = f a p
-if-ok (Err e) f p = p
-
 -- what is said of what there is
-pub if-there : {A : Type 0} {P : A → Type 0} (found o : Option A) (a : A) → found ≡ o → found ≡ Some a → IfSome o P → P a
-if-there {A} {P} found o a is there p = subst (λ x. IfSome x P) (sym is ∙ there) p
+pub if-there : {A : Type 0} (P : A → Type 0) (found o : Option A) (a : A) → found ≡ o → found ≡ Some a → IfSome o P → P a
+if-there P found o a is there p = subst (λ x. IfSome x P) (sym is ∙ there) p
 
 -- ---- the numbers of a list
 

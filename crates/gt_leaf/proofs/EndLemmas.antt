@@ -1,5 +1,5 @@
 -- Each known way to a field ends in its name: where no path ends in it, none leads there.
-use Rattle.std.proofs.Common.{◌≡◌, ℕ, Bool, true, false, List, [], ◌∷◌, ◌++◌, refl, ap, sym, subst, ◌∙◌, ◌⊎◌, Option, Some, None, inl, inr, if◌then◌else◌}
+use Rattle.std.proofs.Common.{◌≡◌, ℕ, ◌≤◌, Bool, true, false, List, [], ◌∷◌, ◌++◌, length, refl, ap, sym, subst, ◌∙◌, ◌⊎◌, arith, Option, Some, None, inl, inr, if◌then◌else◌}
 use Rattle.std.specs.Prelude.{◌↔◌, Contains}
 use Rattle.std.proofs.lemmas.List.{append_assoc}
 use Rattle.gt_types.specs.declared.types.TypeId.{TypeId}
@@ -17,7 +17,7 @@ use Rattle.gt_leaf.proofs.Members.{nothing, first-or-later}
 use Rattle.gt_leaf.proofs.WaySteps.{Names, with_first, after}
 
 -- a way is not known, or goes on so after some names
-GoesOn : Option Names → Option Names → Type 0
+abbrev GoesOn : Option Names → Option Names → Type 0
 GoesOn way rest = (way ≡ None) ⊎ ((front : Names) × (way ≡ after front rest))
 
 after-both : (front names : Names) (way : Option Names) → after front (after names way) ≡ after (front ++ names) way
@@ -35,7 +35,7 @@ way-steps true name rest = inl refl
 way-steps false None rest = inl refl
 way-steps false (Some n) rest = inr (n ∷ [], refl)
 
-way-over : (program : Program) (begin : Option TypeId) → way_to program begin [] ≡ Some []
+pub way-over : (program : Program) (begin : Option TypeId) → way_to program begin [] ≡ Some []
 way-over program None = refl
 way-over program (Some node) = refl
 
@@ -46,7 +46,7 @@ last-steps false None last rest e is = absurd (cc)
 last-steps false (Some n) last rest e is = let same : n ≡ last = cc in inr ([], ap (with_first n) is ∙ ap (λ x. Some (x ∷ [])) same)
 
 -- the known ways from these structures go on so
-AllGo : List Enclosing → Option Names → Type 0
+abbrev AllGo : List Enclosing → Option Names → Type 0
 AllGo structures rest = (outer : Enclosing) → Contains structures outer → GoesOn outer.1 rest
 
 none-go : (rest : Option Names) → AllGo [] rest
@@ -96,3 +96,11 @@ module _ (program : Program) (last : List ℕ) where
           let all = all-end path type (none_around None) is (none-go (way_to program (type then itself) path)) in
           let so : ends ≡ true = any.1 (outer.0.0, (names, along-ends outer.1 names (all outer c) leads, begins)) in
           absurd (cc)
+
+-- ---- the last name
+
+-- one step on a path that goes on
+pub name-step : (program : Program) (o : Option Ty) (type : Ty) (path : List ℕ) (i : ℕ) (rest : List ℕ) (next : Option Ty) → o ≡ Some type → path ≡ i ∷ rest → 1 ≤ length rest → next ≡ part_at program type i
+    → last_name program o path ≡ last_name program next rest
+name-step program o type path i [] next there is more goes = absurd (omega (arith, more))
+name-step program o type path i (j ∷ rest) next there is more goes = ap (λ q. last_name program q path) there ∙ ap (last_name program (Some type)) is ∙ ap (λ q. last_name program q (j ∷ rest)) (sym goes)

@@ -29,7 +29,9 @@ fn name_in<'a>(program: &'a Program, ty: &'a Ty, i: u32) -> Option<&'a Word>
 fn last_name<'a>(program: &'a Program, ty: Option<&'a Ty>, path: &[u32]) -> Option<&'a Word>
     ensures { option_copied result ≡ last_name program.now (option_copied ty.entry) path.now }
 {
-    let ty = ty?;
+    let Some(ty) = ty else {
+        return None;
+    };
     let [i, rest @ ..] = path else {
         return None;
     };

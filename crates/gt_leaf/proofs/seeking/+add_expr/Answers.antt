@@ -3,8 +3,15 @@ use Rattle.gt_types.specs.Paths.{paths_of}
 use Rattle.gt_paths.proofs.PartLists.{paths-two, paths-cond}
 use Rattle.gt_sets.specs.Sets.{IsIn}
 use Rattle.gt_starts.specs.Paths.{BeginsIn}
-use Rattle.gt_leaf.proofs.ExprPaths.{on-ok, gains-two, gains-three}
+use Rattle.gt_leaf.proofs.ExprPaths.{on-ok, gains-path, gains-two, gains-three}
 use Rattle.gt_leaf.proofs.seeking.+add_expr.Goals as goal
+
+pub returns-then-is_same : goal.returns-then-is_same
+returns-then-is_same t c = record {
+  added = on-ok c.add.result
+      (gains-path c.args.base (IsIn c.args.begins.now.value) c.in-Path.own c.args.e.now c.as_slice.result.now _ (BeginsIn c.args.paths.now) (BeginsIn c.add.new.self) (sym c.is_same.ensures ∙ c.if-is_same.true) c.in-Path.is c.as_slice.ensures.items)
+      c.add.ensures.added;
+}
 
 pub returns-in_ok-add_expr-in-Two : goal.returns-in_ok-add_expr-in-Two
 returns-in_ok-add_expr-in-Two t c =
