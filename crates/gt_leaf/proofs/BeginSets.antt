@@ -1,23 +1,18 @@
 -- Sets of the structures at which paths begin.
-use Rattle.std.proofs.Common.{◌≡◌, ℕ, ◌+◌, ◌<◌, ◌≤◌, List, [], ◌∷◌, length, refl, ap, sym, subst, ◌∙◌, ◌⊎◌, arith, Some, inl, inr}
-use Rattle.std.specs.Prelude.{◌↔◌, Contains, IfOk, Result, Ok, Err, slice_get}
+use Rattle.std.proofs.Common.{◌≡◌, ℕ, ◌+◌, ◌<◌, ◌≤◌, List, length, refl, ap, sym, subst, ◌∙◌, ◌⊎◌, arith, Option, Some, inl, inr}
+use Rattle.std.specs.Prelude.{◌↔◌, Contains, IfSome, slice_get}
 use Rattle.std.proofs.lemmas.Bool.{cases_lt}
 use Rattle.std.proofs.lemmas.Option.{slice_get_within, slice_get-get_or, get_or_from_slice_get}
-use Rattle.gt_types.specs.declared.types.TypeId.{TypeId}
 use Rattle.gt_types.specs.declared.program.Program.{Program}
-use Rattle.gt_types.specs.Contains.{ContainsAtDepth}
 use Rattle.gt_paths.specs.declared.containers.Containers.{Containers}
-use Rattle.gt_paths.specs.Climbs.{AreAbove}
 use Rattle.gt_paths.specs.Containers.{AreContainersOf, containers_of}
 use Rattle.gt_paths.specs.Numbers.{numbered}
-use Rattle.gt_paths.proofs.Ascents.{is_one}
-use Rattle.gt_starts.specs.Sets.{IsIn}
-use Rattle.gt_leaf.specs.Seeking.{IsContainer, IsOuter}
+use Rattle.gt_sets.specs.Sets.{IsIn}
+use Rattle.gt_leaf.specs.Seeking.{IsContainer}
 
--- what follows of what is made
-pub if-ok : {A E : Type 0} {P Q : A → Type 0} (r : Result A E) → ((a : A) → P a → Q a) → IfOk r P → IfOk r Q
-if-ok (Ok a) f p = f a p
-if-ok (Err e) f p = p
+-- what is said of what there is
+pub if-there : {A : Type 0} (P : A → Type 0) (found o : Option A) (a : A) → found ≡ o → found ≡ Some a → IfSome o P → P a
+if-there P found o a is there p = subst (λ x. IfSome x P) (sym is ∙ there) p
 
 -- ---- the numbers of a list
 
@@ -65,20 +60,3 @@ iff-both f g = (λ a. g.0 (f.0 a), λ c. f.1 (g.1 c))
 pub set-containers : (program : Program) (containers : Containers) (node : ℕ) (words ids : List ℕ) → AreContainersOf program containers → ids ≡ containers_of containers node → ((i : ℕ) → IsIn words i ↔ Contains ids i) → (i : ℕ) → IsIn words i ↔ IsContainer program node i
 set-containers program containers node words ids are is set i =
     iff-both (set i) (subst (λ xs. Contains xs i ↔ IsContainer program node i) (sym is) (λ c. are.only i node c, λ h. are.listed (numbered i) (numbered node) h))
-
--- the set of what a climb from one structure finds
-pub set-outers : (program : Program) (node : ℕ) (words found : List ℕ) → AreAbove program (node ∷ []) found → ((i : ℕ) → IsIn words i ↔ Contains found i) → (i : ℕ) → IsIn words i ↔ IsOuter program node i
-set-outers program node words found above set outer = iff-both (set outer) (there, back)
-  where
-    there : Contains found outer → IsOuter program node outer
-    there c =
-        let found = above.only outer c in
-        let one = is_one node found.0 found.1 in
-        elim found.2 [
-          | inl same ↦ inl (ap numbered (same ∙ one))
-          | inr contains ↦ inr (subst (λ (z : ℕ). ContainsAtDepth program (numbered outer) (numbered z)) one contains)
-        ]
-
-    back : IsOuter program node outer → Contains found outer
-    back (inl same) = above.all outer (node, (0, omega arith, refl), inl (ap (λ (n : TypeId). n.0) same))
-    back (inr contains) = above.all outer (node, (0, omega arith, refl), inr contains)

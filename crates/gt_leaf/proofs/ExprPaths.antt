@@ -1,17 +1,26 @@
--- The paths of an expression are those of its operands.
-use Rattle.std.proofs.Common.{◌≡◌, ℕ, List, ◌++◌, sym, subst, ◌⊎◌, inl, inr}
+-- The paths of an expression are those of its operands, or itself.
+use Rattle.std.proofs.Common.{◌≡◌, ℕ, true, List, [], ◌∷◌, ◌++◌, refl, ap, sym, subst, ◌∙◌, ◌⊎◌, inl, inr}
 use Rattle.std.specs.Prelude.{◌↔◌, Result, Ok, Err, OnOk, Contains}
 use Rattle.gt_types.specs.declared.expressions.Base.{Base}
+use Rattle.gt_types.specs.declared.expressions.Base.TheVariants.{Here, Outer, Outermost}
 use Rattle.gt_types.specs.declared.expressions.Expr.{Expr}
+use Rattle.gt_types.specs.declared.expressions.Expr.TheVariants.{Path}
 use Rattle.gt_types.specs.Paths.{Way, paths_of}
-use Rattle.gt_leaf.specs.Seeking.{PathStarts, Gains, PathsOf}
-use Rattle.gt_leaf.proofs.Members.{contains-append}
-use Rattle.gt_leaf.proofs.Gaining.{gains-both}
+use Rattle.gt_paths.proofs.PartLists.{paths-path}
+use Rattle.gt_leaf.specs.Seeking.{PathStarts, Gains, same_base, PathsOf}
+use Rattle.gt_leaf.proofs.Members.{nothing, first, first-or-later, contains-append}
+use Rattle.gt_leaf.proofs.Gaining.{gains-both, gains-same}
 
 -- what follows on success
 pub on-ok : {A E P Q : Type 0} (r : Result A E) → (P → Q) → OnOk r P → OnOk r Q
 on-ok (Ok a) f p = f p
 on-ok (Err e) f p = p
+
+same-base : (a b : Base) → same_base a b ≡ true → a ≡ b
+same-base Here Here e = refl
+same-base Outer Outer e = refl
+same-base Outermost Outermost e = refl
+same-base a b e = absurd (cc)
 
 module _ (base : Base) (begins : ℕ → Type 0) where
   -- the paths of a list of them from a base, where they begin at each of some structures
@@ -37,3 +46,18 @@ module _ (base : Base) (begins : ℕ → Type 0) where
   pub gains-three : (w x y z : PathStarts) (e t a b : Expr) → paths_of e ≡ (paths_of t ++ paths_of a) ++ paths_of b → Gains w x (PathsOf base begins t) → Gains x y (PathsOf base begins a) → Gains y z (PathsOf base begins b) → Gains w z (PathsOf base begins e)
   gains-three w x y z e t a b is p q r =
       ways-two w y z e (paths_of t ++ paths_of a) (paths_of b) is (gains-both w x y (WaysFrom (paths_of t)) (WaysFrom (paths_of a)) (WaysFrom (paths_of t ++ paths_of a)) p q (both-from (paths_of t) (paths_of a))) r
+
+  -- an expression that is a path from the base has this one
+  pub gains-path : (own : Base) (e : Expr) (names steps : List (List ℕ)) (x y : PathStarts) → same_base own base ≡ true → e ≡ Path own steps → names ≡ steps
+      → ((path : List (List ℕ)) (begin : ℕ) → y path begin ↔ (x path begin ⊎ ((path ≡ names) × begins begin))) → Gains x y (PathsOf base begins e)
+  gains-path own e names steps x y same is listed more =
+      gains-same x y (λ path begin. (path ≡ names) × begins begin) (PathsOf base begins e) (record { each = more }) (λ path begin. (λ (at, b). (there path at, b), λ (c, b). (back path c, b)))
+    where
+      one : paths_of e ≡ (base, names) ∷ []
+      one = ap paths_of is ∙ paths-path own steps ∙ ap (λ (b : Base). (b, steps) ∷ []) (same-base own base same) ∙ ap (λ (ns : List (List ℕ)). (base, ns) ∷ []) (sym listed)
+
+      there : (path : List (List ℕ)) → path ≡ names → Contains (paths_of e) (base, path)
+      there path at = subst (λ (ways : List Way). Contains ways (base, path)) (sym one) (subst (λ (ns : List (List ℕ)). Contains {X = Way} ((base, ns) ∷ []) (base, path)) at (first (base, path) []))
+
+      back : (path : List (List ℕ)) → Contains (paths_of e) (base, path) → path ≡ names
+      back path c = elim (first-or-later (base, names) (base, path) [] (subst (λ (ways : List Way). Contains ways (base, path)) one c)) [ inl at ↦ ap (λ (way : Way). way.1) (sym at) | inr d ↦ absurd (nothing (base, path) d) ]

@@ -14,7 +14,6 @@ pub mod Refits
 pub mod UnreadLaws
 pub mod Members
 pub mod RootLemmas
-pub mod Quiet
 pub mod TableLemmas
 pub mod LeafTypes
 pub mod WordBytes
@@ -22,3 +21,5 @@ pub mod LeafTrees
 pub mod Misfits
 pub mod MisfitPlaces
 pub mod WritePlaces
+pub mod EndLemmas
+pub mod WayLaws

@@ -1,5 +1,5 @@
 -- Elements of lists: of one to which another is added where it is new, and of those of each of several.
-use Rattle.std.proofs.Common.{◌≡◌, ℕ, zero, suc, ◌||◌, Bool, true, false, Option, None, List, [], ◌∷◌, ◌++◌, refl, ap, sym, subst, ◌∙◌, ◌⊎◌, arith, Some, inl, inr, if◌then◌else◌}
+use Rattle.std.proofs.Common.{◌≡◌, zero, suc, ◌||◌, Bool, true, false, Option, None, List, [], ◌∷◌, ◌++◌, refl, ap, sym, subst, ◌∙◌, ◌⊎◌, arith, Some, inl, inr, if◌then◌else◌}
 use Rattle.std.specs.Prelude.{◌↔◌, Contains, flat_map, filter_map}
 use Rattle.std.specs.List.{list_any, cons_option}
 use Rattle.std.proofs.lemmas.List.Elements.{Contains-append_left, Contains-append_right, Contains-append_cases, Contains-push, Contains-push_cases}

@@ -1,5 +1,5 @@
 -- The paths that are added are those of the program's expressions.
-use Rattle.std.proofs.Common.{◌≡◌, ℕ, false, List, [], refl, ap, sym, subst, ◌∙◌, ◌⊎◌, Option, Some, inl, inr}
+use Rattle.std.proofs.Common.{◌≡◌, ℕ, List, [], refl, ap, sym, subst, ◌∙◌, ◌⊎◌, Option, Some, inl, inr}
 use Rattle.std.specs.Prelude.{◌↔◌, Contains, filter_map, option_to_list, slice_get}
 use Rattle.gt_types.specs.declared.expressions.Base.{Base}
 use Rattle.gt_types.specs.declared.expressions.Base.TheVariants.{Here, Outer, Outermost}
@@ -13,10 +13,10 @@ use Rattle.gt_types.specs.declared.program.Program.{Program}
 use Rattle.gt_types.specs.Paths.{paths_of}
 use Rattle.gt_types.specs.Shapes.{innermost, count_of}
 use Rattle.gt_paths.specs.Numbers.{numbered}
-use Rattle.gt_leaf.specs.Seeking.{PathStarts, Gains, IsOne, PathsOf, PathsOfSome, PathsOfCounts, PathsOfOwn, desc_in, PathsOfDescs, PathsOfUnion, PathsOfUnions, PathsOfRoots, IsContainer, IsOuter, PathsInside, PathsOutermost, PathsOfAll, AllInside, AllOutermost, structure_names}
+use Rattle.gt_paths.specs.Outers.{IsOuter}
+use Rattle.gt_leaf.specs.Seeking.{PathStarts, Gains, IsOne, PathsOf, PathsOfSome, PathsOfCounts, PathsOfOwn, desc_in, PathsOfDescs, PathsOfUnion, PathsOfUnions, PathsOfRoots, IsContainer, PathsInside, PathsOutermost, PathsOfAll, AllInside, AllOutermost}
 use Rattle.gt_leaf.specs.Unread.{BeginsAt, HasPath}
 use Rattle.gt_leaf.proofs.Alongs.{Contains-only}
-use Rattle.gt_leaf.proofs.Quiet.{quiet, own-quiet, desc-quiet}
 use Rattle.gt_leaf.proofs.Gaining.{gains-both, gains-all, gains-same}
 use Rattle.gt_leaf.proofs.Members.{first, contains-append, filter-contains}
 
@@ -103,11 +103,6 @@ module _ (program : Program) where
 
   pub outermost-same : (names : List (List ℕ)) (begin : ℕ) → AllOutermost program names begin ↔ AddedOutermost names begin
   outermost-same names begin = (λ (e, begins, there). outermost-added e (numbered begin) names begins there, added-outermost names begin)
-
-  -- a structure without such a path adds none
-  pub none-outermost : (node : ℕ) (s : Structure) → structure_names s ≡ false → (names : List (List ℕ)) (begin : ℕ) → ¬ PathsOutermost program node s names begin
-  none-outermost node s none names begin (inl (e, c, (there, around))) = quiet e (own-quiet s none e c) (Outermost, names) there refl
-  none-outermost node s none names begin (inr (f, c, (e, d, (there, around)))) = quiet e (desc-quiet s none f e c d) (Outermost, names) there refl
 
 -- ---- what is added together
 

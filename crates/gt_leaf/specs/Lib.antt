@@ -7,3 +7,5 @@ pub mod Writing
 pub mod Verdicts
 pub mod Around
 pub mod KnownPlaces
+pub mod Ends
+pub mod Reading

@@ -1,10 +1,8 @@
 -- No promise: the paths of expressions, each with the structures at which it begins, part by part.
-use Rattle.std.specs.Prelude.{◌≡◌, ◌↔◌, ◌⊎◌, ℕ, Bool, true, false, ◌||◌, List, Option, Some, None, Contains, fold, slice_get}
+use Rattle.std.specs.Prelude.{◌≡◌, ◌↔◌, ◌⊎◌, ℕ, Bool, true, false, List, Option, Some, None, Contains, slice_get}
 use Rattle.gt_types.specs.declared.expressions.Base.{Base}
 use Rattle.gt_types.specs.declared.expressions.Base.TheVariants.{Here, Outer, Outermost}
 use Rattle.gt_types.specs.declared.expressions.Expr.{Expr}
-use Rattle.gt_types.specs.declared.expressions.Expr.TheOpen.{Expr-F, Int, Path, Root, One, Two, Cond}
-use Rattle.gt_types.specs.declared.expressions.Expr.TheFolds.{fold-Expr}
 use Rattle.gt_types.specs.declared.types.TypeId.{TypeId}
 use Rattle.gt_types.specs.declared.types.Ty.{Ty}
 use Rattle.gt_types.specs.declared.types.Ty.TheVariants as ty
@@ -16,7 +14,8 @@ use Rattle.gt_types.specs.Shapes.{innermost, count_of}
 use Rattle.gt_types.specs.Contains.{ContainsStructure}
 use Rattle.gt_types.specs.Paths.{paths_of, own_expressions}
 use Rattle.gt_paths.specs.Numbers.{numbered}
-use Rattle.gt_leaf.specs.Unread.{MayBeOutermost, HasPath}
+use Rattle.gt_paths.specs.Outers.{IsOuter}
+use Rattle.gt_leaf.specs.Unread.{HasPath}
 
 -- paths of names, each with the numbers of the structures at which it begins
 abbrev pub PathStarts : Type 1
@@ -27,6 +26,13 @@ pub record Gains (old new more : PathStarts) : Type 0 where
   pub each : (names : List (List ℕ)) (begin : ℕ) → new names begin ↔ (old names begin ⊎ more names begin)
 
 -- ---- the paths of expressions from a base, where they begin at each of some structures
+
+-- bases are the same
+abbrev pub same_base : Base → Base → Bool
+same_base Here Here = true
+same_base Outer Outer = true
+same_base Outermost Outermost = true
+same_base a b = false
 
 -- those of an expression
 abbrev pub PathsOf : Base → (ℕ → Type 0) → Expr → PathStarts
@@ -77,10 +83,6 @@ PathsOfRoots base roots names begin = (r : RootOf) × Contains roots r × PathsO
 abbrev pub IsContainer : Program → ℕ → ℕ → Type 0
 IsContainer program node i = ContainsStructure program (numbered i) (numbered node)
 
--- the structures that may be outermost around one
-abbrev pub IsOuter : Program → ℕ → ℕ → Type 0
-IsOuter program node i = MayBeOutermost program (numbered node) (numbered i)
-
 -- the paths from `%h` and `%1` of the expressions in a structure
 abbrev pub PathsInside : Program → ℕ → Structure → PathStarts
 PathsInside program node s names begin =
@@ -101,39 +103,3 @@ AllInside program names begin = HasPath program Here (numbered begin) names ⊎ 
 -- those from `%0`
 abbrev pub AllOutermost : Program → PathStarts
 AllOutermost program names begin = HasPath program Outermost (numbered begin) names
-
--- ---- whether there are paths from `%0`
-
-abbrev pub same_base : Base → Base → Bool
-same_base Here Here = true
-same_base Outer Outer = true
-same_base Outermost Outermost = true
-same_base a b = false
-
--- whether a part of an expression has a path from `%0`, by its operands
-abbrev pub names_step : Expr-F Bool → Bool
-names_step (Int n) = false
-names_step (Path base steps) = same_base base Outermost
-names_step (Root i) = false
-names_step (One op a) = a
-names_step (Two op a b) = a || b
-names_step (Cond test a b) = test || (a || b)
-
--- whether an expression has one
-abbrev pub names_outermost : Expr → Bool
-names_outermost = fold-Expr Bool names_step
-
-abbrev pub option_names : Option Expr → Bool
-option_names (Some e) = names_outermost e
-option_names None = false
-
--- whether the expressions of a field have one
-abbrev pub field_names : Field → Bool
-field_names f = option_names (count_of f.ty) || option_names (desc_in (innermost f.ty))
-
-abbrev pub fields_name : List Field → Bool
-fields_name fields = fold (λ any f. any || field_names f) false fields
-
--- whether the expressions in a structure have one
-abbrev pub structure_names : Structure → Bool
-structure_names s = option_names s.desc || fields_name s.fields

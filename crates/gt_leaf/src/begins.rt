@@ -1,22 +1,23 @@
 // Sets of structures at which paths begin.
-ghost use Rattle.gt_leaf.specs.Seeking.{IsContainer, IsOuter};
+ghost use Rattle.gt_leaf.specs.Seeking.{IsContainer};
 ghost use Rattle.gt_paths.specs.Containers.{AreContainersOf};
-ghost use Rattle.gt_starts.specs.Sets.{IsIn};
+ghost use Rattle.gt_paths.specs.Outers.{IsOuter, AreOutersOf};
+ghost use Rattle.gt_sets.specs.Sets.{IsIn};
 ghost use Rattle.std.specs.Prelude.{◌≡◌, ◌↔◌, ℕ, Contains, IfOk};
 
-use gt_paths::{Containers, climb};
-use gt_starts::StructureSet;
+use gt_paths::{Containers, Outers};
+use gt_sets::StructureSet;
 use gt_types::{Program, TypeId};
-use indexmap::IndexSet;
 use std::alloc::{AllocError, Global};
+use std::rc::Rc;
 
 /// The set of one structure.
-pub fn only(alloc: Global, id: u32) -> Result<StructureSet, AllocError>
-    ensures one { IfOk result (λ s. (i : ℕ) → IsIn s i ↔ (i ≡ id)) }
+pub fn only(alloc: Global, id: u32) -> Result<Rc<StructureSet>, AllocError>
+    ensures one { IfOk result (λ s. (i : ℕ) → IsIn s.value i ↔ (i ≡ id)) }
 {
     let mut set = StructureSet::new(alloc)?;
     set.insert(id)?;
-    Ok(set)
+    Ok(Rc::new(alloc, set)?)
 }
 
 /// The set of these structures.
@@ -36,25 +37,26 @@ pub fn containers_of(
     program: &Program,
     containers: &Containers,
     node: u32,
-) -> Result<StructureSet, AllocError>
+) -> Result<Rc<StructureSet>, AllocError>
     requires containers { AreContainersOf program.now containers.now }
-    ensures containers { IfOk result (λ s. (i : ℕ) → IsIn s i ↔ IsContainer program.now node i) }
+    ensures containers { IfOk result (λ s. (i : ℕ) → IsIn s.value i ↔ IsContainer program.now node i) }
 {
-    set_of(alloc, containers.of(TypeId(node)))
+    let set = set_of(alloc, containers.of(TypeId(node)))?;
+    Ok(Rc::new(alloc, set)?)
 }
 
-/// The structures that may be outermost around one: itself, and all that contain it at some depth.
-pub fn outers_of(
-    alloc: Global,
+/// The structures that may be outermost around one: itself, and all that contain it at some depth. Its only error is out of memory, which
+/// it says of a number that no structure has.
+pub fn outers_of<'a>(
     program: &Program,
-    containers: &Containers,
+    outers: &'a Outers,
     node: u32,
-) -> Result<StructureSet, AllocError>
-    requires containers { AreContainersOf program.now containers.now }
-    ensures outers { IfOk result (λ s. (i : ℕ) → IsIn s i ↔ IsOuter program.now node i) }
+) -> Result<&'a Rc<StructureSet>, AllocError>
+    requires outers { AreOutersOf program.now outers.now }
+    ensures outers { IfOk result (λ s. (i : ℕ) → IsIn s.now.value i ↔ IsOuter program.now node i) }
 {
-    let mut from = IndexSet::new(alloc);
-    from.insert(node)?;
-    let above = climb(program, containers, from)?;
-    set_of(alloc, above.as_slice())
+    match outers.of(TypeId(node)) {
+        Some(set) => Ok(set),
+        None => Err(AllocError),
+    }
 }

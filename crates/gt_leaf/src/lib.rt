@@ -4,8 +4,8 @@
 #![tactic(auto)]
 
 mod begins;
+mod ends;
 pub mod laws;
-mod naming;
 mod places;
 mod reads;
 mod roots;
@@ -13,7 +13,7 @@ mod seeking;
 mod types;
 mod writing;
 
-pub use laws::unread_leaves_keep_values_fitting;
+pub use laws::{known_ways_lead_by_name, unread_leaves_keep_values_fitting};
 pub use reads::Reads;
 pub use writing::{
     LeafVerdict, LeafWrite, judge_leaf, judge_leaf_at, judge_static_leaf, write_leaf,

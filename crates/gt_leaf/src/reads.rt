@@ -6,17 +6,18 @@ ghost use Rattle.gt_starts.specs.Paths.{BeginsIn};
 ghost use Rattle.gt_types.specs.declared.limits.TheConstants.{MAX_STRUCTURES as MOST};
 ghost use Rattle.std.specs.Prelude.{◌≡◌, ◌≤◌, ◌↔◌, IsTrue, IfOk, true, None, length, option_copied};
 
+use crate::ends::ends_in;
 use crate::places::PlaceSet;
 use crate::seeking::{add_inside, add_outermost};
 use crate::types::{number_name, part_at, root_at};
-use gt_paths::Containers;
+use gt_paths::{Containers, Outers};
 use gt_starts::PathSet;
 use gt_types::{MAX_STRUCTURES, Program, Ty, Word};
 use gt_value::{Holder, Place};
 use std::alloc::{AllocError, Global};
 
 /// What the expressions of a program read: their paths, each with the structures at which it begins, those from `%0` apart; and roots. A
-/// path is kept once, with one bit for each structure that a program may have, which takes 512 bytes.
+/// path is kept once; paths share the sets of structures at which they begin, which take 512 bytes each.
 #[derive(Drop)]
 pub struct Reads {
     inside: PathSet,
@@ -25,9 +26,9 @@ pub struct Reads {
 }
 
 impl Reads {
-    /// The table of a program. It takes memory linear in the program's size: 512 bytes for each distinct path, and for each name in which
-    /// one ends. So is its time, and besides, for each structure with a path from `%0`, those that contain it at some depth are climbed to,
-    /// each containment once. Its only error is out of memory, which it also says of more structures than any program has.
+    /// The table of a program. Its time and memory are linear in the program's size: for each structure a few sets of 512 bytes are made,
+    /// and each containment joins two of them. Its only error is out of memory, which it also says of more structures than any program has,
+    /// and of structures that nest deeper than `MAX_DEPTH`.
     pub fn of(alloc: Global, program: &Program) -> Result<Reads, AllocError>
         ensures table { IfOk result (λ t. IsTableOf program.now t) }
     {
@@ -45,8 +46,9 @@ impl Reads {
         let containers = Containers::of_program(alloc, program)?;
         let mut inside = PathSet::new(alloc);
         add_inside(&mut inside, alloc, program, &containers)?;
+        let outers = Outers::of_program(alloc, program, &containers)?;
         let mut outermost = PathSet::new(alloc);
-        add_outermost(&mut outermost, alloc, program, &containers)?;
+        add_outermost(&mut outermost, alloc, program, &outers)?;
         let mut roots = PlaceSet::new(alloc);
         roots.add_named(program)?;
         Ok(Reads {
@@ -57,9 +59,10 @@ impl Reads {
     }
 
     /// Whether no expression reads the leaf at a place, at a path from a value of the type `ty`. It takes no memory. What is no number
-    /// is not looked up. Else the way to the leaf from each structure on the path is looked up, which ends at the next array: its time
-    /// grows with the path, for each step at most by the depth `MAX_DEPTH` to which structures nest. Where a union around the leaf has no
-    /// active member, the name of the leaf's field is looked up alone.
+    /// is not looked up. Where a union around the leaf has no active member, the name of the leaf's field is looked up alone. Else the way
+    /// to the leaf from the outermost structure is looked up, in time that grows with the path; and where some path from `%h` or `%1` ends
+    /// in the name of the leaf's field, or this field is not at the path, so is that from each structure on the path. A way ends at the next
+    /// array, and grows at most to the depth `MAX_DEPTH` to which structures nest.
     pub fn is_unread(&self, program: &Program, ty: Option<&Ty>, path: &[u32], place: Place) -> bool
         ensures unread { IsTableOf program.now self.now → IsTrue result ↔ IsUnread program.now (structures_on program.now (option_copied ty.entry) path.now) place.active place.holder }
     {
@@ -99,7 +102,7 @@ impl Reads {
     {
         if active {
             self.is_read_outermost(program, ty, path, name)
-                || self.is_read_around(program, ty, path, name, false)
+                || self.is_read_inside(program, ty, path, name)
         } else {
             self.inside.ends(name) || self.outermost.ends(name)
         }
@@ -127,8 +130,24 @@ impl Reads {
         }
     }
 
-    // Whether a path from `%h` or `%1` may lead to a leaf of this name from a structure around the part at a path, where one may from those
-    // around the value or not.
+    // Whether a path from `%h` or `%1` may lead to a leaf of this name from a structure around the part at a path. Where the part is a field
+    // of this name, in which no such path ends, no way is looked up: each known way to it ends in its name.
+    fn is_read_inside(
+        &self,
+        program: &Program,
+        ty: Option<&Ty>,
+        path: &[u32],
+        name: &Word,
+    ) -> bool
+        ensures read { (result ≡ true) ↔ SomeLead (BeginsIn self.now.inside) name.now (structures_on program.now (option_copied ty.entry) path.now).structures }
+    {
+        if !self.inside.ends(name) && ends_in(program, ty, path, name) {
+            return false;
+        }
+        self.is_read_around(program, ty, path, name, false)
+    }
+
+    // So where one may from those around the value, or not.
     fn is_read_around(
         &self,
         program: &Program,

@@ -1,20 +1,22 @@
 // The paths of expressions, with the structures at which they begin.
 ghost use Rattle.gt_leaf.specs.Seeking.{same_base, Gains, IsOne, PathsOf, PathsOfSome, PathsOfCounts, PathsOfOwn, PathsOfDescs, PathsOfUnion, PathsOfUnions, PathsOfRoots, PathsInside, PathsOutermost, PathsOfAll, AllInside, AllOutermost};
 ghost use Rattle.gt_paths.specs.Containers.{AreContainersOf};
+ghost use Rattle.gt_paths.specs.Outers.{AreOutersOf};
+ghost use Rattle.gt_sets.specs.Sets.{IsIn};
 ghost use Rattle.gt_starts.specs.Paths.{BeginsIn};
-ghost use Rattle.gt_starts.specs.Sets.{IsIn};
 ghost use Rattle.gt_types.specs.Shapes.{innermost};
 ghost use Rattle.gt_types.specs.declared.expressions.Base.TheVariants.{Here, Outermost};
 ghost use Rattle.gt_types.specs.declared.limits.TheConstants.{MAX_STRUCTURES as MOST};
 ghost use Rattle.std.specs.Prelude.{◌≡◌, ◌≤◌, OnOk, length, option_copied};
 
 use crate::begins::{containers_of, only, outers_of};
-use crate::naming::structure_names;
 use crate::types::{count_of, desc_in, innermost};
-use gt_paths::Containers;
-use gt_starts::{PathSet, StructureSet};
+use gt_paths::{Containers, Outers};
+use gt_sets::StructureSet;
+use gt_starts::PathSet;
 use gt_types::{Base, Expr, Field, Program, Root, Structure, Ty, TypeId};
 use std::alloc::{AllocError, Global};
+use std::rc::Rc;
 
 fn is_same(a: Base, b: Base) -> bool
     ensures { result ≡ same_base a b }
@@ -30,10 +32,10 @@ fn is_same(a: Base, b: Base) -> bool
 fn add_expr(
     paths: &mut PathSet,
     base: Base,
-    begins: &StructureSet,
+    begins: &Rc<StructureSet>,
     e: &Expr,
 ) -> Result<(), AllocError>
-    ensures added { OnOk result (Gains (BeginsIn paths.old) (BeginsIn paths.new) (PathsOf base (IsIn begins.now) e.now)) }
+    ensures added { OnOk result (Gains (BeginsIn paths.old) (BeginsIn paths.new) (PathsOf base (IsIn begins.now.value) e.now)) }
 {
     match e {
         Expr::Int(_) | Expr::Root(_) => Ok(()),
@@ -60,10 +62,10 @@ fn add_expr(
 fn add_option(
     paths: &mut PathSet,
     base: Base,
-    begins: &StructureSet,
+    begins: &Rc<StructureSet>,
     e: Option<&Expr>,
 ) -> Result<(), AllocError>
-    ensures added { OnOk result (Gains (BeginsIn paths.old) (BeginsIn paths.new) (PathsOfSome base (IsIn begins.now) (option_copied e.entry))) }
+    ensures added { OnOk result (Gains (BeginsIn paths.old) (BeginsIn paths.new) (PathsOfSome base (IsIn begins.now.value) (option_copied e.entry))) }
 {
     match e {
         Some(e) => add_expr(paths, base, begins, e),
@@ -75,10 +77,10 @@ fn add_option(
 fn add_counts(
     paths: &mut PathSet,
     base: Base,
-    begins: &StructureSet,
+    begins: &Rc<StructureSet>,
     fields: &[Field],
 ) -> Result<(), AllocError>
-    ensures added { OnOk result (Gains (BeginsIn paths.old) (BeginsIn paths.new) (PathsOfCounts base (IsIn begins.now) fields.now)) }
+    ensures added { OnOk result (Gains (BeginsIn paths.old) (BeginsIn paths.new) (PathsOfCounts base (IsIn begins.now.value) fields.now)) }
 {
     for f in fields {
         add_option(paths, base, begins, count_of(&f.ty))?;
@@ -90,10 +92,10 @@ fn add_counts(
 fn add_own(
     paths: &mut PathSet,
     base: Base,
-    begins: &StructureSet,
+    begins: &Rc<StructureSet>,
     s: &Structure,
 ) -> Result<(), AllocError>
-    ensures added { OnOk result (Gains (BeginsIn paths.old) (BeginsIn paths.new) (PathsOfOwn base (IsIn begins.now) s.now)) }
+    ensures added { OnOk result (Gains (BeginsIn paths.old) (BeginsIn paths.new) (PathsOfOwn base (IsIn begins.now.value) s.now)) }
 {
     add_counts(paths, base, begins, s.fields.as_slice())?;
     add_option(paths, base, begins, s.desc.as_ref())
@@ -103,10 +105,10 @@ fn add_own(
 fn add_descs(
     paths: &mut PathSet,
     base: Base,
-    begins: &StructureSet,
+    begins: &Rc<StructureSet>,
     fields: &[Field],
 ) -> Result<(), AllocError>
-    ensures added { OnOk result (Gains (BeginsIn paths.old) (BeginsIn paths.new) (PathsOfDescs base (IsIn begins.now) fields.now)) }
+    ensures added { OnOk result (Gains (BeginsIn paths.old) (BeginsIn paths.new) (PathsOfDescs base (IsIn begins.now.value) fields.now)) }
 {
     for f in fields {
         add_option(paths, base, begins, desc_in(&f.ty))?;
@@ -220,54 +222,49 @@ pub fn add_inside(
     add_roots(paths, alloc, Base::Here, program.roots.as_slice())
 }
 
-// The paths from `%0` of the expressions in a structure. Where it has none, no structures around it are looked for.
+// The paths from `%0` of the expressions in a structure.
 fn add_outer_structure(
     paths: &mut PathSet,
-    alloc: Global,
     program: &Program,
-    containers: &Containers,
+    outers: &Outers,
     node: u32,
     s: &Structure,
 ) -> Result<(), AllocError>
-    requires containers { AreContainersOf program.now containers.now }
+    requires outers { AreOutersOf program.now outers.now }
     ensures added { OnOk result (Gains (BeginsIn paths.old) (BeginsIn paths.new) (PathsOutermost program.now node s.now)) }
 {
-    if !structure_names(s) {
-        return Ok(());
-    }
-    let outers = outers_of(alloc, program, containers, node)?;
-    add_own(paths, Base::Outermost, &outers, s)?;
-    add_descs(paths, Base::Outermost, &outers, s.fields.as_slice())
+    let outers = outers_of(program, outers, node)?;
+    add_own(paths, Base::Outermost, outers, s)?;
+    add_descs(paths, Base::Outermost, outers, s.fields.as_slice())
 }
 
 fn add_outer_structures(
     paths: &mut PathSet,
-    alloc: Global,
     program: &Program,
-    containers: &Containers,
+    outers: &Outers,
 ) -> Result<(), AllocError>
     requires few { length program.now.structures ≤ MOST }
-    requires containers { AreContainersOf program.now containers.now }
+    requires outers { AreOutersOf program.now outers.now }
     ensures added { OnOk result (Gains (BeginsIn paths.old) (BeginsIn paths.new) (PathsOfAll (PathsOutermost program.now) program.now.structures)) }
 {
     for (node, s) in program.structures.as_slice().iter().enumerate() {
-        add_outer_structure(paths, alloc, program, containers, node as u32, s)?;
+        add_outer_structure(paths, program, outers, node as u32, s)?;
     }
     Ok(())
 }
 
 /// Adds the paths from `%0` of all expressions of a program, with the structures at which they begin. Its time is linear in the program's
-/// size, besides what it takes to find, for each structure with such a path, all that contain it. Its only error is out of memory.
+/// size. Its only error is out of memory.
 pub fn add_outermost(
     paths: &mut PathSet,
     alloc: Global,
     program: &Program,
-    containers: &Containers,
+    outers: &Outers,
 ) -> Result<(), AllocError>
     requires few { length program.now.structures ≤ MOST }
-    requires containers { AreContainersOf program.now containers.now }
+    requires outers { AreOutersOf program.now outers.now }
     ensures added { OnOk result (Gains (BeginsIn paths.old) (BeginsIn paths.new) (AllOutermost program.now)) }
 {
-    add_outer_structures(paths, alloc, program, containers)?;
+    add_outer_structures(paths, program, outers)?;
     add_roots(paths, alloc, Base::Outermost, program.roots.as_slice())
 }

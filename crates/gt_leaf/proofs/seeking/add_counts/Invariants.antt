@@ -1,10 +1,10 @@
 use Rattle.gt_types.specs.declared.program.Field.{Field}
 use Rattle.gt_types.specs.Shapes.{count_of}
-use Rattle.gt_starts.specs.Sets.{IsIn}
 use Rattle.gt_leaf.specs.Seeking.{Gains, PathsOfSome}
+use Rattle.gt_sets.specs.Sets.{IsIn}
 use Rattle.gt_starts.specs.Paths.{BeginsIn}
 use Rattle.gt_leaf.proofs.Gaining.{Before}
 use Rattle.gt_leaf.proofs.seeking.add_counts.Given as goal
 
 abbrev pub invariant-loop-f : goal.invariant-loop-f
-invariant-loop-f l = Gains (BeginsIn l.fn.paths) (BeginsIn l.paths) (Before (λ i (f : Field). PathsOfSome l.base (IsIn l.begins) (count_of f.ty)) l.fields l.f-index)
+invariant-loop-f l = Gains (BeginsIn l.fn.paths) (BeginsIn l.paths) (Before (λ i (f : Field). PathsOfSome l.base (IsIn l.begins.value) (count_of f.ty)) l.fields l.f-index)

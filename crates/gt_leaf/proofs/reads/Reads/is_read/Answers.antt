@@ -1,8 +1,7 @@
-use Rattle.std.proofs.Common.{◌≡◌, true, sym, subst, None, option_copied}
+use Rattle.std.proofs.Common.{◌≡◌, true, sym, subst, option_copied}
 use Rattle.std.specs.Prelude.{◌↔◌}
-use Rattle.gt_starts.specs.Paths.{BeginsIn}
-use Rattle.gt_leaf.specs.Unread.{none_around, structures_on, IsReadName}
-use Rattle.gt_leaf.proofs.TableLemmas.{none-lead, top-read, around-read, inside-read, outermost-read}
+use Rattle.gt_leaf.specs.Unread.{structures_on, IsReadName}
+use Rattle.gt_leaf.proofs.TableLemmas.{top-read, around-read, inside-read, outermost-read}
 use Rattle.gt_leaf.proofs.reads.Reads.is_read.Goals as goal
 
 pub returns-then-is_read_outermost : goal.returns-then-is_read_outermost
@@ -19,9 +18,8 @@ returns-else-is_read_outermost c =
     let program = c.args.program.now in
     let around = structures_on program (option_copied c.args.ty) c.args.path.now in
     record {
-      read = λ t. subst (λ x. (c.is_read_around.result ≡ true) ↔ IsReadName program around x c.args.name.now) (sym c.if-active.true)
-          (around-read program c.args.self.now around c.args.name.now t c.is_read_outermost.result c.is_read_around.result c.if-is_read_outermost.false c.is_read_outermost.ensures.read
-          (c.is_read_around.ensures.read (none_around None) (none-lead (BeginsIn c.args.self.now.inside) c.args.name.now)));
+      read = λ t. subst (λ x. (c.is_read_inside.result ≡ true) ↔ IsReadName program around x c.args.name.now) (sym c.if-active.true)
+          (around-read program c.args.self.now around c.args.name.now t c.is_read_outermost.result c.is_read_inside.result c.if-is_read_outermost.false c.is_read_outermost.ensures.read c.is_read_inside.ensures.read);
     }
 
 pub returns-then-ends : goal.returns-then-ends
