@@ -70,6 +70,40 @@ products() {
   }'
 }
 
+# A structure with so many lengths, each at another path from the outermost structure, in 2,000 containers: each path goes through a structure
+# of another type in each of them, which all hold the same one.
+prefixes() {
+  awk -v n="$1" -v header="$2/0.h" 'BEGIN {
+    print "struct GTY(()) leaf { int k; };\nstruct GTY(()) h {" >header
+    for (k = 1; k <= n; k++) print "  int b" k ";" >header
+    print "};\nstruct GTY(()) x0 { struct h h; };\nstruct GTY(()) in {\n  struct x0 x;" >header
+    for (k = 1; k <= n; k++) print "  struct leaf *GTY((length (\"%0.x.h.b" k "\"))) p" k ";" >header
+    print "};" >header
+    for (i = 1; i <= 2000; i++) {
+      print "struct GTY(()) x" i " { struct h h; };" >header
+      print "struct GTY(()) c" i " { struct x" i " x; struct in f; };" >header
+    }
+  }'
+}
+
+# So many structures in 30 layers, of which each holds one of the layer below, or two in the lower 20: half of them have a length from the
+# outermost structure.
+dense() {
+  awk -v n="$1" -v header="$2/0.h" 'BEGIN {
+    print "struct GTY(()) leaf { int k; };" >header
+    wide = int(n / 30)
+    for (i = 0; i < 30; i++) {
+      for (j = 0; j < wide; j++) {
+        text = "struct GTY(()) d" i "_" j " { int n;"
+        if (j % 2 == 0) text = text " struct leaf *GTY((length (\"%0.n\"))) b;"
+        if (i > 0) text = text " struct d" (i - 1) "_" j " f;"
+        if (i > 0 && i < 20) text = text " struct d" (i - 1) "_" ((j + 1) % wide) " g;"
+        print text " };" >header
+      }
+    }
+  }'
+}
+
 # One field with so many options. The last of them is `skip`, which passes over those before it.
 one_field() {
   awk -v n="$1" -v header="$2/0.h" -v last="$3" 'BEGIN {
@@ -108,6 +142,8 @@ compare containers 1000 'containers, a path from %1'
 compare containers 4000 'containers, a path from %1'
 compare outermost 4000 'containers, a path from %0'
 compare products 1000 'paths from %0 in 3,900 containers'
+compare prefixes 1000 'paths from %0 through 2,000 types'
+compare dense 3900 'nested structures, paths from %0'
 compare fields 1000 'fields in 1,000 containers'
 compare failing 1000 'such fields with a bad path' 'fault 20 BadPath'
 compare skipped 80000 'options of one field, passed over'

@@ -10,7 +10,6 @@ use Rattle.gt_types.specs.declared.program.Program.{Program}
 use Rattle.gt_types.specs.Contains.{ContainsStructure, Nests, once, deeper}
 use Rattle.gt_sets.specs.Sets.{IsIn}
 use Rattle.gt_paths.specs.declared.containers.Containers.{Containers}
-use Rattle.gt_paths.specs.declared.outers.Outers.{Outers}
 use Rattle.gt_paths.specs.Containers.{AreContainersOf, containers_of}
 use Rattle.gt_paths.specs.Numbers.{numbered}
 use Rattle.gt_paths.specs.Ancestors.{IsAncestor, AreAbove, AreAncestors, AreSets}

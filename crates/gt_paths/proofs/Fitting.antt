@@ -40,7 +40,7 @@ exact_lists R exact [] (y ∷ ys) e = absurd (cc)
 exact_lists R exact (x ∷ xs) [] e = absurd (cc)
 exact_lists R exact (x ∷ xs) (y ∷ ys) e = tied_first R exact x y xs ys (exact_lists R exact xs ys) (R x y) refl e
 
-exact_paths : CmpEqualImpliesEq path_cmp
+pub exact_paths : CmpEqualImpliesEq path_cmp
 exact_paths = exact_lists (slice_cmp nat_cmp) exact_bytes
 
 some_is : {X : Type 0} (a b : X) → Some a ≡ Some b → a ≡ b

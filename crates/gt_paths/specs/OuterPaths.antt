@@ -1,5 +1,5 @@
 -- No promise: from which structures paths lead that begin around a structure.
-use Rattle.std.specs.Prelude.{◌≡◌, ◌≢◌, ℕ, Bool, List, [], ◌∷◌, Option, None, Some, All, Contains}
+use Rattle.std.specs.Prelude.{◌≡◌, ◌≢◌, ◌↔◌, ℕ, Bool, List, [], ◌++◌, Option, None, Some, All, Contains}
 use Rattle.std.specs.Bool.{Decides}
 use Rattle.std.specs.BTreeMap.{BTreeMap, get}
 use Rattle.std.specs.Cmp.Lexicographic.{slice_cmp}
@@ -23,24 +23,23 @@ path_cmp = slice_cmp (slice_cmp nat_cmp)
 abbrev pub ArePathAnswers : Program → List ℕ → BTreeMap (List (List ℕ)) Bool → Type 0
 ArePathAnswers program starts paths = (steps : List (List ℕ)) (leads : Bool) → get path_cmp paths steps ≡ Some leads → Decides leads (AllLead program starts steps)
 
--- the rest of a path leads to a number from each structure that its first name reaches, if each start reaches one
+-- the rest of a path leads to a number from each structure that its prefix reaches, if each start reaches one
 abbrev pub RestLeads : Program → Option (List ℕ) → List (List ℕ) → Type 0
 RestLeads program (Some reached) rest = AllLead program reached rest
 RestLeads program None rest = ⊥
 
--- these are the structures by value that a name reaches from the starts, or it reaches none from one of them
-abbrev pub AreReached : Program → List ℕ → List ℕ → Option (List ℕ) → Type 0
-AreReached program starts name reached =
-    (rest : List (List ℕ)) → rest ≢ [] → (AllLead program starts (name ∷ rest) → RestLeads program reached rest) × (RestLeads program reached rest → AllLead program starts (name ∷ rest))
+-- these are the structures by value that the prefix of a path reaches from the starts, or it reaches none from one of them
+abbrev pub AreReached : Program → List ℕ → List (List ℕ) → Option (List ℕ) → Type 0
+AreReached program starts prefix reached = (rest : List (List ℕ)) → rest ≢ [] → AllLead program starts (prefix ++ rest) ↔ RestLeads program reached rest
 
--- what is kept for first names is what they reach
-abbrev pub AreFirsts : Program → List ℕ → BTreeMap (List ℕ) (Option (List ℕ)) → Type 0
-AreFirsts program starts firsts = (name : List ℕ) (reached : Option (List ℕ)) → get (slice_cmp nat_cmp) firsts name ≡ Some reached → AreReached program starts name reached
+-- what is kept for prefixes is what they reach
+abbrev pub ArePrefixes : Program → List ℕ → BTreeMap (List (List ℕ)) (Option (List ℕ)) → Type 0
+ArePrefixes program starts prefixes = (prefix : List (List ℕ)) (reached : Option (List ℕ)) → get path_cmp prefixes prefix ≡ Some reached → AreReached program starts prefix reached
 
 -- what is kept of paths that begin at these structures is right
 pub record AreAnswers (program : Program) (starts : List ℕ) (answers : Answers) : Type 0 where
   pub paths : ArePathAnswers program starts answers.paths
-  pub firsts : AreFirsts program starts answers.firsts
+  pub prefixes : ArePrefixes program starts answers.prefixes
 
 -- the structures that are outermost for one, and no others
 pub record AreStarts (inner : Inner) (program : Program) (node : TypeId) (starts : List ℕ) : Type 0 where

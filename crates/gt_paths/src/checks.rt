@@ -32,10 +32,10 @@ enum PathOption {
 }
 
 /// The paths in the options of one structure. A path that begins at the structure itself, or at a union of a field, is walked wherever
-/// it stands, which takes about as long as its text. Any other is looked at once, however often it stands: the structures at which it may
-/// begin are taken once for each first name, and the rest of it is walked from each distinct structure to which that name leads. A path
-/// of one name is walked from each structure at which it may begin, and so is any path where a structure of the program has two fields of
-/// one name. Contracts see the program, its inner structures and the structure.
+/// it stands, which takes about as long as its text. Any other is looked at once, however often it stands: what each prefix of it reaches
+/// from the structures at which it may begin is looked for once, from the distinct structures that the prefix shorter by a name reaches, and
+/// its last name is asked of each that the whole prefix reaches. Where a structure of the program has two fields of one name, each path is
+/// walked from each structure at which it may begin. Contracts see the program, its inner structures and the structure.
 #[derive(Drop)]
 pub struct PathChecks<'a> {
     alloc: Global,

@@ -1,13 +1,13 @@
-// Paths that are walked from several structures at once: the first name of a path leads from all of them to a frontier of distinct
-// structures, and the rest is walked from each of these.
-ghost use Rattle.std.specs.Prelude.{◌≡◌, ◌≢◌, ◌∷◌, [], true, IfOk};
+// Paths that are walked from several structures at once: each prefix of a path leads from all of them to a frontier of distinct
+// structures, from each of which the next name is asked.
+ghost use Rattle.std.specs.Prelude.{◌≡◌, ◌+◌, ◌∷◌, [], true, length, IfOk};
 ghost use Rattle.std.specs.Bool.{Decides};
 ghost use Rattle.gt_paths.specs.Indexes.{IsIndexOn};
-ghost use Rattle.gt_paths.specs.OuterPaths.{AllLead, AreFirsts, AreReached, RestLeads};
+ghost use Rattle.gt_paths.specs.OuterPaths.{AllLead, ArePrefixes, AreReached};
 
 use crate::indexes::PathIndex;
 use crate::steps::{leads_to_number, next_structure};
-use gt_types::{Copied, List, Program, TypeId, Word};
+use gt_types::{Copied, List, MAX_DEPTH, Program, TypeId, Word};
 use indexmap::IndexSet;
 use std::alloc::{AllocError, Global};
 use std::collections::BTreeMap;
@@ -35,7 +35,7 @@ fn reached_from(
 ) -> Result<Option<List<u32>>, AllocError>
     requires index { IsIndexOn program.now index.now }
     requires distinct { index.now.distinct ≡ true }
-    ensures reached { IfOk result (AreReached program.now starts.now name.now) }
+    ensures reached { IfOk result (AreReached program.now starts.now (name.now ∷ [])) }
 {
     let mut reached = IndexSet::new(alloc);
     for start in starts {
@@ -47,72 +47,105 @@ fn reached_from(
     Ok(Some(List::of(reached.as_slice().to_vec(alloc)?)))
 }
 
-// Whether the rest of a path leads to a number from each structure that its first name reaches.
-fn rest_leads(
-    program: &Program,
-    index: &PathIndex,
-    reached: &Option<List<u32>>,
-    rest: &[Word],
-) -> bool
-    requires index { IsIndexOn program.now index.now }
-    ensures { Decides result (RestLeads program.now reached.now rest.now) }
+// The same names again.
+fn path_of(alloc: Global, names: &[Word]) -> Result<List<Word>, AllocError>
+    ensures same { IfOk result (λ path. path ≡ names.now) }
+{
+    let mut path = List::new(alloc);
+    for name in names {
+        path.push(name.copy(alloc)?)?;
+    }
+    Ok(path)
+}
+
+// The same structures again, where there are any.
+fn copy_of(alloc: Global, reached: &Option<List<u32>>) -> Result<Option<List<u32>>, AllocError>
+    ensures same { IfOk result (λ made. made ≡ reached.now) }
 {
     match reached {
-        Some(reached) => all_lead(program, index, reached.as_slice(), rest),
-        None => false,
+        Some(ids) => Ok(Some(ids.copy(alloc)?)),
+        None => Ok(None),
     }
 }
 
-// Whether a path of two names or more leads to a number from each of these structures. They are taken where its first name is new.
-fn longer_leads(
+// The distinct structures by value that a prefix of paths reaches from these structures; None where it reaches none from one of them. What
+// is not kept yet is reached from what the prefix shorter by a name reaches, and kept; of prefixes longer than one that is None, nothing is.
+fn reached_by(
     alloc: Global,
     program: &Program,
     index: &PathIndex,
     starts: &[u32],
-    firsts: &mut BTreeMap<Word, Option<List<u32>>>,
-    name: &Word,
-    rest: &[Word],
+    prefixes: &mut BTreeMap<List<Word>, Option<List<u32>>>,
+    prefix: &[Word],
+) -> Result<Option<List<u32>>, AllocError>
+    requires index { IsIndexOn program.now index.now }
+    requires distinct { index.now.distinct ≡ true }
+    requires prefixes { ArePrefixes program.now starts.now prefixes.old }
+    ensures reached { IfOk result (AreReached program.now starts.now prefix.now) }
+    ensures prefixes { ArePrefixes program.now starts.now prefixes.new }
+{
+    let [shorter @ .., name] = prefix else {
+        return Ok(Some(List::of(starts.to_vec(alloc)?)));
+    };
+    let key = path_of(alloc, prefix)?;
+    if let Some(reached) = prefixes.get(&key) {
+        return copy_of(alloc, reached);
+    }
+    match reached_by(alloc, program, index, starts, prefixes, shorter)? {
+        None => Ok(None),
+        Some(from) => {
+            let reached = reached_from(alloc, program, index, from.as_slice(), name)?;
+            let kept = copy_of(alloc, &reached)?;
+            prefixes.insert(key, kept)?;
+            Ok(reached)
+        }
+    }
+}
+
+// Whether a path of one name or more leads to a number from each of these structures: its last name is asked of each structure that the
+// names before it reach.
+fn last_leads(
+    alloc: Global,
+    program: &Program,
+    index: &PathIndex,
+    starts: &[u32],
+    prefixes: &mut BTreeMap<List<Word>, Option<List<u32>>>,
+    steps: &[Word],
+    last: usize,
 ) -> Result<bool, AllocError>
     requires index { IsIndexOn program.now index.now }
     requires distinct { index.now.distinct ≡ true }
-    requires firsts { AreFirsts program.now starts.now firsts.old }
-    requires longer { rest.now ≢ [] }
-    ensures decides { IfOk result (λ r. Decides r (AllLead program.now starts.now (name.now ∷ rest.now))) }
-    ensures firsts { AreFirsts program.now starts.now firsts.new }
+    requires prefixes { ArePrefixes program.now starts.now prefixes.old }
+    requires last { length steps.now ≡ last + 1 }
+    ensures decides { IfOk result (λ r. Decides r (AllLead program.now starts.now steps.now)) }
+    ensures prefixes { ArePrefixes program.now starts.now prefixes.new }
 {
-    if let Some(reached) = firsts.get(name) {
-        return Ok(rest_leads(program, index, reached, rest));
+    match reached_by(alloc, program, index, starts, prefixes, &steps[..last])? {
+        Some(reached) => Ok(all_lead(program, index, reached.as_slice(), &steps[last..])),
+        None => Ok(false),
     }
-    let reached = reached_from(alloc, program, index, starts, name)?;
-    let leads = rest_leads(program, index, &reached, rest);
-    let first = name.copy(alloc)?;
-    firsts.insert(first, reached)?;
-    Ok(leads)
 }
 
-/// Whether a path leads to a number from each of these structures. They are taken once for each path of one name, and once for each first
-/// name of longer paths, of which the rest is walked from each distinct structure to which that name leads. Where a structure of the
-/// program has two fields of one name, they are taken once for each path. Its only error is out of memory.
+/// Whether a path leads to a number from each of these structures. What each of its prefixes reaches from them is looked for once, however
+/// many paths have it: the next name is asked of each distinct structure that the prefix shorter by a name reaches. Then the last name is
+/// asked of each that the whole prefix reaches. A path longer than structures can nest, and any path where a structure of the program has
+/// two fields of one name, is walked from each structure, up to the first from which it does not lead. Its only error is out of memory.
 pub fn walk(
     alloc: Global,
     program: &Program,
     index: &PathIndex,
     starts: &[u32],
-    firsts: &mut BTreeMap<Word, Option<List<u32>>>,
+    prefixes: &mut BTreeMap<List<Word>, Option<List<u32>>>,
     steps: &[Word],
 ) -> Result<bool, AllocError>
     requires index { IsIndexOn program.now index.now }
-    requires firsts { AreFirsts program.now starts.now firsts.old }
+    requires prefixes { ArePrefixes program.now starts.now prefixes.old }
     ensures decides { IfOk result (λ r. Decides r (AllLead program.now starts.now steps.now)) }
-    ensures firsts { AreFirsts program.now starts.now firsts.new }
+    ensures prefixes { ArePrefixes program.now starts.now prefixes.new }
 {
-    if !index.is_distinct() {
+    let names = steps.len();
+    if !index.is_distinct() || names == 0 || names > MAX_DEPTH + 1 {
         return Ok(all_lead(program, index, starts, steps));
     }
-    match steps {
-        [name, rest @ ..] if !rest.is_empty() => {
-            longer_leads(alloc, program, index, starts, firsts, name, rest)
-        }
-        _ => Ok(all_lead(program, index, starts, steps)),
-    }
+    last_leads(alloc, program, index, starts, prefixes, steps, names - 1)
 }

@@ -16,14 +16,13 @@ use gt_types::{Copied, List, Program, TypeId, Word};
 use std::alloc::{AllocError, Global};
 use std::collections::BTreeMap;
 
-/// What is kept of paths that begin at several structures, so that each path is looked at once, and the structures are taken once for each
-/// first name.
+/// What is kept of paths that begin at several structures, so that each path is looked at once, and so is what each prefix of them reaches.
 #[derive(Drop)]
 pub struct Answers {
     // Of paths, whether they lead to numbers from each of the structures.
     paths: BTreeMap<List<Word>, bool>,
-    // Of first names, the distinct structures by value to which they lead; None where one leads to none from some structure.
-    firsts: BTreeMap<Word, Option<List<u32>>>,
+    // Of prefixes of paths, the distinct structures by value that they reach; None where one reaches none from some structure.
+    prefixes: BTreeMap<List<Word>, Option<List<u32>>>,
 }
 
 impl Answers {
@@ -33,13 +32,13 @@ impl Answers {
     {
         Answers {
             paths: BTreeMap::new(alloc),
-            firsts: BTreeMap::new(alloc),
+            prefixes: BTreeMap::new(alloc),
         }
     }
 }
 
-/// Whether a path leads to a number from each of these structures. A path that has no answer yet is walked, from each structure to which
-/// its first name leads where that is known, and has one from then on. Its only error is out of memory.
+/// Whether a path leads to a number from each of these structures. A path that has no answer yet is walked, from the structures that its
+/// longest known prefix reaches, and has one from then on. Its only error is out of memory.
 pub fn each_leads(
     alloc: Global,
     program: &Program,
@@ -56,8 +55,8 @@ pub fn each_leads(
     if let Some(leads) = answers.paths.get(steps).copied() {
         return Ok(leads);
     }
-    let firsts = &mut answers.firsts;
-    let leads = walk(alloc, program, index, starts, firsts, steps.as_slice())?;
+    let prefixes = &mut answers.prefixes;
+    let leads = walk(alloc, program, index, starts, prefixes, steps.as_slice())?;
     let path = steps.copy(alloc)?;
     answers.paths.insert(path, leads)?;
     Ok(leads)
@@ -111,11 +110,7 @@ pub struct Outermost {
 
 impl Outermost {
     // The outermost structures. No path has an answer.
-    fn of(
-        alloc: Global,
-        index: &PathIndex,
-        node: TypeId,
-    ) -> Result<Outermost, AllocError>
+    fn of(alloc: Global, index: &PathIndex, node: TypeId) -> Result<Outermost, AllocError>
         ensures around { (program : Program) → IsIndexOn program index.now → IfOk result (IsAround program index.now node) }
     {
         let starts = outermost_of(alloc, index, node)?;

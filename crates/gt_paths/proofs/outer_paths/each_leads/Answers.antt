@@ -16,5 +16,5 @@ returns-clause-answers c = record {
   paths = answers_more c.args.program.now c.args.starts.now c.args.answers.now.paths c.insert.new.self c.in_ok-path.path c.args.steps.now c.in_ok-leads.leads c.in_ok-insert.ensures.updates.0
       c.in_ok-path.ensures.same c.requires.answers.paths
       (subst (λ (steps : List (List ℕ)). Decides c.in_ok-leads.leads (AllLead c.args.program.now c.args.starts.now steps)) c.as_slice.ensures.items c.in_ok-leads.ensures.decides);
-  firsts = c.walk.ensures.firsts;
+  prefixes = c.walk.ensures.prefixes;
 }

@@ -1,4 +1,4 @@
-use Rattle.std.proofs.Common.{◌≡◌, ◌≤◌, length, ap, arith}
+use Rattle.std.proofs.Common.{◌≡◌, ◌≤◌, length, arith}
 use Rattle.gt_types.specs.declared.limits.TheConstants.{MAX_STRUCTURES}
 use Rattle.gt_paths.proofs.Ancestors.{outers_are}
 use Rattle.gt_paths.proofs.outers.Outers.of_program.Goals as goal
