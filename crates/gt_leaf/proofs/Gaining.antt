@@ -21,6 +21,13 @@ gains-all a b c {m} {n} p q = gains-both a b c m n (λ names begin. m names begi
 pub gains-same : (a b m k : PathStarts) → Gains a b m → ((names : List (List ℕ)) (begin : ℕ) → m names begin ↔ k names begin) → Gains a b k
 gains-same a b m k p same = record { each = λ names begin. either-same (p.each names begin) (same names begin) }
 
+-- what is added to nothing is all there is
+pub all-gained : (a b more : PathStarts) → ((names : List (List ℕ)) (begin : ℕ) → ¬ a names begin) → Gains a b more → (names : List (List ℕ)) (begin : ℕ) → b names begin ↔ more names begin
+all-gained a b more none gains names begin = (there, λ m. (gains.each names begin).1 (inr m))
+  where
+    there : b names begin → more names begin
+    there h = elim ((gains.each names begin).0 h) [ inl was ↦ absurd (none names begin was) | inr m ↦ m ]
+
 -- ---- the items of a list
 
 pub item-at : {X : Type 0} (xs : List X) (i : ℕ) (x : X) → i < length xs → x ≡ get_or xs i x → slice_get xs i ≡ Some x

@@ -16,7 +16,7 @@ use Rattle.gt_starts.specs.Paths.{Starts, BeginsIn, EndsFrom}
 use Rattle.gt_starts.specs.Ways.{way_to, LeadsAlong}
 use Rattle.gt_leaf.specs.declared.reads.Reads.{Reads}
 use Rattle.gt_leaf.specs.Collecting.{roots_of_all}
-use Rattle.gt_leaf.specs.Seeking.{PathStarts, Gains, AllInside, AllOutermost}
+use Rattle.gt_leaf.specs.Seeking.{PathStarts, AllInside, AllOutermost}
 use Rattle.gt_leaf.specs.Tables.{IsTableOf}
 use Rattle.gt_leaf.specs.Around.{LeadsFrom, SomeLead, TopLeads}
 use Rattle.gt_leaf.specs.Unread.{Enclosing, Around, none_around, outermost_in, with_structure, with_itself, part_at, structures_from, IsReadName, IsReadRoot, IsUnread}
@@ -25,20 +25,15 @@ use Rattle.gt_leaf.proofs.Members.{nothing, first, later, first-or-later, found-
 
 -- ---- the table
 
--- what is added to nothing
-from-none : {A B C : Type 0} → ¬ A → B ↔ (A ⊎ C) → B ↔ C
-from-none none f = (λ b. elim (f.0 b) [ inl a ↦ absurd (none a) | inr c ↦ c ], λ c. f.1 (inr c))
-
-pub table-of : (program : Program) (inside no_inside outermost no_outermost : Starts) (roots no_roots : List ℕ) (table : Reads) → table ≡ record { inside = inside; outermost = outermost; roots = roots }
-    → ((names : List (List ℕ)) (begin : ℕ) → ¬ BeginsIn no_inside names begin) → Gains (BeginsIn no_inside) (BeginsIn inside) (AllInside program)
-    → ((names : List (List ℕ)) (begin : ℕ) → ¬ BeginsIn no_outermost names begin) → Gains (BeginsIn no_outermost) (BeginsIn outermost) (AllOutermost program)
+pub table-of : (program : Program) (inside outermost : Starts) (roots no_roots : List ℕ) (table : Reads) → table ≡ record { inside = inside; outermost = outermost; roots = roots }
+    → ((names : List (List ℕ)) (begin : ℕ) → BeginsIn inside names begin ↔ AllInside program names begin) → ((names : List (List ℕ)) (begin : ℕ) → BeginsIn outermost names begin ↔ AllOutermost program names begin)
     → no_roots ≡ [] → roots ≡ roots_of_all program no_roots → IsTableOf program table
-table-of program inside no_inside outermost no_outermost roots no_roots table is none gains none_outermost gains_outermost none_roots roots_is =
+table-of program inside outermost roots no_roots table is are_inside are_outermost none_roots roots_is =
     let named : roots ≡ roots_of_all program [] = roots_is ∙ ap (roots_of_all program) none_roots in
     subst (IsTableOf program) (sym is)
     (record {
-      inside = λ begin names. from-none (none names begin.0) (gains.each names begin.0);
-      outermost = λ begin names. from-none (none_outermost names begin.0) (gains_outermost.each names begin.0);
+      inside = λ begin names. are_inside names begin.0;
+      outermost = λ begin names. are_outermost names begin.0;
       roots = λ i. subst (λ places. Contains places i ↔ IsReadRoot program i) (sym named) (roots-read program i);
     })
 

@@ -8,9 +8,9 @@ ghost use Rattle.std.specs.Prelude.{◌≡◌, ◌≤◌, ◌↔◌, IsTrue, IfO
 
 use crate::ends::ends_in;
 use crate::places::PlaceSet;
-use crate::seeking::{add_inside, add_outermost};
+use crate::seeking::{paths_inside, paths_outermost};
 use crate::types::{number_name, part_at, root_at};
-use gt_paths::{Containers, Outers};
+use gt_paths::Containers;
 use gt_starts::PathSet;
 use gt_types::{MAX_STRUCTURES, Program, Ty, Word};
 use gt_value::{Holder, Place};
@@ -44,11 +44,8 @@ impl Reads {
         ensures table { IfOk result (λ t. IsTableOf program.now t) }
     {
         let containers = Containers::of_program(alloc, program)?;
-        let mut inside = PathSet::new(alloc);
-        add_inside(&mut inside, alloc, program, &containers)?;
-        let outers = Outers::of_program(alloc, program, &containers)?;
-        let mut outermost = PathSet::new(alloc);
-        add_outermost(&mut outermost, alloc, program, &outers)?;
+        let inside = paths_inside(alloc, program, &containers)?;
+        let outermost = paths_outermost(alloc, program, &containers)?;
         let mut roots = PlaceSet::new(alloc);
         roots.add_named(program)?;
         Ok(Reads {

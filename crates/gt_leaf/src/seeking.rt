@@ -7,7 +7,7 @@ ghost use Rattle.gt_starts.specs.Paths.{BeginsIn};
 ghost use Rattle.gt_types.specs.Shapes.{innermost};
 ghost use Rattle.gt_types.specs.declared.expressions.Base.TheVariants.{Here, Outermost};
 ghost use Rattle.gt_types.specs.declared.limits.TheConstants.{MAX_STRUCTURES as MOST};
-ghost use Rattle.std.specs.Prelude.{◌≡◌, ◌≤◌, OnOk, length, option_copied};
+ghost use Rattle.std.specs.Prelude.{◌≡◌, ◌≤◌, ◌↔◌, ℕ, List, IfOk, OnOk, length, option_copied};
 
 use crate::begins::{containers_of, only, outers_of};
 use crate::types::{count_of, desc_in, innermost};
@@ -206,9 +206,8 @@ fn add_structures(
     Ok(())
 }
 
-/// Adds the paths from `%h` and `%1` of all expressions of a program, with the structures at which they begin. Its time is linear in the
-/// program's size. Its only error is out of memory.
-pub fn add_inside(
+// Those from `%h` and `%1` of all expressions of a program.
+fn add_inside(
     paths: &mut PathSet,
     alloc: Global,
     program: &Program,
@@ -220,6 +219,22 @@ pub fn add_inside(
 {
     add_structures(paths, alloc, program, containers)?;
     add_roots(paths, alloc, Base::Here, program.roots.as_slice())
+}
+
+/// The paths from `%h` and `%1` of all expressions of a program, with the structures at which they begin. Its time is linear in the
+/// program's size. Its only error is out of memory.
+pub fn paths_inside(
+    alloc: Global,
+    program: &Program,
+    containers: &Containers,
+) -> Result<PathSet, AllocError>
+    requires few { length program.now.structures ≤ MOST }
+    requires containers { AreContainersOf program.now containers.now }
+    ensures paths { IfOk result (λ p. (names : List (List ℕ)) (begin : ℕ) → BeginsIn p names begin ↔ AllInside program.now names begin) }
+{
+    let mut paths = PathSet::new(alloc);
+    add_inside(&mut paths, alloc, program, containers)?;
+    Ok(paths)
 }
 
 // The paths from `%0` of the expressions in a structure.
@@ -253,9 +268,8 @@ fn add_outer_structures(
     Ok(())
 }
 
-/// Adds the paths from `%0` of all expressions of a program, with the structures at which they begin. Its time is linear in the program's
-/// size. Its only error is out of memory.
-pub fn add_outermost(
+// Those from `%0` of all expressions of a program.
+fn add_outermost(
     paths: &mut PathSet,
     alloc: Global,
     program: &Program,
@@ -267,4 +281,21 @@ pub fn add_outermost(
 {
     add_outer_structures(paths, program, outers)?;
     add_roots(paths, alloc, Base::Outermost, program.roots.as_slice())
+}
+
+/// The paths from `%0` of all expressions of a program, with the structures at which they begin. Its time is linear in the program's size.
+/// Its only error is out of memory, which it also says of structures that nest deeper than `MAX_DEPTH`.
+pub fn paths_outermost(
+    alloc: Global,
+    program: &Program,
+    containers: &Containers,
+) -> Result<PathSet, AllocError>
+    requires few { length program.now.structures ≤ MOST }
+    requires containers { AreContainersOf program.now containers.now }
+    ensures paths { IfOk result (λ p. (names : List (List ℕ)) (begin : ℕ) → BeginsIn p names begin ↔ AllOutermost program.now names begin) }
+{
+    let outers = Outers::of_program(alloc, program, containers)?;
+    let mut paths = PathSet::new(alloc);
+    add_outermost(&mut paths, alloc, program, &outers)?;
+    Ok(paths)
 }
