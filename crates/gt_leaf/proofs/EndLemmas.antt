@@ -11,7 +11,7 @@ use Rattle.gt_tree.specs.Scopes.{◌then◌}
 use Rattle.gt_starts.specs.Paths.{Starts, BeginsIn, EndsFrom}
 use Rattle.gt_starts.specs.Ways.{name_at, inner_at, is_union, way_to, EndsIn, LeadsAlong}
 use Rattle.gt_leaf.specs.Around.{SomeLead}
-use Rattle.gt_leaf.specs.Ends.{name_in, last_name}
+use Rattle.gt_leaf.specs.Ends.{last_name}
 use Rattle.gt_leaf.specs.Unread.{Enclosing, Around, none_around, with_structure, with_itself, part_at, structures_from, structures_on}
 use Rattle.gt_leaf.proofs.Members.{nothing, first-or-later}
 use Rattle.gt_leaf.proofs.WaySteps.{Names, with_first, after}

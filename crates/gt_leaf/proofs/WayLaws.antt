@@ -1,6 +1,6 @@
 -- The names on a known way are those of the fields by which it leads.
 use Rattle.std.proofs.Common.{◌≡◌, ℕ, Bool, true, false, List, [], ◌∷◌, refl, ap, sym, subst, ◌∙◌, Option, Some, None}
-use Rattle.std.specs.Prelude.{◌↔◌, map, slice_get}
+use Rattle.std.specs.Prelude.{map, slice_get}
 use Rattle.gt_types.specs.declared.types.TypeId.{TypeId}
 use Rattle.gt_types.specs.declared.types.Ty.{Ty}
 use Rattle.gt_types.specs.declared.types.Ty.TheVariants as ty
@@ -9,7 +9,7 @@ use Rattle.gt_types.specs.declared.program.Structure.{Structure}
 use Rattle.gt_types.specs.declared.program.Program.{Program}
 use Rattle.gt_types.specs.Contains.{HasStructure, itself}
 use Rattle.gt_types.specs.Paths.{Leads, by_name, by_place}
-use Rattle.gt_starts.specs.Ways.{way_to, LeadsAlong}
+use Rattle.gt_starts.specs.Ways.{way_to}
 use Rattle.gt_leaf.specs.Reading.{Step, by_both, LeadsAs, WaysLead, NoOthersLead}
 use Rattle.gt_leaf.proofs.EndLemmas.{way-over}
 use Rattle.gt_leaf.proofs.WaySteps.{Names, with_first, ways-stop, ways-step}
