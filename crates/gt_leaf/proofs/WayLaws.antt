@@ -56,9 +56,12 @@ module _ (program : Program) where
       ((x, f.name) ∷ [], refl, last-known node s f x way has at e, Leads.last_step {node = node} {x = (x, f.name)} {s = s} {f = f} has (at, refl) may)
   lead-both (Leads.next_step {node} {next} {x} {xs} {s} {f} {desc} {type} has at may is rest) way e =
       let known = next-known node next s f desc x xs way has at is e in
-      let both = lead-both rest known.0 known.1 in
-      ((x, f.name) ∷ both.0, ap (λ (ps : List ℕ). x ∷ ps) both.1, ap (λ (ns : Names). f.name ∷ ns) both.2 ∙ known.2,
-      Leads.next_step {node = node} {next = next} {x = (x, f.name)} {xs = both.0} {s = s} {f = f} {desc = desc} {type = type} has (at, refl) may is both.3)
+      let both = lead-both rest known.0 known.1 in (
+        (x, f.name) ∷ both.0,
+        ap (λ (ps : List ℕ). x ∷ ps) both.1,
+        ap (λ (ns : Names). f.name ∷ ns) both.2 ∙ known.2,
+        Leads.next_step {node = node} {next = next} {x = (x, f.name)} {xs = both.0} {s = s} {f = f} {desc = desc} {type = type} has (at, refl) may is both.3,
+      )
 
   -- what leads by both leads by name
   both-name : {node : TypeId} {steps : List Step} {type : Ty} → Leads program by_both node steps type → Leads program by_name node (names_of steps) type
@@ -77,6 +80,7 @@ module _ (program : Program) where
   ways-lead node places type way leads known = let both = lead-both leads way known in subst (λ names. Leads program by_name node names type) both.2 (both-name both.3)
 
   pub no-others-lead : NoOthersLead program
-  no-others-lead node places type way names last leads known =
-      (λ is. subst (λ ns. LeadsAs program node places ns type) (sym is) (lead-both leads way known),
-      λ (steps, at, named, both). sym named ∙ names-are both way (subst (λ ps. way_to program (Some node) ps ≡ Some way) (sym at) known))
+  no-others-lead node places type way names last leads known = (
+    λ is. subst (λ ns. LeadsAs program node places ns type) (sym is) (lead-both leads way known),
+    λ (steps, at, named, both). sym named ∙ names-are both way (subst (λ ps. way_to program (Some node) ps ≡ Some way) (sym at) known),
+  )

@@ -129,13 +129,7 @@ impl Reads {
 
     // Whether a path from `%h` or `%1` may lead to a leaf of this name from a structure around the part at a path. Where the part is a field
     // of this name, in which no such path ends, no way is looked up: each known way to it ends in its name.
-    fn is_read_inside(
-        &self,
-        program: &Program,
-        ty: Option<&Ty>,
-        path: &[u32],
-        name: &Word,
-    ) -> bool
+    fn is_read_inside(&self, program: &Program, ty: Option<&Ty>, path: &[u32], name: &Word) -> bool
         ensures read { (result ≡ true) ↔ SomeLead (BeginsIn self.now.inside) name.now (structures_on program.now (option_copied ty.entry) path.now).structures }
     {
         if !self.inside.ends(name) && ends_in(program, ty, path, name) {
