@@ -4,7 +4,7 @@ use Rattle.gt_script.specs.declared.command.Hop.TheVariants.{Index}
 use Rattle.gt_next.specs.declared.answer.Why.TheVariants.{BadIndex}
 use Rattle.gt_next.specs.Paths.{Steps, RefusesStep}
 use Rattle.gt_routes.specs.declared.steps.WalkFail.TheVariants.{Refused}
-use Rattle.gt_routes.specs.Reaching.{spot_of, IsEndAt, IsValueAt}
+use Rattle.gt_routes.specs.Reaching.{IsValueAt}
 use Rattle.gt_routes.proofs.HeapSteps.{whole-there, same-end}
 use Rattle.gt_routes.proofs.reaching.index_step.Goals as goal
 
@@ -20,24 +20,20 @@ returns-then-place-known-clause-refused c why e heap is from follows =
 pub returns-in-Ok-clause-leads : goal.returns-in-Ok-clause-leads
 returns-in-Ok-clause-leads c heap is =
     let program = c.args.schema.now.program in
-    let layouts = c.args.schema.now.layouts in
-    let objects = c.args.objects.now in
-    let to = c.enter.new.reached in
     let there = c.in-Ok.ensures.cursor heap is in
     let spots = c.in-Ok.ensures.spot in
-    let ends = c.in-Ok.ensures.end in
     record {
       steps = λ from follows.
           subst (λ s. Steps program heap.graph from (Index c.args.place) s) (sym spots)
           (Steps.to_element follows (whole-there program heap.graph c.args.address there.o there.there) there.within);
-      ends = subst (λ e. IsEndAt program layouts objects heap (spot_of to) e) (sym ends) (subst (λ s. IsValueAt program layouts objects heap s c.in-Ok.field-0) (sym spots) there.at);
+      ends = subst (λ s. IsValueAt program c.args.schema.now.layouts c.args.objects.now heap s c.in-Ok.at) (sym spots) there.at;
     }
 
 pub returns-in-Ok-clause-inside : goal.returns-in-Ok-clause-inside
 returns-in-Ok-clause-inside c at e =
     let schema = c.args.schema.now in
     let to = c.enter.new.reached in
-    same-end schema.program schema.layouts c.args.objects.now to.first to.places.items c.in-Ok.field-0 c.in-Ok.ensures.inside at (sym c.in-Ok.ensures.end ∙ e)
+    same-end schema.program schema.layouts c.args.objects.now to.first to.places.items c.in-Ok.at c.in-Ok.ensures.inside at e
 
 pub returns-in-Err-clause-refused : goal.returns-in-Err-clause-refused
 returns-in-Err-clause-refused c why e heap is =
