@@ -31,7 +31,7 @@ use Rattle.gt_routes.proofs.Targets.{pointer-leaf}
 use Rattle.gt_tree.specs.Scopes.{Typed, typed}
 use Rattle.gt_next.specs.Spots.{Value, standing_at}
 use Rattle.gt_next.specs.Leaves.{is_in_range}
-use Rattle.gt_next.specs.declared.answer.Why.TheVariants.{OutOfRange}
+use Rattle.gt_next.specs.declared.answer.Why.TheVariants.{WrongType, OutOfRange}
 use Rattle.gt_routes.proofs.SpotParts.{value-same}
 use Rattle.gt_writes.specs.SpotWrites.{LeafSuits, SpotTakes}
 use Rattle.gt_writes.specs.declared.found.Target.{Target}
@@ -131,6 +131,10 @@ module _ (program : Program) (layouts : Layouts) (objects : Objects) (heap : Hea
       let types : is_pointer c.ty.now ≡ true = ap is_pointer type-is ∙ sym (ap (λ (u : Typed). is_pointer u.type) (same-there t st)) ∙ pointer in
       let idle : is_idle heap at c.ty.now ≡ true = ap (λ b. b && is_in_none heap.graph at) types ∙ none in
       cc
+
+  pub unsuited-refused : (leaf : LeafContent) → is_idle heap at c.ty.now ≡ false → ¬ SuitsAs heap.graph.objects c.ty.now leaf → RefusesLeaf program heap at leaf WrongType
+  unsuited-refused leaf free unsuited =
+      (not-idle free, λ s. unsuited (subst (λ t. SuitsAs heap.graph.objects t leaf) (ap (λ (u : Typed). u.type) (same-there s.0 s.1) ∙ sym type-is) s.2))
 
   module _ (leaf : LeafContent) (free : is_idle heap at c.ty.now ≡ false) (suits : SuitsAs heap.graph.objects c.ty.now leaf) (open_to : ¬ IsFixedIn heap at.owner) where
     suits-here : SuitsAs heap.graph.objects v.here.here.p.type leaf
