@@ -86,7 +86,7 @@ prefixes() {
   }'
 }
 
-# So many structures in 30 layers, of which each holds one of the layer below, or two in the lower 20: half of them have a length from the
+# So many structures in 30 layers, of which each holds one of the layer below, or two in the lower 15: half of them have a length from the
 # outermost structure.
 dense() {
   awk -v n="$1" -v header="$2/0.h" 'BEGIN {
@@ -97,7 +97,7 @@ dense() {
         text = "struct GTY(()) d" i "_" j " { int n;"
         if (j % 2 == 0) text = text " struct leaf *GTY((length (\"%0.n\"))) b;"
         if (i > 0) text = text " struct d" (i - 1) "_" j " f;"
-        if (i > 0 && i < 20) text = text " struct d" (i - 1) "_" ((j + 1) % wide) " g;"
+        if (i > 0 && i < 15) text = text " struct d" (i - 1) "_" ((j + 1) % wide) " g;"
         print text " };" >header
       }
     }
