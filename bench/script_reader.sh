@@ -6,11 +6,12 @@
 . "$(dirname "$0")/shared.sh"
 mkdir -p "$work/crates/read_script/src"
 copy_crates gt_types gt_text gt_split gt_script
-echo 'read_script: gt_script' >>"$work/crates.txt"
+echo 'read_script: gt_types gt_script' >>"$work/crates.txt"
 cat >"$work/crates/read_script/src/main.rt" <<'RT'
 //! Reads a script and says how many commands it has.
 #![tactic(auto)]
 use gt_script::{ScriptStop, parse_script};
+use gt_types::Bytes;
 use std::io;
 use std::io::Read;
 use std::mem;
@@ -22,7 +23,7 @@ fn main(rt: HostRuntime) -> io::Result<()> {
     if text.len() >= 1 << 32 {
         return Ok(());
     }
-    match parse_script(alloc, &text) {
+    match parse_script(alloc, Bytes::from_vec(text)) {
         Ok(lines) => {
             let count = lines.len();
             mem::forget(lines);

@@ -105,7 +105,7 @@ fn open(alloc: Global) -> Result<Session, Failed>
 fn lines_of(alloc: Global, text: &[u8]) -> Result<List<Line>, Failed>
     requires short { length text.now < 2 ^ 32 }
 {
-    match parse_script(alloc, text) {
+    match parse_script(alloc, Bytes::of(alloc, text)?) {
         Ok(lines) => Ok(lines),
         Err(_) => Err(Failed),
     }

@@ -77,7 +77,7 @@ pub fn prepare<F: Files>(alloc: Global, words: &[Word], files: &mut F) -> Result
         Ok(declared) => declared,
         Err(halt) => return Err(halt),
     };
-    let lines = match lines_of(alloc, &call, found.script.as_slice()) {
+    let lines = match lines_of(alloc, &call, found.script) {
         Ok(lines) => lines,
         Err(halt) => return Err(halt),
     };

@@ -122,12 +122,12 @@ pub fn declare_texts(alloc: Global, call: &Call, texts: &[Bytes]) -> Result<Decl
 }
 
 /// The lines of the script with this text.
-pub fn lines_of(alloc: Global, call: &Call, text: &[u8]) -> Result<List<Line>, Halt>
-    requires short { length text.now ≤ MAX_SCRIPT_BYTES }
-    ensures parsed { IfOk result (Parsed text.now) }
+pub fn lines_of(alloc: Global, call: &Call, text: Bytes) -> Result<List<Line>, Halt>
+    requires short { length text ≤ MAX_SCRIPT_BYTES }
+    ensures parsed { IfOk result (Parsed text) }
     ensures halted { (words : List (List ℕ)) (told : Option Held) (headers : List (List ℕ)) (program : Program)
-        → Reads words told call.now (record { headers = headers; script = text.now }) → Declares headers program
-        → IfErr result (HaltsBy words told (record { headers = headers; script = text.now }) (whole (record { headers = headers; script = text.now }))) }
+        → Reads words told call.now (record { headers = headers; script = text }) → Declares headers program
+        → IfErr result (HaltsBy words told (record { headers = headers; script = text }) (whole (record { headers = headers; script = text }))) }
     ensures no_file { (word : ℕ) (line : List ℕ) → IsErrOf result (Halt.Refused (Refusal.File word FileWhy.Fault) line) → ⊥ }
 {
     match parse_script(alloc, text) {

@@ -19,11 +19,12 @@ pub struct Source {
 }
 
 impl Source {
-    pub fn of(alloc: Global, text: &str) -> Result<Source, AllocError> {
-        let text = if memchr(b'\\', text.as_bytes()).is_some() {
-            meant_text(alloc, text)?
+    // The source that a text is, which it shares where it has no escapes.
+    pub fn of(alloc: Global, text: &RcStr) -> Result<Source, AllocError> {
+        let text = if memchr(b'\\', text.as_str().as_bytes()).is_some() {
+            meant_text(alloc, text.as_str())?
         } else {
-            RcStr::from_str(alloc, text)?
+            text.clone()?
         };
         Ok(Source { alloc, text })
     }

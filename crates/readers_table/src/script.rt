@@ -2,7 +2,7 @@
 ghost use Rattle.std.specs.Prelude.{◌<◌, ◌^◌, length};
 
 use gt_script::{Command, Given, Hop, Line, Route, ScriptStop, Steps, TypeName, parse_script};
-use gt_types::List;
+use gt_types::{Bytes, List};
 use std::alloc::{AllocError, Global};
 
 /// The most commands that are written one by one; of more their number is the answer.
@@ -12,7 +12,7 @@ const MANY: usize = 1000;
 pub fn answer(alloc: Global, text: &[u8]) -> Result<String, AllocError>
     requires { length text.now < 2 ^ 32 }
 {
-    match parse_script(alloc, text) {
+    match parse_script(alloc, Bytes::of(alloc, text)?) {
         Ok(lines) if lines.len() > MANY => format!(in alloc; "{} commands", lines.len()),
         Ok(lines) => commands_text(alloc, &lines),
         Err(ScriptStop::ScriptSyntax { line }) => format!(in alloc; "line {line} refused"),

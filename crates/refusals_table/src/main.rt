@@ -7,7 +7,7 @@ use gt_answers::text;
 use gt_next::{Answer, Why};
 use gt_refusals::{Cause, refusals};
 use gt_script::{Line, ScriptStop, parse_script};
-use gt_types::List;
+use gt_types::{Bytes, List};
 use std::alloc::{AllocError, Global};
 use std::io;
 
@@ -37,7 +37,7 @@ fn causes_of(alloc: Global, text: &str) -> Result<String, AllocError> {
     if text.len() >= 1 << 32 {
         return String::from_str(alloc, "too long");
     }
-    match parse_script(alloc, text.as_bytes()) {
+    match parse_script(alloc, Bytes::of(alloc, text.as_bytes())?) {
         Ok(lines) => lines_text(alloc, &lines),
         Err(ScriptStop::Memory) => Err(AllocError),
         Err(_) => String::from_str(alloc, "no command"),

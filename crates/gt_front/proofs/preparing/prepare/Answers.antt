@@ -61,13 +61,12 @@ returns-in-Err-lines_of-clause-stopped g c =
     let call = c.in-Ok.call in
     let found = c.in-Ok-read_texts.found in
     let headers = c.as_slice.result.now in
-    let script = c.as_slice-2.result.now in
-    let texts : Texts = record { headers = headers; script = script } in
+    let texts : Texts = record { headers = headers; script = found.script } in
     let called = c.in-Ok.ensures.called in
-    let R : List (List ℕ) → List ℕ → Type 0 = λ headers script. Reads words told call (record { headers = headers; script = script }) in
-    let G : List (List ℕ) → List ℕ → Type 0 = λ headers script. IsReadAs g.F.Files.reads call.script call.headers (record { headers = headers; script = script }) c.args.files.now c.read_texts.new.files in
-    let reads = subst (λ h. R h script) (sym c.as_slice.ensures.value) (subst (R found.headers.items) (sym c.as_slice-2.ensures.bytes) (c.in-Ok-read_texts.ensures.read words called)) in
-    let given = subst (λ h. G h script) (sym c.as_slice.ensures.value) (subst (G found.headers.items) (sym c.as_slice-2.ensures.bytes) c.in-Ok-read_texts.ensures.files) in
+    let R : List (List ℕ) → Type 0 = λ headers. Reads words told call (record { headers = headers; script = found.script }) in
+    let G : List (List ℕ) → Type 0 = λ headers. IsReadAs g.F.Files.reads call.script call.headers (record { headers = headers; script = found.script }) c.args.files.now c.read_texts.new.files in
+    let reads = subst R (sym c.as_slice.ensures.value) (c.in-Ok-read_texts.ensures.read words called) in
+    let given = subst G (sym c.as_slice.ensures.value) c.in-Ok-read_texts.ensures.files in
     HaltsAfter-by g.F.Files.reads words told c.args.files.now c.read_texts.new.files texts (whole texts) c.in-Err-lines_of.halt
     (c.in-Err-lines_of.ensures.halted words told headers c.in-Ok-declare_texts.declared.program reads c.in-Ok-declare_texts.ensures.declared) (call, called, given)
 
