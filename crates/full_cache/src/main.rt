@@ -9,7 +9,7 @@ ghost use Rattle.gt_session.specs.Sessions.{IsSession};
 use gt_headers::{declare, declared_programs_are_settled};
 use gt_io::{HostFiles, HostOut};
 use gt_lines::run_line;
-use gt_next::Answer;
+use gt_answers::Answers;
 use gt_schema::Schema;
 use gt_script::{Line, parse_script};
 use gt_session::Session;
@@ -126,7 +126,7 @@ fn run(
         if !is_built(&line.command) {
             return Err(Failed);
         }
-        let mut answers: Vec<Answer> = Vec::new(alloc);
+        let mut answers = Answers::new(alloc);
         let Ok(()) = run_line(alloc, session, files, out, &mut answers, line) else {
             return Err(Failed);
         };

@@ -1,6 +1,8 @@
-//! The text of each answer of the machine.
+//! The answers of the machine: the text of each, and a list of them.
 #![tactic(auto)]
 
+mod answers;
 mod texts;
 
+pub use answers::Answers;
 pub use texts::text;

@@ -8,9 +8,8 @@ ghost use Rattle.gt_lines.specs.Lines.{RunsLine};
 ghost use Rattle.gt_lines.specs.Calls.{LineCalls, SinkCalls};
 ghost use Rattle.gt_lines.specs.Runs.{RunsLines};
 
-use gt_answers::text;
+use gt_answers::{Answers, text};
 use gt_io::{Files, Sink, WriteFail};
-use gt_next::Answer;
 use gt_script::Line;
 use gt_session::Session;
 use gt_steps::step;
@@ -44,7 +43,7 @@ pub fn run_line<F: Files, K: Sink>(
     s: &mut Session,
     files: &mut F,
     out: &mut K,
-    answers: &mut Vec<Answer>,
+    answers: &mut Answers,
     line: &Line,
 ) -> Result<(), LineStop>
     requires session { IsSession s.old }
@@ -58,7 +57,7 @@ pub fn run_line<F: Files, K: Sink>(
     ensures later { K.faults out.old ≤ K.faults out.new }
     ensures cause { IsErrOf result LineStop.NotWritten → Rose (K.faults out.old) (K.faults out.new) }
 {
-    let Ok(()) = answers.reserve(1) else {
+    let Ok(()) = answers.reserve() else {
         return Err(LineStop::NoAnswer);
     };
     let Ok(answer) = step(alloc, s, files, line) else {
@@ -85,7 +84,7 @@ pub fn run_lines<F: Files, K: Sink>(
     s: &mut Session,
     files: &mut F,
     out: &mut K,
-    answers: &mut Vec<Answer>,
+    answers: &mut Answers,
     lines: &[Line],
 ) -> LinesEnd
     requires session { IsSession s.old }

@@ -8,8 +8,8 @@ ghost use Rattle.gt_lines.specs.Scripts.{RunsScript};
 ghost use Rattle.gt_lines.specs.Calls.{SinkCalls};
 
 use crate::lines::{LinesEnd, run_lines};
+use gt_answers::Answers;
 use gt_io::{Files, Sink};
-use gt_next::Answer;
 use gt_script::Line;
 use gt_session::Session;
 use gt_space::Space;
@@ -23,7 +23,7 @@ pub fn run_script<F: Files, K: Sink>(
     files: &mut F,
     out: &mut K,
     space: &mut Space,
-    answers: &mut Vec<Answer>,
+    answers: &mut Answers,
     lines: &[Line],
 ) -> LinesEnd
     requires session { IsSession session }

@@ -97,7 +97,7 @@ Ended-script words told call p layouts script laid asks built opening opens answ
 
 -- an outcome of an ending
 pub Ends-of : (words : List (List ℕ)) (told : Option Held) (read : Option Extent) (out : Output) (ending : Ending) (answers : List Answer) (range : Range) (outcome : Outcome)
-    → outcome.status ≡ status_of ending answers → outcome.answers ≡ answers → outcome.refusal ≡ refusal_of ending
+    → outcome.status ≡ status_of ending answers → outcome.answers.items ≡ answers → outcome.refusal ≡ refusal_of ending
     → Ended words told read out ending answers range → Ends words told read out outcome range
 Ends-of words told read out ending answers range outcome status same refusal ended =
     let E : List Answer → Type 0 = λ x. Ended words told read out ending x range in
@@ -122,13 +122,13 @@ Ended-refused words told texts refusal line first is out Finished h = absurd h
 
 -- where no line was answered, the space is empty unless all is done
 pub Ends-unanswered : (words : List (List ℕ)) (told : Option Held) (read : Option Extent) (out : Output) (outcome : Outcome) (range : Range) → Ends words told read out outcome range
-    → outcome.answers ≡ [] → (range ≡ empty_range) ⊎ (outcome.status ≡ 0)
+    → outcome.answers.items ≡ [] → (range ≡ empty_range) ⊎ (outcome.status ≡ 0)
 Ends-unanswered words told read out outcome range ends none =
     by_ending ends.ending ends.status ends.ended where
-      by_ending : (ending : Ending) → outcome.status ≡ status_of ending outcome.answers → Ended words told read out ending outcome.answers range → (range ≡ empty_range) ⊎ (outcome.status ≡ 0)
+      by_ending : (ending : Ending) → outcome.status ≡ status_of ending outcome.answers.items → Ended words told read out ending outcome.answers.items range → (range ≡ empty_range) ⊎ (outcome.status ≡ 0)
       by_ending Finished s h = inr (s ∙ ap (status_of Finished) none)
       by_ending (Refused refusal) s h = inl h.1
-      by_ending SinkFailed s h = elim h [ inl refused ↦ inl refused.1 | inr ran ↦ absurd (answered-some ran.2.3 outcome.answers ran.2.4 ran.2.5 none) ]
+      by_ending SinkFailed s h = elim h [ inl refused ↦ inl refused.1 | inr ran ↦ absurd (answered-some ran.2.3 outcome.answers.items ran.2.4 ran.2.5 none) ]
       by_ending NoMemory s h = elim h [ inl before ↦ inl before.2 | inr ran ↦ absurd (ran.0 none) ]
 
 -- ---- what was read up to a refusal
@@ -140,7 +140,7 @@ module _ {F : Type 0} (reads : F → List ℕ → ℕ → Result (Option (List �
       → (texts : Texts) × IsRefusedFirst words told texts refusal × HasRead reads words store (extent_for texts refusal) last
   Ends-stopped was ends refusal is =
       by_ending ends.ending ends.refusal ends.ended where
-        by_ending : (ending : Ending) → outcome.refusal ≡ refusal_of ending → Ended words told read out ending outcome.answers range
+        by_ending : (ending : Ending) → outcome.refusal ≡ refusal_of ending → Ended words told read out ending outcome.answers.items range
             → (texts : Texts) × IsRefusedFirst words told texts refusal × HasRead reads words store (extent_for texts refusal) last
         by_ending (Refused other) r h =
             let some : Some other ≡ Some refusal = sym r ∙ is in

@@ -42,10 +42,10 @@ module _ (one : OneRefusal) (no_run : NoRun) (words : List (List ℕ)) (held : H
       → ((outcome.refusal ≡ Some refusal) × (outcome.status ≡ refusal_status refusal)) ⊎ (outcome.status ≡ 4) ⊎ (outcome.status ≡ 9)
   Ends-refused first told ends no_fault =
       by_ending ends.ending ends.status ends.refusal ends.ended where
-        by_ending : (ending : Ending) → outcome.status ≡ status_of ending outcome.answers → outcome.refusal ≡ refusal_of ending
-            → Ended words (Some held) read out ending outcome.answers range
+        by_ending : (ending : Ending) → outcome.status ≡ status_of ending outcome.answers.items → outcome.refusal ≡ refusal_of ending
+            → Ended words (Some held) read out ending outcome.answers.items range
             → ((outcome.refusal ≡ Some refusal) × (outcome.status ≡ refusal_status refusal)) ⊎ (outcome.status ≡ 4) ⊎ (outcome.status ≡ 9)
-        by_ending Finished s r h = absurd (no_run words held texts refusal outcome.answers range first told h.0)
+        by_ending Finished s r h = absurd (no_run words held texts refusal outcome.answers.items range first told h.0)
         by_ending (Refused other) s r h =
             elim (told_or_fault other) [
               | inl is ↦

@@ -188,9 +188,9 @@ pub Ends-well : (words : List (List ℕ)) (told : Option Held) (read : Option Ex
     → Ends words told read out outcome range → (outcome.status ≡ 0) ⊎ (outcome.status ≡ 1) ⊎ (outcome.status ≡ 9)
 Ends-well words told read out outcome range FileRose SinkRose nothing no_file no_sink file_cause sink_cause ends =
     ends_well ends.ending ends.status ends.refusal ends.ended where
-      ends_well : (ending : Ending) → outcome.status ≡ status_of ending outcome.answers → outcome.refusal ≡ refusal_of ending
-          → Ended words told read out ending outcome.answers range → (outcome.status ≡ 0) ⊎ (outcome.status ≡ 1) ⊎ (outcome.status ≡ 9)
-      ends_well Finished s r h = one_or_none (list_any is_refusal outcome.answers) outcome.status s
+      ends_well : (ending : Ending) → outcome.status ≡ status_of ending outcome.answers.items → outcome.refusal ≡ refusal_of ending
+          → Ended words told read out ending outcome.answers.items range → (outcome.status ≡ 0) ⊎ (outcome.status ≡ 1) ⊎ (outcome.status ≡ 9)
+      ends_well Finished s r h = one_or_none (list_any is_refusal outcome.answers.items) outcome.status s
       ends_well (Refused refusal) s r h =
           let w = nothing h.2 refusal h.3 in
           absurd (no_file (file_cause w.0 (r ∙ ap (λ x. Some x) w.1)))

@@ -87,6 +87,6 @@ refusal_of NoMemory = None
 -- the program ended in one of these ways, and told it
 pub record Ends (words : List (List ℕ)) (told : Option Held) (read : Option Extent) (out : Output) (outcome : Outcome) (range : Range) : Type 0 where
   pub ending : Ending
-  pub status : outcome.status ≡ status_of ending outcome.answers
+  pub status : outcome.status ≡ status_of ending outcome.answers.items
   pub refusal : outcome.refusal ≡ refusal_of ending
-  pub ended : Ended words told read out ending outcome.answers range
+  pub ended : Ended words told read out ending outcome.answers.items range

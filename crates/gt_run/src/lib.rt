@@ -11,6 +11,7 @@ mod outcome;
 mod refuse;
 mod running;
 
+pub use gt_answers::Answers;
 pub use gt_front::{FileWhy, Refusal};
 pub use gt_next::{Answer, Why};
 pub use host::run_here;

@@ -5,18 +5,16 @@ ghost use Rattle.gt_next.specs.Texts.{is_refusal as is_refusal_of};
 ghost use Rattle.gt_run.specs.Ended.{refusal_status as refusal_status_of};
 
 use crate::ending::Ending;
+use gt_answers::Answers;
 use gt_front::Refusal;
-use gt_next::Answer;
-use gt_types::{Copied, List};
-use std::alloc::{AllocError, Global};
 
 /// How a call of the program ended: its status, the answers so far, and the refusal where there was one.
 /// The status is 0 where all lines were answered, 1 where one of the answers is a refusal, 2 or 3 where no line was run, 4
 /// where the sink failed, and 9 if memory ran out.
-#[derive(Debug, PartialEq, Eq, Drop)]
+#[derive(Debug, Drop)]
 pub struct Outcome {
     pub status: u8,
-    pub answers: List<Answer>,
+    pub answers: Answers,
     pub refusal: Option<Refusal>,
 }
 
@@ -25,8 +23,8 @@ impl Outcome {
     ghost use Rattle.gt_run.specs.Ended.{status_of, refusal_of};
 
     /// The outcome of an ending.
-    pub fn of(ending: Ending, answers: List<Answer>) -> Outcome
-        ensures status { result.status ≡ status_of ending answers }
+    pub fn of(ending: Ending, answers: Answers) -> Outcome
+        ensures status { result.status ≡ status_of ending answers.items }
         ensures answers { result.answers ≡ answers }
         ensures refusal { result.refusal ≡ refusal_of ending }
     {
@@ -55,28 +53,11 @@ impl Outcome {
     }
 }
 
-impl Copied for Outcome {
-    fn copy(&self, alloc: Global) -> Result<Outcome, AllocError> {
-        Ok(Outcome {
-            status: self.status,
-            answers: self.answers.copy(alloc)?,
-            refusal: self.refusal,
-        })
-    }
-}
-
 // 1 where some answer is a refusal, else 0.
-fn finished_status(answers: &List<Answer>) -> u8
-    ensures { result ≡ (if list_any is_refusal_of answers.now then 1 else 0) }
+fn finished_status(answers: &Answers) -> u8
+    ensures { result ≡ (if list_any is_refusal_of answers.now.items then 1 else 0) }
 {
-    let refused = any_refusal(answers.as_slice());
-    if refused { 1 } else { 0 }
-}
-
-fn any_refusal(answers: &[Answer]) -> bool
-    ensures { result ≡ list_any is_refusal_of answers.now }
-{
-    answers.iter().any(|answer| answer.is_refusal())
+    if answers.has_refusal() { 1 } else { 0 }
 }
 
 // 3 for a file, else 2.

@@ -27,13 +27,14 @@ use crate::ending::Ending;
 use crate::opening::open;
 use crate::outcome::Outcome;
 use crate::refuse::refuse;
+use gt_answers::Answers;
 use gt_front::{FileWhy, Halt, Ready, Refusal, not_built_line, prepare};
 use gt_io::{Files, Sink};
 use gt_lines::run_script;
 use gt_script::Line;
 use gt_session::Session;
 use gt_space::Space;
-use gt_types::{List, Word};
+use gt_types::Word;
 use gt_words::Call;
 use std::alloc::Global;
 
@@ -51,7 +52,7 @@ pub fn top<F: Files, K: Sink>(
         × Ends words.now (F.told files.old) read (output K.writes K.written out.old out.new) result space.new }
 
     // Where no line was answered, the space is empty, as it came, unless all is done.
-    ensures unused { result.answers ≡ [] → (space.new ≡ empty_range) ⊎ (result.status ≡ 0) }
+    ensures unused { result.answers.items ≡ [] → (space.new ≡ empty_range) ⊎ (result.status ≡ 0) }
 
     // No command writes a file.
     ensures files { F.told files.new ≡ F.told files.old }
@@ -60,7 +61,7 @@ pub fn top<F: Files, K: Sink>(
 
     // Where the script was run, to its end or in part, each file that the arguments name was read once and in order, and
     // nothing else was read; with a generated script nothing was.
-    ensures read { (result.status ≡ 0) ⊎ (result.status ≡ 1) ⊎ (result.answers ≡ [] → ⊥)
+    ensures read { (result.status ≡ 0) ⊎ (result.status ≡ 1) ⊎ (result.answers.items ≡ [] → ⊥)
         → (call : Call) × (call_of words.now ≡ Some call) × IsReadFor F.reads call.script call.headers files.old files.new }
 
     // With a generated script no file is read, nor where the arguments are refused.
@@ -90,7 +91,7 @@ pub fn top<F: Files, K: Sink>(
 {
     match prepare(alloc, words, files) {
         Ok(ready) => run_ready(alloc, ready, files, out, space),
-        Err(Halt::Memory) => Outcome::of(Ending::NoMemory, List::new(alloc)),
+        Err(Halt::Memory) => Outcome::of(Ending::NoMemory, Answers::new(alloc)),
         Err(Halt::Refused { refusal, line }) => refused_outcome(
             alloc,
             refusal,
@@ -126,7 +127,7 @@ fn run_ready<F: Files, K: Sink>(
     let settings = ready.call.settings;
     match open(alloc, ready.program, ready.layouts, settings) {
         Ok(session) => run_lines(alloc, session, ready.lines.as_slice(), files, out, space),
-        Err(_) => Outcome::of(Ending::NoMemory, List::new(alloc)),
+        Err(_) => Outcome::of(Ending::NoMemory, Answers::new(alloc)),
     }
 }
 
@@ -150,9 +151,9 @@ fn run_lines<F: Files, K: Sink>(
     ensures later { K.faults out.old ≤ K.faults out.new }
     ensures cause { result.status ≡ 4 → Rose (K.faults out.old) (K.faults out.new) }
 {
-    let mut answers = Vec::new(alloc);
+    let mut answers = Answers::new(alloc);
     let end = run_script(alloc, session, files, out, space, &mut answers, lines);
-    Outcome::of(Ending::of(end), List::of(answers))
+    Outcome::of(Ending::of(end), answers)
 }
 
 // Says that the script asks for what is not built so far.
@@ -164,7 +165,7 @@ fn refuse_unbuilt<K: Sink>(alloc: Global, call: &Call, out: &mut K) -> Outcome
 {
     match not_built_line(alloc, call) {
         Ok(line) => refused_outcome(alloc, Refusal::NotBuilt, line.as_slice(), out),
-        Err(_) => Outcome::of(Ending::NoMemory, List::new(alloc)),
+        Err(_) => Outcome::of(Ending::NoMemory, Answers::new(alloc)),
     }
 }
 
@@ -173,10 +174,10 @@ fn refused_outcome<K: Sink>(alloc: Global, refusal: Refusal, line: &[u8], out: &
     ensures ended { (words : List (List ℕ)) (told : Option Held) (texts : Texts) → IsRefusedFirst words told texts refusal
         → IsRefusalLine words texts refusal line.now → Ends words told (Some (extent_for texts refusal)) (output K.writes K.written out.old out.new) result empty_range }
     ensures status { 2 ≤ result.status }
-    ensures unanswered { result.answers ≡ [] }
+    ensures unanswered { result.answers.items ≡ [] }
     ensures refusal { IfSome result.refusal (λ told. told ≡ refusal) }
     ensures later { K.faults out.old ≤ K.faults out.new }
     ensures cause { result.status ≡ 4 → Rose (K.faults out.old) (K.faults out.new) }
 {
-    Outcome::of(refuse(refusal, line, out), List::new(alloc))
+    Outcome::of(refuse(refusal, line, out), Answers::new(alloc))
 }

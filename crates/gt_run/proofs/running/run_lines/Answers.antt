@@ -14,8 +14,8 @@ returns-clause-ended g c = λ words call opening asks opens stands.
     let answers = c.run_script-end.new.answers.items in
     let range = c.run_script-end.new.space in
     let E : Ending → Type 0 = λ ending. Ended words told (Some (whole asks.texts)) out ending answers range in
-    Ends-of words told (Some (whole asks.texts)) out c.of.result answers range c.of-3.result
-    (c.of-3.ensures.status ∙ ap (status_of c.of.result) c.of-2.ensures.items) (c.of-3.ensures.answers ∙ c.of-2.ensures.items) c.of-3.ensures.refusal
+    Ends-of words told (Some (whole asks.texts)) out c.of.result answers range c.of-2.result
+    c.of-2.ensures.status (ap (λ a. a.items) c.of-2.ensures.answers) c.of-2.ensures.refusal
     (subst E (sym c.of.ensures)
     (Ended-script words told call schema.program schema.layouts c.args.lines.now stands.holds.schema.laid asks c.requires.built opening opens answers out c.args.space.now range
     c.run_script-end.result c.requires.empty (c.run_script-end.ensures.ran opening stands) c.run_script-end.ensures.calls))

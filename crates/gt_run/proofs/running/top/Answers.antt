@@ -76,7 +76,7 @@ returns-in-Ok-clause-refused g c = λ held texts refusal told first known no_fil
 pub returns-in-Err-Memory-clause-read : goal.returns-in-Err-Memory-clause-read
 returns-in-Err-Memory-clause-read g c = λ ran.
     let status : c.of.result.status ≡ 9 = c.of.ensures.status in
-    absurd (none_ran c.of.result.status c.of.result.answers (omega (arith, status)) (c.of.ensures.answers ∙ c.new.ensures.empty) ran)
+    absurd (none_ran c.of.result.status c.of.result.answers.items (omega (arith, status)) (ap (λ a. a.items) c.of.ensures.answers ∙ c.new.ensures.none) ran)
 
 pub returns-in-Err-Memory-clause-stopped : goal.returns-in-Err-Memory-clause-stopped
 returns-in-Err-Memory-clause-stopped g c = λ refusal is.
@@ -103,7 +103,7 @@ returns-in-Err-Refused-clause-ended g c = (was_read g c, (halts g c).3, refused_
 
 pub returns-in-Err-Refused-clause-read : goal.returns-in-Err-Refused-clause-read
 returns-in-Err-Refused-clause-read g c = λ ran.
-    absurd (none_ran c.refused_outcome.result.status c.refused_outcome.result.answers c.refused_outcome.ensures.status c.refused_outcome.ensures.unanswered ran)
+    absurd (none_ran c.refused_outcome.result.status c.refused_outcome.result.answers.items c.refused_outcome.ensures.status c.refused_outcome.ensures.unanswered ran)
 
 pub returns-in-Err-Refused-clause-stopped : goal.returns-in-Err-Refused-clause-stopped
 returns-in-Err-Refused-clause-stopped g c =
