@@ -51,8 +51,7 @@ put-adds : (was rows : Rows) (node : ℕ) (row : List (List ℕ)) (more : List �
     → RowsAdd was (set rows node row) (λ n begin. (n ≡ node) × IsIn more begin)
 put-adds was rows node row more same within adds n begin = elim (cases_eq n node) [
   | inl e ↦
-      let here : sets_at (set rows node row) n ≡ row = ap (sets_at (set rows node row)) e ∙ get_or-set_same rows node row [] within in
-      (
+      let here : sets_at (set rows node row) n ≡ row = ap (sets_at (set rows node row)) e ∙ get_or-set_same rows node row [] within in (
         λ h. elim ((adds begin).0 (subst (λ sets. IsInSome sets begin) here h)) [
           | inl before ↦ inl (subst (λ m. IsInSome (sets_at was m) begin) (sym e) before)
           | inr m ↦ inr (e, m)
@@ -63,8 +62,7 @@ put-adds was rows node row more same within adds n begin = elim (cases_eq n node
         ])),
       )
   | inr apart ↦
-      let there : sets_at (set rows node row) n ≡ sets_at was n = get_or-set_other rows node n row [] apart ∙ same n in
-      (
+      let there : sets_at (set rows node row) n ≡ sets_at was n = get_or-set_other rows node n row [] apart ∙ same n in (
         λ h. inl (subst (λ sets. IsInSome sets begin) there h),
         λ either. elim either [
           | inl before ↦ subst (λ sets. IsInSome sets begin) (sym there) before
@@ -138,7 +136,6 @@ rest-ends (name ∷ front) next rest (first ∷ whole) last e = rest-ends front 
 whole-ends : (names front rest : List (List ℕ)) (last end : List ℕ) → EndsIn end names → EndsIn last rest → names ≡ front ++ rest → last ≡ end
 whole-ends names front rest last end whole part splits =
     (one-front (front ++ part.0) whole.0 last end (append_assoc front part.0 (last ∷ []) ∙ ap (λ r. front ++ r) (sym part.1) ∙ sym splits ∙ whole.1)).1
-
 
 -- ---- paths and their ends
 
@@ -303,8 +300,7 @@ module _ (trie : Trie) (before : List (List ℕ)) (name : List ℕ) (rest : List
   more-ends = record {
     adds = λ node begin. elim (cases_eq node end) [
       | inl e ↦
-          let here : sets_at (set more end row) node ≡ row = ap (sets_at (set more end row)) e ∙ get_or-set_same more end row [] within in
-          (
+          let here : sets_at (set more end row) node ≡ row = ap (sets_at (set more end row)) e ∙ get_or-set_same more end row [] within in (
             λ h. elim ((joins begin).0 (subst (λ sets. IsInSome sets begin) here h)) [
               | inl was ↦ inl (subst (λ n. IsInSome (sets_at rows n) begin) (sym e) was)
               | inr m ↦ inr (subst (IsEnd trie before (name ∷ rest)) (sym e) (first-end trie before name rest last is end leads), m)
@@ -315,8 +311,7 @@ module _ (trie : Trie) (before : List (List ℕ)) (name : List ℕ) (rest : List
             ])),
           )
       | inr apart ↦
-          let there : sets_at (set more end row) node ≡ sets_at more node = get_or-set_other more end node row [] apart in
-          (
+          let there : sets_at (set more end row) node ≡ sets_at more node = get_or-set_other more end node row [] apart in (
             λ h. elim ((later.adds node begin).0 (subst (λ sets. IsInSome sets begin) there h)) [
               | inl was ↦ inl (subst (λ sets. IsInSome sets begin) (same node) was)
               | inr m ↦ inr (later-end trie before name rest last is end leads node m.0, m.1)

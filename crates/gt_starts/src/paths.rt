@@ -14,16 +14,17 @@ use std::alloc::{AllocError, Global};
 use std::marker::Model;
 use std::rc::Rc;
 
-/// Paths of names, each with the structures at which it begins. A path takes some 50 bytes for its last name, and 8 bytes for each set that
-/// was added with it, up to eight; where there are more, they are joined into one of 512 bytes. Contracts see the paths with these sets.
+/// Paths of names, each with the structures at which it begins. Each name of a path makes at most two nodes, which take some 65 bytes each:
+/// that to which the names up to it lead, and that of the path's last name in its place. A set that is added with a path takes 8 bytes at
+/// each name, up to eight sets; where there are more, they are joined into one of 512 bytes. Contracts see the paths with these sets.
 #[derive(Drop)]
 pub struct PathSet {
     alloc: Global,
     trie: Trie,
     // Of each node where the path to it begins.
     begins: Vec<Begins>,
-    // Of each node whose path is some names and a last one where the paths begin that have these names first, and go on to end in the
-    // last one.
+    // Of each node to which some names and a last one lead where the paths begin that have these names first, and go on to end in the last
+    // one.
     ends: Vec<Begins>,
 }
 
@@ -86,7 +87,8 @@ impl PathSet {
         }
     }
 
-    /// Whether some path that begins anywhere ends in a name. It takes no memory, and its time grows with the name alone.
+    /// Whether some path that begins anywhere ends in a name. It takes no memory, and its time grows with the name, and with the logarithm
+    /// of the number of nodes.
     pub fn ends(&self, last: &Word) -> bool
         ensures ends { result ≡ true ↔ ((begin : ℕ) × EndsFrom self.now last.now begin) }
     {

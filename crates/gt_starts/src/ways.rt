@@ -61,7 +61,7 @@ pub fn node_on_way(
     path: &[u32],
     node: u32,
 ) -> Led
-    ensures { result ≡ led trie.now node (way_to program.now begin path.now) }
+    ensures leads { result ≡ led trie.now node (way_to program.now begin path.now) }
 {
     let Some(id) = begin else {
         return Led::Known(node);

@@ -7,8 +7,9 @@ use Rattle.gt_starts.proofs.WayLemmas.{way-step}
 use Rattle.gt_starts.proofs.ways.+node_on_way.Goals as goal
 
 pub returns : goal.returns
-returns t c =
-    c.node_on_way.ensures
-    ∙ ap₂ (λ (inner : Option TypeId) (rest : List ℕ). led c.args.trie.now c.in-Some-child.next (way_to c.args.program.now inner rest)) c.inner_at.ensures (take_rest c.args.path.now 1)
-    ∙ way-step c.args.trie.now c.args.program.now c.args.begin c.in-Some.id c.args.path.now c.in-Some-name_at.name.now c.args.node
-    c.in-Some.is c.in-len1-up.len_at_least (sym c.if-is_union.ensures) (sym c.in-Some-name_at.ensures) c.in-Some-child.next (sym c.in-Some-child.ensures.child)
+returns t c = record {
+  leads = c.node_on_way.ensures.leads
+      ∙ ap₂ (λ (inner : Option TypeId) (rest : List ℕ). led c.args.trie.now c.in-Some-child.next (way_to c.args.program.now inner rest)) c.inner_at.ensures (take_rest c.args.path.now 1)
+      ∙ way-step c.args.trie.now c.args.program.now c.args.begin c.in-Some.id c.args.path.now c.in-Some-name_at.name.now c.args.node
+      c.in-Some.is c.in-len1-up.len_at_least (sym c.if-is_union.ensures) (sym c.in-Some-name_at.ensures) c.in-Some-child.next (sym c.in-Some-child.ensures.child);
+}

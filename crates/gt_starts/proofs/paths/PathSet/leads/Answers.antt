@@ -10,7 +10,7 @@ returns-in-Known c =
     let way = way_to c.args.program.now (Some c.args.begin) c.args.path.now in
     record {
       leads = subst (λ (starts : Starts). c.has_at.result ≡ true ↔ Leads starts c.args.begin.0 way c.args.last.now) c.self.view_is
-          (leads-known c.self.inside.trie c.self.inside.begins.items c.self.inside.ends.items c.self.invariant c.args.last.now c.args.begin.0 way c.in-Known.node c.has_at.result c.in-Known.ensures
+          (leads-known c.self.inside.trie c.self.inside.begins.items c.self.inside.ends.items c.self.invariant c.args.last.now c.args.begin.0 way c.in-Known.node c.has_at.result c.in-Known.ensures.leads
           (subst (λ rows. c.has_at.result ≡ true ↔ IsInSome (sets_at rows c.in-Known.node) c.args.begin.0) c.deref.ensures.value c.has_at.ensures.there));
     }
 
@@ -20,7 +20,7 @@ returns-in-Some c =
     record {
       leads = subst (λ (starts : Starts). c.has_at-in-Some.result ≡ true ↔ Leads starts c.args.begin.0 way c.args.last.now) c.self.view_is
           (leads-hidden c.self.inside.trie c.self.inside.begins.items c.self.inside.ends.items c.self.invariant c.args.last.now c.args.begin.0 way c.in-Hidden.node c.in-Some.end c.has_at-in-Some.result
-          c.in-Hidden.ensures c.in-Some.ensures.child
+          c.in-Hidden.ensures.leads c.in-Some.ensures.child
           (subst (λ rows. c.has_at-in-Some.result ≡ true ↔ IsInSome (sets_at rows c.in-Some.end) c.args.begin.0) c.deref-in-Some.ensures.value c.has_at-in-Some.ensures.there));
     }
 
@@ -30,7 +30,7 @@ returns-in-None c =
     record {
       leads = (
         λ e. absurd (cc),
-        λ h. absurd (leads-childless c.self.inside.trie c.self.inside.begins.items c.self.inside.ends.items c.self.invariant c.args.last.now c.args.begin.0 way c.in-Hidden.node c.in-Hidden.ensures c.in-None.ensures.child
+        λ h. absurd (leads-childless c.self.inside.trie c.self.inside.begins.items c.self.inside.ends.items c.self.invariant c.args.last.now c.args.begin.0 way c.in-Hidden.node c.in-Hidden.ensures.leads c.in-None.ensures.child
             (subst (λ (starts : Starts). Leads starts c.args.begin.0 way c.args.last.now) (sym c.self.view_is) h)),
       );
     }
@@ -41,7 +41,7 @@ returns-in-Nowhere c =
     record {
       leads = (
         λ e. absurd (cc),
-        λ h. absurd (leads-nowhere c.self.inside.trie c.self.inside.begins.items c.self.inside.ends.items c.self.invariant c.args.last.now c.args.begin.0 way c.in-Nowhere.ensures
+        λ h. absurd (leads-nowhere c.self.inside.trie c.self.inside.begins.items c.self.inside.ends.items c.self.invariant c.args.last.now c.args.begin.0 way c.in-Nowhere.ensures.leads
             (subst (λ (starts : Starts). Leads starts c.args.begin.0 way c.args.last.now) (sym c.self.view_is) h)),
       );
     }
