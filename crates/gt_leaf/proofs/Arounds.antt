@@ -21,7 +21,7 @@ use Rattle.gt_tree.proofs.FixedValues.{in-array, in-tail}
 use Rattle.gt_value.specs.declared.places.Holder.{Holder}
 use Rattle.gt_value.specs.declared.places.Holder.TheVariants as lies_in
 use Rattle.gt_value.specs.Places.{Part, StaticPartLies}
-use Rattle.gt_starts.specs.Ways.{way_to, EndsIn, LeadsAlong}
+use Rattle.gt_starts.specs.Ways.{hidden, way_to, EndsIn, LeadsAlong}
 use Rattle.gt_leaf.specs.Unread.{Enclosing, Around, none_around, outermost_in, with_enclosing, elem_of, part_at, root_at, with_structure, with_itself, structures_from, structures_on, structures_in_statics, StandsAround, HasPath, number_name, IsReadRoot, IsUnread}
 use Rattle.gt_leaf.proofs.Members.{first, later, first-or-later}
 
@@ -56,7 +56,7 @@ unread-inside program (lies_in.Field node i) around inner true covers unread = �
   | inl e ↦ absurd (cc)
   | inr c ↦ unread (last, named, (base, outer, c, (names, has, leads)))
 ]
-unread-inside program (lies_in.Field node i) around inner false covers unread = λ (last, named, base, outer, stands, names, has, leads, ends). unread (last, named, (base, (outer.0, None), refl, (names, has, ends)))
+unread-inside program (lies_in.Field node i) around inner false covers unread = λ (last, named, base, outer, stands, names, has, leads, ends). unread (last, named, (base, (outer.0, hidden []), refl, (names, has, (names, refl, ends))))
 
 -- ---- more structures around a part
 

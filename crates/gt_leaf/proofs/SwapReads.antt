@@ -23,7 +23,7 @@ use Rattle.gt_tree.proofs.PathParts.{get-map}
 use Rattle.gt_tree.proofs.WriteReads.{named-place, step-taken, read-desc, node-type, first-types}
 use Rattle.gt_value.specs.declared.places.Holder.{Holder}
 use Rattle.gt_value.specs.declared.places.Holder.TheVariants as lies_in
-use Rattle.gt_starts.specs.Ways.{way_to}
+use Rattle.gt_starts.specs.Ways.{Way, known, hidden, way_to}
 use Rattle.gt_leaf.specs.Unread.{Enclosing, Around, with_structure, StandsAround, HasPath, name_of_number, number_name}
 use Rattle.gt_leaf.proofs.Arounds.{stands-within, IsUnreadInside}
 use Rattle.gt_leaf.proofs.WaySteps.{with_first, ways-stop, ways-step, ways-end, OnWay, way-goes, way-stops, way-ends}
@@ -173,7 +173,7 @@ module _ {program : Program} (settled : Settled program) where
   -- ---- a path
 
   pub reads-swapped : {node : TypeId} {steps : List (List ℕ)} {type : Ty} → Leads program by_name node steps type → IsTrue (is_number type) → (base : Base) (begin : TypeId) (all : List (List ℕ)) → HasPath program base begin all
-      → (around : Around) (path : List ℕ) (way : Option (List (List ℕ))) → StandsAround (with_structure program around node path) base (begin, way) → OnWay all way steps (way_to program (Some node) path) → (h : Holder) (desc : Option Expr) (o n : Tree)
+      → (around : Around) (path : List ℕ) (way : Way) → StandsAround (with_structure program around node path) base (begin, way) → OnWay all way steps (way_to program (Some node) path) → (h : Holder) (desc : Option Expr) (o n : Tree)
       → Swap program around h (ty.Node node desc) path o n → read_path program steps (ty.Node node None) o ≡ read_path program steps (ty.Node node None) n
   reads-swapped (last_step {node} {x = name} {s} {f} has name_is may) number base begin all exists around path way inside on h desc o n r = go s.is_union refl
     where
@@ -185,7 +185,7 @@ module _ {program : Program} (settled : Settled program) where
           let within = with_structure program around node path in
           let at = field-swap node desc s f place has struct found.2 r in
           let is_read = λ (e : at.k ≡ place) (unread : IsUnreadInside program within (lies_in.Field node place)).
-          let left : way_to program (Some node) path ≡ Some (f.name ∷ []) = ap (way_to program (Some node)) (at.path_is ∙ ap (λ k. k ∷ at.rest) e) ∙ ways-end program node s has place at.rest f struct found.2 number in
+          let left : way_to program (Some node) path ≡ known (f.name ∷ []) = ap (way_to program (Some node)) (at.path_is ∙ ap (λ k. k ∷ at.rest) e) ∙ ways-end program node s has place at.rest f struct found.2 number in
           let ends = way-ends all way f.name (subst (OnWay all way (f.name ∷ [])) left (subst (λ x. OnWay all way (x ∷ []) (way_to program (Some node) path)) (sym name_is) on)) in
           unread (f.name, name-of-number program node s has place f found.2 number, base, (begin, way), inside, all, exists, ends.0, ends.1) in
           ap (λ x. x then λ next. read_path program [] next.type next.value) (step-taken program node s f name place false o has struct found.1 found.2)
@@ -201,7 +201,7 @@ module _ {program : Program} (settled : Settled program) where
           let common : IsCommon program s next = let named_so : ty.Node c.0 c.1 ≡ ty.Node next inner = sym c.2 ∙ is in let same : c.0 ≡ next = cc in subst (IsCommon program s) same c.3 in
           let found = named-place program settled node s f name has may.there name_is in
           let at = swap-place r in
-          let stopped : way_to program (Some node) path ≡ None = ap (way_to program (Some node)) at.2 ∙ ways-stop program node s has at.0 at.1 union in
+          let stopped : way_to program (Some node) path ≡ hidden [] = ap (way_to program (Some node)) at.2 ∙ ways-stop program node s has at.0 at.1 union in
           let left = subst (OnWay all way (name ∷ names)) stopped on in
           ap (λ x. x then λ next. read_path program names next.type next.value) (step-taken program node s f name found.0 true o has union found.1 found.2)
           ∙ subst (λ t. (member_of program s t o then λ next. read_path program names next.type next.value) ≡ (member_of program s t n then λ next. read_path program names next.type next.value)) (sym is)

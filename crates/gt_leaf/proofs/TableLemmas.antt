@@ -13,13 +13,13 @@ use Rattle.gt_paths.specs.Numbers.{numbered}
 use Rattle.gt_value.specs.declared.places.Holder.{Holder}
 use Rattle.gt_value.specs.declared.places.Holder.TheVariants as lies_in
 use Rattle.gt_starts.specs.Paths.{Starts, BeginsIn, EndsFrom}
-use Rattle.gt_starts.specs.Ways.{way_to, LeadsAlong}
+use Rattle.gt_starts.specs.Ways.{Way, hidden, way_to, EndsIn, LeadsAlong}
 use Rattle.gt_leaf.specs.declared.reads.Reads.{Reads}
 use Rattle.gt_leaf.specs.Collecting.{roots_of_all}
 use Rattle.gt_leaf.specs.Seeking.{PathStarts, AllInside, AllOutermost}
 use Rattle.gt_leaf.specs.Tables.{IsTableOf}
 use Rattle.gt_leaf.specs.Around.{LeadsFrom, SomeLead, TopLeads}
-use Rattle.gt_leaf.specs.Unread.{Enclosing, Around, none_around, outermost_in, with_structure, with_itself, part_at, structures_from, IsReadName, IsReadRoot, IsUnread}
+use Rattle.gt_leaf.specs.Unread.{Enclosing, Around, none_around, outermost_in, with_structure, with_itself, part_at, root_at, structures_from, structures_on, structures_in_statics, IsReadName, IsReadRoot, IsUnread}
 use Rattle.gt_leaf.proofs.RootLemmas.{roots-read}
 use Rattle.gt_leaf.proofs.Members.{nothing, first, later, first-or-later, found-there, there-found}
 
@@ -75,6 +75,10 @@ from-step program around o type path i rest next there is goes =
     ∙ ap (λ q. structures_from program (with_itself program around type (i ∷ rest)) q rest) (sym goes)
     ∙ ap (λ w. structures_from program (with_itself program around type w) next rest) (sym is)
 
+-- so the first one in the static record
+pub static-step : (program : Program) (path : List ℕ) (i : ℕ) (rest : List ℕ) (o : Option Ty) → path ≡ i ∷ rest → o ≡ root_at program i → structures_on program o rest ≡ structures_in_statics program path
+static-step program path i rest o is root = ap (λ q. structures_on program q rest) root ∙ ap (structures_in_statics program) (sym is)
+
 -- the outermost structure stays so further inside
 outermost-stays : (program : Program) (around : Around) (outer : Enclosing) (type : Option Ty) (path : List ℕ) → around.outermost ≡ Some outer → (structures_from program around type path).outermost ≡ Some outer
 outermost-stays program around outer None path e = e
@@ -120,23 +124,27 @@ module _ (program : Program) (table : Reads) (around : Around) (last : List ℕ)
 
   inside-hidden : SomeEnds table.inside → IsReadName program around false last
   inside-hidden (begin, (names, ends, begins)) = elim ((t.inside (numbered begin) names).0 begins) [
-    | inl has ↦ (Here, (numbered begin, None), refl, (names, has, ends))
-    | inr has ↦ (Outer, (numbered begin, None), refl, (names, has, ends))
+    | inl has ↦ (Here, (numbered begin, hidden []), refl, (names, has, (names, refl, ends)))
+    | inr has ↦ (Outer, (numbered begin, hidden []), refl, (names, has, (names, refl, ends)))
   ]
 
   outermost-hidden : SomeEnds table.outermost → IsReadName program around false last
-  outermost-hidden (begin, (names, ends, begins)) = (Outermost, (numbered begin, None), refl, (names, (t.outermost (numbered begin) names).0 begins, ends))
+  outermost-hidden (begin, (names, ends, begins)) = (Outermost, (numbered begin, hidden []), refl, (names, (t.outermost (numbered begin) names).0 begins, (names, refl, ends)))
 
   pub inside-read : (a : Bool) → a ≡ true → (a ≡ true) ↔ SomeEnds table.inside → (a ≡ true) ↔ IsReadName program around false last
   inside-read a is f = (λ e. inside-hidden (f.0 e), λ read. is)
+
+  -- a path that may lead anywhere ends in the name
+  ends-there : (way : Way) (names : List (List ℕ)) → way ≡ hidden [] → LeadsAlong way last names → EndsIn last names
+  ends-there way names none leads = let along = subst (λ w. LeadsAlong w last names) none leads in (along.2.0, along.1 ∙ along.2.1)
 
   pub outermost-read : (a b : Bool) → a ≡ false → (a ≡ true) ↔ SomeEnds table.inside → (b ≡ true) ↔ SomeEnds table.outermost → (b ≡ true) ↔ IsReadName program around false last
   outermost-read a b is f g = (λ e. outermost-hidden (g.0 e), back)
     where
       back : IsReadName program around false last → b ≡ true
-      back (Here, outer, none, (names, has, leads)) = let so : a ≡ true = f.1 (outer.0.0, (names, subst (λ w. LeadsAlong w last names) none leads, (t.inside outer.0 names).1 (inl has))) in absurd (cc)
-      back (Outer, outer, none, (names, has, leads)) = let so : a ≡ true = f.1 (outer.0.0, (names, subst (λ w. LeadsAlong w last names) none leads, (t.inside outer.0 names).1 (inr has))) in absurd (cc)
-      back (Outermost, outer, none, (names, has, leads)) = g.1 (outer.0.0, (names, subst (λ w. LeadsAlong w last names) none leads, (t.outermost outer.0 names).1 has))
+      back (Here, outer, none, (names, has, leads)) = let so : a ≡ true = f.1 (outer.0.0, (names, ends-there outer.1 names none leads, (t.inside outer.0 names).1 (inl has))) in absurd (cc)
+      back (Outer, outer, none, (names, has, leads)) = let so : a ≡ true = f.1 (outer.0.0, (names, ends-there outer.1 names none leads, (t.inside outer.0 names).1 (inr has))) in absurd (cc)
+      back (Outermost, outer, none, (names, has, leads)) = g.1 (outer.0.0, (names, ends-there outer.1 names none leads, (t.outermost outer.0 names).1 has))
 
 -- ---- what it says of a root
 

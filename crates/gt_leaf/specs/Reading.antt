@@ -6,7 +6,7 @@ use Rattle.gt_types.specs.declared.program.Field.{Field}
 use Rattle.gt_types.specs.declared.program.Structure.{Structure}
 use Rattle.gt_types.specs.declared.program.Program.{Program}
 use Rattle.gt_types.specs.Paths.{Leads, by_name, by_place}
-use Rattle.gt_starts.specs.Ways.{way_to, LeadsAlong}
+use Rattle.gt_starts.specs.Ways.{known, way_to, LeadsAlong}
 
 -- a place and a name
 abbrev pub Step : Type 0
@@ -23,10 +23,10 @@ LeadsAs program node places names type = (steps : List Step) × (map (λ (s : St
 
 -- where places lead from a structure to a field and the way there is known, the way leads there by name
 abbrev pub WaysLead : Program → Type 0
-WaysLead program = (node : TypeId) (places : List ℕ) (type : Ty) (way : List (List ℕ)) → Leads program by_place node places type → way_to program (Some node) places ≡ Some way
+WaysLead program = (node : TypeId) (places : List ℕ) (type : Ty) (way : List (List ℕ)) → Leads program by_place node places type → way_to program (Some node) places ≡ known way
     → Leads program by_name node way type
 
 -- and a path of names may lead along it just where it leads to that field
 abbrev pub NoOthersLead : Program → Type 0
-NoOthersLead program = (node : TypeId) (places : List ℕ) (type : Ty) (way names : List (List ℕ)) (last : List ℕ) → Leads program by_place node places type → way_to program (Some node) places ≡ Some way
-    → LeadsAlong (Some way) last names ↔ LeadsAs program node places names type
+NoOthersLead program = (node : TypeId) (places : List ℕ) (type : Ty) (way names : List (List ℕ)) (last : List ℕ) → Leads program by_place node places type → way_to program (Some node) places ≡ known way
+    → LeadsAlong (known way) last names ↔ LeadsAs program node places names type

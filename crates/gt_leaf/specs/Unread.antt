@@ -28,7 +28,7 @@ use Rattle.gt_tree.specs.FixedLaws.{MayHold}
 use Rattle.gt_value.specs.declared.places.Holder.{Holder}
 use Rattle.gt_value.specs.declared.places.Holder.TheVariants as lies_in
 use Rattle.gt_value.specs.Places.{Part, PartLies, StaticPartLies}
-use Rattle.gt_starts.specs.Ways.{field_at, way_to, LeadsAlong}
+use Rattle.gt_starts.specs.Ways.{Way, hidden, field_at, way_to, LeadsAlong}
 
 -- ---- what expressions read
 
@@ -84,7 +84,7 @@ abbrev pub HasPath : Program → Base → TypeId → List (List ℕ) → Type 0
 HasPath program base begin names = (e : Expr) × BeginsAt program e base begin × Contains (paths_of e) (base, names)
 
 -- one of them may lead this way to a leaf of this name
-abbrev pub ReadsFrom : Program → Base → TypeId → Option (List (List ℕ)) → List ℕ → Type 0
+abbrev pub ReadsFrom : Program → Base → TypeId → Way → List ℕ → Type 0
 ReadsFrom program base begin way last = (names : List (List ℕ)) × HasPath program base begin names × LeadsAlong way last names
 
 -- ---- the structures around a leaf
@@ -105,7 +105,7 @@ part_at program type i = elem_of (out-Ty type)
 
 -- a structure around a leaf, and the way from it to the leaf
 abbrev pub Enclosing : Type 0
-Enclosing = TypeId × Option (List (List ℕ))
+Enclosing = TypeId × Way
 
 -- The structures around a leaf: from the innermost array on the way inwards, from the inside out; and the outermost of all, where there is
 -- one.
@@ -159,7 +159,7 @@ StandsAround around base outer = Contains around.structures outer
 -- it, each may, and nothing is known of the way.
 abbrev pub MayStandAround : Around → Bool → Base → Enclosing → Type 0
 MayStandAround around true base outer = StandsAround around base outer
-MayStandAround around false base outer = outer.1 ≡ None
+MayStandAround around false base outer = outer.1 ≡ hidden []
 
 -- ---- what is read
 

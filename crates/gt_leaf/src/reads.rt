@@ -17,7 +17,8 @@ use gt_value::{Holder, Place};
 use std::alloc::{AllocError, Global};
 
 /// What the expressions of a program read: their paths, each with the structures at which it begins, those from `%0` apart; and roots. A
-/// path is kept once; paths share the sets of structures at which they begin, which take 512 bytes each.
+/// path is kept once, and its last name once behind each of the other names; paths share the sets of structures at which they begin, which
+/// take 512 bytes each.
 #[derive(Drop)]
 pub struct Reads {
     inside: PathSet,
@@ -58,8 +59,8 @@ impl Reads {
     /// Whether no expression reads the leaf at a place, at a path from a value of the type `ty`. It takes no memory. What is no number
     /// is not looked up. Where a union around the leaf has no active member, the name of the leaf's field is looked up alone. Else the way
     /// to the leaf from the outermost structure is looked up, in time that grows with the path; and where some path from `%h` or `%1` ends
-    /// in the name of the leaf's field, or this field is not at the path, so is that from each structure on the path. A way ends at the next
-    /// array, and grows at most to the depth `MAX_DEPTH` to which structures nest.
+    /// in the name of the leaf's field, or this field is not at the path, so is that from each structure on the path. A way is followed to the next
+    /// array or union, and grows at most to the depth `MAX_DEPTH` to which structures nest.
     pub fn is_unread(&self, program: &Program, ty: Option<&Ty>, path: &[u32], place: Place) -> bool
         ensures unread { IsTableOf program.now self.now → IsTrue result ↔ IsUnread program.now (structures_on program.now (option_copied ty.entry) path.now) place.active place.holder }
     {

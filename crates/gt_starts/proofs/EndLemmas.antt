@@ -1,85 +1,97 @@
--- Where paths begin, and in which names they end, as paths are added.
-use Rattle.std.proofs.Common.{◌≡◌, ◌≢◌, ◌⊎◌, ◌↔◌, ℕ, zero, suc, ◌+◌, ◌-◌, ◌<◌, ◌≤◌, length, get_or, set, arith, Bool, true, List, [], ◌∷◌, ◌++◌, Option, Some, None, inl, inr, refl, sym, ap, subst, ◌∙◌}
-use Rattle.std.proofs.Common.{get_or-set_same, get_or-set_other}
+-- Where paths begin, and how they go on and end, as paths are added.
+use Rattle.std.proofs.Common.{◌≡◌, ◌≢◌, ◌⊎◌, ◌↔◌, ℕ, zero, suc, ◌+◌, ◌-◌, ◌<◌, ◌≤◌, length, get_or, set, take, drop, arith, Bool, true, List, [], ◌∷◌, ◌++◌, Option, Some, None, inl, inr, refl, sym, ap, subst, ◌∙◌}
+use Rattle.std.proofs.Common.{append_assoc, append-nil, get_or-set_same, get_or-set_other}
 use Rattle.std.proofs.lemmas.Bool.{cases_eq}
+use Rattle.std.proofs.lemmas.List.{take_rest}
 use Rattle.gt_sets.specs.Sets.{IsIn}
 use Rattle.gt_tree.specs.Scopes.{◌then◌}
 use Rattle.gt_starts.specs.Begins.{IsInSome, sets_at}
-use Rattle.gt_starts.specs.Tries.{Trie, number_of, node_of}
+use Rattle.gt_starts.specs.Tries.{Trie, child, node_of}
 use Rattle.gt_starts.specs.Nodes.{AreApart, Grows}
-use Rattle.gt_starts.specs.Ways.{EndsIn, LeadsAlong}
+use Rattle.gt_starts.specs.Ways.{Way, known, hidden, EndsIn, LeadsAlong}
 use Rattle.gt_starts.specs.Paths.{Starts, BeginsIn, EndsFrom}
-use Rattle.gt_starts.specs.Ends.{EndsAt, AreEndsOf}
-use Rattle.gt_starts.proofs.TrieLemmas.{one-name}
+use Rattle.gt_starts.specs.Ends.{EndsAfter, AreEndsOf, IsEnd, AddsEnds, led_to, led}
+use Rattle.gt_starts.specs.declared.ways.Led.{Led}
+use Rattle.gt_starts.specs.declared.ways.Led.TheVariants.{Known, Hidden, Nowhere}
+use Rattle.gt_starts.proofs.LeadLemmas.{lead-last}
 
 abbrev pub Rows : Type 0
 Rows = List (List (List ℕ))
 
--- ---- sets of keys, by numbers of the keys
+abbrev pub starts-of : Trie → Rows → Starts
+starts-of trie rows = record { trie = trie; begins = rows }
 
--- one of the sets of a key's number has a structure
-abbrev Has : {A : Type 0} → (A → Option ℕ) → Rows → A → ℕ → Type 0
-Has key rows a begin = (n : ℕ) × (key a ≡ Some n) × IsInSome (sets_at rows n) begin
+-- ---- rows of nodes
 
--- no two keys have one number
-abbrev IsKeyed : {A : Type 0} → (A → Option ℕ) → Type 0
-IsKeyed {A} key = (a b : A) (n : ℕ) → key a ≡ Some n → key b ≡ Some n → a ≡ b
-
--- each number that has structures has a key
-abbrev IsCovered : {A : Type 0} → (A → Option ℕ) → Rows → Type 0
-IsCovered {A} key rows = (n begin : ℕ) → IsInSome (sets_at rows n) begin → (a : A) × (key a ≡ Some n)
+-- some path leads to each node that has structures
+abbrev IsCovered : Trie → Rows → Type 0
+IsCovered trie rows = (node begin : ℕ) → IsInSome (sets_at rows node) begin → (path : List (List ℕ)) × (node_of trie path ≡ Some node)
 
 abbrev pub AreSame : Rows → Rows → Type 0
 AreSame rows more = (i : ℕ) → sets_at more i ≡ sets_at rows i
 
-module _ (A : Type 0) (old new : A → Option ℕ) (rows more : Rows) (keeps : (a : A) (n : ℕ) → old a ≡ Some n → new a ≡ Some n) (same : AreSame rows more) (covered : IsCovered old rows) where
-  -- with more keys and the same sets each key has what it had
-  keys-still : IsKeyed new → (a : A) (begin : ℕ) → Has new more a begin ↔ Has old rows a begin
-  keys-still keyed a begin = (
-    λ h.
-        let here : IsInSome (sets_at rows h.0) begin = subst (λ sets. IsInSome sets begin) (same h.0) h.2 in
-        let other = covered h.0 begin here in
-        let one : other.0 ≡ a = keyed other.0 a h.0 (keeps other.0 h.0 other.1) h.1 in
-        (h.0, subst (λ k. old k ≡ Some h.0) one other.1, here),
-    λ h. (h.0, keeps a h.0 h.1, subst (λ sets. IsInSome sets begin) (sym (same h.0)) h.2),
-  )
+-- the rows have these structures more
+abbrev pub RowsAdd : Rows → Rows → (ℕ → ℕ → Type 0) → Type 0
+RowsAdd rows more added = (node begin : ℕ) → IsInSome (sets_at more node) begin ↔ (IsInSome (sets_at rows node) begin ⊎ added node begin)
 
-  covered-still : IsCovered new more
-  covered-still n begin h = let key = covered n begin (subst (λ sets. IsInSome sets begin) (same n) h) in (key.0, keeps key.0 n key.1)
+abbrev Nothing : ℕ → ℕ → Type 0
+Nothing node begin = ⊥
 
-module _ (A : Type 0) (key : A → Option ℕ) (rows : Rows) (n : ℕ) (own : A) (row : List (List ℕ)) (more : List ℕ) (is : key own ≡ Some n) (within : n < length rows)
-    (adds : (begin : ℕ) → IsInSome row begin ↔ (IsInSome (sets_at rows n) begin ⊎ IsIn more begin)) where
-  own-row : sets_at (set rows n row) n ≡ row
-  own-row = get_or-set_same rows n row [] within
+same-add : (rows more : Rows) → AreSame rows more → RowsAdd rows more Nothing
+same-add rows more same node begin = (
+  λ h. inl (subst (λ sets. IsInSome sets begin) (same node) h),
+  λ either. elim either [
+    | inl h ↦ subst (λ sets. IsInSome sets begin) (sym (same node)) h
+    | inr none ↦ absurd none
+  ],
+)
 
-  other-row : (m : ℕ) → m ≢ n → sets_at (set rows n row) m ≡ sets_at rows m
-  other-row m apart = get_or-set_other rows n m row [] apart
+-- one row has one more set
+put-adds : (was rows : Rows) (node : ℕ) (row : List (List ℕ)) (more : List ℕ) → AreSame was rows → node < length rows → ((begin : ℕ) → IsInSome row begin ↔ (IsInSome (sets_at was node) begin ⊎ IsIn more begin))
+    → RowsAdd was (set rows node row) (λ n begin. (n ≡ node) × IsIn more begin)
+put-adds was rows node row more same within adds n begin = elim (cases_eq n node) [
+  | inl e ↦
+      let here : sets_at (set rows node row) n ≡ row = ap (sets_at (set rows node row)) e ∙ get_or-set_same rows node row [] within in (
+        λ h. elim ((adds begin).0 (subst (λ sets. IsInSome sets begin) here h)) [
+          | inl before ↦ inl (subst (λ m. IsInSome (sets_at was m) begin) (sym e) before)
+          | inr m ↦ inr (e, m)
+        ],
+        λ either. subst (λ sets. IsInSome sets begin) (sym here) ((adds begin).1 (elim either [
+          | inl before ↦ inl (subst (λ m. IsInSome (sets_at was m) begin) e before)
+          | inr m ↦ inr m.1
+        ])),
+      )
+  | inr apart ↦
+      let there : sets_at (set rows node row) n ≡ sets_at was n = get_or-set_other rows node n row [] apart ∙ same n in (
+        λ h. inl (subst (λ sets. IsInSome sets begin) there h),
+        λ either. elim either [
+          | inl before ↦ subst (λ sets. IsInSome sets begin) (sym there) before
+          | inr m ↦ absurd (apart m.0)
+        ],
+      )
+]
 
-  -- with one more set at a key's number this key has the structures of the set too
-  key-put : IsKeyed key → (a : A) (begin : ℕ) → Has key (set rows n row) a begin ↔ (Has key rows a begin ⊎ ((a ≡ own) × IsIn more begin))
-  key-put keyed a begin = (
-    λ h. elim (cases_eq h.0 n) [
-      | inl e ↦
-          let at : key a ≡ Some n = subst (λ m. key a ≡ Some m) e h.1 in
-          elim ((adds begin).0 (subst (λ sets. IsInSome sets begin) (ap (sets_at (set rows n row)) e ∙ own-row) h.2)) [
-            | inl was ↦ inl (n, at, was)
-            | inr here ↦ inr (keyed a own n at is, here)
-          ]
-      | inr apart ↦ inl (h.0, h.1, subst (λ sets. IsInSome sets begin) (other-row h.0 apart) h.2)
+module _ (old new : Trie) (rows more : Rows) (added : ℕ → ℕ → Type 0) (grows : Grows old new) (apart : AreApart new) (covered : IsCovered old rows) (adds : RowsAdd rows more added) where
+  -- with more nodes paths begin where they did, and at what is added to their nodes
+  begins-more : (path : List (List ℕ)) (begin : ℕ) → BeginsIn (starts-of new more) path begin ↔ (BeginsIn (starts-of old rows) path begin ⊎ ((node : ℕ) × (node_of new path ≡ Some node) × added node begin))
+  begins-more path begin = (
+    λ h. elim ((adds h.node begin).0 h.here) [
+      | inl was ↦
+          let other = covered h.node begin was in
+          let one : other.0 ≡ path = apart other.0 path h.node (grows.nodes other.0 h.node other.1) h.leads in
+          inl (record { node = h.node; leads = subst (λ p. node_of old p ≡ Some h.node) one other.1; here = was })
+      | inr m ↦ inr (h.node, h.leads, m)
     ],
     λ either. elim either [
-      | inl h ↦ elim (cases_eq h.0 n) [
-        | inl e ↦ (n, subst (λ m. key a ≡ Some m) e h.1, subst (λ sets. IsInSome sets begin) (sym own-row) ((adds begin).1 (inl (subst (λ m. IsInSome (sets_at rows m) begin) e h.2))))
-        | inr apart ↦ (h.0, h.1, subst (λ sets. IsInSome sets begin) (sym (other-row h.0 apart)) h.2)
-      ]
-      | inr m ↦ (n, subst (λ k. key k ≡ Some n) (sym m.0) is, subst (λ sets. IsInSome sets begin) (sym own-row) ((adds begin).1 (inr m.1)))
+      | inl h ↦ record { node = h.node; leads = grows.nodes path h.node h.leads; here = (adds h.node begin).1 (inl h.here) }
+      | inr m ↦ record { node = m.0; leads = m.1; here = (adds m.0 begin).1 (inr m.2) }
     ],
   )
 
-  covered-put : IsCovered key rows → IsCovered key (set rows n row)
-  covered-put covered m begin h = elim (cases_eq m n) [
-    | inl e ↦ (own, subst (λ k. key own ≡ Some k) (sym e) is)
-    | inr apart ↦ covered m begin (subst (λ sets. IsInSome sets begin) (other-row m apart) h)
+  covered-more : ((node begin : ℕ) → added node begin → (path : List (List ℕ)) × (node_of new path ≡ Some node)) → IsCovered new more
+  covered-more leads node begin h = elim ((adds node begin).0 h) [
+    | inl was ↦ let path = covered node begin was in (path.0, grows.nodes path.0 node path.1)
+    | inr m ↦ leads node begin m
   ]
 
 -- ---- ends of paths
@@ -89,15 +101,15 @@ not_empty : (front : List (List ℕ)) (last : List ℕ) → [] ≢ front ++ last
 not_empty [] last e = absurd (cc)
 not_empty (name ∷ front) last e = absurd (cc)
 
--- a path ends in one name
-one_end : (front other : List (List ℕ)) (last end : List ℕ) → front ++ last ∷ [] ≡ other ++ end ∷ [] → last ≡ end
-one_end [] [] last end e = cc
-one_end [] (name ∷ other) last end e = let rest : [] ≡ other ++ end ∷ [] = cc in absurd (not_empty other end rest)
-one_end (name ∷ front) [] last end e = let rest : [] ≡ front ++ last ∷ [] = cc in absurd (not_empty front last rest)
-one_end (name ∷ front) (first ∷ other) last end e = one_end front other last end (cc)
-
-same_end : (names : List (List ℕ)) (last end : List ℕ) → EndsIn last names → EndsIn end names → last ≡ end
-same_end names last end a b = one_end a.0 b.0 last end (sym a.1 ∙ b.1)
+-- names and a last one are those of one path
+one-front : (front other : List (List ℕ)) (last end : List ℕ) → front ++ last ∷ [] ≡ other ++ end ∷ [] → (front ≡ other) × (last ≡ end)
+one-front [] [] last end e = let same : last ≡ end = cc in (refl, same)
+one-front [] (name ∷ other) last end e = let rest : [] ≡ other ++ end ∷ [] = cc in absurd (not_empty other end rest)
+one-front (name ∷ front) [] last end e = let rest : [] ≡ front ++ last ∷ [] = cc in absurd (not_empty front last (rest))
+one-front (name ∷ front) (first ∷ other) last end e =
+    let one : name ≡ first = cc in
+    let rest = one-front front other last end (cc) in
+    (ap (λ n. n ∷ front) one ∙ ap (λ f. first ∷ f) rest.0, rest.1)
 
 -- a path ends in its last name
 last_at : (names : List (List ℕ)) (n : ℕ) (last : List ℕ) → n + 1 ≡ length names → last ≡ get_or names n last → EndsIn last names
@@ -110,9 +122,20 @@ last_at (name ∷ next ∷ names) (suc n) last count e = let rest = last_at (nex
 pub last_of : (names : List (List ℕ)) (last : List ℕ) → 1 ≤ length names → last ≡ get_or names (length names - 1) last → EndsIn last names
 last_of names last some e = last_at names (length names - 1) last (omega (arith, some)) e
 
-pub no_names : (names : List (List ℕ)) → length names < 1 → names ≡ []
-no_names [] none = refl
-no_names (name ∷ names) none = absurd (omega (arith, none))
+-- what is left of a path that ends in a name does too
+rest-ends : (front : List (List ℕ)) (next : List ℕ) (rest whole : List (List ℕ)) (last : List ℕ) → front ++ next ∷ rest ≡ whole ++ last ∷ [] → EndsIn last (next ∷ rest)
+rest-ends [] next rest whole last e = (whole, e)
+rest-ends (name ∷ front) next rest [] last e = let none : front ++ next ∷ rest ≡ [] = cc in absurd (some-left front next rest none)
+  where
+    some-left : (front : List (List ℕ)) (next : List ℕ) (rest : List (List ℕ)) → front ++ next ∷ rest ≢ []
+    some-left [] next rest e = absurd (cc)
+    some-left (name ∷ front) next rest e = absurd (cc)
+rest-ends (name ∷ front) next rest (first ∷ whole) last e = rest-ends front next rest whole last (cc)
+
+-- the name in which a rest ends is that in which the whole path does
+whole-ends : (names front rest : List (List ℕ)) (last end : List ℕ) → EndsIn end names → EndsIn last rest → names ≡ front ++ rest → last ≡ end
+whole-ends names front rest last end whole part splits =
+    (one-front (front ++ part.0) whole.0 last end (append_assoc front part.0 (last ∷ []) ∙ ap (λ r. front ++ r) (sym part.1) ∙ sym splits ∙ whole.1)).1
 
 -- ---- paths and their ends
 
@@ -124,204 +147,309 @@ Adds old new names more = (path : List (List ℕ)) (begin : ℕ) → BeginsIn ne
 abbrev pub BeginAlike : Starts → Starts → Type 0
 BeginAlike old new = (path : List (List ℕ)) (begin : ℕ) → BeginsIn new path begin ↔ BeginsIn old path begin
 
-abbrev pub starts-of : Trie → Rows → Starts
-starts-of trie rows = record { trie = trie; begins = rows }
+-- paths that are added go on so
+abbrev Goes : (List (List ℕ) → ℕ → Type 0) → List (List ℕ) → List ℕ → ℕ → Type 0
+Goes added front last begin = (rest : List (List ℕ)) × EndsIn last rest × added (front ++ rest) begin
 
-begins-has : (trie : Trie) (rows : Rows) (path : List (List ℕ)) (begin : ℕ) → BeginsIn (starts-of trie rows) path begin → Has (node_of trie) rows path begin
-begins-has trie rows path begin h = (h.node, h.leads, h.here)
+-- where paths are added, and in the table of ends how they go on, it says how all of them do
+module _ (old new : Trie) (rows more ends more_ends : Rows) (added : List (List ℕ) → ℕ → Type 0) (are : AreEndsOf (starts-of old rows) ends)
+    (begins : (path : List (List ℕ)) (begin : ℕ) → BeginsIn (starts-of new more) path begin ↔ (BeginsIn (starts-of old rows) path begin ⊎ added path begin))
+    (goes : (front : List (List ℕ)) (last : List ℕ) (begin : ℕ) → BeginsIn (starts-of new more_ends) (front ++ last ∷ []) begin ↔ (BeginsIn (starts-of old ends) (front ++ last ∷ []) begin ⊎ Goes added front last begin)) where
+  ends-same : (front : List (List ℕ)) (last : List ℕ) (begin : ℕ) → BeginsIn (starts-of new more_ends) (front ++ last ∷ []) begin ↔ EndsAfter (starts-of new more) front last begin
+  ends-same front last begin = (
+    λ h. elim ((goes front last begin).0 h) [
+      | inl was ↦ let from = (are.same front last begin).0 was in (from.0, from.1, (begins (front ++ from.0) begin).1 (inl from.2))
+      | inr m ↦ (m.0, m.1, (begins (front ++ m.0) begin).1 (inr m.2))
+    ],
+    λ h. (goes front last begin).1 (elim ((begins (front ++ h.0) begin).0 h.2) [
+      | inl was ↦ inl ((are.same front last begin).1 (h.0, h.1, was))
+      | inr m ↦ inr (h.0, h.1, m)
+    ]),
+  )
 
-has-begins : (trie : Trie) (rows : Rows) (path : List (List ℕ)) (begin : ℕ) → Has (node_of trie) rows path begin → BeginsIn (starts-of trie rows) path begin
-has-begins trie rows path begin h = record { node = h.0; leads = h.1; here = h.2 }
+-- ---- no path is added
 
-ends-has : (trie : Trie) (ends : Rows) (last : List ℕ) (begin : ℕ) → EndsAt trie ends last begin → Has (number_of trie) ends last begin
-ends-has trie ends last begin h = (h.number, h.is, h.here)
+none-or : {A B C : Type 0} → A ↔ (B ⊎ C) → ¬ C → A ↔ B
+none-or either none = (λ a. elim (either.0 a) [ inl b ↦ b | inr c ↦ absurd (none c) ], λ b. either.1 (inl b))
 
-has-ends : (trie : Trie) (ends : Rows) (last : List ℕ) (begin : ℕ) → Has (number_of trie) ends last begin → EndsAt trie ends last begin
-has-ends trie ends last begin h = record { number = h.0; is = h.1; here = h.2 }
-
-names-keyed : (trie : Trie) → IsKeyed (number_of trie)
-names-keyed trie a b n e f = one-name trie.names a b n e f
+or-none : {A B C : Type 0} → A ↔ B → ¬ C → A ↔ (B ⊎ C)
+or-none same none = (λ a. inl (same.0 a), λ either. elim either [ inl b ↦ same.1 b | inr c ↦ absurd (none c) ])
 
 module _ (old new : Trie) (rows more ends more_ends : Rows) (grows : Grows old new) (apart : AreApart new) (same : AreSame rows more) (same_ends : AreSame ends more_ends)
     (are : AreEndsOf (starts-of old rows) ends) where
-  -- with more nodes and names and the same sets paths begin where they did
+  -- with more nodes and the same sets paths begin where they did
   pub begins-still : BeginAlike (starts-of old rows) (starts-of new more)
-  begins-still path begin =
-      let still = keys-still (List (List ℕ)) (node_of old) (node_of new) rows more grows.nodes same are.nodes apart path begin in
-      (λ h. has-begins old rows path begin (still.0 (begins-has new more path begin h)), λ h. has-begins new more path begin (still.1 (begins-has old rows path begin h)))
+  begins-still path begin = none-or (begins-more old new rows more Nothing grows apart are.nodes (same-add rows more same) path begin) (λ m. m.2)
 
-  -- and end in the names in which they did
+  -- and end as they did
   pub ends-still : AreEndsOf (starts-of new more) more_ends
   ends-still = record {
-    nodes = covered-still (List (List ℕ)) (node_of old) (node_of new) rows more grows.nodes same are.nodes;
-    numbers = covered-still (List ℕ) (number_of old) (number_of new) ends more_ends grows.numbers same_ends are.numbers;
-    same = λ last begin.
-        let still = keys-still (List ℕ) (number_of old) (number_of new) ends more_ends grows.numbers same_ends are.numbers (names-keyed new) last begin in (
-          λ h. let from = (are.same last begin).0 (has-ends old ends last begin (still.0 (ends-has new more_ends last begin h))) in (from.0, from.1, (begins-still from.0 begin).1 from.2),
-          λ h. has-ends new more_ends last begin (still.1 (ends-has old ends last begin ((are.same last begin).1 (h.0, h.1, (begins-still h.0 begin).0 h.2)))),
-        );
+    nodes = covered-more old new rows more Nothing grows apart are.nodes (same-add rows more same) (λ node begin none. absurd none);
+    end_nodes = covered-more old new ends more_ends Nothing grows apart are.end_nodes (same-add ends more_ends same_ends) (λ node begin none. absurd none);
+    same = ends-same old new rows more ends more_ends (λ path begin. ⊥) are (λ path begin. or-none (begins-still path begin) (λ none. none))
+        (λ front last begin. or-none
+        (none-or (begins-more old new ends more_ends Nothing grows apart are.end_nodes (same-add ends more_ends same_ends) (front ++ last ∷ []) begin) (λ m. m.2)) (λ m. m.2));
   }
 
-module _ (trie : Trie) (rows ends : Rows) (names : List (List ℕ)) (node : ℕ) (row : List (List ℕ)) (more : List ℕ) (at : node_of trie names ≡ Some node) (within : node < length rows)
-    (adds : (begin : ℕ) → IsInSome row begin ↔ (IsInSome (sets_at rows node) begin ⊎ IsIn more begin)) (apart : AreApart trie) (are : AreEndsOf (starts-of trie rows) ends) where
-  -- with one more set at the node of a path this path begins at its structures too
-  pub begins-put : Adds (starts-of trie rows) (starts-of trie (set rows node row)) names more
-  begins-put path begin =
-      let put = key-put (List (List ℕ)) (node_of trie) rows node names row more at within adds apart path begin in (
-        λ h. elim (put.0 (begins-has trie (set rows node row) path begin h)) [
-          | inl was ↦ inl (has-begins trie rows path begin was)
-          | inr m ↦ inr m
+-- ---- a path is added
+
+module _ (old new : Trie) (rows mid ends more_ends : Rows) (grows : Grows old new) (apart : AreApart new) (same : AreSame rows mid) (are : AreEndsOf (starts-of old rows) ends)
+    (names : List (List ℕ)) (node : ℕ) (row : List (List ℕ)) (set_of : List ℕ) (at : node_of new names ≡ Some node) (within : node < length mid)
+    (adds : (begin : ℕ) → IsInSome row begin ↔ (IsInSome (sets_at rows node) begin ⊎ IsIn set_of begin)) where
+  abbrev Own : ℕ → ℕ → Type 0
+  Own n begin = (n ≡ node) × IsIn set_of begin
+
+  -- it begins at these structures
+  pub path-added : Adds (starts-of old rows) (starts-of new (set mid node row)) names set_of
+  path-added path begin =
+      let more = begins-more old new rows (set mid node row) Own grows apart are.nodes (put-adds rows mid node row set_of same within adds) path begin in (
+        λ h. elim (more.0 h) [
+          | inl was ↦ inl was
+          | inr m ↦ inr (apart path names node (m.1 ∙ ap Some m.2.0) at, m.2.1)
         ],
-        λ h. has-begins trie (set rows node row) path begin (put.1 (elim h [
-          | inl was ↦ inl (begins-has trie rows path begin was)
-          | inr m ↦ inr m
-        ])),
+        λ either. more.1 (elim either [
+          | inl was ↦ inl was
+          | inr m ↦ inr (node, ap (node_of new) m.0 ∙ at, (refl, m.1))
+        ]),
       )
 
-  nodes-put : (n begin : ℕ) → IsInSome (sets_at (set rows node row) n) begin → (path : List (List ℕ)) × (node_of trie path ≡ Some n)
-  nodes-put = covered-put (List (List ℕ)) (node_of trie) rows node names row more at within adds are.nodes
+  module _ (more : AddsEnds new [] names ends more_ends set_of) where
+    abbrev End : ℕ → ℕ → Type 0
+    End n begin = IsEnd new [] names n × IsIn set_of begin
 
-  -- a path without names ends in none
-  pub ends-kept : names ≡ [] → AreEndsOf (starts-of trie (set rows node row)) ends
-  ends-kept none = record {
-    nodes = nodes-put;
-    numbers = are.numbers;
-    same = λ last begin. (
-      λ h. let from = (are.same last begin).0 h in (from.0, from.1, (begins-put from.0 begin).1 (inl from.2)),
-      λ h. elim ((begins-put h.0 begin).0 h.2) [
-        | inl was ↦ (are.same last begin).1 (h.0, h.1, was)
-        | inr m ↦ absurd (not_empty h.1.0 last (sym (m.0 ∙ none) ∙ h.1.1))
-      ],
-    );
-  }
-
-  -- with the set at the number of its last name too, this is where the paths begin that end in it
-  pub ends-put : (end : List ℕ) (number : ℕ) (there : List (List ℕ)) → EndsIn end names → number_of trie end ≡ Some number → number < length ends
-      → ((begin : ℕ) → IsInSome there begin ↔ (IsInSome (sets_at ends number) begin ⊎ IsIn more begin)) → AreEndsOf (starts-of trie (set rows node row)) (set ends number there)
-  ends-put end number there is named inside joins = record {
-    nodes = nodes-put;
-    numbers = covered-put (List ℕ) (number_of trie) ends number end there more named inside joins are.numbers;
-    same = λ last begin.
-        let put = key-put (List ℕ) (number_of trie) ends number end there more named inside joins (names-keyed trie) last begin in (
-          λ h. elim (put.0 (ends-has trie (set ends number there) last begin h)) [
-            | inl was ↦ let from = (are.same last begin).0 (has-ends trie ends last begin was) in (from.0, from.1, (begins-put from.0 begin).1 (inl from.2))
-            | inr m ↦ (names, subst (λ name. EndsIn name names) (sym m.0) is, (begins-put names begin).1 (inr (refl, m.1)))
+    -- it goes on as its names do
+    goes-on : (front : List (List ℕ)) (last : List ℕ) (begin : ℕ)
+        → BeginsIn (starts-of new more_ends) (front ++ last ∷ []) begin ↔ (BeginsIn (starts-of old ends) (front ++ last ∷ []) begin ⊎ Goes (λ path b. (path ≡ names) × IsIn set_of b) front last begin)
+    goes-on front last begin =
+        let both = begins-more old new ends more_ends End grows apart are.end_nodes more.adds (front ++ last ∷ []) begin in (
+          λ h. elim (both.0 h) [
+            | inl was ↦ inl was
+            | inr m ↦
+                let end = m.2.0 in
+                let one = one-front front end.front last end.last (apart (front ++ last ∷ []) (end.front ++ end.last ∷ []) m.0 m.1 end.leads) in
+                inr (end.rest, subst (λ name. EndsIn name end.rest) (sym one.1) end.ends, (ap (λ f. f ++ end.rest) one.0 ∙ sym end.splits, m.2.1))
           ],
-          λ h. has-ends trie (set ends number there) last begin (put.1 (elim ((begins-put h.0 begin).0 h.2) [
-            | inl was ↦ inl (ends-has trie ends last begin ((are.same last begin).1 (h.0, h.1, was)))
-            | inr m ↦ inr (same_end names last end (subst (EndsIn last) m.0 h.1) is, m.1)
-          ])),
-        );
+          λ either. both.1 (elim either [
+            | inl was ↦ inl was
+            | inr m ↦
+                let at = more.there front m.0 last (sym m.2.0) m.1 in
+                inr (at.0, at.1, (record { front = front; rest = m.0; last = last; splits = sym m.2.0; ends = m.1; leads = at.1 }, m.2.1))
+          ]),
+        )
+
+    pub ends-added : AreEndsOf (starts-of new (set mid node row)) more_ends
+    ends-added = record {
+      nodes = covered-more old new rows (set mid node row) Own grows apart are.nodes (put-adds rows mid node row set_of same within adds) (λ n begin m. (names, at ∙ ap Some (sym m.0)));
+      end_nodes = covered-more old new ends more_ends End grows apart are.end_nodes more.adds (λ n begin m. (m.0.front ++ m.0.last ∷ [], m.0.leads));
+      same = ends-same old new rows (set mid node row) ends more_ends (λ path b. (path ≡ names) × IsIn set_of b) are path-added goes-on;
+    }
+
+-- ---- the ends of a path are added, from the last one on
+
+module _ (trie : Trie) (before : List (List ℕ)) (name : List ℕ) (rest : List (List ℕ)) (last : List ℕ) (is : EndsIn last (name ∷ rest)) (end : ℕ) (leads : node_of trie (before ++ last ∷ []) ≡ Some end) where
+  first-end : IsEnd trie before (name ∷ rest) end
+  first-end = record {
+    front = [];
+    rest = name ∷ rest;
+    last = last;
+    splits = refl;
+    ends = is;
+    leads = ap (λ f. node_of trie (f ++ last ∷ [])) (append-nil before) ∙ leads;
   }
 
--- what is added to paths that begin alike is added to these
-pub adds-after : (old kept new : Starts) (names : List (List ℕ)) (more : List ℕ) → BeginAlike old kept → Adds kept new names more → Adds old new names more
-adds-after old kept new names more same adds path begin = (
-  λ h. elim ((adds path begin).0 h) [
-    | inl was ↦ inl ((same path begin).0 was)
-    | inr m ↦ inr m
-  ],
-  λ either. (adds path begin).1 (elim either [
-    | inl was ↦ inl ((same path begin).1 was)
-    | inr m ↦ inr m
-  ]),
-)
+  later-end : (node : ℕ) → IsEnd trie (before ++ name ∷ []) rest node → IsEnd trie before (name ∷ rest) node
+  later-end node e = record {
+    front = name ∷ e.front;
+    rest = e.rest;
+    last = e.last;
+    splits = ap (λ r. name ∷ r) e.splits;
+    ends = e.ends;
+    leads = ap (λ f. node_of trie (f ++ e.last ∷ [])) (sym (append_assoc before (name ∷ []) e.front)) ∙ e.leads;
+  }
 
-module _ (old trie : Trie) (was rows was_ends ends : Rows) (grows : Grows old trie) (apart : AreApart trie) (same : AreSame was rows) (same_ends : AreSame was_ends ends)
-    (are : AreEndsOf (starts-of old was) was_ends) (names : List (List ℕ)) (node : ℕ) (row : List (List ℕ)) (more : List ℕ) (at : node_of trie names ≡ Some node) (within : node < length rows)
-    (adds : (begin : ℕ) → IsInSome row begin ↔ (IsInSome (sets_at was node) begin ⊎ IsIn more begin)) where
-  still : AreEndsOf (starts-of trie rows) ends
-  still = ends-still old trie was rows was_ends ends grows apart same same_ends are
+  -- each is the first one, or one of the others
+  either-end : (node : ℕ) → IsEnd trie before (name ∷ rest) node → (node ≡ end) ⊎ IsEnd trie (before ++ name ∷ []) rest node
+  either-end node e = by e.front e.splits e.leads
+    where
+      by : (front : List (List ℕ)) → name ∷ rest ≡ front ++ e.rest → node_of trie ((before ++ front) ++ e.last ∷ []) ≡ Some node → (node ≡ end) ⊎ IsEnd trie (before ++ name ∷ []) rest node
+      by [] splits at =
+          let one : e.last ≡ last = whole-ends (name ∷ rest) [] e.rest e.last last is e.ends splits in
+          let two : Some node ≡ Some end = sym at ∙ ap (λ f. node_of trie (f ++ e.last ∷ [])) (append-nil before) ∙ ap (λ (n : List ℕ). node_of trie (before ++ n ∷ [])) one ∙ leads in
+          inl (cc)
+      by (first ∷ front) splits at =
+          let same : name ≡ first = cc in
+          inr (record {
+            front = front;
+            rest = e.rest;
+            last = e.last;
+            splits = cc;
+            ends = e.ends;
+            leads = ap (λ f. node_of trie (f ++ e.last ∷ [])) (append_assoc before (name ∷ []) front ∙ ap (λ (n : List ℕ). before ++ n ∷ front) same) ∙ at;
+          })
 
-  adds-now : (begin : ℕ) → IsInSome row begin ↔ (IsInSome (sets_at rows node) begin ⊎ IsIn more begin)
-  adds-now begin = subst (λ sets. IsInSome row begin ↔ (IsInSome sets begin ⊎ IsIn more begin)) (sym (same node)) (adds begin)
+-- names are the first one and those behind it
+pub split-names : (names : List (List ℕ)) (name : List ℕ) → 1 ≤ length names → name ≡ get_or names 0 name → names ≡ name ∷ take (length names - 1) (drop 1 names)
+split-names [] name some is = absurd (omega (arith, some))
+split-names (first ∷ names) name some is = ap (λ n. n ∷ names) (sym is) ∙ ap (λ r. name ∷ r) (sym (take_rest (first ∷ names) 1))
 
-  -- a path is added to those that were there before its node
-  pub path-added : Adds (starts-of old was) (starts-of trie (set rows node row)) names more
-  path-added = adds-after (starts-of old was) (starts-of trie rows) (starts-of trie (set rows node row)) names more (begins-still old trie was rows was_ends ends grows apart same same_ends are)
-      (begins-put trie rows ends names node row more at within adds-now apart still)
-
-  pub ends-without : names ≡ [] → AreEndsOf (starts-of trie (set rows node row)) ends
-  ends-without none = ends-kept trie rows ends names node row more at within adds-now apart still none
-
-  pub ends-with : (end : List ℕ) (number : ℕ) (there : List (List ℕ)) → EndsIn end names → number_of trie end ≡ Some number → number < length ends
-      → ((begin : ℕ) → IsInSome there begin ↔ (IsInSome (sets_at was_ends number) begin ⊎ IsIn more begin)) → AreEndsOf (starts-of trie (set rows node row)) (set ends number there)
-  ends-with end number there is named inside joins = ends-put trie rows ends names node row more at within adds-now apart still end number there is named inside
-      (λ begin. subst (λ sets. IsInSome there begin ↔ (IsInSome sets begin ⊎ IsIn more begin)) (sym (same_ends number)) (joins begin))
+-- one more in front
+module _ (trie : Trie) (before : List (List ℕ)) (name : List ℕ) (rest : List (List ℕ)) (last : List ℕ) (is : EndsIn last (name ∷ rest)) (end : ℕ) (leads : node_of trie (before ++ last ∷ []) ≡ Some end)
+    (rows mid more : Rows) (begins : List ℕ) (row : List (List ℕ)) (same : AreSame rows mid) (within : end < length more) (joins : (begin : ℕ) → IsInSome row begin ↔ (IsInSome (sets_at rows end) begin ⊎ IsIn begins begin))
+    (later : AddsEnds trie (before ++ name ∷ []) rest mid more begins) where
+  pub more-ends : AddsEnds trie before (name ∷ rest) rows (set more end row) begins
+  more-ends = record {
+    adds = λ node begin. elim (cases_eq node end) [
+      | inl e ↦
+          let here : sets_at (set more end row) node ≡ row = ap (sets_at (set more end row)) e ∙ get_or-set_same more end row [] within in (
+            λ h. elim ((joins begin).0 (subst (λ sets. IsInSome sets begin) here h)) [
+              | inl was ↦ inl (subst (λ n. IsInSome (sets_at rows n) begin) (sym e) was)
+              | inr m ↦ inr (subst (IsEnd trie before (name ∷ rest)) (sym e) (first-end trie before name rest last is end leads), m)
+            ],
+            λ either. subst (λ sets. IsInSome sets begin) (sym here) ((joins begin).1 (elim either [
+              | inl was ↦ inl (subst (λ n. IsInSome (sets_at rows n) begin) e was)
+              | inr m ↦ inr m.1
+            ])),
+          )
+      | inr apart ↦
+          let there : sets_at (set more end row) node ≡ sets_at more node = get_or-set_other more end node row [] apart in (
+            λ h. elim ((later.adds node begin).0 (subst (λ sets. IsInSome sets begin) there h)) [
+              | inl was ↦ inl (subst (λ sets. IsInSome sets begin) (same node) was)
+              | inr m ↦ inr (later-end trie before name rest last is end leads node m.0, m.1)
+            ],
+            λ either. subst (λ sets. IsInSome sets begin) (sym there) ((later.adds node begin).1 (elim either [
+              | inl was ↦ inl (subst (λ sets. IsInSome sets begin) (sym (same node)) was)
+              | inr m ↦ elim (either-end trie before name rest last is end leads node m.0) [
+                | inl e ↦ absurd (apart e)
+                | inr deeper ↦ inr (deeper, m.1)
+              ]
+            ])),
+          )
+    ];
+    there = all;
+  }
+    where
+      all : (front left : List (List ℕ)) (end_name : List ℕ) → name ∷ rest ≡ front ++ left → EndsIn end_name left → (node : ℕ) × (node_of trie ((before ++ front) ++ end_name ∷ []) ≡ Some node)
+      all [] left end_name splits ends =
+          let one : end_name ≡ last = whole-ends (name ∷ rest) [] left end_name last is ends splits in
+          (end, ap (λ f. node_of trie (f ++ end_name ∷ [])) (append-nil before) ∙ ap (λ (n : List ℕ). node_of trie (before ++ n ∷ [])) one ∙ leads)
+      all (first ∷ front) left end_name splits ends =
+          let same_name : name ≡ first = cc in
+          let on = later.there front left end_name (cc) ends in
+          (on.0, ap (λ f. node_of trie (f ++ end_name ∷ [])) (sym (append_assoc before (name ∷ []) front ∙ ap (λ (n : List ℕ). before ++ n ∷ front) same_name)) ∙ on.1)
 
 -- ---- where a way leads
 
--- no way is known
-hidden : {X Y : Type 0} (way : Option X) (f : X → Y) → None ≡ (way then λ w. Some (f w)) → way ≡ None
-hidden None f e = refl
-hidden (Some w) f e = absurd (cc)
+-- a path that begins there leads along a way
+abbrev pub Leads : Starts → ℕ → Way → List ℕ → Type 0
+Leads starts begin way last = (names : List (List ℕ)) × BeginsIn starts names begin × LeadsAlong way last names
 
--- a way is known, and leads somewhere
-known : {X Y : Type 0} (way : Option X) (f : X → Y) (y : Y) → Some y ≡ (way then λ w. Some (f w)) → (w : X) × (way ≡ Some w) × (f w ≡ y)
-known None f y e = absurd (cc)
-known (Some w) f y e = let same : f w ≡ y = cc in (w, refl, same)
+-- a way is known, and leads to this node
+led-known : (trie : Trie) (way : Way) (node : ℕ) → Known node ≡ led trie 0 way → (names : List (List ℕ)) × (way ≡ known names) × (node_of trie names ≡ Some node)
+led-known trie (known names) node e = (names, refl, by (node_of trie names) e)
+  where
+    by : (o : Option ℕ) → Known node ≡ led_to Known o → o ≡ Some node
+    by None e = absurd (cc)
+    by (Some n) e = cc
+led-known trie (hidden front) node e = absurd (by (node_of trie front) e)
+  where
+    by : (o : Option ℕ) → ¬ (Known node ≡ led_to Hidden o)
+    by None e = absurd (cc)
+    by (Some n) e = absurd (cc)
 
-module _ (trie : Trie) (rows ends : Rows) (are : AreEndsOf (starts-of trie rows) ends) (way : Option (List (List ℕ))) (last : List ℕ) (begin : ℕ) (b : Bool) where
-  -- the path of the names on the way may lead there
-  pub leads-known : (node : ℕ) → Some (Some node) ≡ (way then λ w. Some (node_of trie w)) → (b ≡ true ↔ IsInSome (sets_at rows node) begin)
-      → (b ≡ true ↔ ((names : List (List ℕ)) × BeginsIn (starts-of trie rows) names begin × LeadsAlong way last names))
-  leads-known node e is =
-      let on = known way (node_of trie) (Some node) e in
-      subst (λ o. b ≡ true ↔ ((names : List (List ℕ)) × BeginsIn (starts-of trie rows) names begin × LeadsAlong o last names)) (sym on.1) (
-        λ h. (on.0, record { node = node; leads = on.2; here = is.0 h }, refl),
+-- it is hidden, and its front leads to this node
+led-hidden : (trie : Trie) (way : Way) (node : ℕ) → Hidden node ≡ led trie 0 way → (front : List (List ℕ)) × (way ≡ hidden front) × (node_of trie front ≡ Some node)
+led-hidden trie (known names) node e = absurd (by (node_of trie names) e)
+  where
+    by : (o : Option ℕ) → ¬ (Hidden node ≡ led_to Known o)
+    by None e = absurd (cc)
+    by (Some n) e = absurd (cc)
+led-hidden trie (hidden front) node e = (front, refl, by (node_of trie front) e)
+  where
+    by : (o : Option ℕ) → Hidden node ≡ led_to Hidden o → o ≡ Some node
+    by None e = absurd (cc)
+    by (Some n) e = cc
+
+-- it leads nowhere
+led-nowhere : (kind : ℕ → Led) (o : Option ℕ) → ((n : ℕ) → ¬ (Nowhere ≡ kind n)) → Nowhere ≡ led_to kind o → o ≡ None
+led-nowhere kind None some e = refl
+led-nowhere kind (Some n) some e = absurd (some n e)
+
+module _ (trie : Trie) (rows ends : Rows) (are : AreEndsOf (starts-of trie rows) ends) (last : List ℕ) (begin : ℕ) where
+  -- the paths that go on from the front of a hidden way may lead behind a union
+  goes-hidden : (front : List (List ℕ)) → BeginsIn (starts-of trie ends) (front ++ last ∷ []) begin ↔ Leads (starts-of trie rows) begin (hidden front) last
+  goes-hidden front = (
+    λ h. let from = (are.same front last begin).0 h in (front ++ from.0, from.2, (from.0, refl, from.1)),
+    λ (names, begins, (rest, split, ends_in)). (are.same front last begin).1 (rest, ends_in, subst (λ ns. BeginsIn (starts-of trie rows) ns begin) split begins),
+  )
+
+  -- none do where the front and the name lead nowhere
+  none-hidden : (front : List (List ℕ)) (o : Option ℕ) → node_of trie front ≡ o → (o then λ n. child trie n last) ≡ None → ¬ Leads (starts-of trie rows) begin (hidden front) last
+  none-hidden front o at none h =
+      let here = (goes-hidden front).1 h in
+      let two : Some here.node ≡ None = sym here.leads ∙ lead-last (child trie) 0 front last ∙ ap (λ x. x then λ n. child trie n last) at ∙ none in
+      absurd (cc)
+
+  -- no path has the names of a known way that leads nowhere
+  none-known : (names : List (List ℕ)) → node_of trie names ≡ None → ¬ Leads (starts-of trie rows) begin (known names) last
+  none-known names none h = let two : Some h.1.node ≡ None = sym h.1.leads ∙ ap (node_of trie) h.2 ∙ none in absurd (cc)
+
+  pub leads-nowhere : (way : Way) → Nowhere ≡ led trie 0 way → ¬ Leads (starts-of trie rows) begin way last
+  leads-nowhere (known names) e = none-known names (led-nowhere Known (node_of trie names) (λ n same. absurd (cc)) e)
+  leads-nowhere (hidden front) e = none-hidden front None (led-nowhere Hidden (node_of trie front) (λ n same. absurd (cc)) e) refl
+
+  module _ (way : Way) where
+    -- the path of the names on a known way may lead there
+    pub leads-known : (node : ℕ) (b : Bool) → Known node ≡ led trie 0 way → (b ≡ true ↔ IsInSome (sets_at rows node) begin) → (b ≡ true ↔ Leads (starts-of trie rows) begin way last)
+    leads-known node b e is =
+        let on = led-known trie way node e in
+        subst (λ w. b ≡ true ↔ Leads (starts-of trie rows) begin w last) (sym on.1) (
+          λ h. (on.0, record { node = node; leads = on.2; here = is.0 h }, refl),
+          λ h. is.1 (
+              let two : Some h.1.node ≡ Some node = sym h.1.leads ∙ ap (node_of trie) h.2 ∙ on.2 in
+              let one : h.1.node ≡ node = cc in
+              subst (λ n. IsInSome (sets_at rows n) begin) one h.1.here
+              ),
+        )
+
+    pub leads-hidden : (node end : ℕ) (b : Bool) → Hidden node ≡ led trie 0 way → Some end ≡ child trie node last → (b ≡ true ↔ IsInSome (sets_at ends end) begin)
+        → (b ≡ true ↔ Leads (starts-of trie rows) begin way last)
+    leads-hidden node end b e goes is =
+        let on = led-hidden trie way node e in
+        let at : node_of trie (on.0 ++ last ∷ []) ≡ Some end = lead-last (child trie) 0 on.0 last ∙ ap (λ o. o then λ n. child trie n last) on.2 ∙ sym goes in
+        let along = goes-hidden on.0 in
+        subst (λ w. b ≡ true ↔ Leads (starts-of trie rows) begin w last) (sym on.1) (
+          λ h. along.0 (record { node = end; leads = at; here = is.0 h }),
+          λ h. is.1 (
+              let here = along.1 h in
+              let two : Some here.node ≡ Some end = sym here.leads ∙ at in
+              let one : here.node ≡ end = cc in
+              subst (λ n. IsInSome (sets_at ends n) begin) one here.here
+              ),
+        )
+
+    pub leads-childless : (node : ℕ) → Hidden node ≡ led trie 0 way → None ≡ child trie node last → ¬ Leads (starts-of trie rows) begin way last
+    leads-childless node e none =
+        let on = led-hidden trie way node e in
+        subst (λ w. ¬ Leads (starts-of trie rows) begin w last) (sym on.1) (none-hidden on.0 (Some node) on.2 (sym none))
+
+-- ---- in which names paths end
+
+module _ (trie : Trie) (rows ends : Rows) (are : AreEndsOf (starts-of trie rows) ends) (last : List ℕ) where
+  -- some path that ends in a name begins anywhere, where there are any sets behind the root
+  pub ends-anywhere : (end : ℕ) (b : Bool) → Some end ≡ child trie 0 last → (b ≡ true ↔ ((begin : ℕ) × IsInSome (sets_at ends end) begin)) → (b ≡ true ↔ ((begin : ℕ) × EndsFrom (starts-of trie rows) last begin))
+  ends-anywhere end b goes is =
+      let at : node_of trie (last ∷ []) ≡ Some end = lead-last (child trie) 0 [] last ∙ sym goes in (
+        λ h. let some = is.0 h in (some.0, (are.same [] last some.0).0 (record { node = end; leads = at; here = some.1 })),
         λ h. is.1 (
-            let two : Some h.1.node ≡ Some node = sym h.1.leads ∙ ap (node_of trie) h.2 ∙ on.2 in
-            let one : h.1.node ≡ node = cc in
-            subst (λ n. IsInSome (sets_at rows n) begin) one h.1.here
+            let here = (are.same [] last h.0).1 h.1 in
+            let two : Some here.node ≡ Some end = sym here.leads ∙ at in
+            let one : here.node ≡ end = cc in
+            (h.0, subst (λ n. IsInSome (sets_at ends n) h.0) one here.here)
             ),
       )
 
-  -- no path has these names
-  pub leads-nowhere : Some None ≡ (way then λ w. Some (node_of trie w)) → ¬ ((names : List (List ℕ)) × BeginsIn (starts-of trie rows) names begin × LeadsAlong way last names)
-  leads-nowhere e h =
-      let on = known way (node_of trie) None e in
-      let same : h.0 ≡ on.0 = subst (λ o. LeadsAlong o last h.0) on.1 h.2 in
-      let two : Some h.1.node ≡ None = sym h.1.leads ∙ ap (node_of trie) same ∙ on.2 in
+  pub ends-nowhere : None ≡ child trie 0 last → (begin : ℕ) → ¬ EndsFrom (starts-of trie rows) last begin
+  ends-nowhere none begin h =
+      let here = (are.same [] last begin).1 h in
+      let two : Some here.node ≡ None = sym here.leads ∙ lead-last (child trie) 0 [] last ∙ sym none in
       absurd (cc)
-
-  -- where a union lies on the way, the paths that end in the name may lead there
-  pub leads-hidden : None ≡ (way then λ w. Some (node_of trie w)) → (b ≡ true ↔ EndsAt trie ends last begin)
-      → (b ≡ true ↔ ((names : List (List ℕ)) × BeginsIn (starts-of trie rows) names begin × LeadsAlong way last names))
-  leads-hidden e is =
-      subst (λ o. b ≡ true ↔ ((names : List (List ℕ)) × BeginsIn (starts-of trie rows) names begin × LeadsAlong o last names)) (sym (hidden way (node_of trie) e)) (
-        λ h. let from = (are.same last begin).0 (is.0 h) in (from.0, from.2, from.1),
-        λ h. is.1 ((are.same last begin).1 (h.0, h.2, h.1)),
-      )
-
--- the sets of a name's number are those of the name
-pub ends-by-number : (trie : Trie) (ends : Rows) (last : List ℕ) (begin number : ℕ) (b : Bool) → Some number ≡ number_of trie last → (b ≡ true ↔ IsInSome (sets_at ends number) begin)
-    → (b ≡ true ↔ EndsAt trie ends last begin)
-ends-by-number trie ends last begin number b named is = (
-  λ h. record { number = number; is = sym named; here = is.0 h },
-  λ h. is.1 (
-      let two : Some h.number ≡ Some number = sym h.is ∙ sym named in
-      let one : h.number ≡ number = cc in
-      subst (λ n. IsInSome (sets_at ends n) begin) one h.here
-      ),
-)
-
--- no path ends in a name without a number
-pub ends-not : (trie : Trie) (ends : Rows) (last : List ℕ) (begin : ℕ) → None ≡ number_of trie last → ¬ EndsAt trie ends last begin
-ends-not trie ends last begin none h = let two : None ≡ Some h.number = none ∙ h.is in absurd (cc)
-
-module _ (trie : Trie) (rows ends : Rows) (are : AreEndsOf (starts-of trie rows) ends) (last : List ℕ) where
-  -- some path that ends in a name begins anywhere, where the name's number has any sets
-  pub ends-anywhere : (number : ℕ) (b : Bool) → Some number ≡ number_of trie last → (b ≡ true ↔ ((begin : ℕ) × IsInSome (sets_at ends number) begin))
-      → (b ≡ true ↔ ((begin : ℕ) × EndsFrom (starts-of trie rows) last begin))
-  ends-anywhere number b named is = (
-    λ h. let some = is.0 h in (some.0, (are.same last some.0).0 (record { number = number; is = sym named; here = some.1 })),
-    λ h. is.1 (
-        let at = (are.same last h.0).1 h.1 in
-        let two : Some at.number ≡ Some number = sym at.is ∙ sym named in
-        let one : at.number ≡ number = cc in
-        (h.0, subst (λ n. IsInSome (sets_at ends n) h.0) one at.here)
-        ),
-  )
-
-  pub ends-nowhere : None ≡ number_of trie last → (begin : ℕ) → ¬ EndsFrom (starts-of trie rows) last begin
-  ends-nowhere none begin h = ends-not trie ends last begin none ((are.same last begin).1 h)

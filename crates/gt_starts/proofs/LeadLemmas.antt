@@ -30,6 +30,19 @@ lead-append c node (name ∷ front) rest mid e =
 pub lead-one : (c : Children) (node : ℕ) (front : List (List ℕ)) (name : List ℕ) (mid next : ℕ) → lead c node front ≡ Some mid → c mid name ≡ Some next → lead c node (front ++ name ∷ []) ≡ Some next
 lead-one c node front name mid next e is = lead-append c node front (name ∷ []) mid e ∙ then-after (c mid name) (λ n. lead c n []) next is
 
+then-itself : {X : Type 0} (o : Option X) → (o then λ x. Some x) ≡ o
+then-itself None = refl
+then-itself (Some x) = refl
+
+then-twice : {X Y Z : Type 0} (o : Option X) (f : X → Option Y) (g : Y → Option Z) (h : X → Option Z) → ((x : X) → h x ≡ (f x then g)) → (o then h) ≡ ((o then f) then g)
+then-twice None f g h is = refl
+then-twice (Some x) f g h is = is x
+
+-- names and a last one lead where the last one leads from where the others do
+pub lead-last : (c : Children) (node : ℕ) (front : List (List ℕ)) (name : List ℕ) → lead c node (front ++ name ∷ []) ≡ (lead c node front then λ mid. c mid name)
+lead-last c node [] name = then-itself (c node name)
+lead-last c node (first ∷ front) name = then-twice (c node first) (λ n. lead c n front) (λ mid. c mid name) (λ n. lead c n (front ++ name ∷ [])) (λ n. lead-last c n front name)
+
 -- with the same children names lead where they did
 pub lead-alike : (c d : Children) → ((node : ℕ) (name : List ℕ) → d node name ≡ c node name) → (node : ℕ) (path : List (List ℕ)) → lead d node path ≡ lead c node path
 lead-alike c d same node [] = refl

@@ -192,7 +192,7 @@ module _ (names more : List (List ℕ)) (steps : List (Step × ℕ)) (count : �
   }
 
   pub grows-more : Grows (record { names = names; steps = steps }) (record { names = more; steps = steps })
-  grows-more = record { nodes = λ path node e. more-lead 0 path ∙ e; numbers = are.kept }
+  grows-more = record { nodes = λ path node e. more-lead 0 path ∙ e }
 
 -- ---- a step is added
 
@@ -224,10 +224,7 @@ module _ (names : List (List ℕ)) (old new : List (Step × ℕ)) (from number n
   }
 
   pub grows-put : Grows (record { names = names; steps = old }) (record { names = names; steps = new })
-  grows-put = record {
-    nodes = λ path node e. lead-kept (child (record { names = names; steps = old })) (child (record { names = names; steps = new })) from name next extends 0 path node e;
-    numbers = λ other i e. e;
-  }
+  grows-put = record { nodes = λ path node e. lead-kept (child (record { names = names; steps = old })) (child (record { names = names; steps = new })) from name next extends 0 path node e }
 
   module _ (front : List (List ℕ)) (at : lead (child (record { names = names; steps = old })) 0 front ≡ Some from) (narrow : number < 2 ^ 32) where
     pub trie-put : IsTrie (record { names = names; steps = new }) (suc next)
@@ -247,13 +244,10 @@ module _ (names : List (List ℕ)) (old new : List (Step × ℕ)) (from number n
 -- ---- from one trie to the next
 
 pub grows-not : (trie : Trie) → Grows trie trie
-grows-not trie = record { nodes = λ path node e. e; numbers = λ name number e. e }
+grows-not trie = record { nodes = λ path node e. e }
 
 pub grows-then : (a b c : Trie) → Grows a b → Grows b c → Grows a c
-grows-then a b c first second = record {
-  nodes = λ path node e. second.nodes path node (first.nodes path node e);
-  numbers = λ name number e. second.numbers name number (first.numbers name number e);
-}
+grows-then a b c first second = record { nodes = λ path node e. second.nodes path node (first.nodes path node e) }
 
 -- a child is added to a node of a trie whose names may have grown before
 module _ (old mid : Trie) (names : List (List ℕ)) (steps new : List (Step × ℕ)) (from number next count : ℕ) (name : List ℕ) (view : record { names = names; steps = steps } ≡ mid)

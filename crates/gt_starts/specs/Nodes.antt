@@ -1,7 +1,7 @@
 -- No promise: what holds of the numbers of nodes and names while names are added.
 use Rattle.std.specs.Prelude.{◌≡◌, ◌<◌, ◌^◌, ℕ, List, Some, length}
 use Rattle.gt_starts.specs.declared.tries.Step.{Step}
-use Rattle.gt_starts.specs.Tries.{Trie, number_of, node_at, node_of}
+use Rattle.gt_starts.specs.Tries.{Trie, node_at, node_of}
 
 -- no two paths lead to one node
 abbrev pub AreApart : Trie → Type 0
@@ -15,7 +15,6 @@ pub record IsTrie (trie : Trie) (count : ℕ) : Type 0 where
   pub narrow : (step : Step) (next : ℕ) → node_at trie.steps step ≡ Some next → step.name < 2 ^ 32
   pub apart : AreApart trie
 
--- paths lead where they led, and names have the numbers that they had
+-- paths lead where they led
 pub record Grows (old new : Trie) : Type 0 where
   pub nodes : (path : List (List ℕ)) (node : ℕ) → node_of old path ≡ Some node → node_of new path ≡ Some node
-  pub numbers : (name : List ℕ) (number : ℕ) → number_of old name ≡ Some number → number_of new name ≡ Some number

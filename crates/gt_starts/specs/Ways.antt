@@ -27,19 +27,29 @@ is_union_in None = false
 abbrev pub is_union : Program → TypeId → Bool
 is_union program node = is_union_in (slice_get program.structures node.0)
 
--- The way from a structure to a part of it: the names of the fields on it, as far as these hold structures by value. It is None where it
--- leads into a union, since what a path reads in a union may lie in each of its members, or where a field is missing.
-abbrev pub way_to : Program → Option TypeId → List ℕ → Option (List (List ℕ))
-way_to program (Some node) (i ∷ path) =
-    if is_union program node then None else (name_at program node i then λ name. way_to program (inner_at program node i) path then λ way. Some (name ∷ way))
-way_to program begin path = Some []
+-- what is known of the way from a structure to a part of it: the names of all fields on it, or only of the first of them, up to a union
+pub data Way : Type 0 where
+  known : List (List ℕ) → Way
+  hidden : List (List ℕ) → Way
+
+-- the way with a field of this name before it; where there is no field, nothing is known
+abbrev pub after_name : Option (List ℕ) → Way → Way
+after_name (Some name) (known names) = known (name ∷ names)
+after_name (Some name) (hidden names) = hidden (name ∷ names)
+after_name None way = hidden []
+
+-- The way from a structure to a part of it: the names of the fields on it, as far as these hold structures by value. Where it leads into a
+-- union it is known up to there, since what a path reads in a union may lie in each of its members; so it is where a field is missing.
+abbrev pub way_to : Program → Option TypeId → List ℕ → Way
+way_to program (Some node) (i ∷ path) = if is_union program node then hidden [] else after_name (name_at program node i) (way_to program (inner_at program node i) path)
+way_to program begin path = known []
 
 -- a path ends in this name
 abbrev pub EndsIn : List ℕ → List (List ℕ) → Type 0
 EndsIn last names = (front : List (List ℕ)) × (names ≡ front ++ last ∷ [])
 
--- A path of names may lead this way to a leaf of this name: it is the names on the way, or, where a union lies on it, it ends in the
--- leaf's name.
-abbrev pub LeadsAlong : Option (List (List ℕ)) → List ℕ → List (List ℕ) → Type 0
-LeadsAlong (Some way) last names = names ≡ way
-LeadsAlong None last names = EndsIn last names
+-- A path of names may lead this way to a leaf of this name: it is the names on the way; or, where a union lies on it, it begins with the
+-- names up to there, and goes on to end in the leaf's name.
+abbrev pub LeadsAlong : Way → List ℕ → List (List ℕ) → Type 0
+LeadsAlong (known way) last names = names ≡ way
+LeadsAlong (hidden front) last names = (rest : List (List ℕ)) × (names ≡ front ++ rest) × EndsIn last rest

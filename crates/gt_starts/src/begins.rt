@@ -1,5 +1,5 @@
 // Sets of structures that are shared.
-ghost use Rattle.std.specs.Prelude.{◌≡◌, ◌⊎◌, ◌↔◌, ◌<◌, ℕ, [], true, map, vec_len, IfOk, OnOk};
+ghost use Rattle.std.specs.Prelude.{◌≡◌, ◌⊎◌, ◌↔◌, ◌<◌, ◌≤◌, ℕ, [], true, map, vec_len, IfOk, OnOk};
 ghost use Rattle.gt_sets.specs.Sets.{IsIn};
 ghost use Rattle.gt_starts.specs.Begins.{IsInSome, sets_at};
 
@@ -117,6 +117,7 @@ fn any_some(sets: &[Rc<StructureSet>]) -> bool
 pub fn make_room(alloc: Global, rows: &mut Vec<Begins>, n: usize) -> Result<(), AllocError>
     ensures same { (i : ℕ) → sets_at rows.new.items i ≡ sets_at rows.old.items i }
     ensures room { OnOk result (n < vec_len rows.new) }
+    ensures longer { vec_len rows.old ≤ vec_len rows.new }
 {
     while rows.len() <= n {
         rows.push(Begins::new(alloc))?;
@@ -133,6 +134,7 @@ pub fn extended(
 ) -> Result<Begins, AllocError>
     ensures same { (i : ℕ) → sets_at rows.new.items i ≡ sets_at rows.old.items i }
     ensures room { OnOk result (n < vec_len rows.new) }
+    ensures longer { vec_len rows.old ≤ vec_len rows.new }
     ensures added { IfOk result (λ made. (begin : ℕ) → IsInSome made begin ↔ (IsInSome (sets_at rows.old.items n) begin ⊎ IsIn set.now.value begin)) }
 {
     make_room(alloc, rows, n)?;

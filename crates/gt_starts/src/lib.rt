@@ -3,6 +3,7 @@
 #![tactic(auto)]
 
 mod begins;
+mod ends;
 mod paths;
 mod tries;
 mod ways;

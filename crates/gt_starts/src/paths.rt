@@ -5,23 +5,26 @@ ghost use Rattle.gt_starts.specs.Ways.{way_to, LeadsAlong};
 ghost use Rattle.gt_starts.specs.Paths.{BeginsIn, EndsFrom};
 
 use crate::begins::{Begins, any_at, extended, has_at};
+use crate::ends::add_ends;
 use crate::tries::{ROOT, Trie};
-use crate::ways::node_on_way;
+use crate::ways::{Led, node_on_way};
 use gt_sets::StructureSet;
 use gt_types::{Program, TypeId, Word};
 use std::alloc::{AllocError, Global};
 use std::marker::Model;
 use std::rc::Rc;
 
-/// Paths of names, each with the structures at which it begins. A path takes some 50 bytes for its last name, and 8 bytes for each set that
-/// was added with it, up to eight; where there are more, they are joined into one of 512 bytes. Contracts see the paths with these sets.
+/// Paths of names, each with the structures at which it begins. Each name of a path makes at most two nodes, which take some 65 bytes each:
+/// that to which the names up to it lead, and that of the path's last name in its place. A set that is added with a path takes 8 bytes at
+/// each name, up to eight sets; where there are more, they are joined into one of 512 bytes. Contracts see the paths with these sets.
 #[derive(Drop)]
 pub struct PathSet {
     alloc: Global,
     trie: Trie,
     // Of each node where the path to it begins.
     begins: Vec<Begins>,
-    // Of each name by its number where the paths begin that end in it.
+    // Of each node to which some names and a last one lead where the paths begin that have these names first, and go on to end in the last
+    // one.
     ends: Vec<Begins>,
 }
 
@@ -57,14 +60,15 @@ impl PathSet {
     {
         let node = self.trie.add(names)? as usize;
         let here = extended(self.alloc, &mut self.begins, node, begins)?;
-        let [.., last] = names else {
-            self.begins[node] = here;
-            return Ok(());
-        };
-        let name = self.trie.add_name(last)?;
-        let there = extended(self.alloc, &mut self.ends, name, begins)?;
+        add_ends(
+            self.alloc,
+            &mut self.trie,
+            &mut self.ends,
+            ROOT,
+            names,
+            begins,
+        )?;
         self.begins[node] = here;
-        self.ends[name] = there;
         Ok(())
     }
 
@@ -73,22 +77,23 @@ impl PathSet {
     pub fn leads(&self, program: &Program, begin: TypeId, path: &[u32], last: &Word) -> bool
         ensures leads { result ≡ true ↔ ((names : List (List ℕ)) × BeginsIn self.now names begin.0 × LeadsAlong (way_to program.now (Some begin) path.now) last.now names) }
     {
-        match node_on_way(&self.trie, program, Some(begin), path, Some(ROOT)) {
-            Some(Some(node)) => has_at(&self.begins, node as usize, begin.0),
-            Some(None) => false,
-            None => match self.trie.number(last) {
-                Some(name) => has_at(&self.ends, name, begin.0),
+        match node_on_way(&self.trie, program, Some(begin), path, ROOT) {
+            Led::Known(node) => has_at(&self.begins, node as usize, begin.0),
+            Led::Hidden(node) => match self.trie.child(node, last) {
+                Some(end) => has_at(&self.ends, end as usize, begin.0),
                 None => false,
             },
+            Led::Nowhere => false,
         }
     }
 
-    /// Whether some path that begins anywhere ends in a name. It takes no memory, and its time grows with the name alone.
+    /// Whether some path that begins anywhere ends in a name. It takes no memory, and its time grows with the name, and with the logarithm
+    /// of the number of nodes.
     pub fn ends(&self, last: &Word) -> bool
         ensures ends { result ≡ true ↔ ((begin : ℕ) × EndsFrom self.now last.now begin) }
     {
-        match self.trie.number(last) {
-            Some(name) => any_at(&self.ends, name),
+        match self.trie.child(ROOT, last) {
+            Some(end) => any_at(&self.ends, end as usize),
             None => false,
         }
     }

@@ -53,13 +53,6 @@ impl Trie {
         }
     }
 
-    /// The number of a name, in constant time, or in the logarithm of the number of names where many have like hashes.
-    pub fn number(&self, name: &Word) -> Option<usize>
-        ensures number { result ≡ number_of self.now name.now }
-    {
-        self.names.get(name)
-    }
-
     /// The node to which a name leads from a node. It takes no memory, and its time grows with the logarithm of the number of nodes.
     pub fn child(&self, node: u32, name: &Word) -> Option<u32>
         ensures child { result ≡ child self.now node name.now }
@@ -69,8 +62,8 @@ impl Trie {
         self.steps.get(&Step { from: node, name }).copied()
     }
 
-    /// The number of a name, which is added where it is new. Its only error is out of memory.
-    pub fn add_name(&mut self, name: &Word) -> Result<usize, AllocError>
+    // The number of a name, which is added where it is new. Its only error is out of memory.
+    fn add_name(&mut self, name: &Word) -> Result<usize, AllocError>
         ensures number { IfOk result (λ number. number_of self.new name.now ≡ Some number) }
         ensures children { (node : ℕ) (other : List ℕ) → child self.new node other ≡ child self.old node other }
         ensures grows { Grows self.old self.new }
@@ -95,8 +88,9 @@ impl Trie {
         Ok(node)
     }
 
-    // The node to which a name leads from a node, which is made where there is none.
-    fn add_child(&mut self, node: u32, name: &Word) -> Result<u32, AllocError>
+    /// The node to which a name leads from a node, which is made where there is none. Its only error is out of memory; no path is lost
+    /// where it fails.
+    pub fn add_child(&mut self, node: u32, name: &Word) -> Result<u32, AllocError>
         requires there { (path : List (List ℕ)) × (node_of self.old path ≡ Some node) }
         requires apart { AreApart self.old }
         ensures child { IfOk result (λ next. child self.new node name.now ≡ Some next) }

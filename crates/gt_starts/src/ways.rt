@@ -1,8 +1,8 @@
 // Steps of the way from a structure to a part of it.
-ghost use Rattle.std.specs.Prelude.{◌≡◌, Some, option_copied, slice_get};
+ghost use Rattle.std.specs.Prelude.{◌≡◌, option_copied, slice_get};
 ghost use Rattle.gt_tree.specs.Scopes.{◌then◌};
-ghost use Rattle.gt_starts.specs.Tries.{child, node_from};
 ghost use Rattle.gt_starts.specs.Ways.{name_at, inner_at, is_union, way_to};
+ghost use Rattle.gt_starts.specs.Ends.{led};
 
 use crate::tries::Trie;
 use gt_types::{Field, Program, Ty, TypeId, Word};
@@ -42,33 +42,41 @@ fn is_union(program: &Program, id: TypeId) -> bool
     }
 }
 
-/// The node to which the names on the way from a structure to a part of it lead from a node, or that they lead to none; None where the
-/// way leads into a union. It takes no memory, and its time grows with the path alone.
+/// Where a way leads.
+#[derive(Clone, Copy)]
+pub enum Led {
+    /// All names on it are known, and lead to this node.
+    Known(u32),
+    /// Those up to a union lead to this node.
+    Hidden(u32),
+    /// No node is there.
+    Nowhere,
+}
+
+/// Where the way from a structure to a part of it leads from a node. It takes no memory, and its time grows with the path alone.
 pub fn node_on_way(
     trie: &Trie,
     program: &Program,
     begin: Option<TypeId>,
     path: &[u32],
-    node: Option<u32>,
-) -> Option<Option<u32>>
-    ensures { result ≡ (way_to program.now begin path.now then λ way. Some (node then λ n. node_from trie.now n way)) }
+    node: u32,
+) -> Led
+    ensures leads { result ≡ led trie.now node (way_to program.now begin path.now) }
 {
     let Some(id) = begin else {
-        return Some(node);
+        return Led::Known(node);
     };
     let [i, rest @ ..] = path else {
-        return Some(node);
+        return Led::Known(node);
     };
     if is_union(program, id) {
-        return None;
+        return Led::Hidden(node);
     }
-    let next = step(trie, node, name_at(program, id, *i)?);
+    let Some(name) = name_at(program, id, *i) else {
+        return Led::Hidden(node);
+    };
+    let Some(next) = trie.child(node, name) else {
+        return Led::Nowhere;
+    };
     node_on_way(trie, program, inner_at(program, id, *i), rest, next)
-}
-
-// The node to which a name leads from a node, where there is one.
-fn step(trie: &Trie, node: Option<u32>, name: &Word) -> Option<u32>
-    ensures { result ≡ (node then λ n. child trie.now n name.now) }
-{
-    trie.child(node?, name)
 }
