@@ -12,7 +12,7 @@ use gt_types::Word;
 use std::alloc::{AllocError, Global};
 use std::rc::Rc;
 
-/// Adds structures at the last of these names behind a node, and behind each node to which the names before it lead from there. Its time
+/// Adds structures at the last of these names after a node, and after each node to which the names before it lead from there. Its time
 /// grows with the names. Its only error is out of memory; the rows are then as before.
 pub fn add_ends(
     alloc: Global,
