@@ -14,7 +14,7 @@ use Rattle.gt_types.specs.declared.program.Field.{Field}
 use Rattle.gt_types.specs.declared.program.Structure.{Structure}
 use Rattle.gt_types.specs.Contains.{itself, held_by}
 use Rattle.gt_types.specs.Tails.{tail_of}
-use Rattle.sample_program.specs.Sample.{structures, item, base, wide, form, pay, cell, vec, hold, duo, two, vecb, any, rest, big, bigv, kindv, ever, label, twin, lone, node, path, own_kind, own_len, own_n, outer_n, outermost_a}
+use Rattle.sample_program.specs.Sample.{structures, item, base, wide, form, pay, cell, vec, hold, duo, two, vecb, any, rest, big, bigv, kindv, ever, label, twin, lone, node, path, own_kind, own_len, own_n, own_num, outer_num, outermost_a}
 use Rattle.gt_types.specs.declared.expressions.Base.TheVariants.{Here, Outer}
 use Rattle.sample_program.proofs.Lists.{AllFrom}
 use Rattle.sample_program.proofs.Types.{IsFlat, flat-num, flat-bits, flat-opaque, flat-str, flat-ptr, flat-node, inner-arr, inner-tail, no_tail-arr, tail-tail}
@@ -191,7 +191,7 @@ told-rest = record {
 
 told-big : IsTold 13 big
 told-big = record {
-  held = All-from_recursion HoldsAsTold big.fields (held-flat (ty.Num (scalar.Int W8 false)) (flat-num (scalar.Int W8 false)), (held-flat (ty.Node (node 4) (Some outer_n)) (flat-node (node 4) (Some outer_n)), (held-flat (ty.Node (node 12) (Some outer_n)) (flat-node (node 12) (Some outer_n)), (held-flat (ty.Ptr (Some (target.Node (node 0))) (kind.Length own_n) false) (flat-ptr (Some (target.Node (node 0))) (kind.Length own_n) false), (held-flat (ty.Num (scalar.Int W1 true)) (flat-num (scalar.Int W1 true)), (held-flat (ty.Num (scalar.Int W2 false)) (flat-num (scalar.Int W2 false)), (held-flat (ty.Num (scalar.Int W4 false)) (flat-num (scalar.Int W4 false)), (held-flat (ty.Bits (scalar.Int W4 false) 12) (flat-bits (scalar.Int W4 false) 12), (held-flat (ty.Bits (scalar.Int W4 true) 15) (flat-bits (scalar.Int W4 true) 15), (held-flat (ty.Ptr None kind.Undef false) (flat-ptr None kind.Undef false), tt))))))))));
+  held = All-from_recursion HoldsAsTold big.fields (held-flat (ty.Num (scalar.Int W8 false)) (flat-num (scalar.Int W8 false)), (held-flat (ty.Node (node 4) (Some outer_num)) (flat-node (node 4) (Some outer_num)), (held-flat (ty.Node (node 12) (Some outer_num)) (flat-node (node 12) (Some outer_num)), (held-flat (ty.Ptr (Some (target.Node (node 0))) (kind.Length own_num) false) (flat-ptr (Some (target.Node (node 0))) (kind.Length own_num) false), (held-flat (ty.Num (scalar.Int W1 true)) (flat-num (scalar.Int W1 true)), (held-flat (ty.Num (scalar.Int W2 false)) (flat-num (scalar.Int W2 false)), (held-flat (ty.Num (scalar.Int W4 false)) (flat-num (scalar.Int W4 false)), (held-flat (ty.Bits (scalar.Int W4 false) 12) (flat-bits (scalar.Int W4 false) 12), (held-flat (ty.Bits (scalar.Int W4 true) 15) (flat-bits (scalar.Int W4 true) 15), (held-flat (ty.Ptr None kind.Undef false) (flat-ptr None kind.Undef false), tt))))))))));
   tail = ap is_some (flat-ptr None kind.Undef false).no_tail;
 }
 

@@ -19,7 +19,7 @@ use Rattle.gt_types.specs.Shapes.{field_type_at}
 use Rattle.gt_types.specs.Unions.{is_it, by_first, IsCommon, IsMember, AreApart}
 use Rattle.gt_types.specs.Settled.{IsField, IsStructure}
 use Rattle.gt_types.specs.Paths.{LeadsToNumber, LeadsToOwnPointer, IsFieldDesc, IsOutermost}
-use Rattle.sample_program.specs.Sample.{sample, structures, item, base, wide, form, pay, cell, vec, hold, duo, two, vecb, any, rest, big, bigv, kindv, ever, label, twin, lone, int, node, path, own_kind, own_len, own_n, outer_n, outermost_a, held, member, field}
+use Rattle.sample_program.specs.Sample.{sample, structures, item, base, wide, form, pay, cell, vec, hold, duo, two, vecb, any, rest, big, bigv, kindv, ever, label, twin, lone, int, node, path, own_kind, own_len, own_n, own_num, outer_num, outermost_a, held, member, field}
 use Rattle.sample_program.proofs.Lists.{AllFrom, differ, pair, three}
 use Rattle.sample_program.proofs.Types.{flat-num, flat-bits, flat-opaque, flat-str, flat-ptr, flat-node, inner-arr, inner-tail}
 use Rattle.sample_program.proofs.Orders.{lower_by, in_program}
@@ -455,7 +455,7 @@ rest-keeps = record {
 }
 
 big-fields : All (IsField sample (node 13) big) big.fields
-big-fields = All-from_recursion (IsField sample (node 13) big) big.fields (a_field 13 big (field (codes "n") (ty.Num (scalar.Int W8 false))) refl (0, omega arith, refl) refl (ap field_type_at (ty.outs-Num (scalar.Int W8 false))) (names (λ union u e. IsFieldDesc sample (node 13) union e) (ty.Num (scalar.Int W8 false)) (ty.Num (scalar.Int W8 false)) (flat-num (scalar.Int W8 false)).inner tt tt tt) tt, (a_field 13 big (field (codes "u") (ty.Node (node 4) (Some outer_n))) refl (1, omega arith, refl) refl (ap field_type_at (ty.outs-Node (node 4) (Some outer_n))) (names (λ union u e. IsFieldDesc sample (node 13) union e) (ty.Node (node 4) (Some outer_n)) (ty.Node (node 4) (Some outer_n)) (flat-node (node 4) (Some outer_n)).inner tt tt (pay, refl, (refl, (a_desc 13 4 Outer ((codes "n") ∷ []) (one_name (codes "n") refl) (to_int 13 big (codes "n") 0 (ty.Num (scalar.Int W8 false)) refl refl refl (0, omega arith, refl) refl))))) tt, (a_field 13 big (field (codes "v") (ty.Node (node 12) (Some outer_n))) refl (2, omega arith, refl) refl (ap field_type_at (ty.outs-Node (node 12) (Some outer_n))) (names (λ union u e. IsFieldDesc sample (node 13) union e) (ty.Node (node 12) (Some outer_n)) (ty.Node (node 12) (Some outer_n)) (flat-node (node 12) (Some outer_n)).inner tt tt (rest, refl, (refl, (a_desc 13 12 Outer ((codes "n") ∷ []) (one_name (codes "n") refl) (to_int 13 big (codes "n") 0 (ty.Num (scalar.Int W8 false)) refl refl refl (0, omega arith, refl) refl))))) tt, (a_field 13 big (field (codes "list") (ty.Ptr (Some (target.Node (node 0))) (kind.Length own_n) false)) refl (3, omega arith, refl) refl (ap field_type_at (ty.outs-Ptr (Some (target.Node (node 0))) (kind.Length own_n) false)) (names (λ union u e. IsFieldDesc sample (node 13) union e) (ty.Ptr (Some (target.Node (node 0))) (kind.Length own_n) false) (ty.Ptr (Some (target.Node (node 0))) (kind.Length own_n) false) (flat-ptr (Some (target.Node (node 0))) (kind.Length own_n) false).inner item_stands tt tt) (an_option 13 Here (codes "n" ∷ []) (one_name (codes "n") refl) (to_int 13 big (codes "n") 0 (ty.Num (scalar.Int W8 false)) refl refl refl (0, omega arith, refl) refl)), (a_field 13 big (field (codes "a") (ty.Num (scalar.Int W1 true))) refl (4, omega arith, refl) refl (ap field_type_at (ty.outs-Num (scalar.Int W1 true))) (names (λ union u e. IsFieldDesc sample (node 13) union e) (ty.Num (scalar.Int W1 true)) (ty.Num (scalar.Int W1 true)) (flat-num (scalar.Int W1 true)).inner tt tt tt) tt, (a_field 13 big (field (codes "c") (ty.Num (scalar.Int W2 false))) refl (5, omega arith, refl) refl (ap field_type_at (ty.outs-Num (scalar.Int W2 false))) (names (λ union u e. IsFieldDesc sample (node 13) union e) (ty.Num (scalar.Int W2 false)) (ty.Num (scalar.Int W2 false)) (flat-num (scalar.Int W2 false)).inner tt tt tt) tt, (a_field 13 big (field (codes "e") (ty.Num (scalar.Int W4 false))) refl (6, omega arith, refl) refl (ap field_type_at (ty.outs-Num (scalar.Int W4 false))) (names (λ union u e. IsFieldDesc sample (node 13) union e) (ty.Num (scalar.Int W4 false)) (ty.Num (scalar.Int W4 false)) (flat-num (scalar.Int W4 false)).inner tt tt tt) tt, (a_field 13 big (field (codes "x") (ty.Bits (scalar.Int W4 false) 12)) refl (7, omega arith, refl) refl (ap field_type_at (ty.outs-Bits (scalar.Int W4 false) 12)) (names (λ union u e. IsFieldDesc sample (node 13) union e) (ty.Bits (scalar.Int W4 false) 12) (ty.Bits (scalar.Int W4 false) 12) (flat-bits (scalar.Int W4 false) 12).inner tt tt tt) tt, (a_field 13 big (field (codes "y") (ty.Bits (scalar.Int W4 true) 15)) refl (8, omega arith, refl) refl (ap field_type_at (ty.outs-Bits (scalar.Int W4 true) 15)) (names (λ union u e. IsFieldDesc sample (node 13) union e) (ty.Bits (scalar.Int W4 true) 15) (ty.Bits (scalar.Int W4 true) 15) (flat-bits (scalar.Int W4 true) 15).inner tt tt tt) tt, (a_field 13 big (field (codes "und") (ty.Ptr None kind.Undef false)) refl (9, omega arith, refl) refl (ap field_type_at (ty.outs-Ptr None kind.Undef false)) (names (λ union u e. IsFieldDesc sample (node 13) union e) (ty.Ptr None kind.Undef false) (ty.Ptr None kind.Undef false) (flat-ptr None kind.Undef false).inner tt tt tt) tt, tt))))))))))
+big-fields = All-from_recursion (IsField sample (node 13) big) big.fields (a_field 13 big (field (codes "num") (ty.Num (scalar.Int W8 false))) refl (0, omega arith, refl) refl (ap field_type_at (ty.outs-Num (scalar.Int W8 false))) (names (λ union u e. IsFieldDesc sample (node 13) union e) (ty.Num (scalar.Int W8 false)) (ty.Num (scalar.Int W8 false)) (flat-num (scalar.Int W8 false)).inner tt tt tt) tt, (a_field 13 big (field (codes "u") (ty.Node (node 4) (Some outer_num))) refl (1, omega arith, refl) refl (ap field_type_at (ty.outs-Node (node 4) (Some outer_num))) (names (λ union u e. IsFieldDesc sample (node 13) union e) (ty.Node (node 4) (Some outer_num)) (ty.Node (node 4) (Some outer_num)) (flat-node (node 4) (Some outer_num)).inner tt tt (pay, refl, (refl, (a_desc 13 4 Outer ((codes "num") ∷ []) (one_name (codes "num") refl) (to_int 13 big (codes "num") 0 (ty.Num (scalar.Int W8 false)) refl refl refl (0, omega arith, refl) refl))))) tt, (a_field 13 big (field (codes "v") (ty.Node (node 12) (Some outer_num))) refl (2, omega arith, refl) refl (ap field_type_at (ty.outs-Node (node 12) (Some outer_num))) (names (λ union u e. IsFieldDesc sample (node 13) union e) (ty.Node (node 12) (Some outer_num)) (ty.Node (node 12) (Some outer_num)) (flat-node (node 12) (Some outer_num)).inner tt tt (rest, refl, (refl, (a_desc 13 12 Outer ((codes "num") ∷ []) (one_name (codes "num") refl) (to_int 13 big (codes "num") 0 (ty.Num (scalar.Int W8 false)) refl refl refl (0, omega arith, refl) refl))))) tt, (a_field 13 big (field (codes "list") (ty.Ptr (Some (target.Node (node 0))) (kind.Length own_num) false)) refl (3, omega arith, refl) refl (ap field_type_at (ty.outs-Ptr (Some (target.Node (node 0))) (kind.Length own_num) false)) (names (λ union u e. IsFieldDesc sample (node 13) union e) (ty.Ptr (Some (target.Node (node 0))) (kind.Length own_num) false) (ty.Ptr (Some (target.Node (node 0))) (kind.Length own_num) false) (flat-ptr (Some (target.Node (node 0))) (kind.Length own_num) false).inner item_stands tt tt) (an_option 13 Here (codes "num" ∷ []) (one_name (codes "num") refl) (to_int 13 big (codes "num") 0 (ty.Num (scalar.Int W8 false)) refl refl refl (0, omega arith, refl) refl)), (a_field 13 big (field (codes "a") (ty.Num (scalar.Int W1 true))) refl (4, omega arith, refl) refl (ap field_type_at (ty.outs-Num (scalar.Int W1 true))) (names (λ union u e. IsFieldDesc sample (node 13) union e) (ty.Num (scalar.Int W1 true)) (ty.Num (scalar.Int W1 true)) (flat-num (scalar.Int W1 true)).inner tt tt tt) tt, (a_field 13 big (field (codes "c") (ty.Num (scalar.Int W2 false))) refl (5, omega arith, refl) refl (ap field_type_at (ty.outs-Num (scalar.Int W2 false))) (names (λ union u e. IsFieldDesc sample (node 13) union e) (ty.Num (scalar.Int W2 false)) (ty.Num (scalar.Int W2 false)) (flat-num (scalar.Int W2 false)).inner tt tt tt) tt, (a_field 13 big (field (codes "e") (ty.Num (scalar.Int W4 false))) refl (6, omega arith, refl) refl (ap field_type_at (ty.outs-Num (scalar.Int W4 false))) (names (λ union u e. IsFieldDesc sample (node 13) union e) (ty.Num (scalar.Int W4 false)) (ty.Num (scalar.Int W4 false)) (flat-num (scalar.Int W4 false)).inner tt tt tt) tt, (a_field 13 big (field (codes "x") (ty.Bits (scalar.Int W4 false) 12)) refl (7, omega arith, refl) refl (ap field_type_at (ty.outs-Bits (scalar.Int W4 false) 12)) (names (λ union u e. IsFieldDesc sample (node 13) union e) (ty.Bits (scalar.Int W4 false) 12) (ty.Bits (scalar.Int W4 false) 12) (flat-bits (scalar.Int W4 false) 12).inner tt tt tt) tt, (a_field 13 big (field (codes "y") (ty.Bits (scalar.Int W4 true) 15)) refl (8, omega arith, refl) refl (ap field_type_at (ty.outs-Bits (scalar.Int W4 true) 15)) (names (λ union u e. IsFieldDesc sample (node 13) union e) (ty.Bits (scalar.Int W4 true) 15) (ty.Bits (scalar.Int W4 true) 15) (flat-bits (scalar.Int W4 true) 15).inner tt tt tt) tt, (a_field 13 big (field (codes "und") (ty.Ptr None kind.Undef false)) refl (9, omega arith, refl) refl (ap field_type_at (ty.outs-Ptr None kind.Undef false)) (names (λ union u e. IsFieldDesc sample (node 13) union e) (ty.Ptr None kind.Undef false) (ty.Ptr None kind.Undef false) (flat-ptr None kind.Undef false).inner tt tt tt) tt, tt))))))))))
 
 big-keeps : IsStructure sample (node 13) big
 big-keeps = record {

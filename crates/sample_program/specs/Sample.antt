@@ -123,21 +123,24 @@ rest =
     (member (codes "num") (ty.Num (scalar.Int W8 true)) 0 ∷ record { name = codes "old"; ty = int; active = Never }
     ∷ record { name = codes "ref"; ty = pointer_to 0; active = Other } ∷ [])
 
-abbrev pub own_n : Expr
-own_n = path Here (codes "n" ∷ [])
+abbrev pub own_num : Expr
+own_num = path Here (codes "num" ∷ [])
 
-abbrev pub outer_n : Expr
-outer_n = path Outer (codes "n" ∷ [])
+abbrev pub outer_num : Expr
+outer_num = path Outer (codes "num" ∷ [])
 
--- struct big { unsigned long n; union pay u; (%1.n)  union rest v; (%1.n)  struct item *list; (n of them)  signed char a; unsigned short c; unsigned e;
+-- struct big { unsigned long num; union pay u; (%1.num)  union rest v; (%1.num)  struct item *list; (num of them)  signed char a; unsigned short c; unsigned e;
 -- unsigned x : 12; int y : 15; a pointer und to what is not defined }
 abbrev pub big : Structure
 big =
     struct (codes "big")
-    (field (codes "n") (ty.Num (scalar.Int W8 false)) ∷ field (codes "u") (described 4 outer_n) ∷ field (codes "v") (described 12 outer_n)
-    ∷ field (codes "list") (ty.Ptr (Some (target.Node (node 0))) (kind.Length own_n) false) ∷ field (codes "a") (ty.Num (scalar.Int W1 true))
+    (field (codes "num") (ty.Num (scalar.Int W8 false)) ∷ field (codes "u") (described 4 outer_num) ∷ field (codes "v") (described 12 outer_num)
+    ∷ field (codes "list") (ty.Ptr (Some (target.Node (node 0))) (kind.Length own_num) false) ∷ field (codes "a") (ty.Num (scalar.Int W1 true))
     ∷ field (codes "c") (ty.Num (scalar.Int W2 false)) ∷ field (codes "e") (ty.Num (scalar.Int W4 false)) ∷ field (codes "x") (ty.Bits (scalar.Int W4 false) 12)
     ∷ field (codes "y") (ty.Bits (scalar.Int W4 true) 15) ∷ field (codes "und") (ty.Ptr None kind.Undef false) ∷ [])
+
+abbrev pub own_n : Expr
+own_n = path Here (codes "n" ∷ [])
 
 -- struct bigv { unsigned long n; short elem[n]; }
 abbrev pub bigv : Structure

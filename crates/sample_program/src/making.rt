@@ -460,19 +460,19 @@ fn rest(alloc: Global) -> Result<Structure, AllocError>
 fn first_of_big(alloc: Global, fields: &mut Vec<Field>) -> Result<(), AllocError>
     ensures { OnOk result (fields.new.items ≡ fields.old.items ++ take 4 (drop 0 sample.big.fields)) }
 {
-    add(alloc, fields, "n", Ty::Num(UNSIGNED_LONG), Active::Always)?;
+    add(alloc, fields, "num", Ty::Num(UNSIGNED_LONG), Active::Always)?;
     add(
         alloc,
         fields,
         "u",
-        held(4, Some(path(alloc, Base::Outer, "n")?)),
+        held(4, Some(path(alloc, Base::Outer, "num")?)),
         Active::Always,
     )?;
     add(
         alloc,
         fields,
         "v",
-        held(12, Some(path(alloc, Base::Outer, "n")?)),
+        held(12, Some(path(alloc, Base::Outer, "num")?)),
         Active::Always,
     )?;
     add(
@@ -481,7 +481,7 @@ fn first_of_big(alloc: Global, fields: &mut Vec<Field>) -> Result<(), AllocError
         "list",
         Ty::Ptr {
             target: Some(Target::Node(TypeId(0))),
-            kind: PtrKind::Length(path(alloc, Base::Here, "n")?),
+            kind: PtrKind::Length(path(alloc, Base::Here, "num")?),
             reorder: false,
         },
         Active::Always,

@@ -66,7 +66,7 @@ pub any_stands : MayStand sample (node 11)
 any_stands = (any, refl, not_inner (node 11) any refl (one (codes "b" ∷ codes "kind" ∷ [])), λ u. refl)
 
 pub big_stands : MayStand sample (node 13)
-big_stands = (big, refl, not_inner (node 13) big refl (one (codes "n" ∷ [])), λ u. absurd (cc))
+big_stands = (big, refl, not_inner (node 13) big refl (one (codes "num" ∷ [])), λ u. absurd (cc))
 
 pub bigv_stands : MayStand sample (node 14)
 bigv_stands = (bigv, refl, not_inner (node 14) bigv refl (one (codes "n" ∷ [])), λ u. absurd (cc))
