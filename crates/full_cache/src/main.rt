@@ -6,10 +6,10 @@ ghost use Rattle.std.specs.Prelude.{◌<◌, ◌^◌, IfOk, length};
 ghost use Rattle.gt_schema.specs.Schemas.{IsSchema};
 ghost use Rattle.gt_session.specs.Sessions.{IsSession};
 
+use gt_answers::Answers;
 use gt_headers::{declare, declared_programs_are_settled};
 use gt_io::{HostFiles, HostOut};
 use gt_lines::run_line;
-use gt_answers::Answers;
 use gt_schema::Schema;
 use gt_script::{Line, parse_script};
 use gt_session::Session;

@@ -1,9 +1,9 @@
 -- Lists of answers of which some are counted.
-use Rattle.std.proofs.Common.{◌≡◌, ℕ, zero, suc, ◌+◌, Bool, true, false, ◌||◌, List, [], ◌∷◌, ◌++◌, length, refl, sym, ap, ◌∙◌, append_assoc}
+use Rattle.std.proofs.Common.{◌≡◌, ℕ, zero, suc, ◌+◌, ◌<◌, false, ◌||◌, List, [], ◌∷◌, ◌++◌, length, take, get_or, refl, sym, ap, ◌∙◌, append_assoc}
 use Rattle.std.specs.Prelude.{replicate, ◌==◌}
 use Rattle.std.specs.List.{list_any}
 use Rattle.std.proofs.Math.Dec.{eqb-suc-zero}
-use Rattle.std.proofs.lemmas.List.{replicate-append-replicate}
+use Rattle.std.proofs.lemmas.List.{replicate-append-replicate, take_more}
 use Rattle.std.proofs.lemmas.List.Folds.{list_any-append}
 use Rattle.gt_next.specs.declared.answer.Answer.{Answer}
 use Rattle.gt_next.specs.declared.answer.Answer.TheVariants.{Done}
@@ -49,3 +49,18 @@ empty_later (l ∷ later) = eqb-suc-zero (length later) ∙ sym (some_answer l.d
 pub some_done : (later : List Later) (done : ℕ) → false ≡ (length (answers_in later (suc done)) == 0)
 some_done [] done = sym (eqb-suc-zero (length (replicate done Done)))
 some_done (l ∷ later) done = sym (some_answer l.done l.answer (answers_in later (suc done)))
+
+-- those that are counted at the end stand after the others
+pub done_last : (later : List Later) (done : ℕ) → answers_in later 0 ++ replicate done Done ≡ answers_in later done
+done_last [] done = refl
+done_last (l ∷ later) done =
+    append_assoc (replicate l.done Done) (l.answer ∷ answers_in later 0) (replicate done Done) ∙ ap (λ x. replicate l.done Done ++ l.answer ∷ x) (done_last later done)
+
+-- one more of the others, after those that are counted before it
+pub next_later : (items : List Later) (i : ℕ) (l : Later) (before mid now : List Answer) → i < length items → l ≡ get_or items i l
+    → before ≡ answers_in (take i items) 0 → mid ≡ before ++ replicate l.done Done → now ≡ mid ++ l.answer ∷ [] → now ≡ answers_in (take (i + 1) items) 0
+next_later items i l before mid now within at so_far counted added =
+    let front = take i items in
+    let more : take (i + 1) items ≡ front ++ l ∷ [] = take_more items i l within ∙ ap (λ x. front ++ x ∷ []) (sym at) in
+    let all : before ++ replicate l.done Done ≡ answers_in front l.done = ap (λ x. x ++ replicate l.done Done) so_far ∙ done_last front l.done in
+    added ∙ ap (λ x. x ++ l.answer ∷ []) (counted ∙ all) ∙ sym (one_later front l.done l.answer) ∙ ap (λ x. answers_in x 0) (sym more)

@@ -10,5 +10,5 @@ returns c =
     let inside = c.self.inside in
     record {
       refusal = c.has_refusal.ensures.refusal ∙ ap (λ (later : List Later). list_any (λ (l : Later). is_refusal l.answer) later) c.deref.ensures.value
-      ∙ refusal_later inside.later.items inside.done ∙ ap (λ k. list_any is_refusal k.items) c.self.view_is;
+          ∙ refusal_later inside.later.items inside.done ∙ ap (λ k. list_any is_refusal k.items) c.self.view_is;
     }

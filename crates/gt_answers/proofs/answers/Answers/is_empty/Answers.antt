@@ -1,5 +1,5 @@
-use Rattle.std.proofs.Common.{◌≡◌, ℕ, suc, zero, ◌≢◌, ◌+◌, ◌-◌, List, Bool, false, length, refl, sym, ap, ◌∙◌, arith}
-use Rattle.std.specs.Prelude.{◌==◌, vec_len}
+use Rattle.std.proofs.Common.{◌≡◌, ℕ, suc, zero, ◌≢◌, List, false, length, refl, sym, ap, ◌∙◌}
+use Rattle.std.specs.Prelude.{◌==◌}
 use Rattle.std.proofs.lemmas.Bool.{ne_eqb}
 use Rattle.gt_answers.specs.Kept.{answers_in}
 use Rattle.gt_answers.specs.declared.answers.Later.{Later}

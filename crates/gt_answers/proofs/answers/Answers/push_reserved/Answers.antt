@@ -1,5 +1,4 @@
-use Rattle.std.proofs.Common.{◌≡◌, [], ◌∷◌, ◌++◌, List, sym, ap, ◌∙◌}
-use Rattle.gt_next.specs.declared.answer.Answer.{Answer}
+use Rattle.std.proofs.Common.{◌≡◌, [], ◌∷◌, ◌++◌, sym, ap, ◌∙◌}
 use Rattle.gt_next.specs.declared.answer.Answer.TheVariants.{Done}
 use Rattle.gt_answers.specs.Kept.{answers_in}
 use Rattle.gt_answers.proofs.Counted.{one_done, one_later}
