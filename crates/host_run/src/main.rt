@@ -33,18 +33,22 @@ fn main(rt: HostRuntime) -> ExitCode {
     }
 }
 
-// Runs the script under the header, writes the status with which the program ended, and gives it.
+// Runs the script under the header, writes how many answers it had and the status with which the program ended, and gives the status.
 fn run_script(alloc: Global, files: &mut HostFiles, out: &mut HostOut) -> Result<u8, WriteFail> {
     let Ok(words) = words_of(alloc, &["script.gty", "node.h"]) else {
         return Err(WriteFail::Memory);
     };
     let mut space = Space::empty(alloc);
     let outcome = top(alloc, words.as_slice(), files, out, &mut space);
-    let Ok(line) = format!(in alloc; "status {}\n", outcome.status) else {
+    let Ok(answers) = outcome.answers.list(alloc) else {
+        return Err(WriteFail::Memory);
+    };
+    let (count, status) = (answers.len(), outcome.status);
+    let Ok(line) = format!(in alloc; "{count} answers, status {status}\n") else {
         return Err(WriteFail::Memory);
     };
     out.write_all(line.as_str().as_bytes())?;
-    Ok(outcome.status)
+    Ok(status)
 }
 
 fn words_of(alloc: Global, texts: &[&str]) -> Result<Vec<Word>, AllocError> {
