@@ -1,6 +1,5 @@
 use Rattle.std.proofs.Common.{◌≡◌, List, ℕ, refl, sym, subst}
 use Rattle.gt_headers.specs.Headers.{Declares}
-use Rattle.gt_script.specs.Outcome.{Parsed}
 use Rattle.gt_front.specs.Asks.{Asks, Reads}
 use Rattle.gt_front.specs.Order.{IsReadAs, nothing, whole}
 use Rattle.gt_front.specs.Stages.{texts_of}
@@ -85,11 +84,10 @@ returns-clause-given g c =
     let program = c.in-Ok-declare_texts.declared.program in
     let lines = c.in-Ok-lines_of.lines in
     let D : List (List ℕ) → Type 0 = λ headers. Declares headers program in
-    let P : List ℕ → Type 0 = λ script. Parsed script lines in
     let asks : Asks words told c.in-Ok.call program lines = record {
       texts = texts_of c.in-Ok-read_texts.found;
       reads = c.in-Ok-read_texts.ensures.read words c.in-Ok.ensures.called;
       declares = subst D c.as_slice.ensures.value c.in-Ok-declare_texts.ensures.declared;
-      parsed = subst P c.as_slice-2.ensures.bytes c.in-Ok-lines_of.ensures.parsed;
+      parsed = c.in-Ok-lines_of.ensures.parsed;
     } in
     (asks, c.in-Ok-read_texts.ensures.files)
