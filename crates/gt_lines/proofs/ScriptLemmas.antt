@@ -15,16 +15,12 @@ use Rattle.gt_lines.specs.Scripts.{LeavesSpace, RunsScript}
 use Rattle.gt_lines.specs.declared.lines.LinesEnd.{LinesEnd}
 use Rattle.gt_lines.specs.declared.lines.LinesEnd.TheVariants.{Finished, SinkFailed, NoMemory}
 
--- a vector is empty where it has no items
-pub empty-items : (items : List Answer) (count : ℕ) (empty : Bool) → empty ≡ (count == 0) → empty ≡ true → count ≡ length items → items ≡ []
-empty-items items count empty counts told long =
-    let none : (count == 0) ≡ true = sym counts ∙ told in
-    nil_from_length items (sym long ∙ eqb-true count 0 none)
+-- there are no answers where their list is told to be empty
+pub empty-items : (items : List Answer) (empty : Bool) → empty ≡ (length items == 0) → empty ≡ true → items ≡ []
+empty-items items empty counts told = nil_from_length items (eqb-true (length items) 0 (sym counts ∙ told))
 
-pub some-items : (items : List Answer) (count : ℕ) (empty : Bool) → empty ≡ (count == 0) → empty ≡ false → count ≡ length items → items ≡ [] → ⊥
-some-items items count empty counts told long none =
-    let zero : count ≡ 0 = long ∙ ap length none in
-    false≢true (sym told ∙ counts ∙ ap (λ n. n == 0) zero)
+pub some-items : (items : List Answer) (empty : Bool) → empty ≡ (length items == 0) → empty ≡ false → items ≡ [] → ⊥
+some-items items empty counts told none = false≢true (sym told ∙ counts ∙ ap (λ x. length x == 0) none)
 
 -- the space is as it came, where memory ran out without an answer
 pub LeavesSpace-unanswered : (program : Program) (layouts : Layouts) (last : State) (end : LinesEnd) (answers : List Answer) (space : Range) → end ≡ NoMemory → answers ≡ []
