@@ -1,7 +1,7 @@
-use Rattle.std.proofs.Common.{◌∙◌, Some, ap, sym, subst}
+use Rattle.std.proofs.Common.{Some, ap, sym, subst}
 use Rattle.gt_front.specs.Order.{whole}
 use Rattle.gt_run.specs.Outputs.{output}
-use Rattle.gt_run.specs.Ended.{Ended, status_of}
+use Rattle.gt_run.specs.Ended.{Ended}
 use Rattle.gt_run.specs.declared.ending.Ending.{Ending}
 use Rattle.gt_run.proofs.EndLemmas.{Ended-script, Ends-of}
 use Rattle.gt_run.proofs.running.run_lines.Goals as goal

@@ -1,4 +1,4 @@
-use Rattle.std.proofs.Common.{◌≡◌, ◌∙◌, ℕ, List, Option, Some, None, inl, sym, subst, rules, arith}
+use Rattle.std.proofs.Common.{ap, ◌≡◌, ◌∙◌, ℕ, List, Option, Some, None, inl, sym, subst, rules, arith}
 use Rattle.gt_space.specs.Range.{Range}
 use Rattle.gt_io.specs.Counts.{Rose}
 use Rattle.gt_io.specs.Held.{Held}
