@@ -10,7 +10,7 @@ use Rattle.gt_value.specs.declared.places.Place.{Place}
 use Rattle.gt_value.specs.declared.places.LeafContent.{LeafContent}
 use Rattle.gt_value.specs.declared.places.LeafContent.TheVariants as content
 use Rattle.gt_value.specs.Names.{kind_of}
-use Rattle.gt_value.specs.Places.{Part, IsPlaceOfPart}
+use Rattle.gt_value.specs.Places.{Part}
 use Rattle.gt_value.specs.Cursors.{Frame, frame, element_part, IsAt}
 use Rattle.gt_graph.specs.Objects.{Object}
 use Rattle.gt_graph.specs.Changes.{Owner}

@@ -1,5 +1,5 @@
 -- Where paths start, and where they lead from there.
-use Rattle.std.proofs.Common.{◌≡◌, ℕ, List, arith, sym, subst, Option, Some, None, Ok, Err, IfOk}
+use Rattle.std.proofs.Common.{◌≡◌, ℕ, List, arith, sym, subst, Option, Some, None, Ok, Err, OnOk}
 use Rattle.std.specs.declared.result.Result.{Result}
 use Rattle.std.specs.Str.{bytes_eq}
 use Rattle.gt_types.specs.declared.program.Program.{Program}
@@ -44,9 +44,9 @@ root-there program name place e =
     (found.1, subst (λ i. slice_get program.roots i ≡ Some found.1) (sym there) found.3)
 
 -- a path leads where its steps lead from where it begins
-pub leads-all : (session : Session) (path : Route) (start : Start) (hops : List Hop) → hops ≡ path.steps → (result : Result Reached WalkFail)
+pub leads-all : (session : Session) (path : Route) (start : Start) (hops : List Hop) → hops ≡ path.steps → (result : Result (Unit {0}) WalkFail) (to : Reached)
     → ((told : Option Held) (state : State) → StandsFor session told state → Begins session.schema.program state path (start_of start))
-    → IfOk result (λ to. (heap : Heap) → IsHeapOf session.schema.program session.schema.layouts session.objects heap → Walks session.schema.program heap.graph (start_of start) hops (spot_of to))
-    → IfOk result (λ to. (told : Option Held) (state : State) → StandsFor session told state → Leads session.schema.program state path (spot_of to))
-leads-all session path start hops same (Ok to) begins walks = λ told state st. record { start = start_of start; begins = begins told state st; walks = subst (λ hs. Walks session.schema.program state.heap.graph (start_of start) hs (spot_of to)) same (walks state.heap st.holds.heap) }
-leads-all session path start hops same (Err e) begins walks = tt
+    → OnOk result ((heap : Heap) → IsHeapOf session.schema.program session.schema.layouts session.objects heap → Walks session.schema.program heap.graph (start_of start) hops (spot_of to))
+    → OnOk result ((told : Option Held) (state : State) → StandsFor session told state → Leads session.schema.program state path (spot_of to))
+leads-all session path start hops same (Ok done) to begins walks = λ told state st. record { start = start_of start; begins = begins told state st; walks = subst (λ hs. Walks session.schema.program state.heap.graph (start_of start) hs (spot_of to)) same (walks state.heap st.holds.heap) }
+leads-all session path start hops same (Err e) to begins walks = tt

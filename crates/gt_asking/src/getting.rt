@@ -10,7 +10,7 @@ ghost use Rattle.gt_session.specs.Sessions.{Goes, IsAsBefore, IsSession, KeepsBy
 use crate::paths::reach;
 use crate::reading::{Read, read_end};
 use gt_next::{Answer, Why};
-use gt_routes::WalkFail;
+use gt_routes::{Reached, WalkFail};
 use gt_script::Route;
 use gt_session::Session;
 use gt_types::Word;
@@ -26,13 +26,17 @@ pub fn get(alloc: Global, s: &mut Session, var: &Word, path: &Route) -> Result<A
     ensures space { OnErr result (s.new.objects.space ≡ s.old.objects.space) }
     ensures schema { s.new.schema ≡ s.old.schema }
 {
-    let read = match reach(alloc, s, path) {
-        Ok(to) => read_end(&s.schema, &s.objects, &to),
-        Err(stop) => {
-            return match stop {
-                WalkFail::Refused(why) => Ok(Answer::Refused(why)),
-                WalkFail::Memory => Err(AllocError),
-            };
+    let read = {
+        let mut to = Reached::new(alloc);
+        match reach(alloc, s, path, &mut to) {
+            Ok(()) => read_end(&s.schema, &s.objects, &to),
+            Err(stop) => {
+                drop(to);
+                return match stop {
+                    WalkFail::Refused(why) => Ok(Answer::Refused(why)),
+                    WalkFail::Memory => Err(AllocError),
+                };
+            }
         }
     };
     let Some(read) = read else {

@@ -1,5 +1,5 @@
 // Where a path of a script leads.
-ghost use Rattle.std.specs.Prelude.{◌≡◌, Err, IfOk, Option};
+ghost use Rattle.std.specs.Prelude.{◌≡◌, Err, IfOk, OnOk, Option};
 ghost use Rattle.gt_io.specs.Held.{Held};
 ghost use Rattle.gt_graph.specs.Good.{Heap};
 ghost use Rattle.gt_objects.specs.Holding.{IsHeapOf};
@@ -35,17 +35,22 @@ fn start_of(s: &Session, path: &Route) -> Result<Start, Why>
     }
 }
 
-/// Where a path leads, or why it is refused.
-pub fn reach<'a>(alloc: Global, s: &'a Session, path: &Route) -> Result<Reached<'a>, WalkFail>
+/// Leaves in `to` where a path leads, or says why it is refused.
+pub fn reach<'a>(
+    alloc: Global,
+    s: &'a Session,
+    path: &Route,
+    to: &mut Reached<'a>,
+) -> Result<(), WalkFail>
     requires session { IsSession s.now }
-    ensures leads { IfOk result (λ to. (told : Option Held) (state : State) → StandsFor s.now told state → Leads s.now.schema.program state path.now (spot_of to)) }
-    ensures ends { IfOk result (λ to. (heap : Heap) → IsHeapOf s.now.schema.program s.now.schema.layouts s.now.objects heap → IsEndAt s.now.schema.program s.now.schema.layouts s.now.objects heap (spot_of to) to.end) }
-    ensures first { IfOk result (λ to. (heap : Heap) → IsHeapOf s.now.schema.program s.now.schema.layouts s.now.objects heap → IsFirstIn s.now.schema.program s.now.schema.layouts s.now.objects heap to) }
-    ensures inside { IfOk result (EndsInFirst s.now.schema.program s.now.schema.layouts s.now.objects) }
+    ensures leads { OnOk result ((told : Option Held) (state : State) → StandsFor s.now told state → Leads s.now.schema.program state path.now (spot_of to.new)) }
+    ensures ends { OnOk result ((heap : Heap) → IsHeapOf s.now.schema.program s.now.schema.layouts s.now.objects heap → IsEndAt s.now.schema.program s.now.schema.layouts s.now.objects heap (spot_of to.new) to.new.end) }
+    ensures first { OnOk result ((heap : Heap) → IsHeapOf s.now.schema.program s.now.schema.layouts s.now.objects heap → IsFirstIn s.now.schema.program s.now.schema.layouts s.now.objects heap to.new) }
+    ensures inside { OnOk result (EndsInFirst s.now.schema.program s.now.schema.layouts s.now.objects to.new) }
     ensures refused { (why : Why) → result ≡ Err (Refused why) → (told : Option Held) (state : State) → StandsFor s.now told state → RefusesPath s.now.schema.program state path.now why }
 {
     match start_of(s, path) {
-        Ok(start) => walk(alloc, &s.schema, &s.objects, start, &path.steps),
+        Ok(start) => walk(alloc, &s.schema, &s.objects, start, &path.steps, to),
         Err(why) => Err(WalkFail::Refused(why)),
     }
 }

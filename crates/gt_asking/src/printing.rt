@@ -30,15 +30,17 @@ pub fn print(alloc: Global, s: &Session, path: &Route) -> Result<Answer, AllocEr
     requires session { IsSession s.now }
     ensures next { IfOk result (λ answer. (told : Option Held) (state : State) → StandsFor s.now told state → NextPrint s.now.schema.program state path.now answer state) }
 {
-    let to = match reach(alloc, s, path) {
-        Ok(to) => to,
+    let mut to = Reached::new(alloc);
+    match reach(alloc, s, path, &mut to) {
+        Ok(()) => {}
         Err(stop) => {
+            drop(to);
             return match stop {
                 WalkFail::Refused(why) => Ok(Answer::Refused(why)),
                 WalkFail::Memory => Err(AllocError),
             };
         }
-    };
+    }
     let text = show_end(alloc, &s.schema, &s.objects, &to)?;
     Ok(Answer::Shown(text))
 }

@@ -59,10 +59,11 @@ fn take_aim(alloc: Global, s: &Session, path: &Route, leaf: LeafContent) -> Resu
     ensures leads { IfOk result (λ aim. (told : Option Held) (state : State) → StandsFor s.now told state → Leads s.now.schema.program state path.now (spot (owner_of aim.owner) aim.places.items)) }
     ensures refused { (why : Why) → result ≡ Err (Refused why) → (told : Option Held) (state : State) → StandsFor s.now told state → RefusesAim s.now.schema.program state path.now leaf why }
 {
-    let to = match reach(alloc, s, path) {
-        Ok(to) => to,
+    let mut to = Reached::new(alloc);
+    match reach(alloc, s, path, &mut to) {
+        Ok(()) => {}
         Err(stop) => return Err(stop),
-    };
+    }
     match judge(&s.schema, &s.objects, &to, leaf) {
         Err(why) => Err(WalkFail::Refused(why)),
         Ok(found) => {

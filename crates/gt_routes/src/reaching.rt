@@ -123,45 +123,54 @@ fn enter<'a>(
     Ok(at)
 }
 
+impl<'a> Reached<'a> {
+    /// Where nothing leads yet: what `walk` begins with. It takes no memory.
+    pub fn new(alloc: Global) -> Reached<'a> {
+        Reached {
+            owner: Owner::Statics,
+            first: None,
+            places: Places::new(alloc),
+            end: End::Object,
+        }
+    }
+}
+
 // Where a path starts.
 fn begin<'a>(
-    alloc: Global,
     schema: &'a Schema,
     objects: &'a Objects,
     start: Start,
-) -> Result<Reached<'a>, WalkFail>
+    reached: &mut Reached<'a>,
+) -> Result<(), WalkFail>
     requires schema { IsSchema schema.now }
     requires ready { (heap : Heap) × IsHeapOf schema.now.program schema.now.layouts objects.now heap }
     requires starts { (heap : Heap) → IsHeapOf schema.now.program schema.now.layouts objects.now heap → IsStart schema.now.program heap start }
-    ensures start { IfOk result (λ to. spot_of to ≡ start_of start) }
-    ensures ends { IfOk result (λ to. (heap : Heap) → IsHeapOf schema.now.program schema.now.layouts objects.now heap → IsEndAt schema.now.program schema.now.layouts objects.now heap (spot_of to) to.end) }
-    ensures first { IfOk result (λ to. (heap : Heap) → IsHeapOf schema.now.program schema.now.layouts objects.now heap → IsFirstIn schema.now.program schema.now.layouts objects.now heap to) }
-    ensures inside { IfOk result (EndsInFirst schema.now.program schema.now.layouts objects.now) }
+    ensures start { OnOk result (spot_of reached.new ≡ start_of start) }
+    ensures ends { OnOk result ((heap : Heap) → IsHeapOf schema.now.program schema.now.layouts objects.now heap → IsEndAt schema.now.program schema.now.layouts objects.now heap (spot_of reached.new) reached.new.end) }
+    ensures first { OnOk result ((heap : Heap) → IsHeapOf schema.now.program schema.now.layouts objects.now heap → IsFirstIn schema.now.program schema.now.layouts objects.now heap reached.new) }
+    ensures inside { OnOk result (EndsInFirst schema.now.program schema.now.layouts objects.now reached.new) }
     ensures refused { (why : Why) → ¬ (result ≡ Err (Refused why)) }
 {
-    let mut places = Places::new(alloc);
+    reached.first = None;
+    reached.places.clear();
     match start {
-        Start::Object(address) => Ok(Reached {
-            owner: Owner::Object(address),
-            first: None,
-            places,
-            end: End::Object,
-        }),
+        Start::Object(address) => {
+            reached.owner = Owner::Object(address);
+            reached.end = End::Object;
+            Ok(())
+        }
         Start::Root(place) => {
             objects.sound();
             let space = objects.space();
             let Some(at) = Cursor::at_root(&schema.program, &schema.layouts, space, place) else {
                 unreachable!()
             };
-            let Ok(()) = places.push(place) else {
+            let Ok(()) = reached.places.push(place) else {
                 return Err(WalkFail::Memory);
             };
-            Ok(Reached {
-                owner: Owner::Statics,
-                first: None,
-                places,
-                end: End::Value(at),
-            })
+            reached.owner = Owner::Statics;
+            reached.end = End::Value(at);
+            Ok(())
         }
     }
 }
@@ -323,34 +332,35 @@ fn step<'a>(
     }
 }
 
-/// Where some steps lead from a start: at a pointer a step first goes to the object that it names. It is refused at the first step that
-/// does not lead on. Its time grows with the steps.
+/// Takes some steps from a start, and leaves in `reached` where they lead: at a pointer a step first goes to the object that it names. It is
+/// refused at the first step that does not lead on. Its time grows with the steps.
 pub fn walk<'a>(
     alloc: Global,
     schema: &'a Schema,
     objects: &'a Objects,
     start: Start,
     steps: &gt_script::Steps,
-) -> Result<Reached<'a>, WalkFail>
+    reached: &mut Reached<'a>,
+) -> Result<(), WalkFail>
     requires schema { IsSchema schema.now }
     requires ready { (heap : Heap) × IsHeapOf schema.now.program schema.now.layouts objects.now heap }
     requires starts { (heap : Heap) → IsHeapOf schema.now.program schema.now.layouts objects.now heap → IsStart schema.now.program heap start }
-    ensures leads { IfOk result (λ to. (heap : Heap) → IsHeapOf schema.now.program schema.now.layouts objects.now heap → Walks schema.now.program heap.graph (start_of start) steps.now (spot_of to)) }
-    ensures ends { IfOk result (λ to. (heap : Heap) → IsHeapOf schema.now.program schema.now.layouts objects.now heap → IsEndAt schema.now.program schema.now.layouts objects.now heap (spot_of to) to.end) }
-    ensures first { IfOk result (λ to. (heap : Heap) → IsHeapOf schema.now.program schema.now.layouts objects.now heap → IsFirstIn schema.now.program schema.now.layouts objects.now heap to) }
-    ensures inside { IfOk result (EndsInFirst schema.now.program schema.now.layouts objects.now) }
+    ensures leads { OnOk result ((heap : Heap) → IsHeapOf schema.now.program schema.now.layouts objects.now heap → Walks schema.now.program heap.graph (start_of start) steps.now (spot_of reached.new)) }
+    ensures ends { OnOk result ((heap : Heap) → IsHeapOf schema.now.program schema.now.layouts objects.now heap → IsEndAt schema.now.program schema.now.layouts objects.now heap (spot_of reached.new) reached.new.end) }
+    ensures first { OnOk result ((heap : Heap) → IsHeapOf schema.now.program schema.now.layouts objects.now heap → IsFirstIn schema.now.program schema.now.layouts objects.now heap reached.new) }
+    ensures inside { OnOk result (EndsInFirst schema.now.program schema.now.layouts objects.now reached.new) }
     ensures refused { (why : Why) → result ≡ Err (Refused why) → (heap : Heap) → IsHeapOf schema.now.program schema.now.layouts objects.now heap → RefusesWalk schema.now.program heap.graph (start_of start) steps.now why }
 {
-    let mut reached = begin(alloc, schema, objects, start)?;
+    begin(schema, objects, start, reached)?;
     let mut hops = steps.hops();
     'steps: loop {
         let Ok(first) = hops.take_first(alloc) else {
             return Err(WalkFail::Memory);
         };
         let Some(hop) = first else {
-            return Ok(reached);
+            return Ok(());
         };
-        match step(schema, objects, &mut reached, &hop) {
+        match step(schema, objects, reached, &hop) {
             Ok(()) => {}
             Err(stop) => return Err(stop),
         }

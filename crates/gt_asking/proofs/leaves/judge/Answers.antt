@@ -1,4 +1,4 @@
-use Rattle.std.proofs.Common.{◌≡◌, ap, sym, subst, ◌∙◌, Some}
+use Rattle.std.proofs.Common.{◌≡◌, ap, sym, subst, ◌∙◌}
 use Rattle.std.proofs.lemmas.Bool.Decides.{not_from_Decides}
 use Rattle.gt_next.specs.declared.answer.Why.TheVariants.{Inactive, WrongType, OutOfRange}
 use Rattle.gt_routes.specs.Reaching.{spot_of, IsEndAt}

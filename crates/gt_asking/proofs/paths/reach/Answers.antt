@@ -6,7 +6,7 @@ use Rattle.gt_asking.proofs.Starts.{leads-all}
 use Rattle.gt_asking.proofs.paths.reach.Goals as goal
 
 pub returns-in-Ok-clause-leads : goal.returns-in-Ok-clause-leads
-returns-in-Ok-clause-leads c = leads-all c.args.s.now c.args.path.now c.in-Ok.start c.args.path.now.steps refl c.walk.result c.in-Ok.ensures.begins c.walk.ensures.leads
+returns-in-Ok-clause-leads c = leads-all c.args.s.now c.args.path.now c.in-Ok.start c.args.path.now.steps refl c.walk.result c.walk.new.reached c.in-Ok.ensures.begins c.walk.ensures.leads
 
 pub returns-in-Ok-clause-refused : goal.returns-in-Ok-clause-refused
 returns-in-Ok-clause-refused c why e told state st =

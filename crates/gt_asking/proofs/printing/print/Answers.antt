@@ -11,6 +11,6 @@ pub returns : goal.returns
 returns c = record {
   next = λ told state st.
       let schema = c.args.s.now.schema in
-      let end = end-stands schema.program schema.layouts c.args.s.now.objects state.heap (spot_of c.in-Ok.to) c.in-Ok.to.end (c.in-Ok.ensures.ends state.heap st.holds.heap) in
+      let end = end-stands schema.program schema.layouts c.args.s.now.objects state.heap (spot_of c.reach.new.to) c.reach.new.to.end (c.in-Ok.ensures.ends state.heap st.holds.heap) in
       NextPrint.shows (c.in-Ok.ensures.leads told state st) end.1 (c.in_ok-text.ensures.shown state.heap end.0 st.holds.heap end.1);
 }

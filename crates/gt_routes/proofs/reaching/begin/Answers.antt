@@ -20,7 +20,7 @@ pub returns-in-Object-clause-ends : goal.returns-in-Object-clause-ends
 returns-in-Object-clause-ends c heap is =
     let schema = c.args.schema.now in
     let starts = subst (IsStart schema.program heap) c.in-Object.is (c.requires.starts heap is) in
-    object-end schema.program heap.graph c.in-Object.address c.new-places.result.items starts.0 c.new-places.ensures.items starts.1
+    object-end schema.program heap.graph c.in-Object.address c.clear.new.self.items starts.0 c.clear.ensures.items starts.1
 
 pub returns-in-Ok-clause-ends : goal.returns-in-Ok-clause-ends
 returns-in-Ok-clause-ends c heap is =
@@ -29,5 +29,5 @@ returns-in-Ok-clause-ends c heap is =
     let stand = roots schema.program schema.layouts c.requires.schema.settled c.requires.schema.laid objects heap is c.sound.ensures.space c.requires.schema.within in
     let values = subst (λ r. StandForStatics schema.program schema.layouts r heap.graph.statics) (sym c.space-space.ensures) (statics-for schema.program schema.layouts objects heap stand) in
     let root = subst (λ r. IsAtRoot schema.program schema.layouts r heap.graph.statics c.in-Root.place c.in-Some.at) c.space-space.ensures (c.in-Some.ensures.root heap.graph.statics values) in
-    let items : c.push.new.self.items ≡ c.in-Root.place ∷ [] = c.in-Ok.ensures.ok ∙ ap (λ xs. xs ++ c.in-Root.place ∷ []) c.new-places.ensures.items in
+    let items : c.push.new.self.items ≡ c.in-Root.place ∷ [] = c.in-Ok.ensures.ok ∙ ap (λ xs. xs ++ c.in-Root.place ∷ []) c.clear.ensures.items in
     subst (λ xs. IsValueAt schema.program schema.layouts objects heap (spot Statics xs) c.in-Some.at) (sym items) (root-end schema.program schema.layouts objects heap c.in-Root.place c.in-Some.at root)
